@@ -1,0 +1,6 @@
+pub mod Derivation
+pub mod Substitution
+pub mod WellFormed
+pub mod Reduced
+pub mod Equivalence
+pub mod Inheritance

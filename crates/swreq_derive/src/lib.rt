@@ -1,0 +1,4 @@
+//! What a signature implies: the derivation of requirements, and its laws.
+#![tactic(auto)]
+
+pub mod laws;
