@@ -1,7 +1,10 @@
 pub mod Members
 pub mod Monotone
-pub mod SelfTypes
+pub mod Substitution
 pub mod Guard
 pub mod Lengths
+pub mod Listed
+pub mod NoConformance
+pub mod Inversion
 pub mod Plain
 pub mod ReducedTypes

@@ -1,9 +1,11 @@
--- What follows from a list of written requirements: the derivation rules of the book "Compiling Swift Generics" (its chapter on generic
--- signatures, "Derived Requirements"), once, with this profile's guard as a switch.
+-- What follows from a list of written requirements: the rules for derived requirements of the book "Compiling Swift Generics", each once,
+-- with this profile's guard as a switch.
 --
--- A type parameter T is `Generic g`, which is a generic parameter τ_d_i, or `Member t x`, which is a member of t. The step x is `Name a`
--- for T.A, or `Bound d` for T.[P]A, where d is the associated type A of P. The names that begin with `Term` are those of the definitions,
--- over type parameters; `Requirement`, `Statement` and `Facts` are the code's, over the ids of a table of type parameters.
+-- A type parameter is `Generic g`, a generic parameter τ_d_i, or `Member t x`, a member of the type parameter t. The step x is `Name a`
+-- for the unbound member T.A, or `Bound d` for the bound member T.[P]A, where d is the associated type A of the protocol P.
+--
+-- Names that begin with `Term` are of these definitions, over type parameters themselves. `Requirement`, `Statement` and `Facts` are the
+-- code's, over the ids of a table of type parameters.
 use Rattle.std.specs.Prelude.{◌≡◌, Bool, true, false, List, IsTrue, Contains}
 use Rattle.swreq_param.specs.declared.ids.AssocId.{AssocId}
 use Rattle.swreq_param.specs.declared.ids.NameId.{NameId}

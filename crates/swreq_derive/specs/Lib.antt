@@ -4,3 +4,4 @@ pub mod WellFormed
 pub mod Reduced
 pub mod Equivalence
 pub mod Inheritance
+pub mod Worked

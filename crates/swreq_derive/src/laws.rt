@@ -54,6 +54,14 @@ pub fn derivability_grows()
         → (st : TermStatement) → Derives f guarded (Written params less) st → Derives f guarded (Written params more) st }
 {}
 
+/// A list from which the members of another with the same generic parameters are derivable derives all that this one
+/// does.
+pub fn derived_members_suffice()
+    ensures { (f : TermFacts) (params : List ParamId) (members others : List TermRequirement)
+        → ((r : TermRequirement) → Contains members r → Derivable f (Written params others) (Requires r))
+        → (st : TermStatement) → Derivable f (Written params members) st → Derivable f (Written params others) st }
+{}
+
 /// `[τ_0_0 : P]` as a source is the list of this one member.
 pub fn conformance_of_self_is_a_list()
     ensures { (f : TermFacts) (guarded : Bool) (p : ProtoId) (st : TermStatement)

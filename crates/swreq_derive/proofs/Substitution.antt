@@ -1,5 +1,5 @@
 -- What is derivable stays derivable with type parameters in place of the generic parameters, and the sides of what is derivable are valid.
-use Rattle.std.proofs.Common.{◌≡◌, true, refl, ap, subst, sym, ap₂}
+use Rattle.std.proofs.Common.{◌≡◌, true, List, Contains, refl, ap, subst, sym, ap₂}
 use Rattle.swreq_param.specs.declared.ids.ParamId.{ParamId}
 use Rattle.swreq_param.specs.declared.ids.ProtoId.{ProtoId}
 use Rattle.swreq_param.specs.Terms.{Term}
@@ -7,7 +7,7 @@ use Rattle.swreq_param.specs.Terms.Term.{Generic, Member}
 use Rattle.swreq_derive.specs.Derivation.{TermRequirement, TermStatement, TermFacts, Source, Derives, Derivable, HasParam, HasRequirement, substitute, for_self}
 use Rattle.swreq_derive.specs.Derivation.TermRequirement.{Conforms, IsAnyObject, Equals}
 use Rattle.swreq_derive.specs.Derivation.TermStatement.{IsValid, Requires}
-use Rattle.swreq_derive.specs.Derivation.Source.{SelfOf}
+use Rattle.swreq_derive.specs.Derivation.Source.{Written, SelfOf}
 use Rattle.swreq_derive.specs.Derivation.Derives.{generic, conf, same, layout, assoc_name, assoc_decl, assoc_bind, assoc_conf, assoc_same, assoc_layout, reflex, symm, trans, same_conf, same_layout, same_name, same_decl}
 use Rattle.swreq_derive.specs.Substitution.{substitute_in, substitute_into, statement_for_self}
 use Rattle.swreq_derive.specs.WellFormed.{IsUsable}
@@ -82,3 +82,27 @@ valid_sides f s r e = sides e
 pub stands_for_self : (f : TermFacts) (s : Source) (t : Term) (p : ProtoId) (st : TermStatement) → Derivable f s (Requires (Conforms t p))
     → Derivable f (SelfOf p) st → Derivable f s (statement_for_self t st)
 stands_for_self f s t p st c e = of_valid f s t p st (valid_sides f s (Conforms t p) c) c e
+
+-- ---- lists that derive what is written in another
+
+substitute-generic : (t : Term) → substitute Generic t ≡ t
+substitute-generic (Generic g) = refl
+substitute-generic (Member t x) = ap (λ z. Member z x) (substitute-generic t)
+
+substitute_in-generic : (r : TermRequirement) → substitute_in Generic r ≡ r
+substitute_in-generic (Conforms t p) = ap (λ z. Conforms z p) (substitute-generic t)
+substitute_in-generic (IsAnyObject t) = ap IsAnyObject (substitute-generic t)
+substitute_in-generic (Equals t u) = ap₂ Equals (substitute-generic t) (substitute-generic u)
+
+substitute_into-generic : (st : TermStatement) → substitute_into Generic st ≡ st
+substitute_into-generic (IsValid t) = ap IsValid (substitute-generic t)
+substitute_into-generic (Requires r) = ap Requires (substitute_in-generic r)
+
+-- A list that derives the members of another with the same generic parameters derives all that this one does.
+pub derives_members : (f : TermFacts) (params : List ParamId) (rs qs : List TermRequirement)
+    → ((r : TermRequirement) → Contains rs r → Derivable f (Written params qs) (Requires r))
+    → (st : TermStatement) → Derivable f (Written params rs) st → Derivable f (Written params qs) st
+derives_members f params rs qs members st e =
+    subst (λ z. Derivable f (Written params qs) z) (substitute_into-generic st)
+    (derives_with e (Written params qs) Generic (λ g h. generic h)
+    (λ r h u w. subst (λ z. Derivable f (Written params qs) (Requires z)) (sym (substitute_in-generic r)) (members r h)))
