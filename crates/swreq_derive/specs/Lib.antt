@@ -5,3 +5,4 @@ pub mod Reduced
 pub mod Equivalence
 pub mod Inheritance
 pub mod Worked
+pub mod Plain
