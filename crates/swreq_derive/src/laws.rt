@@ -6,7 +6,7 @@ ghost use Rattle.swreq_derive.specs.Derivation.TermRequirement.{Conforms};
 ghost use Rattle.swreq_derive.specs.Derivation.TermStatement.{Requires};
 ghost use Rattle.swreq_derive.specs.Derivation.Source.{Written, SelfOf};
 ghost use Rattle.swreq_derive.specs.Substitution.{statement_for_self};
-ghost use Rattle.swreq_derive.specs.WellFormed.{IsUsable, AreProtocolsWellFormed, IsWellFormed};
+ghost use Rattle.swreq_derive.specs.WellFormed.{HasValidSides, AreProtocolsWellFormed, IsWellFormed};
 ghost use Rattle.swreq_derive.specs.Reduced.{IsReducedTypeOf};
 ghost use Rattle.swreq_derive.specs.Inheritance.{AreProtocolsPlain, IsListPlain, IsWrittenFor};
 
@@ -23,7 +23,7 @@ pub fn what_conforms_stands_for_self()
 /// The type parameters of a derivable requirement are derivable as valid.
 pub fn sides_are_valid()
     ensures { (f : TermFacts) (s : Source) (r : TermRequirement)
-        → Derivable f s (Requires r) → IsUsable f s r }
+        → Derivable f s (Requires r) → HasValidSides f s r }
 {}
 
 /// What is derivable with the guard is derivable without it. On a well formed text the two are the same, from the list

@@ -8,7 +8,7 @@ ghost use Rattle.swreq_derive.specs.Derivation.{TermRequirement, TermStatement, 
 ghost use Rattle.swreq_derive.specs.Derivation.TermRequirement.{Conforms, IsAnyObject, Equals};
 ghost use Rattle.swreq_derive.specs.Derivation.TermStatement.{IsValid, Requires};
 ghost use Rattle.swreq_derive.specs.Equivalence.{AreEquivalent};
-ghost use Rattle.swreq_derive.specs.WellFormed.{IsUsable, IsUsableIn};
+ghost use Rattle.swreq_derive.specs.WellFormed.{IsUsableIn};
 ghost use Rattle.swreq_derive.specs.Reduced.{IsReducedTypeOf};
 ghost use Rattle.swreq_derive.specs.Worked.{◌·◌, bound, param, of_one, of_two, τ_0_0, τ_0_1};
 ghost use Rattle.swreq_derive.specs.Worked.{N, Next, Missing, Next_of_N, endless, endless_f};
