@@ -2,7 +2,7 @@
 //!
 //! Each function is one text, whose facts and lists stand in `specs/Worked.antt`. Nothing is computed: the clauses are
 //! theorems, each proved by its derivation or by a reason why there is none.
-ghost use Rattle.std.specs.Prelude.{◌≡◌, ◌↔◌, [], ◌∷◌};
+ghost use Rattle.std.specs.Prelude.{◌≡◌, ◌↔◌, [], ◌∷◌, Contains};
 ghost use Rattle.swreq_param.specs.Terms.{Term};
 ghost use Rattle.swreq_derive.specs.Derivation.{TermRequirement, TermStatement, Derivable, BookDerivable};
 ghost use Rattle.swreq_derive.specs.Derivation.TermRequirement.{Conforms, IsAnyObject, Equals};
@@ -68,13 +68,19 @@ pub fn requirements_that_justify_one_another()
         → Derivable circular (of_one circular_f) (Requires r) ↔ (r ≡ Equals τ_0_0 τ_0_0) }
 {}
 
-/// `protocol P { associatedtype A where A.B: Q }`, `protocol Q { associatedtype B }` and `func f<T: P>()`: a requirement of
-/// a protocol that is not usable. It is used without the guard alone.
-pub fn unusable_requirement_of_a_protocol()
-    ensures unusable { IsUsableIn unusable P (Conforms (τ_0_0 · A · B) Q) → ⊥ }
-    ensures book { BookDerivable unusable (of_one unusable_f) (Requires (Conforms (τ_0_0 · A · B) Q)) }
-    ensures guarded { Derivable unusable (of_one unusable_f)
+/// `protocol P { associatedtype A where A.B: Q & AnyObject, A.B == Self }`, `protocol Q { associatedtype B }` and
+/// `func f<T: P>()`: requirements of a protocol that are not usable. They are used without the guard alone.
+pub fn unusable_requirements_of_a_protocol()
+    ensures unusable { (r : TermRequirement) → Contains (unusable.of_protocol P) r → IsUsableIn unusable P r → ⊥ }
+    ensures book_conforms { BookDerivable unusable (of_one unusable_f) (Requires (Conforms (τ_0_0 · A · B) Q)) }
+    ensures book_layout { BookDerivable unusable (of_one unusable_f) (Requires (IsAnyObject (τ_0_0 · A · B))) }
+    ensures book_equal { BookDerivable unusable (of_one unusable_f) (Requires (Equals (τ_0_0 · A · B) τ_0_0)) }
+    ensures conforms { Derivable unusable (of_one unusable_f)
         (Requires (Conforms (τ_0_0 · A · B) Q)) → ⊥ }
+    ensures layout { Derivable unusable (of_one unusable_f)
+        (Requires (IsAnyObject (τ_0_0 · A · B))) → ⊥ }
+    ensures equal { Derivable unusable (of_one unusable_f)
+        (Requires (Equals (τ_0_0 · A · B) τ_0_0)) → ⊥ }
 {}
 
 /// `protocol P: AnyObject { }`, `func f<T: P, U>() where U == T` and `func g<T: AnyObject, U>() where T == U`: a layout goes
