@@ -14,11 +14,12 @@ pub struct ProtoId {
     pub rank: u32,
 }
 
-/// An associated type, that is a protocol with a name that it declares, by its rank among those of the text.
+/// An associated type, that is a protocol with a name that it declares, by its rank among those of
+/// the text.
 ///
-/// Ranks go by the bytes of the name. Among associated types of one name the roots come first, which are
-/// those whose protocol inherits none that declares the name, and then they go by the bytes of the
-/// protocol's name.
+/// Ranks go by the bytes of the name. Among associated types of one name the roots come first,
+/// which are those whose protocol inherits none that declares the name, and then they go by the
+/// bytes of the protocol's name.
 #[derive(Clone, Copy, Debug, PartialEq, Eq, PartialOrd, Ord, Hash)]
 pub struct AssocId {
     pub rank: u32,
@@ -35,8 +36,8 @@ pub struct ParamId {
 
 /// The last step of a member of a type parameter.
 ///
-/// A bound step `[P]A` names an associated type of a protocol, an unbound one a name alone. Bound steps
-/// come before unbound ones.
+/// A bound step `[P]A` names an associated type of a protocol, an unbound one a name alone. Bound
+/// steps come before unbound ones.
 #[derive(Clone, Copy, Debug, PartialEq, Eq, PartialOrd, Ord, Hash)]
 pub enum Step {
     Bound(AssocId),
