@@ -1,10 +1,12 @@
 //! The tokens of a source text, or the first place where none can be read.
 #![tactic(auto)]
 
+mod characters;
+mod comments;
+mod front;
 mod lexer;
 mod marks;
 mod refusal;
-mod scan;
 mod token;
 mod words;
 
