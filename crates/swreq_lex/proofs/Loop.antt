@@ -1,5 +1,5 @@
 -- Reading one piece after the other, as a loop does.
-use Rattle.std.proofs.Common.{◌≡◌, ℕ, zero, suc, ◌+◌, ◌-◌, ◌≤◌, ◌<◌, List, [], ◌∷◌, ◌++◌, length, take, Result, Ok, Err, refl, sym, ap, ◌∙◌, append_assoc, arith}
+use Rattle.std.proofs.Common.{◌≡◌, ℕ, suc, ◌-◌, List, [], ◌∷◌, ◌++◌, length, take, Result, Ok, Err, refl, sym, ap, ◌∙◌, append_assoc, arith}
 use Rattle.std.proofs.lemmas.List.{append-nil, length-append}
 use Rattle.std.proofs.lemmas.Str.{encodes-chars, length-encode}
 use Rattle.std.specs.Str.{chars, IsUtf8}
@@ -48,7 +48,7 @@ pub on_last : (k end : ℕ) (xs : List Token) (cs : List ℕ) (total : Result (L
 unfolding read
 on_last k end xs cs total z so_far = sym so_far ∙ rw z (ap (λ (zs : List Token). Ok zs) (append-nil xs))
 
-byte_length_encodes : (cs : List ℕ) → byte_length cs ≡ length (encodes cs)
+pub byte_length_encodes : (cs : List ℕ) → byte_length cs ≡ length (encodes cs)
 byte_length_encodes [] = refl
 byte_length_encodes (c ∷ cs) = omega (arith, byte_length_encodes cs, length-append (encode c) (encodes cs), length-encode c)
 

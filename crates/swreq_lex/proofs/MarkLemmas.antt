@@ -1,9 +1,8 @@
 -- Marks at the front of a text, by its bytes and by its characters.
-use Rattle.std.proofs.Common.{◌≡◌, ℕ, zero, suc, ◌+◌, ◌-◌, ◌≤◌, ◌<◌, Bool, true, false, not, ◌&&◌, cond, List, [], ◌∷◌, ◌++◌, length, take, drop, get_or, map, Option, Some, None, refl, sym, ap, subst, ◌∙◌, arith, nat_eq, nat_lt, position, Bor, unwrap_or, slice_get}
+use Rattle.std.proofs.Common.{◌≡◌, ℕ, zero, suc, ◌≤◌, ◌<◌, Bool, true, false, ◌&&◌, List, [], ◌∷◌, ◌++◌, length, drop, get_or, Some, refl, sym, ap, subst, ◌∙◌, arith, nat_eq, nat_lt, position, Bor, unwrap_or, slice_get}
 use Rattle.std.proofs.lemmas.Bool.{ltb-true, eqb-true}
-use Rattle.std.proofs.lemmas.Grind.{common_steps}
 use Rattle.std.proofs.lemmas.Bool.Decides.{nat_tests}
-use Rattle.std.proofs.lemmas.Str.{encodes-chars, encode_ascii, chars-append, chars-encodes, IsCharBoundary-after_ascii, IsCharBoundary-start, IsUtf8-drop, char_from_byte, IsUtf8-past_char, chars_past_char}
+use Rattle.std.proofs.lemmas.Str.{encodes-chars, encode_ascii, IsCharBoundary-start, char_from_byte, IsUtf8-past_char, chars_past_char}
 use Rattle.std.proofs.lemmas.List.Quantifiers.{position-Some}
 use Rattle.std.specs.Str.{chars, IsUtf8, IsCharBoundary}
 use Rattle.std.specs.List.{starts_with, list_all, position_or_len}
@@ -23,9 +22,9 @@ apart a b h k = grind (arith, nat_tests)
 -- a byte at the front of a character beyond ASCII is none of a mark
 long : (c b : ℕ) (bs rest : List ℕ) → 128 ≤ c → b ∷ bs ≡ encode c ++ rest → 128 ≤ b
 long c b bs rest h e = elim (nat_lt b 128) as (λ t. nat_lt b 128 ≡ t → 128 ≤ b) [
-    true ↦ λ k. let small : b < 128 = ltb-true b 128 k in let same : c ≡ b = char_from_byte (b ∷ bs) rest c e small (omega arith) in absurd (omega arith)
+  | true ↦ λ k. let small : b < 128 = ltb-true b 128 k in let same : c ≡ b = char_from_byte (b ∷ bs) rest c e small (omega arith) in absurd (omega arith)
   | false ↦ λ k. grind (arith, nat_tests)
-  ] refl
+] refl
 
 pub starts-bytes : (mark cs : List ℕ) → is_ascii_mark mark ≡ true → starts_with nat_eq (encodes cs) mark ≡ starts_with nat_eq cs mark
 starts-bytes [] cs h = refl
@@ -34,8 +33,8 @@ starts-bytes (m ∷ ms) (c ∷ cs) h =
     let parts = both (nat_lt m 128) (is_ascii_mark ms) h in
     let small : m < 128 = ltb-true m 128 parts.0 in
     elim (nat_lt c 128) as (λ t. nat_lt c 128 ≡ t → starts_with nat_eq (encode c ++ encodes cs) (m ∷ ms) ≡ (nat_eq m c && starts_with nat_eq cs ms)) [
-      true ↦ λ k. rw (encode_ascii c (ltb-true c 128 k)) (ap (λ b. nat_eq m c && b) (starts-bytes ms cs parts.1))
-    | false ↦ λ k. beyond (encode c ++ encodes cs) refl (grind (arith, nat_tests)) small
+      | true ↦ λ k. rw (encode_ascii c (ltb-true c 128 k)) (ap (λ b. nat_eq m c && b) (starts-bytes ms cs parts.1))
+      | false ↦ λ k. beyond (encode c ++ encodes cs) refl (grind (arith, nat_tests)) small
     ] refl
   where
     beyond : (bs : List ℕ) → bs ≡ encode c ++ encodes cs → 128 ≤ c → m < 128 → starts_with nat_eq bs (m ∷ ms) ≡ (nat_eq m c && starts_with nat_eq cs ms)
@@ -73,6 +72,14 @@ ascii_at : (marks : List (Bor (List ℕ))) (n : ℕ) (d : Bor (List ℕ)) → n 
 ascii_at [] n d k h = absurd (omega arith)
 ascii_at (m ∷ ms) zero d k h = (both (is_ascii_mark m.now) (are_ascii (texts ms)) h).0
 ascii_at (m ∷ ms) (suc n) d k h = ascii_at ms n d (omega arith) (both (is_ascii_mark m.now) (are_ascii (texts ms)) h).1
+
+-- what begins with a mark is the mark and the rest
+pub starts-split : (mark cs : List ℕ) → starts_with nat_eq cs mark ≡ true → cs ≡ mark ++ drop (length mark) cs
+starts-split [] cs h = refl
+starts-split (m ∷ ms) [] h = absurd (cc)
+starts-split (m ∷ ms) (c ∷ cs) h =
+    let parts = both (nat_eq m c) (starts_with nat_eq cs ms) h in
+    rw (← eqb-true m c parts.0) (ap (λ (ds : List ℕ). m ∷ ds) (starts-split ms cs parts.1))
 
 -- a text that begins with a mark may be cut after it
 pub cut : (mark bs : List ℕ) → is_ascii_mark mark ≡ true → IsUtf8 bs → starts_with nat_eq bs mark ≡ true → IsCharBoundary bs (length mark) × (chars (drop (length mark) bs) ≡ drop (length mark) (chars bs))

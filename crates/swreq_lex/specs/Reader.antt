@@ -1,6 +1,6 @@
 -- How the characters of a text are read from the front, as the functions of `src` do it.
 use Rattle.std.specs.Prelude.{◌≡◌, ℕ, zero, suc, ◌-◌, Bool, ◌==◌, List, [], ◌∷◌, length, drop, Option, Some, None, Result, Ok, Err, slice_get, if◌then◌else◌, unwrap_or, take}
-use Rattle.std.specs.Str.{chars, encode_utf8_all}
+use Rattle.std.specs.Str.{encode_utf8_all}
 use Rattle.std.specs.Global.{Vec}
 use Rattle.swreq_lex.specs.declared.token.Token.{Token}
 use Rattle.swreq_lex.specs.declared.token.TokenKind.{TokenKind}

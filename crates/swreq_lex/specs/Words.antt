@@ -1,5 +1,5 @@
 -- Words, and what they are.
-use Rattle.std.specs.Prelude.{◌≡◌, ℕ, IsTrue, List, [], ◌∷◌, Option, Some, None, position, if◌then◌else◌}
+use Rattle.std.specs.Prelude.{ℕ, IsTrue, List, [], ◌∷◌, Option, Some, None, position, if◌then◌else◌}
 use Rattle.std.specs.Str.{bytes_eq, encode_utf8_all}
 use Rattle.swreq_lex.specs.declared.words.TheConstants.{RESERVED}
 use Rattle.swreq_lex.specs.declared.token.TokenKind.{TokenKind}

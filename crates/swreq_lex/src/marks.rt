@@ -8,14 +8,17 @@ ghost use Rattle.swreq_lex.specs.Marks.{mark_at, spellings, first_at, texts, are
 /// The marks, those of the grammar first. A [`TokenKind::Mark`](crate::TokenKind::Mark) has the place
 /// of its mark among them. Of two that begin a text the first one here is taken.
 pub const MARKS: [&str; 21] = [
-    "{", "}", "(", ")", "<", ">", ",", ":", ";", ".", "&", "==", "[", "]", "@", "`", "~", "?", "!", "=", "->",
+    "{", "}", "(", ")", "<", ">", ",", ":", ";", ".", "&", "==", "[", "]", "@", "`", "~", "?", "!",
+    "=", "->",
 ];
 
 /// The place of the first of the marks that the text begins with.
 fn place_of(marks: &[&str], text: &str) -> Option<usize>
     ensures { result ≡ position (λ mark. starts_with nat_eq text.now mark.now) marks.now }
 {
-    marks.iter().position(|mark| text.as_bytes().starts_with(mark.as_bytes()))
+    marks
+        .iter()
+        .position(|mark| text.as_bytes().starts_with(mark.as_bytes()))
 }
 
 /// The place of the first of the marks that the text begins with, and what is left after it.

@@ -1,5 +1,4 @@
-use Rattle.std.proofs.Common.{◌≡◌, ◌+◌, length, ap, ◌∙◌, sym, arith, ◌++◌}
-use Rattle.std.specs.Str.{chars}
+use Rattle.std.proofs.Common.{◌+◌, length, ap, ◌∙◌, sym}
 use Rattle.std.proofs.lemmas.Str.{chars_past_char, length-encode}
 use Rattle.std.proofs.lemmas.List.{length-append}
 use Rattle.swreq_lex.proofs.characters.first.Goals as goal

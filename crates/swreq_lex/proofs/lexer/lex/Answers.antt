@@ -1,4 +1,4 @@
-use Rattle.std.proofs.Common.{Err, ◌≡◌, ◌-◌, ◌+◌, suc, sym, ap, ◌∙◌, length, take, arith, ◌≤◌, rules}
+use Rattle.std.proofs.Common.{Err, ◌≡◌, ◌-◌, ◌+◌, sym, ap, ◌∙◌, length, take, arith, rules}
 use Rattle.std.specs.Str.{chars, IsUtf8}
 use Rattle.std.proofs.lemmas.Str.{encodes-chars}
 use Rattle.swreq_lex.specs.Words.{kind_of_bytes}

@@ -1,4 +1,4 @@
-use Rattle.std.proofs.Common.{◌≡◌, sym, ◌∙◌}
+use Rattle.std.proofs.Common.{sym, ◌∙◌}
 use Rattle.swreq_lex.proofs.MarkLemmas.{first-text, found}
 use Rattle.swreq_lex.proofs.marks.first_of.Goals as goal
 
