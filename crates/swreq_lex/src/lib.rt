@@ -7,6 +7,8 @@ mod front;
 mod lexer;
 mod marks;
 mod refusal;
+#[cfg(test)]
+mod tests;
 mod token;
 mod words;
 
