@@ -71,7 +71,7 @@ begins_mark (c ∷ cs) = nat_lt c 128 && (not (is_white_space c) && (not (is_asc
 each_begins_mark : list_all begins_mark spellings ≡ true
 each_begins_mark = refl
 
-test_at : (test : List ℕ → Bool) (xs : List (List ℕ)) (n : ℕ) (x : List ℕ) → slice_get xs n ≡ Some x → list_all test xs ≡ true → test x ≡ true
+pub test_at : (test : List ℕ → Bool) (xs : List (List ℕ)) (n : ℕ) (x : List ℕ) → slice_get xs n ≡ Some x → list_all test xs ≡ true → test x ≡ true
 test_at test [] n x e h = absurd (cc)
 test_at test (y ∷ ys) zero x e h = let same : y ≡ x = cc in rw (← same) (both (test y) (list_all test ys) h).0
 test_at test (y ∷ ys) (suc n) x e h = test_at test ys n x e (both (test y) (list_all test ys) h).1
@@ -96,11 +96,11 @@ head_of_mark c cs h =
       not_slash = when_not (nat_eq c 47) third.1;
     }
 
-drop_front : (xs ys : List ℕ) → drop (length xs) (xs ++ ys) ≡ ys
+pub drop_front : (xs ys : List ℕ) → drop (length xs) (xs ++ ys) ≡ ys
 drop_front [] ys = refl
 drop_front (x ∷ xs) ys = drop_front xs ys
 
-place_at : (xs : List (List ℕ)) (n : ℕ) → n < length xs → slice_get xs n ≡ Some (get_or xs n [])
+pub place_at : (xs : List (List ℕ)) (n : ℕ) → n < length xs → slice_get xs n ≡ Some (get_or xs n [])
 place_at [] n h = absurd (omega arith)
 place_at (x ∷ xs) zero h = refl
 place_at (x ∷ xs) (suc n) h = place_at xs n (omega arith)

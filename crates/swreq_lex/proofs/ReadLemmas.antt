@@ -20,7 +20,7 @@ use Rattle.swreq_lex.specs.Reader.{Front, nothing, gap, word, mark, bad_characte
 use Rattle.swreq_lex.proofs.Loop.{byte_length_encodes}
 use Rattle.swreq_lex.proofs.PieceLemmas.{front_gap, front_of_word, front_of_mark, Shown, shown, bad_found, open_found, front_bad, front_open, mark_has_character}
 
-byte_length-append : (xs ys : List ℕ) → byte_length (xs ++ ys) ≡ byte_length xs + byte_length ys
+pub byte_length-append : (xs ys : List ℕ) → byte_length (xs ++ ys) ≡ byte_length xs + byte_length ys
 byte_length-append [] ys = omega arith
 byte_length-append (x ∷ xs) ys = omega (arith, byte_length-append xs ys)
 
@@ -47,6 +47,10 @@ gap_has_character piece rest (pieces.comment (comments.comment i)) = omega arith
 
 word_has_character : (piece rest : List ℕ) → words.IsWord piece rest → 0 < length piece
 word_has_character piece rest (words.word s r) = omega arith
+
+pub token_has_character : (kind : TokenKind) (piece rest : List ℕ) → IsToken kind piece rest → 0 < length piece
+token_has_character kind piece rest (pieces.word w) = word_has_character piece rest w
+token_has_character kind piece rest (pieces.mark {n = n} m) = mark_has_character n piece rest m
 
 shorter : (n : ℕ) (cs piece rest : List ℕ) → cs ≡ piece ++ rest → 0 < length piece → length cs ≤ n → length rest < n
 shorter n cs piece rest p h l = let k : length cs ≡ length piece + length rest = rw p (length-append piece rest) in omega arith

@@ -1,11 +1,12 @@
 -- What is answered for a text, from what is read of its characters.
-use Rattle.std.proofs.Common.{◌≡◌, ℕ, ◌+◌, ◌≤◌, true, false, cond, List, [], ◌∷◌, length, Result, Ok, Err, refl, subst, ◌∙◌, arith}
+use Rattle.std.proofs.Common.{ap, sym, ◌≡◌, ℕ, ◌+◌, ◌≤◌, true, false, cond, List, [], ◌∷◌, length, Result, Ok, Err, refl, subst, ◌∙◌, arith}
 use Rattle.std.specs.Prelude.{◌⊎◌, MatchResult, IfOk, IfErr}
 use Rattle.std.proofs.Common.{inl, inr}
 use Rattle.std.specs.Global.{Vec}
 use Rattle.std.specs.Char.{len_utf8}
-use Rattle.std.specs.Str.{chars, IsUtf8}
-use Rattle.std.proofs.lemmas.Str.{encodes-chars, length-le-encodes}
+use Rattle.std.specs.Str.{chars, IsUtf8, is_utf8}
+use Rattle.std.specs.Str.Lossy.{utf8_valid_len}
+use Rattle.std.proofs.lemmas.Str.{encodes-chars, length-le-encodes, IsUtf8-from_is_utf8, is_utf8-from_IsUtf8}
 use Rattle.swreq_lex.specs.declared.token.Token.{Token}
 use Rattle.swreq_lex.specs.declared.refusal.LexErr.{LexErr}
 use Rattle.swreq_lex.specs.declared.refusal.LexErr.TheVariants as errors
@@ -27,7 +28,7 @@ no_more_characters bs u = subst (λ (zs : List ℕ). length (chars bs) ≤ lengt
 abbrev read_of : List ℕ → ℕ → Result (List Token) LexErr
 read_of text n = read n (length text) (after_byte_order_mark (chars text))
 
-begins : (text : List ℕ) → IsUtf8 text → first_offset (chars text) + byte_length (after_byte_order_mark (chars text)) ≡ length text
+pub begins : (text : List ℕ) → IsUtf8 text → first_offset (chars text) + byte_length (after_byte_order_mark (chars text)) ≡ length text
 begins text u = starts_after_mark (chars text) ∙ byte_length_chars text u
 
 -- ---- what the text has is read
@@ -56,6 +57,57 @@ has_outcome text u (Err errors.Memory) o = absurd o
 
 has_what_is_read : (text : List ℕ) (n : ℕ) → IsUtf8 text → length (after_byte_order_mark (chars text)) ≤ n → Has text (read_of text n)
 has_what_is_read text n u l = has_outcome text u (read_of text n) (outcome n (length text) (first_offset (chars text)) (after_byte_order_mark (chars text)) (begins text u) l)
+
+-- ---- one reading
+
+whole : (text : List ℕ) → length (after_byte_order_mark (chars text)) ≤ length (after_byte_order_mark (chars text))
+whole text = omega arith
+
+pub some_reading : (text : List ℕ) → ((ts : List Token) × HasTokens text ts) ⊎ ((e : LexErr) × HasRefusal text e)
+some_reading text = elim (is_utf8 text) as (λ b. is_utf8 text ≡ b → ((ts : List Token) × HasTokens text ts) ⊎ ((e : LexErr) × HasRefusal text e)) [
+  | true ↦ λ h. let u = IsUtf8-from_is_utf8 text h in go (read_of text (length (after_byte_order_mark (chars text)))) (has_what_is_read text (length (after_byte_order_mark (chars text))) u (whole text))
+  | false ↦ λ h. inr (errors.NotUtf8 (utf8_valid_len text), (λ u. let k = is_utf8-from_IsUtf8 text u in cc, refl))
+] refl
+  where
+    go : (r : Result (List Token) LexErr) → Has text r → ((ts : List Token) × HasTokens text ts) ⊎ ((e : LexErr) × HasRefusal text e)
+    go (Ok ts) h = inl (ts, h)
+    go (Err e) h = inr (e, h)
+
+pub one_list : (text : List ℕ) (ts us : List Token) → HasTokens text ts → HasTokens text us → ts ≡ us
+one_list text ts us h k =
+    let n = length (after_byte_order_mark (chars text)) in
+    let a = tokens_read_of text ts n h (whole text) in
+    let b = tokens_read_of text us n k (whole text) in
+    cc
+
+pub never_both : (text : List ℕ) (ts : List Token) (e : LexErr) → HasTokens text ts → ¬ (HasRefusal text e)
+never_both text ts e h k =
+    let n = length (after_byte_order_mark (chars text)) in
+    let a = tokens_read_of text ts n h (whole text) in
+    let b = refusal_read_of text e n h.utf8 k (whole text) in
+    cc
+
+-- the text of a refusal that names a place in it is UTF-8
+utf8_by : (text : List ℕ) (e : LexErr) → HasRefusal text e → IsUtf8 text ⊎ (e ≡ errors.NotUtf8 (utf8_valid_len text))
+utf8_by text (errors.NotUtf8 at) h = inr (ap (λ (k : ℕ). errors.NotUtf8 k) h.1)
+utf8_by text (errors.BadCharacter at) h = inl h.before.utf8
+utf8_by text (errors.OpenComment at) h = inl h.before.utf8
+utf8_by text errors.Memory h = absurd h
+
+same_refusal : (text : List ℕ) (d e : LexErr) → HasRefusal text d → HasRefusal text e → IsUtf8 text → d ≡ e
+same_refusal text d e h k u =
+    let n = length (after_byte_order_mark (chars text)) in
+    let a = refusal_read_of text d n u h (whole text) in
+    let b = refusal_read_of text e n u k (whole text) in
+    cc
+
+pub one_refusal : (text : List ℕ) (d e : LexErr) → HasRefusal text d → HasRefusal text e → d ≡ e
+one_refusal text d e h k = go (utf8_by text d h) (utf8_by text e k)
+  where
+    go : IsUtf8 text ⊎ (d ≡ errors.NotUtf8 (utf8_valid_len text)) → IsUtf8 text ⊎ (e ≡ errors.NotUtf8 (utf8_valid_len text)) → d ≡ e
+    go (inl u) q = same_refusal text d e h k u
+    go (inr p) (inl u) = same_refusal text d e h k u
+    go (inr p) (inr q) = p ∙ sym q
 
 -- ---- what is answered
 

@@ -4,5 +4,6 @@ pub mod Words
 pub mod Marks
 pub mod Tokens
 pub mod Refusals
+pub mod Slices
 pub mod Reader
 pub mod Seen

@@ -4,6 +4,7 @@
 mod characters;
 mod comments;
 mod front;
+pub mod laws;
 mod lexer;
 mod marks;
 mod refusal;
