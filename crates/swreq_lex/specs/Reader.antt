@@ -51,8 +51,12 @@ after_slash (c ∷ cs) =
     else (if c == 42 then after_comment (past_comment 0 32 cs)
     else bad_character)
 
+-- what is left after the n-th of these marks
+abbrev pub past_mark : List (List ℕ) → ℕ → List ℕ → List ℕ
+past_mark marks n cs = drop (length (unwrap_or (slice_get marks n) [])) cs
+
 abbrev pub at_mark : Option ℕ → List ℕ → Front
-at_mark (Some n) cs = mark n (drop (length (unwrap_or (slice_get spellings n) [])) cs)
+at_mark (Some n) cs = mark n (past_mark spellings n cs)
 at_mark None cs = bad_character
 
 unfoldable pub front : List ℕ → Front

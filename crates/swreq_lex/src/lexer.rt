@@ -28,8 +28,10 @@ pub fn tokens(alloc: Global, text: &[u8]) -> Result<Vec<Token>, LexErr>
 
     // The tokens of a text are answered wherever it has some, and its refusal wherever it has one,
     // unless memory runs out.
-    ensures tokens { (ts : List Token) → HasTokens text.now ts → MatchResult result (λ found. found.items ≡ ts) (λ e. e ≡ LexErr.Memory) }
-    ensures refusal { (refused : LexErr) → HasRefusal text.now refused → MatchResult result (λ _. ⊥) (λ e. (e ≡ LexErr.Memory) ⊎ (e ≡ refused)) }
+    ensures tokens { (ts : List Token) → HasTokens text.now ts →
+        MatchResult result (λ found. found.items ≡ ts) (λ e. e ≡ LexErr.Memory) }
+    ensures refusal { (refused : LexErr) → HasRefusal text.now refused →
+        MatchResult result (λ _. ⊥) (λ e. (e ≡ LexErr.Memory) ⊎ (e ≡ refused)) }
 {
     match std::str::from_utf8(text) {
         Ok(read) => lex(alloc, past_byte_order_mark(read), text.len() as u32),

@@ -1,9 +1,10 @@
 //! The marks.
 
-ghost use Rattle.std.specs.Prelude.{◌≡◌, ◌≤◌, ◌<◌, length, drop, position, unwrap_or, slice_get, nat_eq, IsTrue, MatchOption, IfSome, Some, None, []};
+ghost use Rattle.std.specs.Prelude.{◌≡◌, ◌≤◌, ◌<◌, length, position, nat_eq, IsTrue, IfSome};
 ghost use Rattle.std.specs.Str.{chars};
 ghost use Rattle.std.specs.List.{starts_with};
-ghost use Rattle.swreq_lex.specs.Marks.{mark_at, spellings, first_at, texts, are_ascii};
+ghost use Rattle.swreq_lex.specs.Marks.{spellings, texts, are_ascii};
+ghost use Rattle.swreq_lex.specs.Seen.{FindsMark};
 
 /// The marks, those of the grammar first. A [`TokenKind::Mark`](crate::TokenKind::Mark) has the place
 /// of its mark among them. Of two that begin a text the first one here is taken.
@@ -24,7 +25,7 @@ fn place_of(marks: &[&str], text: &str) -> Option<usize>
 /// The place of the first of the marks that the text begins with, and what is left after it.
 fn first_of<'a>(marks: &[&str], text: &'a str) -> Option<(usize, &'a str)>
     requires { IsTrue (are_ascii (texts marks.now)) }
-    ensures chars { MatchOption result (first_at (texts marks.now) (chars text.now) ≡ None) (λ x. (first_at (texts marks.now) (chars text.now) ≡ Some x.0) × (chars x.1.now ≡ drop (length (unwrap_or (slice_get (texts marks.now) x.0) [])) (chars text.now))) }
+    ensures chars { FindsMark (texts marks.now) (chars text.now) result }
     ensures place { IfSome result (λ x. x.0 < length marks.now) }
     ensures len { IfSome result (λ x. length x.1.now ≤ length text.now) }
 {
@@ -35,7 +36,7 @@ fn first_of<'a>(marks: &[&str], text: &'a str) -> Option<(usize, &'a str)>
 
 /// The place of the mark that the text begins with, and what is left after it.
 pub fn mark_of(text: &str) -> Option<(u32, &str)>
-    ensures chars { MatchOption result (mark_at (chars text.now) ≡ None) (λ x. (mark_at (chars text.now) ≡ Some x.0) × (chars x.1.now ≡ drop (length (unwrap_or (slice_get spellings x.0) [])) (chars text.now))) }
+    ensures chars { FindsMark spellings (chars text.now) result }
     ensures len { IfSome result (λ x. length x.1.now ≤ length text.now) }
 {
     let (n, rest) = first_of(&MARKS, text)?;
