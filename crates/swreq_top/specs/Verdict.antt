@@ -1,0 +1,44 @@
+-- What a text is answered with.
+use Rattle.std.specs.Prelude.{◌≡◌, ◌⊎◌, ℕ, ◌<◌, ◌≤◌, List, length, Option, Some, None, IfSome}
+use Rattle.std.specs.Io.KnownBytes.{Appends}
+use Rattle.swreq_lex.specs.declared.refusal.LexErr.TheVariants as lexical
+use Rattle.swreq_lex.specs.declared.lexer.TheConstants.{TEXT_LIMIT}
+use Rattle.swreq_lex.specs.Refusals.{HasRefusal}
+use Rattle.swreq_decl.specs.declared.skeleton.Skeleton.{Skeleton}
+use Rattle.swreq_decl.specs.Skeletons.{StandsFor, RefusedFor}
+use Rattle.swreq_top.specs.declared.outcome.Outcome.{Outcome}
+use Rattle.swreq_top.specs.declared.refusal.RefusalKind.{RefusalKind}
+use Rattle.swreq_top.specs.declared.refusal.RefusalKind.TheVariants as refusals
+use Rattle.swreq_top.specs.Lines.{refusal_line}
+
+-- status 1, with the line of the refusal
+abbrev pub refused_with : RefusalKind → Outcome
+refused_with refusal = record { status = 1; output = refusal_line refusal }
+
+-- The text is refused for what its bytes are, before its names are looked at, in the order of these cases: at most one refusal is its.
+abbrev pub IsRefused : List ℕ → RefusalKind → Type 0
+IsRefused text refusals.TooLarge = TEXT_LIMIT < length text
+IsRefused text (refusals.NotUtf8 at) = (length text ≤ TEXT_LIMIT) × HasRefusal text (lexical.NotUtf8 at)
+IsRefused text (refusals.BadCharacter at) = (length text ≤ TEXT_LIMIT) × HasRefusal text (lexical.BadCharacter at)
+IsRefused text (refusals.OpenComment at) = (length text ≤ TEXT_LIMIT) × HasRefusal text (lexical.OpenComment at)
+IsRefused text (refusals.Syntax at) = (length text ≤ TEXT_LIMIT) × RefusedFor text at None
+IsRefused text (refusals.Unsupported at kind) = (length text ≤ TEXT_LIMIT) × RefusedFor text at (Some kind)
+IsRefused text refusals.NotBuilt = ⊥
+IsRefused text refusals.ReadFault = ⊥
+IsRefused text refusals.OutOfMemory = ⊥
+IsRefused text refusals.Usage = ⊥
+
+-- It is answered, or it cannot be answered yet.
+abbrev pub IsAnswered : Outcome → Type 0
+IsAnswered o = (o.status ≡ 0) ⊎ (o ≡ refused_with refusals.NotBuilt)
+
+-- A verdict on the text: it is refused with the line of its refusal, or a skeleton stands for it and it is answered.
+abbrev pub IsVerdict : List ℕ → Outcome → Type 0
+IsVerdict text o =
+    ((refusal : RefusalKind) × IsRefused text refusal × (o ≡ refused_with refusal))
+    ⊎ ((skeleton : Skeleton) × StandsFor text skeleton × IsAnswered o)
+
+-- The sink has taken a verdict on the text that the source had left.
+abbrev pub DeliversVerdict : Option (List ℕ) → Option (List ℕ) → Option (List ℕ) → ℕ → Type 0
+DeliversVerdict left old new status =
+    IfSome left (λ text. (output : List ℕ) × IsVerdict text (record { status = status; output = output }) × Appends old new output)
