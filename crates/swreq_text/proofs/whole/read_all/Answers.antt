@@ -1,0 +1,16 @@
+use Rattle.std.proofs.Common.{◌≡◌, ◌+◌, ◌++◌, take, length, ◌∙◌, arith, length-append}
+use Rattle.std.proofs.KnownBytes.{Consumes-trans}
+use Rattle.std.proofs.lemmas.List.{length-take, length-take-le}
+use Rattle.swreq_text.proofs.whole.read_all.Goals as goal
+
+-- the bytes that came for which there was no memory are gone too
+pub returns-then-is_err-clause-rest : goal.returns-then-is_err-clause-rest
+returns-then-is_err-clause-rest g c =
+    let bytes = c.loop-buf.bytes.items in
+    let n = c.in-Ok.n in
+    let more = take n c.read.new.buf in
+    let came : length more ≡ n = length-take-le n c.read.new.buf c.in-Ok.ensures.count in (
+      length bytes + n,
+      omega (arith, c.in-Ok.ensures.count, c.read.auto.buf, length-take c.min-want.result c.loop-buf.buf),
+      (bytes ++ more, Consumes-trans _ _ _ bytes more c.loop-buf.invariant.so_far c.in-Ok.ensures.next, length-append bytes more ∙ omega (arith, came)),
+    )
