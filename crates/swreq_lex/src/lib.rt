@@ -1,0 +1,15 @@
+//! The tokens of a source text, or the first place where none can be read.
+#![tactic(auto)]
+
+mod lexer;
+mod marks;
+mod refusal;
+mod scan;
+mod token;
+mod words;
+
+pub use lexer::{TEXT_LIMIT, tokens};
+pub use marks::MARKS;
+pub use refusal::LexErr;
+pub use token::{Token, TokenKind};
+pub use words::RESERVED;
