@@ -1,5 +1,6 @@
 -- Grammars as data, and the texts of a grammar with the values that they stand for.
 use Rattle.std.specs.Prelude.{◌≡◌, ℕ, ◌≤◌, Bool, false, ◌||◌, List, [], ◌∷◌, ◌++◌, length, IsTrue, nat_eq, ◌⊎◌}
+use Rattle.std.specs.List.{list_any}
 use Rattle.swreq_grammar.specs.declared.token.Token.{Token}
 
 -- How many parts a repetition may have: any number, or at most so many. One part more is refused, with the label.
@@ -37,8 +38,7 @@ Parts {T} texts ts (v ∷ vs) = (first rest : List (Token T)) × (ts ≡ first +
 module _ {T : Type 0} (number : T → ℕ) where
   -- the terminal is one of these
   abbrev pub has : List T → T → Bool
-  has [] t = false
-  has (c ∷ cs) t = nat_eq (number c) (number t) || has cs t
+  has terminals t = list_any (λ c. nat_eq (number c) (number t)) terminals
 
   -- The tokens are a text of the grammar, and it stands for the value.
   abbrev pub Matches : {L A : Type 0} → Grammar T L A → List (Token T) → A → Type 0
