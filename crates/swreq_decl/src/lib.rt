@@ -5,19 +5,20 @@ mod classes;
 mod functions;
 mod items;
 mod kind;
+mod parser;
 mod protocols;
 mod queries;
 mod reading;
+mod refusal;
 mod requirements;
 mod skeleton;
 mod terminal;
 mod types;
 
-pub use classes::terminals;
-pub use items::all_items;
-pub use kind::{Kind, kind_of};
+pub use kind::Kind;
+pub use parser::parse;
+pub use refusal::ParseErr;
 pub use skeleton::{
-    Ask, AssocDecl, Entity, FunctionDecl, Item, ParamDecl, ProtocolDecl, QueryDecl, ReqDecl,
+    Ask, AssocDecl, Entity, FunctionDecl, ParamDecl, ProtocolDecl, QueryDecl, ReqDecl,
     Skeleton, Span, StepDecl, TypeDecl,
 };
-pub use terminal::{Terminal, number_of};
