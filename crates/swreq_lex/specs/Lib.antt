@@ -1,5 +1,9 @@
-pub mod Front
-pub mod Seen
-pub mod Kinds
+pub mod Characters
+pub mod Comments
+pub mod Words
+pub mod Marks
 pub mod Tokens
 pub mod Refusals
+pub mod Slices
+pub mod Reader
+pub mod Seen

@@ -1,76 +1,47 @@
 -- The tokens of a text.
-use Rattle.std.specs.Prelude.{◌≡◌, ℕ, zero, suc, ◌-◌, ◌==◌, if◌then◌else◌, List, [], ◌∷◌, ◌++◌, length, Result, Ok, Err}
+use Rattle.std.specs.Prelude.{◌≡◌, ℕ, ◌+◌, IsTrue, if◌then◌else◌, List, [], ◌∷◌, ◌++◌, length}
 use Rattle.std.specs.Str.{chars, IsUtf8}
-use Rattle.std.specs.Str.Lossy.{utf8_valid_len}
-use Rattle.std.specs.Global.{Vec}
+use Rattle.std.specs.Char.{len_utf8}
 use Rattle.swreq_lex.specs.declared.token.Token.{Token}
 use Rattle.swreq_lex.specs.declared.token.TokenKind.{TokenKind}
 use Rattle.swreq_lex.specs.declared.token.TokenKind.TheVariants as kinds
-use Rattle.swreq_lex.specs.declared.refusal.LexErr.{LexErr}
-use Rattle.swreq_lex.specs.declared.refusal.LexErr.TheVariants as errors
-use Rattle.swreq_lex.specs.Kinds.{kind_of, word_bytes}
-use Rattle.swreq_lex.specs.Front.{Front, nothing, gap, word, mark, bad, open_comment, front, width}
+use Rattle.swreq_lex.specs.Characters.{is_white_space, is_byte_order_mark, byte_length}
+use Rattle.swreq_lex.specs.Comments.{IsLineComment, IsComment}
+use Rattle.swreq_lex.specs.Words.{IsWord, kind_of_word}
+use Rattle.swreq_lex.specs.Marks.{IsMark}
 
--- what cannot be read, and its place
-pub data Fault : Type 0 where
-  bad_character : ℕ → Fault
-  open_at : ℕ → Fault
+-- what stands between tokens, before the rest: one white space or one comment
+pub data IsGap : List ℕ → List ℕ → Type 0 where
+  white_space : {c : ℕ} {rest : List ℕ} → IsTrue (is_white_space c) → IsGap (c ∷ []) rest
+  line_comment : {cs rest : List ℕ} → IsLineComment cs rest → IsGap cs rest
+  comment : {cs rest : List ℕ} → IsComment cs → IsGap cs rest
 
--- a place, by the characters that are left to the end
-abbrev pub place : ℕ → List ℕ → ℕ
-place end cs = end - width cs
+-- the characters before the rest are a token of this kind
+pub data IsToken : TokenKind → List ℕ → List ℕ → Type 0 where
+  word : {cs rest : List ℕ} → IsWord cs rest → IsToken (kind_of_word cs) cs rest
+  mark : {n : ℕ} {cs rest : List ℕ} → IsMark n cs rest → IsToken (kinds.Mark n) cs rest
 
-abbrev pub a_token : TokenKind → ℕ → List ℕ → List ℕ → Token
-a_token k end cs rest = record { kind = k; start = place end cs; end = place end rest }
+-- From the offset `at` on, the characters `cs` are gaps and these tokens, up to the offset `to`, from
+-- which `left` is left.
+pub data Reads (to : ℕ) (left : List ℕ) : ℕ → List ℕ → List Token → Type 0 where
+  done : Reads to left to left []
+  gap : {at : ℕ} {cs piece rest : List ℕ} {ts : List Token} → cs ≡ piece ++ rest → IsGap piece rest → Reads to left (at + byte_length piece) rest ts → Reads to left at cs ts
+  token : {at : ℕ} {cs piece rest : List ℕ} {kind : TokenKind} {ts : List Token} → cs ≡ piece ++ rest → IsToken kind piece rest → Reads to left (at + byte_length piece) rest ts → Reads to left at cs (record { kind = kind; start = at; end = at + byte_length piece } ∷ ts)
 
--- ---- the relation
+-- A byte order mark at the very front is skipped: the characters after it, and their offset.
+abbrev pub after_byte_order_mark : List ℕ → List ℕ
+after_byte_order_mark [] = []
+after_byte_order_mark (c ∷ cs) = if is_byte_order_mark c then cs else c ∷ cs
 
--- the characters, up to the end of the text, have these tokens
-pub data Lexes (end : ℕ) : List ℕ → List Token → Type 0 where
-  ends : {cs : List ℕ} → front cs ≡ nothing → Lexes end cs []
-  skips : {cs rest : List ℕ} {ts : List Token} → front cs ≡ gap rest → Lexes end rest ts → Lexes end cs ts
-  words : {cs rest : List ℕ} {ts : List Token} → front cs ≡ word rest → Lexes end rest ts → Lexes end cs (a_token (kind_of (word_bytes cs rest)) end cs rest ∷ ts)
-  marks : {cs rest : List ℕ} {ts : List Token} {n : ℕ} → front cs ≡ mark n rest → Lexes end rest ts → Lexes end cs (a_token (kinds.Mark n) end cs rest ∷ ts)
+abbrev pub first_offset : List ℕ → ℕ
+first_offset [] = 0
+first_offset (c ∷ cs) = if is_byte_order_mark c then len_utf8 c else 0
 
--- ---- the reader
+-- the text is UTF-8, and is gaps and these tokens up to the offset, from which `left` is left
+pub record ReadsUpTo (text : List ℕ) (to : ℕ) (left : List ℕ) (ts : List Token) : Type 0 where
+  pub utf8 : IsUtf8 text
+  pub reads : Reads to left (first_offset (chars text)) (after_byte_order_mark (chars text)) ts
 
-abbrev pub add : Token → Result (List Token) Fault → Result (List Token) Fault
-add t (Ok ts) = Ok (t ∷ ts)
-add t (Err f) = Err f
-
-abbrev pub lexed_at : Front → (List ℕ → Result (List Token) Fault) → ℕ → List ℕ → Result (List Token) Fault
-lexed_at nothing k end cs = Ok []
-lexed_at (gap rest) k end cs = k rest
-lexed_at (word rest) k end cs = add (a_token (kind_of (word_bytes cs rest)) end cs rest) (k rest)
-lexed_at (mark n rest) k end cs = add (a_token (kinds.Mark n) end cs rest) (k rest)
-lexed_at bad k end cs = Err (bad_character (place end cs))
-lexed_at open_comment k end cs = Err (open_at (place end cs))
-
-unfoldable pub lexed : ℕ → ℕ → List ℕ → Result (List Token) Fault
-lexed zero end cs = Ok []
-lexed (suc n) end cs = lexed_at (front cs) (lexed n end) end cs
-
-abbrev pub Gives : Result (Vec Token) LexErr → Result (List Token) Fault → Type 0
-Gives (Ok v) r = r ≡ Ok v.items
-Gives (Err errors.Memory) r = Unit {0}
-Gives (Err (errors.NotUtf8 at)) r = ⊥
-Gives (Err (errors.BadCharacter at)) r = r ≡ Err (bad_character at)
-Gives (Err (errors.OpenComment at)) r = r ≡ Err (open_at at)
-
--- the first place where no token, white space or comment begins, though all before it is read
-pub data Stops (end : ℕ) : List ℕ → Fault → Type 0 where
-  here_bad : {cs : List ℕ} → front cs ≡ bad → Stops end cs (bad_character (place end cs))
-  here_open : {cs : List ℕ} → front cs ≡ open_comment → Stops end cs (open_at (place end cs))
-  later_gap : {cs rest : List ℕ} {f : Fault} → front cs ≡ gap rest → Stops end rest f → Stops end cs f
-  later_word : {cs rest : List ℕ} {f : Fault} → front cs ≡ word rest → Stops end rest f → Stops end cs f
-  later_mark : {cs rest : List ℕ} {f : Fault} {n : ℕ} → front cs ≡ mark n rest → Stops end rest f → Stops end cs f
-
--- a byte order mark at the front is skipped
-abbrev pub after_mark : List ℕ → List ℕ
-after_mark [] = []
-after_mark (c ∷ cs) = if c == 0xfeff then cs else c ∷ cs
-
--- ---- a text
-
+-- the tokens of a text, by its bytes
 abbrev pub HasTokens : List ℕ → List Token → Type 0
-HasTokens text ts = IsUtf8 text × Lexes (length text) (after_mark (chars text)) ts
+HasTokens text ts = ReadsUpTo text (length text) [] ts

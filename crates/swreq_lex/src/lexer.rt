@@ -4,11 +4,13 @@ ghost use Rattle.std.specs.Prelude.{◌≡◌, ◌≤◌, ◌⊎◌, ℕ, List, 
 ghost use Rattle.std.specs.Str.{chars};
 ghost use Rattle.swreq_lex.specs.declared.token.Token.{Token};
 ghost use Rattle.swreq_lex.specs.declared.refusal.LexErr.{LexErr};
-ghost use Rattle.swreq_lex.specs.Tokens.{Gives, lexed, HasTokens, after_mark};
+ghost use Rattle.swreq_lex.specs.Tokens.{HasTokens};
 ghost use Rattle.swreq_lex.specs.Refusals.{HasRefusal};
+ghost use Rattle.swreq_lex.specs.Reader.{Answers, read};
 
+use crate::characters::past_byte_order_mark;
+use crate::front::{Front, front_of};
 use crate::refusal::LexErr;
-use crate::scan::{Front, first, front_of};
 use crate::token::{Token, TokenKind};
 use crate::words::kind_of;
 use std::alloc::Global;
@@ -26,27 +28,29 @@ pub fn tokens(alloc: Global, text: &[u8]) -> Result<Vec<Token>, LexErr>
 
     // The tokens of a text are answered wherever it has some, and its refusal wherever it has one,
     // unless memory runs out.
-    ensures tokens { (ts : List Token) → HasTokens text.now ts → MatchResult result (λ found. found.items ≡ ts) (λ e. e ≡ LexErr.Memory) }
-    ensures refusal { (refused : LexErr) → HasRefusal text.now refused → MatchResult result (λ _. ⊥) (λ e. (e ≡ LexErr.Memory) ⊎ (e ≡ refused)) }
+    ensures tokens { (ts : List Token) → HasTokens text.now ts →
+        MatchResult result (λ found. found.items ≡ ts) (λ e. e ≡ LexErr.Memory) }
+    ensures refusal { (refused : LexErr) → HasRefusal text.now refused →
+        MatchResult result (λ _. ⊥) (λ e. (e ≡ LexErr.Memory) ⊎ (e ≡ refused)) }
 {
     match std::str::from_utf8(text) {
-        Ok(read) => lex(alloc, past_mark(read), text.len() as u32),
+        Ok(read) => lex(alloc, past_byte_order_mark(read), text.len() as u32),
         Err(e) => Err(LexErr::NotUtf8 {
             at: e.valid_up_to() as u32,
         }),
     }
 }
 
-/// The tokens of what is left of a text with this end.
-fn lex(alloc: Global, text: &str, limit: u32) -> Result<Vec<Token>, LexErr>
-    requires len { length text.now ≤ limit }
-    requires limit { limit ≤ 1048576 }
-    ensures { Gives result (lexed (length text.now) limit (chars text.now)) }
+/// The tokens of what is left of a text, which ends at the offset `end_of_text`.
+fn lex(alloc: Global, text: &str, end_of_text: u32) -> Result<Vec<Token>, LexErr>
+    requires len { length text.now ≤ end_of_text }
+    requires limit { end_of_text ≤ TEXT_LIMIT }
+    ensures { Answers result (read (length text.now) end_of_text (chars text.now)) }
 {
     let mut found = Vec::new(alloc);
     let mut rest = text;
     for _ in 0..text.len() {
-        let start = limit - rest.len() as u32;
+        let start = end_of_text - rest.len() as u32;
         match front_of(rest) {
             Front::Nothing => return Ok(found),
             Front::Gap(after) => rest = after,
@@ -55,7 +59,7 @@ fn lex(alloc: Global, text: &str, limit: u32) -> Result<Vec<Token>, LexErr>
                 found.push(Token {
                     kind: kind_of(word),
                     start,
-                    end: limit - after.len() as u32,
+                    end: end_of_text - after.len() as u32,
                 })?;
                 rest = after;
             }
@@ -63,24 +67,13 @@ fn lex(alloc: Global, text: &str, limit: u32) -> Result<Vec<Token>, LexErr>
                 found.push(Token {
                     kind: TokenKind::Mark { n },
                     start,
-                    end: limit - after.len() as u32,
+                    end: end_of_text - after.len() as u32,
                 })?;
                 rest = after;
             }
-            Front::Bad => return Err(LexErr::BadCharacter { at: start }),
+            Front::BadCharacter => return Err(LexErr::BadCharacter { at: start }),
             Front::OpenComment => return Err(LexErr::OpenComment { at: start }),
         }
     }
     Ok(found)
-}
-
-/// The text without the byte order mark at its front.
-fn past_mark(text: &str) -> &str
-    ensures chars { chars result.now ≡ after_mark (chars text.now) }
-    ensures len { length result.now ≤ length text.now }
-{
-    match first(text) {
-        Some((c, rest)) if c == '\u{FEFF}' => rest,
-        _ => text,
-    }
 }

@@ -1,10 +1,15 @@
 //! The tokens of a source text, or the first place where none can be read.
 #![tactic(auto)]
 
+mod characters;
+mod comments;
+mod front;
+pub mod laws;
 mod lexer;
 mod marks;
 mod refusal;
-mod scan;
+#[cfg(test)]
+mod tests;
 mod token;
 mod words;
 

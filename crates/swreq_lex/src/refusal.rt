@@ -4,7 +4,7 @@ use std::alloc::AllocFailed;
 use thiserror::Error;
 
 /// Why a text has no tokens, with the offset of the place in bytes.
-#[derive(Debug, Drop, Error)]
+#[derive(Debug, PartialEq, Eq, Drop, Error)]
 pub enum LexErr {
     /// The text is not UTF-8; the bytes before `at` are its longest front that is.
     #[error("not UTF-8 at {at}")]

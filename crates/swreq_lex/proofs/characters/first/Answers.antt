@@ -1,8 +1,7 @@
-use Rattle.std.proofs.Common.{◌≡◌, ◌+◌, length, ap, ◌∙◌, sym, arith, ◌++◌}
-use Rattle.std.specs.Str.{chars}
+use Rattle.std.proofs.Common.{◌+◌, length, ap, ◌∙◌, sym}
 use Rattle.std.proofs.lemmas.Str.{chars_past_char, length-encode}
 use Rattle.std.proofs.lemmas.List.{length-append}
-use Rattle.swreq_lex.proofs.scan.first.Goals as goal
+use Rattle.swreq_lex.proofs.characters.first.Goals as goal
 
 pub returns-clause-chars : goal.returns-clause-chars
 returns-clause-chars c =

@@ -2,8 +2,9 @@ use Rattle.std.proofs.Common.{◌≡◌, ◌≤◌, length}
 use denote.Text.{Utf8}
 use denote.Shadow.{shadow}
 use Rattle.std.specs.Str.{chars}
-use Rattle.swreq_lex.specs.Front.{past, continues_word}
-use Rattle.swreq_lex.proofs.scan.past_word.Given as goal
+use Rattle.swreq_lex.specs.Characters.{continues_word}
+use Rattle.swreq_lex.specs.Reader.{past}
+use Rattle.swreq_lex.proofs.words.past_word.Given as goal
 
 abbrev pub invariant-loop-c : goal.invariant-loop-c
 invariant-loop-c l = shadow (Utf8 l.rest) × (length l.rest ≤ length l.text) × (past continues_word (chars l.rest) ≡ past continues_word (chars l.text))
