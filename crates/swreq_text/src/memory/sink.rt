@@ -26,12 +26,12 @@ impl Model for MemSink {
     ghost Value = { SinkState };
 
     ghost view = { λ s. record {
-        taken = s.bytes.items;
-        room = s.room;
-        piece = s.piece;
-        fails = s.fails.items;
-        calls = s.calls;
-        faults = s.faults
+      taken = s.bytes.items;
+      room = s.room;
+      piece = s.piece;
+      fails = s.fails.items;
+      calls = s.calls;
+      faults = s.faults;
     } };
 
     ghost invariant = { λ s.
@@ -46,12 +46,12 @@ impl MemSink {
     pub fn new(alloc: Global, room: u32, piece: u32, fails: Vec<u32>) -> Result<Self, AllocError>
         requires { 1 ≤ piece }
         ensures { IfOk result (λ s. s ≡ record {
-            taken = [];
-            room = room;
-            piece = piece;
-            fails = fails.items;
-            calls = 0;
-            faults = 0
+          taken = [];
+          room = room;
+          piece = piece;
+          fails = fails.items;
+          calls = 0;
+          faults = 0;
         }) }
     {
         let bytes = Vec::with_capacity(alloc, room as usize)?;

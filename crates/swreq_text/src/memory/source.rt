@@ -24,11 +24,11 @@ impl Model for MemSource {
     ghost Value = { SourceState };
 
     ghost view = { λ s. record {
-        left = drop s.at s.bytes.items;
-        piece = s.piece;
-        fails = s.fails.items;
-        calls = s.calls;
-        faults = s.faults
+      left = drop s.at s.bytes.items;
+      piece = s.piece;
+      fails = s.fails.items;
+      calls = s.calls;
+      faults = s.faults;
     } };
 
     ghost invariant = { λ s. (s.at ≤ length s.bytes.items) × (1 ≤ s.piece) };
@@ -41,11 +41,11 @@ impl MemSource {
     pub fn new(bytes: Vec<u8>, piece: u32, fails: Vec<u32>) -> Self
         requires { 1 ≤ piece }
         ensures { result ≡ record {
-            left = bytes.items;
-            piece = piece;
-            fails = fails.items;
-            calls = 0;
-            faults = 0
+          left = bytes.items;
+          piece = piece;
+          fails = fails.items;
+          calls = 0;
+          faults = 0;
         } }
     {
         MemSource {
