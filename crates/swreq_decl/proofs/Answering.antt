@@ -34,7 +34,7 @@ source_not_refused : (end : ℕ) (ts : List (Token Terminal)) (s : Skeleton) (at
 source_not_refused end ts s at kind a r = text_not_refused number source ts a.0 a.1 r.1.0 r.0.0 r.1.1 r.1.2
 
 -- tokens are refused in one way at most
-one_refused_source : (end : ℕ) (ts : List (Token Terminal)) (at place : ℕ) (kind other : Option Kind) → IsRefused end ts at kind → IsRefused end ts place other → (at ≡ place) × (kind ≡ other)
+pub one_refused_source : (end : ℕ) (ts : List (Token Terminal)) (at place : ℕ) (kind other : Option Kind) → IsRefused end ts at kind → IsRefused end ts place other → (at ≡ place) × (kind ≡ other)
 one_refused_source end ts at there kind other a b =
     let same = one_refusal number source ts a.0 b.0 a.1 b.1 in
     (a.2 ∙ ap (λ (f : Fault Terminal Kind). place end f.0) same ∙ sym b.2, a.3 ∙ ap (λ (f : Fault Terminal Kind). kind_at f.1 f.0) same ∙ sym b.3)
@@ -54,7 +54,39 @@ refused_source end ts (stops.Refused rest label) h =
     told end ts (place end rest.now) (kind_at label rest.now)
       ((rest.now, label), parse_refusal number source source_is_predictive source_is_well_labelled ts (rest.now, label) h, refl, refl)
 
+-- tokens stand for a skeleton or are refused
+some_verdict : (end : ℕ) (ts : List (Token Terminal)) → ((s : Skeleton) × IsSource ts s) ⊎ ((at : ℕ) × (kind : Option Kind) × IsRefused end ts at kind)
+some_verdict end ts = go (parse number source ts) refl
+  where
+    go : (r : Result (List Item) (Fault Terminal Kind)) → parse number source ts ≡ r → ((s : Skeleton) × IsSource ts s) ⊎ ((at : ℕ) × (kind : Option Kind) × IsRefused end ts at kind)
+    go (Ok parts) e = inl (skeleton_of parts, read_source ts parts (skeleton_of parts) e refl)
+    go (Err fault) e = inr (place end fault.0, kind_at fault.1 fault.0, (fault, parse_refusal number source source_is_predictive source_is_well_labelled ts fault e, refl, refl))
+
 -- ---- over texts
+
+module _ (text : List ℕ) where
+  -- the text has one list of tokens at most
+  abbrev pub OneList : Type 0
+  OneList = (ts us : List lexed.Token) → HasTokens text ts → HasTokens text us → ts ≡ us
+
+  pub one_skeleton : OneList → (s t : Skeleton) → StandsFor text s → StandsFor text t → s ≡ t
+  one_skeleton one s t a b = one_source (terminals text a.0) s t a.2 (subst (λ ts. IsSource (terminals text ts) t) (one b.0 a.0 b.1 a.1) b.2)
+
+  pub verdict_of : (ts : List lexed.Token) → HasTokens text ts → ((s : Skeleton) × StandsFor text s) ⊎ ((at : ℕ) × (kind : Option Kind) × RefusedFor text at kind)
+  verdict_of ts h = go (some_verdict (length text) (terminals text ts))
+    where
+      go : ((s : Skeleton) × IsSource (terminals text ts) s) ⊎ ((at : ℕ) × (kind : Option Kind) × IsRefused (length text) (terminals text ts) at kind) → ((s : Skeleton) × StandsFor text s) ⊎ ((at : ℕ) × (kind : Option Kind) × RefusedFor text at kind)
+      go (inl a) = inl (a.0, (ts, h, a.1))
+      go (inr a) = inr (a.0, a.1, (ts, h, a.2))
+
+  pub one_refusal_of : OneList → (at there : ℕ) (kind other : Option Kind) → RefusedFor text at kind → RefusedFor text there other → (at ≡ there) × (kind ≡ other)
+  one_refusal_of one at there kind other a b =
+      one_refused_source (length text) (terminals text a.0) at there kind other a.2 (subst (λ ts. IsRefused (length text) (terminals text ts) there other) (one b.0 a.0 b.1 a.1) b.2)
+
+  pub not_both : OneList → (s : Skeleton) (at : ℕ) (kind : Option Kind) → StandsFor text s → RefusedFor text at kind → ⊥
+  not_both one s at kind a b =
+      source_not_refused (length text) (terminals text a.0) s at kind a.2 (subst (λ ts. IsRefused (length text) (terminals text ts) at kind) (one b.0 a.0 b.1 a.1) b.2)
+
 
 -- the tokens of the text are these and no others, and no lexical refusal is there
 abbrev pub Tokenised : List ℕ → List lexed.Token → Type 0

@@ -5,6 +5,7 @@ mod classes;
 mod functions;
 mod items;
 mod kind;
+pub mod laws;
 mod parser;
 mod protocols;
 mod queries;

@@ -70,7 +70,7 @@ module _ {T : Type 0} (number : T → ℕ) where
   -- ---- over the grammar alone
 
   -- each prefix of a viable prefix is one
-  viable_front : {L A : Type 0} (g : Grammar T L A) (front back : List (Token T)) → Viable number g (front ++ back) → Viable number g front
+  pub viable_front : {L A : Type 0} (g : Grammar T L A) (front back : List (Token T)) → Viable number g (front ++ back) → Viable number g front
   viable_front g front back v = (back ++ v.0, v.1, subst (λ zs. Matches number g zs v.1) (append_assoc front back v.0) v.2)
 
   -- no text is refused

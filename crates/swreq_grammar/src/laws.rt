@@ -3,7 +3,7 @@
 ghost use Rattle.std.specs.Prelude.{◌≡◌, ◌++◌, ℕ, List, Result, Ok, Err, true};
 ghost use Rattle.swreq_grammar.specs.declared.token.Token.{Token};
 ghost use Rattle.swreq_grammar.specs.Grammar.{Grammar, Matches};
-ghost use Rattle.swreq_grammar.specs.Refusal.{RefusedAt, Refuses, is_well_labelled};
+ghost use Rattle.swreq_grammar.specs.Refusal.{RefusedAt, Refuses, Viable, is_well_labelled};
 ghost use Rattle.swreq_grammar.specs.Reader.{Fault, is_predictive, parse};
 
 /// A grammar, of which the laws speak.
@@ -37,8 +37,11 @@ pub fn refusals_are_read<G: Language>()
     ensures refused { is_predictive G.number G.grammar ≡ true → is_well_labelled G.grammar ≡ true → (ts : List (Token G.Terminal)) (fault : Fault G.Terminal G.Label) → parse G.number G.grammar ts ≡ Err fault → Refuses G.number G.grammar ts fault }
 {}
 
-/// Over each grammar, at most one token of a text is the refused one, and no token of a text of the grammar is.
+/// Over each grammar, a text of the grammar begins with each front of the tokens before the refused one, so that this is
+/// the first such that none begins with the tokens up to and with it. At most one token of a text is the refused one, and
+/// no token of a text of the grammar is.
 pub fn one_refused_token<G: Language>()
+    ensures first { (front back rest : List (Token G.Terminal)) → RefusedAt G.number G.grammar (front ++ back) rest → Viable G.number G.grammar front }
     ensures one { (before rest other left : List (Token G.Terminal)) → before ++ rest ≡ other ++ left → RefusedAt G.number G.grammar before rest → RefusedAt G.number G.grammar other left → (before ≡ other) × (rest ≡ left) }
     ensures none { (before rest : List (Token G.Terminal)) (v : G.Value) → Matches G.number G.grammar (before ++ rest) v → RefusedAt G.number G.grammar before rest → ⊥ }
 {}
