@@ -52,7 +52,7 @@ pub refused_source : (end : ℕ) (ts : List (Token Terminal)) (stop : Stop Termi
 refused_source end ts stops.Memory h = tt
 refused_source end ts (stops.Refused rest label) h =
     told end ts (place end rest.now) (kind_at label rest.now)
-      ((rest.now, label), parse_refusal number source source_is_predictive source_is_well_labelled ts (rest.now, label) h, refl, refl)
+    ((rest.now, label), parse_refusal number source source_is_predictive source_is_well_labelled ts (rest.now, label) h, refl, refl)
 
 -- tokens stand for a skeleton or are refused
 some_verdict : (end : ℕ) (ts : List (Token Terminal)) → ((s : Skeleton) × IsSource ts s) ⊎ ((at : ℕ) × (kind : Option Kind) × IsRefused end ts at kind)
@@ -86,7 +86,6 @@ module _ (text : List ℕ) where
   pub not_both : OneList → (s : Skeleton) (at : ℕ) (kind : Option Kind) → StandsFor text s → RefusedFor text at kind → ⊥
   not_both one s at kind a b =
       source_not_refused (length text) (terminals text a.0) s at kind a.2 (subst (λ ts. IsRefused (length text) (terminals text ts) at kind) (one b.0 a.0 b.1 a.1) b.2)
-
 
 -- the tokens of the text are these and no others, and no lexical refusal is there
 abbrev pub Tokenised : List ℕ → List lexed.Token → Type 0
@@ -123,9 +122,10 @@ module _ (text : List ℕ) (found : List lexed.Token) (here : Tokenised text fou
   told_syntax (Ok t) h at = (λ e. absurd cc, λ a. absurd (source_not_refused (length text) (terminals text found) t at None h (is_refused at None a)))
   told_syntax (Err errors.Memory) h at = (λ e. absurd cc, λ a. inr refl)
   told_syntax (Err (errors.Lex fault)) h at = absurd h
-  told_syntax (Err (errors.Syntax there)) h at =
-      (λ e. let same : there ≡ at = cc in subst (λ n. RefusedFor text n None) same (found, here.0, h),
-       λ a. inl (ap (λ n. Err (errors.Syntax n)) (one_refused_source (length text) (terminals text found) there at None None h (is_refused at None a)).0))
+  told_syntax (Err (errors.Syntax there)) h at = (
+    λ e. let same : there ≡ at = cc in subst (λ n. RefusedFor text n None) same (found, here.0, h),
+    λ a. inl (ap (λ n. Err (errors.Syntax n)) (one_refused_source (length text) (terminals text found) there at None None h (is_refused at None a)).0),
+  )
   told_syntax (Err (errors.Unsupported there kind)) h at =
       (λ e. absurd cc, λ a. absurd (let same = (one_refused_source (length text) (terminals text found) there at (Some kind) None h (is_refused at None a)).1 in cc))
 
@@ -135,6 +135,7 @@ module _ (text : List ℕ) (found : List lexed.Token) (here : Tokenised text fou
   told_unsupported (Err (errors.Lex fault)) h at kind = absurd h
   told_unsupported (Err (errors.Syntax there)) h at kind =
       (λ e. absurd cc, λ a. absurd (let same = (one_refused_source (length text) (terminals text found) there at None (Some kind) h (is_refused at (Some kind) a)).1 in cc))
-  told_unsupported (Err (errors.Unsupported there other)) h at kind =
-      (λ e. let same : there ≡ at = cc in let also : other ≡ kind = cc in rw (sym same, sym also) (found, here.0, h),
-       λ a. inl (let same = one_refused_source (length text) (terminals text found) there at (Some other) (Some kind) h (is_refused at (Some kind) a) in let also : other ≡ kind = cc in rw (same.0, also) refl))
+  told_unsupported (Err (errors.Unsupported there other)) h at kind = (
+    λ e. let same : there ≡ at = cc in let also : other ≡ kind = cc in rw (sym same, sym also) (found, here.0, h),
+    λ a. inl (let same = one_refused_source (length text) (terminals text found) there at (Some other) (Some kind) h (is_refused at (Some kind) a) in let also : other ≡ kind = cc in rw (same.0, also) refl),
+  )

@@ -6,7 +6,6 @@ use Rattle.swreq_lex.specs.declared.token.Token as lexed
 use Rattle.swreq_lex.specs.declared.token.TokenKind.{TokenKind}
 use Rattle.swreq_lex.specs.declared.token.TokenKind.TheVariants as kinds
 use Rattle.swreq_grammar.specs.declared.token.Token.{Token}
-use Rattle.swreq_decl.specs.declared.terminal.TheConstants.{RESERVED_WORDS, MARKS}
 use Rattle.swreq_decl.specs.declared.terminal.Terminal.{Terminal}
 use Rattle.swreq_decl.specs.declared.terminal.Terminal.TheVariants.{Name, Query, Underscore, Protocol, AssociatedType, Func, Where, SelfType, AnyObject, Public, Internal, FilePrivate, Private, Class, Struct, Enum, Actor, Extension, Typealias, Import, Var, Let, Init, Subscript, Static, Mutating, OpaqueSome, ExistentialAny, AnyType, Each, Repeat, MetatypeOf, ProtocolMetatypeOf, Async, Throws, Rethrows, OpenBrace, CloseBrace, OpenParenthesis, CloseParenthesis, Less, Greater, Comma, Colon, Semicolon, Dot, Ampersand, EqualEqual, OpenBracket, CloseBracket, At, Backtick, Tilde, Question, Exclamation, Equal, Arrow}
 
@@ -91,11 +90,26 @@ query_word = 113 ∷ 117 ∷ 101 ∷ 114 ∷ 121 ∷ []
 abbrev pub name_or_query : List ℕ → Terminal
 name_or_query word = if bytes_eq word query_word then Query else Name
 
+-- the reserved words, in the order in which the tokens count them
+abbrev pub reserved_words : List Terminal
+reserved_words =
+    Protocol ∷ AssociatedType ∷ Func ∷ Where ∷ SelfType ∷ AnyObject ∷ Public ∷ Internal ∷ FilePrivate ∷ Private ∷
+    Class ∷ Struct ∷ Enum ∷ Actor ∷ Extension ∷ Typealias ∷ Import ∷ Var ∷ Let ∷ Init ∷ Subscript ∷ Static ∷
+    Mutating ∷ OpaqueSome ∷ ExistentialAny ∷ AnyType ∷ Each ∷ Repeat ∷ MetatypeOf ∷ ProtocolMetatypeOf ∷ Async ∷
+    Throws ∷ Rethrows ∷ []
+
+-- the marks, in the order in which the tokens count them
+abbrev pub marks : List Terminal
+marks =
+    OpenBrace ∷ CloseBrace ∷ OpenParenthesis ∷ CloseParenthesis ∷ Less ∷ Greater ∷ Comma ∷ Colon ∷ Semicolon ∷ Dot ∷
+    Ampersand ∷ EqualEqual ∷ OpenBracket ∷ CloseBracket ∷ At ∷ Backtick ∷ Tilde ∷ Question ∷ Exclamation ∷ Equal ∷
+    Arrow ∷ []
+
 abbrev pub by_kind : List ℕ → TokenKind → Terminal
 by_kind word kinds.Name = name_or_query word
-by_kind word (kinds.Reserved n) = entry RESERVED_WORDS n
+by_kind word (kinds.Reserved n) = entry reserved_words n
 by_kind word kinds.Underscore = Underscore
-by_kind word (kinds.Mark n) = entry MARKS n
+by_kind word (kinds.Mark n) = entry marks n
 
 abbrev pub terminal_of : List ℕ → lexed.Token → Terminal
 terminal_of text t = by_kind (slice text t.start t.end) t.kind

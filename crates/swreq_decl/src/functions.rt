@@ -38,7 +38,9 @@ struct NextParam;
 
 impl Part for NextParam {
     type Terminal = Terminal;
+
     type Label = Kind;
+
     type Value = ParamDecl;
 
     ghost number = { terminals.number };

@@ -57,7 +57,9 @@ struct AnyItem;
 
 impl Part for AnyItem {
     type Terminal = Terminal;
+
     type Label = Kind;
+
     type Value = Item;
 
     ghost number = { terminals.number };

@@ -20,6 +20,9 @@ pub use kind::Kind;
 pub use parser::parse;
 pub use refusal::ParseErr;
 pub use skeleton::{
-    Ask, AssocDecl, Entity, FunctionDecl, ParamDecl, ProtocolDecl, QueryDecl, ReqDecl,
-    Skeleton, Span, StepDecl, TypeDecl,
+    Ask, AssocDecl, Entity, FunctionDecl, ParamDecl, ProtocolDecl, QueryDecl, ReqDecl, Skeleton,
+    Span, StepDecl, TypeDecl,
 };
+
+#[cfg(test)]
+mod tests;

@@ -22,7 +22,9 @@ struct Member;
 
 impl Part for Member {
     type Terminal = Terminal;
+
     type Label = Kind;
+
     type Value = AssocDecl;
 
     ghost number = { terminals.number };

@@ -33,7 +33,9 @@ struct QueryStep;
 
 impl Part for QueryStep {
     type Terminal = Terminal;
+
     type Label = Kind;
+
     type Value = StepDecl;
 
     ghost number = { terminals.number };

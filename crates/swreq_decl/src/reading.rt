@@ -34,7 +34,10 @@ fn has(terminals: &[Terminal], terminal: Terminal) -> bool
 }
 
 /// One token of one of the terminals.
-pub fn one_of<'a>(tokens: &'a [Token<Terminal>], terminals: &[Terminal]) -> Read<'a, Token<Terminal>>
+pub fn one_of<'a>(
+    tokens: &'a [Token<Terminal>],
+    terminals: &[Terminal],
+) -> Read<'a, Token<Terminal>>
     ensures { Gives (λ x. (x.0, x.1.now)) result (read_terminal number terminals.now tokens.now) }
 {
     match tokens {

@@ -39,7 +39,9 @@ struct NextRequirement;
 
 impl Part for NextRequirement {
     type Terminal = Terminal;
+
     type Label = Kind;
+
     type Value = ReqDecl;
 
     ghost number = { terminals.number };

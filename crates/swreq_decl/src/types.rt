@@ -40,7 +40,9 @@ struct JoinedEntity;
 
 impl Part for JoinedEntity {
     type Terminal = Terminal;
+
     type Label = Kind;
+
     type Value = Entity;
 
     ghost number = { terminals.number };
@@ -77,7 +79,9 @@ struct NextInherited;
 
 impl Part for NextInherited {
     type Terminal = Terminal;
+
     type Label = Kind;
+
     type Value = Entity;
 
     ghost number = { terminals.number };
@@ -128,7 +132,9 @@ struct PlainStep;
 
 impl Part for PlainStep {
     type Terminal = Terminal;
+
     type Label = Kind;
+
     type Value = StepDecl;
 
     ghost number = { terminals.number };

@@ -1,5 +1,5 @@
 -- Grammars as data, and the texts of a grammar with the values that they stand for.
-use Rattle.std.specs.Prelude.{◌≡◌, ℕ, ◌≤◌, Bool, false, ◌||◌, List, [], ◌∷◌, ◌++◌, length, IsTrue, nat_eq, ◌⊎◌}
+use Rattle.std.specs.Prelude.{◌≡◌, ℕ, ◌≤◌, Bool, List, [], ◌∷◌, ◌++◌, length, IsTrue, nat_eq, ◌⊎◌}
 use Rattle.std.specs.List.{list_any}
 use Rattle.swreq_grammar.specs.declared.token.Token.{Token}
 

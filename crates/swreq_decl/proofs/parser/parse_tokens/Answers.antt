@@ -9,7 +9,7 @@ use Rattle.swreq_decl.proofs.parser.parse_tokens.Goals as goal
 pub returns-in-Ok : goal.returns-in-Ok
 returns-in-Ok c =
     read_source (terminals c.args.text.now c.args.found.now) c.in-Ok.items.items c.in_ok-skeleton_of-in-Ok.field-0
-      (ap (parse number source) (sym (c.deref.ensures.value ∙ c.in_ok-coded.ensures)) ∙ c.in-Ok.ensures) c.in_ok-skeleton_of-in-Ok.ensures
+    (ap (parse number source) (sym (c.deref.ensures.value ∙ c.in_ok-coded.ensures)) ∙ c.in-Ok.ensures) c.in_ok-skeleton_of-in-Ok.ensures
 
 pub returns : goal.returns
 returns c =
