@@ -1,5 +1,5 @@
 -- What is told of the tokens of a text is the exact answer.
-use Rattle.std.proofs.Common.{◌≡◌, ℕ, ◌⊎◌, inl, inr, List, [], ◌∷◌, ◌++◌, length, Option, Some, None, Result, Ok, Err, refl, sym, ap, subst, ◌∙◌}
+use Rattle.std.proofs.Common.{◌≡◌, ℕ, ◌⊎◌, inl, inr, List, length, Option, Some, None, Result, Ok, Err, refl, sym, ap, subst, ◌∙◌}
 use Rattle.swreq_lex.specs.declared.token.Token as lexed
 use Rattle.swreq_lex.specs.declared.refusal.LexErr.{LexErr}
 use Rattle.swreq_lex.specs.Tokens.{HasTokens}
@@ -7,11 +7,9 @@ use Rattle.swreq_lex.specs.Refusals.{HasRefusal}
 use Rattle.swreq_grammar.specs.declared.token.Token.{Token}
 use Rattle.swreq_grammar.specs.declared.stop.Stop.{Stop}
 use Rattle.swreq_grammar.specs.declared.stop.Stop.TheVariants as stops
-use Rattle.swreq_grammar.specs.Grammar.{Matches}
 use Rattle.swreq_grammar.specs.Reader.{Fault, parse}
-use Rattle.swreq_grammar.specs.Refusal.{Refuses}
 use Rattle.swreq_grammar.specs.Gives.{Fails}
-use Rattle.swreq_grammar.proofs.Whole.{parse_takes, parsed_matches, parse_refusal, one_value, one_refusal, text_not_refused}
+use Rattle.swreq_grammar.proofs.Whole.{parsed_matches, parse_refusal, one_value, one_refusal, text_not_refused}
 use Rattle.swreq_decl.specs.declared.terminal.Terminal.{Terminal}
 use Rattle.swreq_decl.specs.declared.kind.Kind.{Kind}
 use Rattle.swreq_decl.specs.declared.skeleton.Item.{Item}

@@ -1,6 +1,6 @@
 -- The grammar of the source text, one definition for each line of the written grammar (docs/LANGUAGE.md), and the parts
 -- that its texts stand for.
-use Rattle.std.specs.Prelude.{◌≡◌, Bool, true, false, List, [], ◌∷◌}
+use Rattle.std.specs.Prelude.{true, false, List, [], ◌∷◌}
 use Rattle.swreq_grammar.specs.declared.token.Token.{Token}
 use Rattle.swreq_grammar.specs.Grammar.{Grammar, unlimited, at_most, terminal, empty, mapped, sequence, alternative, repetition, labelled}
 use Rattle.swreq_decl.specs.declared.terminal.Terminal.{Terminal}

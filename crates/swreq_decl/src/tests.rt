@@ -21,88 +21,87 @@ fn verdict(rt: &impl Abort, alloc: Global, text: &[u8]) -> Result<String, Fail> 
     Ok(line)
 }
 
+/// Texts, each with its refusal: by position, by the token alone, and syntax errors.
+const REFUSED: &str = "\
+class C { } | Class 0
+protocol P { func g() } | Member 13
+func f<T>(x: T) | Parameters 10
+func f<T>() where T == Array<T> | GenericArguments 28
+func f<T>() where T. | syntax 20
+func f<T>() # | bad character at 12
+/* a /* b */ c | open comment at 0
+class C # | bad character at 8
+func f(class) | Parameters 7
+func f({ | Parameters 7
+func f() { x } | Body 11
+func f() { ] } | Body 11
+func f() { | syntax 10
+func f( | syntax 7
+struct S { } | Struct 0
+enum E { } | Enum 0
+actor A { } | Actor 0
+extension P { } | Extension 0
+typealias A = B | Typealias 0
+import M | Import 0
+public class C { } | Class 7
+protocol P { typealias A = B } | Typealias 13
+protocol P { var x: Int { get } } | Member 13
+protocol P { init() } | Member 13
+func f<T: some P>() | Existential 10
+func f<T: any P>() | Existential 10
+func f<T>() where T: Any | Existential 21
+func f<each T>() | ParameterPack 7
+func f<T>() where repeat T: P | ParameterPack 18
+func f<T>() where T.Type: P | Metatype 20
+func f<T>() where T.Protocol == T | Metatype 20
+func f() async | Effect 9
+func f() throws { } | Effect 9
+@objc protocol P { } | Attribute 0
+func `f`() | Backtick 5
+protocol P: ~Q { } | SuppressedRequirement 12
+func f<T>() where T == U? | Optional 24
+func f<T>() where T == U! | Optional 24
+func f<T>() where T == [U] | Array 23
+func f<T>() where T.[P]A == T | Array 20
+func f<T>() where T == (U) | Tuple 23
+func f() -> T | Arrow 9
+protocol P { associatedtype A = B } | DefaultValue 30
+func f<T>() where T === T | DefaultValue 22
+protocol P<A> { } | GenericArguments 10
+query f(T<U>) | GenericArguments 9
+query f((T)) | Tuple 8
+public query f() | syntax 7
+public private func f() | syntax 7
+protocol P { };; | syntax 15
+protocol P { associatedtype A;; } | syntax 30
+; | syntax 0
+query f(T: P & Q) | syntax 13
+query f(Self) | syntax 8
+query f(T == T == T) | syntax 15
+protocol AnyObject { } | syntax 9
+protocol P: Self { } | syntax 12
+protocol P: Q.R { } | syntax 13
+protocol P { protocol Q { } } | syntax 13
+protocol P { query f() } | syntax 13
+associatedtype A | syntax 0
+func f<>() | syntax 7
+func f<T,>() | syntax 9
+func f<T: P, >() | syntax 13
+func f() where | syntax 14
+func f() where T | syntax 16
+func f() where Self | syntax 19
+func f() where T: P, | syntax 20
+func f() { } { } | syntax 13
+func f() func g | syntax 15
+func f() where AnyObject: P | syntax 15
+func f() where T.Self: P | syntax 17
+f | syntax 0
+";
+
 #[test]
 fn texts_outside_the_grammar_are_refused(rt: HostRuntime) -> Result<(), Fail> {
-    let cases = [
-        ("class C { }\n", "Class 0"),
-        ("protocol P { func g() }\n", "Member 13"),
-        ("func f<T>(x: T)\n", "Parameters 10"),
-        ("func f<T>() where T == Array<T>\n", "GenericArguments 28"),
-        ("func f<T>() where T.", "syntax 20"),
-        ("func f<T>() #\n", "bad character at 12"),
-        ("/* a /* b */ c\n", "open comment at 0"),
-        // a lexical refusal comes before one of the grammar
-        ("class C #\n", "bad character at 8"),
-        // by position, whatever the token
-        ("func f(class)", "Parameters 7"),
-        ("func f({", "Parameters 7"),
-        ("func f() { x }", "Body 11"),
-        ("func f() { ] }", "Body 11"),
-        ("func f() {\n", "syntax 11"),
-        ("func f(\n", "syntax 8"),
-        // by the token alone
-        ("struct S { }", "Struct 0"),
-        ("enum E { }", "Enum 0"),
-        ("actor A { }", "Actor 0"),
-        ("extension P { }", "Extension 0"),
-        ("typealias A = B", "Typealias 0"),
-        ("import M", "Import 0"),
-        ("public class C { }", "Class 7"),
-        ("protocol P { typealias A = B }", "Typealias 13"),
-        ("protocol P { var x: Int { get } }", "Member 13"),
-        ("protocol P { init() }", "Member 13"),
-        ("func f<T: some P>()", "Existential 10"),
-        ("func f<T: any P>()", "Existential 10"),
-        ("func f<T>() where T: Any", "Existential 21"),
-        ("func f<each T>()", "ParameterPack 7"),
-        ("func f<T>() where repeat T: P", "ParameterPack 18"),
-        ("func f<T>() where T.Type: P", "Metatype 20"),
-        ("func f<T>() where T.Protocol == T", "Metatype 20"),
-        ("func f() async", "Effect 9"),
-        ("func f() throws { }", "Effect 9"),
-        ("@objc protocol P { }", "Attribute 0"),
-        ("func `f`()", "Backtick 5"),
-        ("protocol P: ~Q { }", "SuppressedRequirement 12"),
-        ("func f<T>() where T == U?", "Optional 24"),
-        ("func f<T>() where T == U!", "Optional 24"),
-        ("func f<T>() where T == [U]", "Array 23"),
-        ("func f<T>() where T.[P]A == T", "Array 20"),
-        ("func f<T>() where T == (U)", "Tuple 23"),
-        ("func f() -> T", "Arrow 9"),
-        ("protocol P { associatedtype A = B }", "DefaultValue 30"),
-        ("func f<T>() where T === T", "DefaultValue 22"),
-        ("protocol P<A> { }", "GenericArguments 10"),
-        ("query f(T<U>)", "GenericArguments 9"),
-        ("query f((T))", "Tuple 8"),
-        // all others are syntax errors
-        ("public query f()", "syntax 7"),
-        ("public private func f()", "syntax 7"),
-        ("protocol P { };;", "syntax 15"),
-        ("protocol P { associatedtype A;; }", "syntax 30"),
-        (";", "syntax 0"),
-        ("query f(T: P & Q)", "syntax 13"),
-        ("query f(Self)", "syntax 8"),
-        ("query f(T == T == T)", "syntax 15"),
-        ("protocol AnyObject { }", "syntax 9"),
-        ("protocol P: Self { }", "syntax 12"),
-        ("protocol P: Q.R { }", "syntax 13"),
-        ("protocol P { protocol Q { } }", "syntax 13"),
-        ("protocol P { query f() }", "syntax 13"),
-        ("associatedtype A", "syntax 0"),
-        ("func f<>()", "syntax 7"),
-        ("func f<T,>()", "syntax 9"),
-        ("func f<T: P, >()", "syntax 13"),
-        ("func f() where", "syntax 14"),
-        ("func f() where T", "syntax 16"),
-        ("func f() where Self", "syntax 19"),
-        ("func f() where T: P,", "syntax 20"),
-        ("func f() { } { }", "syntax 13"),
-        ("func f() func g", "syntax 15"),
-        ("func f() where AnyObject: P", "syntax 15"),
-        ("func f() where T.Self: P", "syntax 17"),
-        ("f", "syntax 0"),
-    ];
-    for (text, expected) in cases {
+    for line in REFUSED.lines() {
+        let (text, expected) = line.split_once(" | ").ok_or("no refusal")?;
         let found = verdict(&rt, rt.alloc(), text.as_bytes())?;
         assert_eq!(rt; found.as_str(), expected, "{text}");
     }
