@@ -1,0 +1,4 @@
+pub mod Slices
+pub mod Predictive
+pub mod Growing
+pub mod Answering

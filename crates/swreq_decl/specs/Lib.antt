@@ -1,0 +1,4 @@
+pub mod Terminals
+pub mod Kinds
+pub mod Source
+pub mod Skeletons

@@ -1,0 +1,26 @@
+//! What holds of the skeletons and refusals of each text.
+
+ghost use Rattle.std.specs.Prelude.{◌≡◌, ◌⊎◌, ℕ, List, Option};
+ghost use Rattle.swreq_lex.specs.declared.token.Token as lexed;
+ghost use Rattle.swreq_lex.specs.Tokens.{HasTokens};
+ghost use Rattle.swreq_decl.specs.declared.kind.Kind.{Kind};
+ghost use Rattle.swreq_decl.specs.declared.skeleton.Skeleton.{Skeleton};
+ghost use Rattle.swreq_decl.specs.Skeletons.{RefusedFor, StandsFor};
+
+use swreq_lex::laws::one_reading;
+
+/// At most one skeleton stands for a text.
+pub fn one_skeleton(text: &[u8])
+    ensures { (s t : Skeleton) → StandsFor text.now s → StandsFor text.now t → s ≡ t }
+{
+    one_reading(text);
+}
+
+/// A text that has tokens has a skeleton or a refusal of the grammar, and one of them alone.
+pub fn one_verdict(text: &[u8])
+    ensures some { (ts : List lexed.Token) → HasTokens text.now ts → ((s : Skeleton) × StandsFor text.now s) ⊎ ((at : ℕ) × (kind : Option Kind) × RefusedFor text.now at kind) }
+    ensures one { (at place : ℕ) (kind other : Option Kind) → RefusedFor text.now at kind → RefusedFor text.now place other → (at ≡ place) × (kind ≡ other) }
+    ensures never_both { (s : Skeleton) (at : ℕ) (kind : Option Kind) → StandsFor text.now s → ¬ (RefusedFor text.now at kind) }
+{
+    one_reading(text);
+}
