@@ -1,4 +1,4 @@
--- How many steps of reduction are left: there is one first step of a word at most, so the number is one, and each step lowers it by one.
+-- How many steps of reduction a word has left: it has one such step at most, so there is one number, which each step lowers by one.
 use Rattle.std.proofs.Common.{◌≡◌, ℕ, zero, suc, ◌<◌, inl, inr, refl, sym, ◌∙◌, ap, subst, arith, List, ◌++◌}
 use Rattle.std.proofs.lemmas.Bool.{cases_lt}
 use Rattle.std.proofs.lemmas.List.{append_cancel_left}
@@ -20,17 +20,17 @@ same_number rules w m n b c =
       | inr h ↦ elim (c.least m b.rule b.is_rule b.begins) [ inl k ↦ absurd (omega arith) | inr k ↦ omega arith ]
     ]
 
-same_best : (rules : List Rule) (w : List Symbol) (m n : ℕ) → (b : Chosen rules w m) (c : Chosen rules w n) → (b.rule ≡ c.rule) × (b.begins.0 ≡ c.begins.0)
-same_best rules w m n b c =
+same_chosen : (rules : List Rule) (w : List Symbol) (m n : ℕ) → (b : Chosen rules w m) (c : Chosen rules w n) → (b.rule ≡ c.rule) × (b.begins.0 ≡ c.begins.0)
+same_chosen rules w m n b c =
     let e = same_number rules w m n b c in
     let f = b.is_rule in let g = c.is_rule in
     let same : b.rule ≡ c.rule = cc in
     let left : b.rule.left ≡ c.rule.left = ap (λ (r : Rule). r.left) same in
     (same, append_cancel_left b.rule.left b.begins.0 c.begins.0 (sym b.begins.1 ∙ c.begins.1 ∙ ap (λ l. l ++ c.begins.0) (sym left)))
 
-best_along : (rules : List Rule) (u w : List Symbol) (m n : ℕ) → u ≡ w → (b : Chosen rules u m) (c : Chosen rules w n) → (b.rule ≡ c.rule) × (b.begins.0 ≡ c.begins.0)
-best_along rules u w m n e b c =
-    same_best rules u m n b (record { rule = c.rule; is_rule = c.is_rule; begins = (c.begins.0, e ∙ c.begins.1); least = λ k o f h. c.least k o f (h.0, sym e ∙ h.1) })
+chosen_along : (rules : List Rule) (u w : List Symbol) (m n : ℕ) → u ≡ w → (b : Chosen rules u m) (c : Chosen rules w n) → (b.rule ≡ c.rule) × (b.begins.0 ≡ c.begins.0)
+chosen_along rules u w m n e b c =
+    same_chosen rules u m n b (record { rule = c.rule; is_rule = c.is_rule; begins = (c.begins.0, e ∙ c.begins.1); least = λ k o f h. c.least k o f (h.0, sym e ∙ h.1) })
 
 same_place : (rules : List Rule) (w : List Symbol) (p q m n : ℕ) → FirstRedex rules w p m → FirstRedex rules w q n → p ≡ q
 same_place rules w p q m n f g =
@@ -48,7 +48,7 @@ one_way rules u v w f g =
     let p = f.redex in let q = g.redex in
     let e = same_place rules u f.at g.at f.number g.number p q in
     let s = same_cut p.before p.rest q.before q.rest (sym p.cut ∙ q.cut) (p.at_is ∙ e ∙ sym q.at_is) in
-    let b = best_along rules p.rest q.rest f.number g.number s.1 p.chosen q.chosen in
+    let b = chosen_along rules p.rest q.rest f.number g.number s.1 p.chosen q.chosen in
     f.target ∙ rw (s.0, b.0, b.1) (sym g.target)
 
 -- so many first steps lead from the word to one in which no left side stands
