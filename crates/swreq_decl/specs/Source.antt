@@ -70,9 +70,9 @@ semicolon = skipped (mark Semicolon)
 
 -- ---- the lines
 
--- Some lines are written so that the next token tells which alternative is read: what alternatives have in common at
--- their front is read before the choice. Texts and values are those of the written line. These are `inherit`,
--- `requirement`, `ask`, `qstep`, and in `item` the access of protocols and functions.
+-- What alternatives have in common at their front is read before the choice, so that the next token tells which one it
+-- is. These lines have the texts and values of the written ones, which stand in `Written` (the law `lines_as_written`):
+-- `inherit`, `requirement`, `ask`, `qstep`, and `item`, where it is the access of protocols and functions.
 
 -- entity = name | "AnyObject"
 unfoldable pub entity : Line Entity

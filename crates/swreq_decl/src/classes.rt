@@ -26,6 +26,7 @@ fn slice(text: &[u8], start: u32, end: u32) -> &[u8]
     &front[(start as usize).min(front.len())..]
 }
 
+/// The terminal of a name with this spelling.
 fn name_or_query(word: &[u8]) -> Terminal
     ensures { result ≡ classes.name_or_query word.now }
 {

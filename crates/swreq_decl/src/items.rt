@@ -17,6 +17,7 @@ use crate::terminal::Terminal;
 use std::alloc::Global;
 use swreq_grammar::{Part, Stop, Token, many};
 
+/// The words of access, which mean nothing.
 const ACCESS: [Terminal; 4] = [
     Terminal::Public,
     Terminal::Internal,
@@ -37,6 +38,7 @@ fn declaration(alloc: Global, tokens: &[Token<Terminal>]) -> Read<'_, Item>
     Ok((Item::Function(found), rest))
 }
 
+/// An item without its semicolon.
 #[tactic(auto, unfolding(crate::specs::Source::bare_item, crate::specs::Source::access, crate::specs::Source::declaration, crate::specs::Source::protocol, crate::specs::Source::function))]
 fn bare_item(alloc: Global, tokens: &[Token<Terminal>]) -> Read<'_, Item>
     ensures { Gives (λ x. (x.0, x.1.now)) result (read terminals.number lines.bare_item tokens.now) }
@@ -88,6 +90,7 @@ impl Part for AnyItem {
     }
 }
 
+/// Items as long as one begins.
 #[tactic(auto, unfolding(crate::specs::Source::source, crate::specs::Source::item, crate::specs::Source::bare_item, crate::specs::Source::access, crate::specs::Source::declaration, crate::specs::Source::protocol, crate::specs::Source::function, crate::specs::Source::query))]
 fn items(alloc: Global, tokens: &[Token<Terminal>]) -> Read<'_, Vec<Item>>
     ensures { Gives (λ x. (x.0.items, x.1.now)) result (read terminals.number lines.source tokens.now) }

@@ -6,6 +6,9 @@ ghost use Rattle.swreq_lex.specs.Tokens.{HasTokens};
 ghost use Rattle.swreq_decl.specs.declared.kind.Kind.{Kind};
 ghost use Rattle.swreq_decl.specs.declared.skeleton.Skeleton.{Skeleton};
 ghost use Rattle.swreq_decl.specs.Skeletons.{RefusedFor, StandsFor};
+ghost use Rattle.swreq_decl.specs.Source as lines;
+ghost use Rattle.swreq_decl.specs.Written as written;
+ghost use Rattle.swreq_decl.specs.Written.{SameTexts};
 
 use swreq_lex::laws::one_reading;
 
@@ -24,3 +27,12 @@ pub fn one_verdict(text: &[u8])
 {
     one_reading(text);
 }
+
+/// Lines whose alternatives begin alike have the texts and values of the lines as they are written.
+pub fn lines_as_written()
+    ensures inherit { SameTexts lines.inherit written.inherit }
+    ensures requirement { SameTexts lines.requirement written.requirement }
+    ensures qstep { SameTexts lines.qstep written.qstep }
+    ensures ask { SameTexts lines.ask written.ask }
+    ensures item { SameTexts lines.item written.item }
+{}

@@ -23,6 +23,10 @@ use swreq_text::Seq;
 
 /// The skeleton that stands for a text of at most [`TEXT_LIMIT`] bytes, or why none does: a lexical refusal, or a refusal
 /// at the first token such that no text of the grammar begins with the tokens up to and with it.
+///
+/// `Lex` has the refusal of [`tokens`]. `Syntax` and `Unsupported` have the offset of the refused token, and the kind by
+/// the table of refused tokens (docs/LANGUAGE.md); where the text ends too early it is `Syntax` at its length. The grammar
+/// is this language's own, a part of that of The Swift Programming Language.
 pub fn parse(alloc: Global, text: &[u8]) -> Result<Skeleton, ParseErr>
     requires { length text.now ≤ TEXT_LIMIT }
     ensures ok { (skeleton : Skeleton) → Exactly (StandsFor text.now skeleton) (Ok skeleton) result }

@@ -14,7 +14,7 @@ use crate::skeleton::{AssocDecl, ProtocolDecl};
 use crate::terminal::Terminal;
 use crate::types::inherits;
 use std::alloc::Global;
-use swreq_grammar::{Part, Stop, Token, many};
+use swreq_grammar::{Part, Token, many};
 use swreq_text::Seq;
 
 /// A member of a protocol.

@@ -13,7 +13,7 @@ use crate::skeleton::{Ask, QueryDecl, StepDecl, TypeDecl};
 use crate::terminal::Terminal;
 use crate::types::{STEP_LIMIT, entity};
 use std::alloc::Global;
-use swreq_grammar::{Part, Stop, Token, at_most};
+use swreq_grammar::{Part, Token, at_most};
 use swreq_text::Seq;
 
 /// A bound step, after its `.`.

@@ -25,6 +25,7 @@ pub fn begins(tokens: &[Token<Terminal>], terminals: &[Terminal]) -> bool
     }
 }
 
+/// Whether the terminal is one of these.
 fn has(terminals: &[Terminal], terminal: Terminal) -> bool
     ensures { result ≡ grammar.has number terminals.now terminal }
 {

@@ -9,11 +9,11 @@ ghost use Rattle.swreq_decl.specs.Source as lines;
 
 use crate::kind::Kind;
 use crate::reading::{Read, begins, mark};
-use crate::skeleton::{ReqDecl, TypeDecl};
+use crate::skeleton::ReqDecl;
 use crate::terminal::Terminal;
 use crate::types::{bounds, written_type};
 use std::alloc::Global;
-use swreq_grammar::{Part, Stop, Token, many};
+use swreq_grammar::{Part, Token, many};
 use swreq_text::Seq;
 
 /// A requirement.

@@ -13,7 +13,7 @@ use crate::reading::{Read, begins, mark, name, one_of, span_of};
 use crate::skeleton::{Entity, Span, StepDecl, TypeDecl};
 use crate::terminal::Terminal;
 use std::alloc::Global;
-use swreq_grammar::{Part, Stop, Token, at_most, many};
+use swreq_grammar::{Part, Token, at_most, many};
 use swreq_text::Seq;
 
 /// The most steps of a type.
