@@ -1,5 +1,5 @@
 -- What a text is answered with is a verdict on it, and the one that it has.
-use Rattle.std.proofs.Common.{◌≡◌, ◌≢◌, ◌⊎◌, ℕ, ◌+◌, ◌<◌, ◌≤◌, List, ◌++◌, length, Option, Some, None, Result, Ok, Err, refl, sym, ◌∙◌, ap, inl, inr, subst, arith, length-append, append-nil}
+use Rattle.std.proofs.Common.{◌≡◌, ◌≢◌, ◌⊎◌, ℕ, ◌+◌, ◌<◌, ◌≤◌, List, ◌++◌, length, Option, Some, None, IfSome, Result, Ok, Err, refl, sym, ◌∙◌, ap, inl, inr, subst, arith, length-append, append-nil}
 use Rattle.std.specs.Prelude.{codes}
 use Rattle.std.specs.Io.KnownBytes.{Appends, Consumes, IsAtEnd}
 use Rattle.swreq_text.specs.Given.{GivesCount}
@@ -16,7 +16,7 @@ use Rattle.swreq_top.specs.declared.outcome.Outcome.{Outcome}
 use Rattle.swreq_top.specs.declared.refusal.RefusalKind.{RefusalKind}
 use Rattle.swreq_top.specs.declared.refusal.RefusalKind.TheVariants as refusals
 use Rattle.swreq_top.specs.Reports.{Reports}
-use Rattle.swreq_top.specs.Verdict.{DeliversVerdict, IsAnswered, IsRefused, IsVerdict, refused_with}
+use Rattle.swreq_top.specs.Verdict.{DeliversVerdict, IsAnswered, IsOutput, IsRefused, IsVerdict, refused_with}
 
 -- what a text was read with is exact
 pub record IsExact (text : List ℕ) (parsed : Result Skeleton ParseErr) : Type 0 where
@@ -62,23 +62,35 @@ pub reported_answer : (text : List ℕ) (parsed : Result Skeleton ParseErr) (o :
 reported_answer text parsed o exact reports skeleton stands = given parsed (Ok skeleton) o ((exact.ok skeleton).1 stands) reports
 
 -- a source that was read to its end gave all that it had left, and its text has been answered
-pub delivered : (left rest : Option (List ℕ)) (old new : Option (List ℕ)) (text output : List ℕ) (status : ℕ)
-    → Consumes left rest text → IsAtEnd rest → IsVerdict text (record { status = status; output = output }) → Appends old new output
-    → DeliversVerdict left old new status
-delivered None rest old new text output status came end verdict appended = tt
-delivered (Some all) None old new text output status came end verdict appended = absurd came
-delivered (Some all) (Some rest) old new text output status came end verdict appended =
+pub whole_output : (left rest : Option (List ℕ)) (text output : List ℕ) (status : ℕ)
+    → Consumes left rest text → IsAtEnd rest → IsVerdict text (record { status = status; output = output })
+    → IfSome left (λ all. IsVerdict all (record { status = status; output = output }))
+whole_output None rest text output status came end verdict = tt
+whole_output (Some all) None text output status came end verdict = absurd came
+whole_output (Some all) (Some rest) text output status came end verdict =
     let whole : all ≡ text = came ∙ ap (λ (l : List ℕ). text ++ l) end ∙ append-nil text in
-    (output, subst (λ (t : List ℕ). IsVerdict t (record { status = status; output = output })) (sym whole) verdict, appended)
+    subst (λ (t : List ℕ). IsVerdict t (record { status = status; output = output })) (sym whole) verdict
 
 -- of a text that is too long its first bytes came, one more than the limit
-pub delivered_too_large : (left rest : Option (List ℕ)) (old new : Option (List ℕ))
-    → GivesCount left rest (TEXT_LIMIT + 1) → Appends old new (codes "error: text longer than 1048576 bytes\n") → DeliversVerdict left old new 1
-delivered_too_large None rest old new came appended = tt
-delivered_too_large (Some all) None old new came appended = absurd came.1
-delivered_too_large (Some all) (Some rest) old new came appended =
+pub too_large_output : (left rest : Option (List ℕ)) → GivesCount left rest (TEXT_LIMIT + 1)
+    → IfSome left (λ all. IsVerdict all (record { status = 1; output = codes "error: text longer than 1048576 bytes\n" }))
+too_large_output None rest came = tt
+too_large_output (Some all) None came = absurd came.1
+too_large_output (Some all) (Some rest) came =
     let long : TEXT_LIMIT < length all = omega (arith, ap length came.1, length-append came.0 rest, came.2) in
-    (codes "error: text longer than 1048576 bytes\n", inl (refusals.TooLarge, long, refl), appended)
+    inl (refusals.TooLarge, long, refl)
+
+-- a verdict that the sink took is delivered
+pub delivered : (left old new : Option (List ℕ)) (output : List ℕ) (status : ℕ)
+    → IfSome left (λ all. IsVerdict all (record { status = status; output = output })) → Appends old new output → DeliversVerdict left old new status
+delivered None old new output status verdict appended = tt
+delivered (Some all) old new output status verdict appended = (output, verdict, appended)
+
+-- a verdict has an output
+pub output_of : (left : Option (List ℕ)) (output : List ℕ) (status : ℕ)
+    → IfSome left (λ all. IsVerdict all (record { status = status; output = output })) → IsOutput left output
+output_of None output status verdict = tt
+output_of (Some all) output status verdict = (status, verdict)
 
 -- a verdict's status is not that of a failed write
 pub written : (status : ℕ) → (status ≡ 0) ⊎ (status ≡ 1) → status ≢ 5

@@ -1,5 +1,5 @@
 -- What a text is answered with.
-use Rattle.std.specs.Prelude.{◌≡◌, ◌⊎◌, ℕ, ◌<◌, ◌≤◌, List, length, Option, Some, None, IfSome}
+use Rattle.std.specs.Prelude.{◌≡◌, ◌⊎◌, ℕ, ◌<◌, ◌≤◌, List, length, codes, Option, Some, None, IfSome}
 use Rattle.std.specs.Io.KnownBytes.{Appends}
 use Rattle.swreq_lex.specs.declared.refusal.LexErr.TheVariants as lexical
 use Rattle.swreq_lex.specs.declared.lexer.TheConstants.{TEXT_LIMIT}
@@ -42,3 +42,14 @@ IsVerdict text o =
 abbrev pub DeliversVerdict : Option (List ℕ) → Option (List ℕ) → Option (List ℕ) → ℕ → Type 0
 DeliversVerdict left old new status =
     IfSome left (λ text. (output : List ℕ) × IsVerdict text (record { status = status; output = output }) × Appends old new output)
+
+-- It is a verdict's output on the text that the source had left.
+abbrev pub IsOutput : Option (List ℕ) → List ℕ → Type 0
+IsOutput left output = IfSome left (λ text. (status : ℕ) × IsVerdict text (record { status = status; output = output }))
+
+-- What a run prints: a verdict's output, the usage line for wrong words, the line of a read that failed, or that of no memory.
+abbrev pub IsPrinted : (has_wrong_words read_failed : Type 0) → Option (List ℕ) → List ℕ → Type 0
+IsPrinted has_wrong_words read_failed left printed =
+    IsOutput left printed
+    ⊎ ((has_wrong_words × (printed ≡ codes "usage: genreq answer\n"))
+    ⊎ ((read_failed × (printed ≡ codes "error: read fault\n")) ⊎ (printed ≡ codes "error: out of memory\n")))

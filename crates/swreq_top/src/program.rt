@@ -1,8 +1,9 @@
 // From the words and the source to the sink and the status.
-ghost use Rattle.std.specs.Prelude.{◌≡◌, ◌≢◌, ◌≤◌, ◌↔◌, ◌⊎◌, [], ◌∷◌, map, codes, IsTrue, string_bytes};
+ghost use Rattle.std.specs.Prelude.{◌≡◌, ◌≢◌, ◌≤◌, ◌↔◌, ◌⊎◌, ℕ, List, [], ◌∷◌, map, codes, IsTrue, string_bytes};
 ghost use Rattle.std.specs.Io.KnownBytes.{Appends};
 ghost use Rattle.swreq_text.specs.Faults.{HasRisen};
-ghost use Rattle.swreq_top.specs.Verdict.{DeliversVerdict};
+ghost use Rattle.swreq_text.specs.Given.{AppendsPart};
+ghost use Rattle.swreq_top.specs.Verdict.{DeliversVerdict, IsPrinted};
 
 use crate::outcome::reply;
 use crate::refusal::{OUT_OF_MEMORY, READ_FAULT, TOO_LARGE, USAGE};
@@ -36,6 +37,9 @@ pub fn run<S: Source, K: Sink>(alloc: Global, words: &[String], src: &mut S, out
     ensures read_fault { result ≡ 4 → HasRisen (S.faults src.old) (S.faults src.new) }
     ensures read_fault_line { result ≡ 4 → Appends (K.taken out.old) (K.taken out.new) (codes "error: read fault\n") }
     ensures write_fault { result ≡ 5 → HasRisen (K.faults out.old) (K.faults out.new) }
+    ensures write_part { result ≡ 5 → (printed : List ℕ)
+        × IsPrinted (map string_bytes words.now ≢ codes "answer" ∷ []) (HasRisen (S.faults src.old) (S.faults src.new)) (S.left src.old) printed
+        × AppendsPart (K.taken out.old) (K.taken out.new) printed }
     ensures memory_line { result ≡ 6 → Appends (K.taken out.old) (K.taken out.new) (codes "error: out of memory\n") }
     ensures statuses { result ≤ 6 }
     ensures no_limit { result ≢ 3 }
@@ -76,6 +80,7 @@ fn finish<K: Sink>(out: &mut K, status: u8, bytes: &[u8]) -> u8
     ensures written { result ≢ 5 → Appends (K.taken out.old) (K.taken out.new) bytes.now }
     ensures status { result ≢ 5 → result ≡ status }
     ensures fault { result ≡ 5 → HasRisen (K.faults out.old) (K.faults out.new) }
+    ensures part { result ≡ 5 → AppendsPart (K.taken out.old) (K.taken out.new) bytes.now }
 {
     match write_all(out, bytes) {
         Ok(()) => status,
