@@ -58,7 +58,7 @@ reported_refusal text parsed o exact reports refusals.Usage has = absurd has
 
 -- a text in the language is answered, or it cannot be answered yet
 pub reported_answer : (text : List ℕ) (parsed : Result Skeleton ParseErr) (o : Outcome) → IsExact text parsed → Reports parsed o
-    → (skeleton : Skeleton) → StandsFor text skeleton → IsAnswered o
+    → (skeleton : Skeleton) → StandsFor text skeleton → IsAnswered skeleton o
 reported_answer text parsed o exact reports skeleton stands = given parsed (Ok skeleton) o ((exact.ok skeleton).1 stands) reports
 
 -- a source that was read to its end gave all that it had left, and its text has been answered

@@ -24,7 +24,7 @@ refusal_of grammar.Memory = refusals.OutOfMemory
 
 -- Of a text that was not read for want of memory nothing is answered.
 abbrev pub Reports : Result Skeleton ParseErr → Outcome → Type 0
-Reports (Ok skeleton) o = IsAnswered o
+Reports (Ok skeleton) o = IsAnswered skeleton o
 Reports (Err (grammar.Lex fault)) o = o ≡ refused_with (lexical_refusal fault)
 Reports (Err (grammar.Syntax at)) o = o ≡ refused_with (refusals.Syntax at)
 Reports (Err (grammar.Unsupported at kind)) o = o ≡ refused_with (refusals.Unsupported at kind)

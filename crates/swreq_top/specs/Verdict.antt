@@ -1,5 +1,5 @@
 -- What a text is answered with.
-use Rattle.std.specs.Prelude.{◌≡◌, ◌⊎◌, ℕ, ◌<◌, ◌≤◌, List, length, codes, Option, Some, None, IfSome}
+use Rattle.std.specs.Prelude.{◌≡◌, ◌⊎◌, ℕ, ◌<◌, ◌≤◌, List, length, codes, Option, Some, None, IfSome, IsTrue}
 use Rattle.std.specs.Io.KnownBytes.{Appends}
 use Rattle.swreq_lex.specs.declared.refusal.LexErr.TheVariants as lexical
 use Rattle.swreq_lex.specs.declared.lexer.TheConstants.{TEXT_LIMIT}
@@ -10,6 +10,7 @@ use Rattle.swreq_top.specs.declared.outcome.Outcome.{Outcome}
 use Rattle.swreq_top.specs.declared.refusal.RefusalKind.{RefusalKind}
 use Rattle.swreq_top.specs.declared.refusal.RefusalKind.TheVariants as refusals
 use Rattle.swreq_top.specs.Lines.{refusal_line}
+use Rattle.swreq_top.specs.Plain.{is_plain}
 
 -- status 1, with the line of the refusal
 abbrev pub refused_with : RefusalKind → Outcome
@@ -28,15 +29,15 @@ IsRefused text refusals.ReadFault = ⊥
 IsRefused text refusals.OutOfMemory = ⊥
 IsRefused text refusals.Usage = ⊥
 
--- It is answered, or it cannot be answered yet.
-abbrev pub IsAnswered : Outcome → Type 0
-IsAnswered o = (o.status ≡ 0) ⊎ (o ≡ refused_with refusals.NotBuilt)
+-- A text with this skeleton is answered, which only a plain one is, or it cannot be answered yet.
+abbrev pub IsAnswered : Skeleton → Outcome → Type 0
+IsAnswered skeleton o = (IsTrue (is_plain skeleton) × (o.status ≡ 0)) ⊎ (o ≡ refused_with refusals.NotBuilt)
 
 -- A verdict on the text: it is refused with the line of its refusal, or a skeleton stands for it and it is answered.
 abbrev pub IsVerdict : List ℕ → Outcome → Type 0
 IsVerdict text o =
     ((refusal : RefusalKind) × IsRefused text refusal × (o ≡ refused_with refusal))
-    ⊎ ((skeleton : Skeleton) × StandsFor text skeleton × IsAnswered o)
+    ⊎ ((skeleton : Skeleton) × StandsFor text skeleton × IsAnswered skeleton o)
 
 -- The sink has taken a verdict on the text that the source had left.
 abbrev pub DeliversVerdict : Option (List ℕ) → Option (List ℕ) → Option (List ℕ) → ℕ → Type 0

@@ -32,7 +32,7 @@ pub fn reply(alloc: Global, text: &[u8]) -> Result<Outcome, AllocError>
     ensures verdict { IfOk result (IsVerdict text.now) }
     ensures refused { (refusal : RefusalKind) → IsRefused text.now refusal →
         IfOk result (λ o. o ≡ refused_with refusal) }
-    ensures answered { (skeleton : Skeleton) → StandsFor text.now skeleton → IfOk result IsAnswered }
+    ensures answered { (skeleton : Skeleton) → StandsFor text.now skeleton → IfOk result (IsAnswered skeleton) }
 {
     let parsed = parse(alloc, text);
     report(alloc, text, parsed)
@@ -55,7 +55,7 @@ fn report(
 
 /// The answers of the queries, or the refusal of a text that cannot be answered yet.
 fn answered(alloc: Global, text: &[u8], skeleton: &Skeleton) -> Result<Outcome, AllocError>
-    ensures { IfOk result IsAnswered }
+    ensures { IfOk result (IsAnswered skeleton.now) }
 {
     if !is_plain(skeleton) {
         return refused(alloc, RefusalKind::NotBuilt);
