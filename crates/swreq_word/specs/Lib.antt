@@ -1,0 +1,6 @@
+pub mod Relations
+pub mod Order
+pub mod OrderLaws
+pub mod Replacement
+pub mod Overlap
+pub mod Interned

@@ -1,0 +1,14 @@
+//! Symbols, words and their order, and a table in which equal words have equal ids.
+#![tactic(auto)]
+
+pub mod laws;
+mod symbols;
+mod table;
+mod words;
+
+pub use symbols::Symbol;
+pub use table::{WordId, WordTable};
+pub use words::{Word, compare};
+
+#[cfg(test)]
+mod tests;
