@@ -7,6 +7,7 @@ use Rattle.swreq_pair.specs.Pairs.{OverlapPair, ContainmentPair}
 use Rattle.swreq_word.proofs.Cuts.{cut_rest, whole_rest}
 use Rattle.swreq_word.specs.Overlap.{Overlap, Containment}
 
+-- an overlap, from the rest of the first word
 pub overlapping : (l m rest : List Symbol) (at : ℕ) → 0 < at → at < length l → length l - at < length m → m ≡ drop at l ++ rest → Overlap l m at
 overlapping l m rest at a b c e = record {
   before = take at l;
@@ -20,6 +21,7 @@ overlapping l m rest at a b c e = record {
   at_is = rw length-take (omega arith);
 }
 
+-- the parts of an overlap, as the code cuts them
 pub common_is : (l m : List Symbol) (at : ℕ) → (o : Overlap l m at) → drop at l ≡ o.common
 common_is l m at o = rw (← o.at_is) (cut_rest l o.before o.common o.first_is)
 
@@ -32,6 +34,7 @@ after_is l m at o =
     let e : length l - at ≡ length o.common = omega (arith, a, b) in
     rw (e) (cut_rest m o.common o.after o.second_is)
 
+-- the pair of an overlap, from the sides that the code makes
 pub overlap_found : (first second : Rule) (at : ℕ) (l r : List Symbol) → Overlap first.left second.left at
     → l ≡ first.right ++ drop (length first.left - at) second.left → r ≡ take at first.left ++ second.right → OverlapPair first second at l r
 overlap_found first second at l r o e f = record {
@@ -40,6 +43,7 @@ overlap_found first second at l r o e f = record {
   right_is = f ∙ ap (λ x. x ++ second.right) (before_is first.left second.left at o);
 }
 
+-- a containment, from the rest of the first word, and back
 pub containing : (l m rest : List Symbol) (at : ℕ) → at ≤ length l → drop at l ≡ m ++ rest → Containment l m at
 containing l m rest at a e = record {
   before = take at l;
@@ -51,6 +55,7 @@ containing l m rest at a e = record {
 pub containing_rest : (l m : List Symbol) (at : ℕ) → (o : Containment l m at) → drop at l ≡ m ++ o.after
 containing_rest l m at o = rw (← o.at_is) (cut_rest l o.before (m ++ o.after) o.first_is)
 
+-- the pair of a containment, from the sides that the code makes
 pub containment_found : (first second : Rule) (at : ℕ) (l r : List Symbol) → Containment first.left second.left at
     → l ≡ first.right → r ≡ take at first.left ++ (second.right ++ drop (at + length second.left) first.left) → ContainmentPair first second at l r
 containment_found first second at l r o e f =

@@ -1,5 +1,5 @@
 -- Places of a word, as a search goes up.
-use Rattle.std.proofs.Common.{◌≡◌, ℕ, ◌+◌, ◌<◌, ◌≤◌, inl, inr, refl, sym, ◌∙◌, ap, subst, arith, List, ◌++◌, append_assoc, length, length-append, take, drop, Some}
+use Rattle.std.proofs.Common.{◌≡◌, ℕ, ◌+◌, ◌<◌, inl, inr, refl, sym, ◌∙◌, ap, subst, arith, List, ◌++◌, append_assoc, length, length-append, take, drop, Some}
 use Rattle.std.proofs.Math.Seq.{drop-append_seam, take-append_seam}
 use Rattle.std.specs.List.{slice_get}
 use Rattle.std.proofs.lemmas.Bool.{cases_eq}
@@ -20,13 +20,6 @@ pub none_anywhere : (rules : List Rule) (w : List Symbol) (at : ℕ) → length 
 none_anywhere rules w at l earlier v s =
     earlier s.at.before (s.rule.left ++ s.at.after) s.at.source (let h = ap length s.at.source in let k = simp length-append at h in omega (arith, k, l))
     s.number s.rule s.is_rule (s.at.after, refl)
-
--- the left side that was found fits into the word
-pub place_fits : (rules : List Rule) (w : List Symbol) (at n : ℕ) → (p : FirstRedex rules w at n) → at + length p.chosen.rule.left ≤ length w
-place_fits rules w at n p =
-    let e = ap length p.cut in let f = ap length p.chosen.begins.1 in
-    let g = simp length-append at e in let h = simp length-append at f in let k = p.at_is in
-    omega (arith, g, h, k)
 
 -- what replacing the left side there by the right side leaves is the word after the first step
 pub first_step_is : (rules : List Rule) (u v : List Symbol) (at n len : ℕ) (r : Rule) → (p : FirstRedex rules u at n) → slice_get rules n ≡ Some r → len ≡ length r.left
