@@ -6,3 +6,4 @@ pub mod Places
 pub mod Replace
 pub mod Remaining
 pub mod Same
+pub mod Resuming
