@@ -10,3 +10,6 @@ mod settling;
 
 pub use complete_rules::{CompleteRules, extend};
 pub use limit::{Failed, Limits, Which};
+
+#[cfg(test)]
+mod tests;
