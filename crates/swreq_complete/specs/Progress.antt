@@ -28,8 +28,10 @@ SettlesPlace old new i j at =
 -- The moments that were visited are settled, and each rule past the base is born of one of them.
 pub record Progress (base : ℕ) (given : List (List Symbol × List Symbol)) (trace : List Rule) (Visited : Birth → Type 0) : Type 0 where
   pub has_base : base ≤ length trace
-  pub born : (k : ℕ) (rule : Rule) → base ≤ k → slice_get trace k ≡ Some rule → IsBorn base given trace k rule.birth × Visited rule.birth
-  pub settled : (m : Birth) (left right : List Symbol) → HasSides base given trace m left right → Visited m → Settled base trace m left right
+  pub born : (k : ℕ) (rule : Rule) → base ≤ k → slice_get trace k ≡ Some rule
+      → IsBorn base given trace k rule.birth × Visited rule.birth
+  pub settled : (m : Birth) (left right : List Symbol) → HasSides base given trace m left right → Visited m
+      → Settled base trace m left right
   pub known : (m : Birth) → Visited m → greater_number m ≤ length trace
 
 -- the first equations, so many

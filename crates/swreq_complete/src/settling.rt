@@ -19,7 +19,9 @@ use swreq_word::{Symbol, Word, compare};
 
 // The rule whose left side is the greater of the two words, or none where they are equal.
 fn rule_of(left: Vec<Symbol>, right: Vec<Symbol>, birth: Birth) -> Option<Rule>
-    ensures { MatchOption result (left.items ≡ right.items) (λ rule. (rule.birth ≡ birth) × IsOriented rule left.items right.items) }
+    ensures { MatchOption result
+        (left.items ≡ right.items)
+        (λ rule. (rule.birth ≡ birth) × IsOriented rule left.items right.items) }
 {
     match compare(&left, &right) {
         Ordering::Equal => None,
@@ -52,7 +54,9 @@ pub(crate) fn tell<W: Watch>(watch: &mut W, event: &Event) -> Result<(), Stop>
 
 // Puts the rule of the event last.
 fn keep(rules: &mut RuleList, event: Event) -> Result<(), Stop>
-    ensures { MatchResult result (λ _. (rule : Rule) → event ≡ Born rule → rules.new ≡ rules.old ++ rule ∷ []) (λ s. s ≡ Memory) }
+    ensures { MatchResult result
+        (λ _. (rule : Rule) → event ≡ Born rule → rules.new ≡ rules.old ++ rule ∷ [])
+        (λ s. s ≡ Memory) }
 {
     match event {
         Event::Start { .. } => Ok(()),
