@@ -11,7 +11,7 @@ use Rattle.swreq_pair.proofs.CriticalPairs.{locally}
 use Rattle.swreq_watch.specs.declared.events.Event.{Event}
 use Rattle.swreq_watch.specs.declared.events.Event.TheVariants.{Start, Born}
 use Rattle.swreq_watch.specs.Told.{GrewBy}
-use Rattle.swreq_watch.proofs.Told.{grew_none, grew_on}
+use Rattle.swreq_watch.proofs.Told.{grew_on}
 use Rattle.swreq_complete.specs.declared.limit.Limits.{Limits}
 use Rattle.swreq_complete.specs.declared.limit.Which.{Which}
 use Rattle.swreq_complete.specs.declared.limit.Failed.{Failed}
@@ -38,14 +38,7 @@ events_grown old new told told' told'' s g =
     let e : drop (length old) new ≡ g.more = ap (drop (length old)) g.new_is ∙ drop-append_seam old g.more in
     subst (λ x. GrewBy told told'' (Start (length old) ∷ map Born x)) (sym e) (grew_on told told' told'' (Start (length old) ∷ []) (map Born g.more) s g.told_is)
 
--- what was told where even the start found no memory
-pub nothing_told : (limits : Limits) (base : List Rule) (given : List (List Symbol × List Symbol)) (told told' : Option (List Event)) → told' ≡ told → Tells limits base given told told' (Err Memory)
-nothing_told limits base given told told' e = inl (subst (λ x. GrewBy told x []) (sym e) (grew_none told))
-
 module _ (limits : Limits) (given : List (List Symbol × List Symbol)) (base : List Rule) (told told' told'' : Option (List Event)) (start : GrewBy told told' (Start (length base) ∷ [])) where
-  ok_told : (new : List Rule) → Grown base new told' told'' → Tells limits base given told told'' (Ok new)
-  ok_told new g = events_grown base new told told' told'' start g
-
   pub memory_told : (t : List Rule) → IsWithin limits (length base) given t → Grown base t told' told'' → Tells limits base given told told'' (Err Memory)
   memory_told t w g = inr (t, over_grown base t told' told'' g, w, events_grown base t told told' told'' start g)
 

@@ -15,14 +15,14 @@ use Rattle.swreq_complete.specs.RulesAt.{RulesAt}
 use Rattle.swreq_complete.specs.Settled.{SettledBy}
 use Rattle.swreq_complete.specs.Reached.{IsBorn}
 use Rattle.swreq_complete.specs.Progress.{Settles, Progress}
-use Rattle.swreq_word.proofs.Tables.{get_last}
-use Rattle.swreq_complete.proofs.Lists.{get_kept, get_cases}
+use Rattle.swreq_word.proofs.Tables.{get_last, get_left}
+use Rattle.swreq_complete.proofs.Lists.{get_cases}
 use Rattle.swreq_complete.proofs.Sides.{same_sides}
 use Rattle.swreq_complete.proofs.Moments.{not_itself, not_both}
 
 module _ (base : ℕ) (given : List (List Symbol × List Symbol)) (t : List Rule) (rule : Rule) where
   rule_kept : (n : ℕ) (r : Rule) → RuleAt t n r → RuleAt (t ++ rule ∷ []) n r
-  rule_kept n r a = (a.0, a.1, get_kept t rule a.0 r a.2)
+  rule_kept n r a = (a.0, a.1, get_left t (rule ∷ []) a.0 r a.2)
 
   sides_kept : (m : Birth) (left right : List Symbol) → HasSides base given t m left right → HasSides base given (t ++ rule ∷ []) m left right
   sides_kept (Given n) left right s = s
@@ -56,7 +56,7 @@ module _ (base : ℕ) (given : List (List Symbol × List Symbol)) (t : List Rule
         right_reduces = rw same s.right_reduces;
         outcome = elim s.outcome [
           | inl o ↦ inl (o.0, λ k r lo e f. elim (get_cases t rule k r e) [ inl h ↦ o.1 k r lo h f | inr h ↦ not_itself m (subst (λ x. Before m x) (ap (λ (x : Rule). x.birth) (sym h.1) ∙ f) b) ])
-          | inr o ↦ inr (record { rule = o.rule; is_next = get_kept t rule count o.rule o.is_next; birth_is = o.birth_is; sides = o.sides })
+          | inr o ↦ inr (record { rule = o.rule; is_next = get_left t (rule ∷ []) count o.rule o.is_next; birth_is = o.birth_is; sides = o.sides })
         ];
       }
 
@@ -169,5 +169,5 @@ settles_grows old new m l r s = elim s.outcome [
 pub settles_keeps : (old new : List Rule) (m : Birth) (l r : List Symbol) → Settles old new m l r → (k : ℕ) (rule : Rule) → slice_get old k ≡ Some rule → slice_get new k ≡ Some rule
 settles_keeps old new m l r s k rule e = elim s.outcome [
   | inl o ↦ rw o.1 e
-  | inr o ↦ rw o.1 (get_kept old o.0 k rule e)
+  | inr o ↦ rw o.1 (get_left old (o.0 ∷ []) k rule e)
 ]

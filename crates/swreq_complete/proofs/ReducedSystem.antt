@@ -49,9 +49,6 @@ pub fresh_apart : (rules : List Rule) → IsFresh rules → (j k : ℕ) (r s : R
 fresh_apart rules fresh j k r s l e f g = fresh k s f r.right (subst (λ x. Step (take k rules) x r.right) g (by_rule (take k rules) j r (in_front rules k j r l e)))
 
 -- one rule more
-pub found_none : (rules : List Rule) → Found rules 0 []
-found_none rules = record { each = λ n r e. cc; all = λ j r l e f. absurd (omega (arith, l)); sorted = λ j k r s l e f. cc }
-
 pub found_skip : (rules : List Rule) (k : ℕ) (found : List Rule) (rule : Rule) → slice_get rules k ≡ Some rule → (EachFactor rule.left (IsIrreducible (Step rules)) → ⊥) → Found rules k found → Found rules (k + 1) found
 found_skip rules k found rule e not f = record {
   each = λ n r g. (let h = f.each n r g in let l = h.2 in (h.0, h.1, omega (arith, l), h.3, h.4, h.5, h.6, h.7));

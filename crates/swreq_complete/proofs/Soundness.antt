@@ -63,12 +63,6 @@ whole : {l r : List Symbol} → Replaced l r l r
 whole {l} {r} = record { before = []; after = []; source = sym (append-nil l); target = sym (append-nil r) }
 
 module _ (base : ℕ) (given : List (List Symbol × List Symbol)) (trace : List Rule) where
-  E : List (List Symbol × List Symbol)
-  E = all_equations base given trace
-
-  as_equation : Rule → List Symbol × List Symbol
-  as_equation r = (r.left, r.right)
-
   base_sound : (k : ℕ) (rule : Rule) → k < base → slice_get trace k ≡ Some rule → Congruent (all_equations base given trace) rule.left rule.right
   base_sound k rule l e =
       forth (record {
