@@ -44,10 +44,8 @@ fn copied(alloc: Global, list: &RuleList) -> Result<RuleList, AllocError>
     ensures { IfOk result (λ c. c ≡ list.now) }
 {
     let mut new = RuleList::new(alloc);
-    let rules = list.rules();
-    for k in 0..rules.len() {
-        let rule = rules[k].clone()?;
-        if let Err(_) = new.push(rule) {
+    for rule in list.rules() {
+        if let Err(_) = new.push(rule.clone()?) {
             return Err(AllocError);
         }
     }

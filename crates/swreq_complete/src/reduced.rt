@@ -29,8 +29,7 @@ fn is_minimal(rules: &[Rule], w: &[Symbol]) -> bool
 fn place_of(found: &[Rule], left: &[Symbol]) -> usize
     ensures { BelongsAt found.now left.now result }
 {
-    for k in 0..found.len() {
-        let rule = &found[k];
+    for (k, rule) in found.iter().enumerate() {
         if compare(rule.left.symbols(), left) != Ordering::Less {
             return k;
         }
@@ -44,10 +43,10 @@ fn reduced(alloc: Global, rules: &RuleList, rule: &Rule) -> Result<Rule, AllocEr
     ensures right { IfOk result (λ r. Reduces rules.now rule.now.right r.right) }
     ensures birth { IfOk result (λ r. r.birth ≡ rule.now.birth) }
 {
-    let left = Vec::from_slice(alloc, rule.left.symbols())?;
+    let left = rule.left.clone()?;
     let mut right = Vec::from_slice(alloc, rule.right.symbols())?;
     rules.reduce(&mut right);
-    Ok(Rule::new(Word::new(left), Word::new(right), rule.birth))
+    Ok(Rule::new(left, Word::new(right), rule.birth))
 }
 
 // Puts the rule in at the place.

@@ -128,8 +128,7 @@ pub(crate) fn settle_given<W: Watch>(
         (λ _. HasCome limits (length rules.old) given.now (GivenBelow (length given.now)) rules.old rules.new (W.told watch.old) (W.told watch.new))
         (λ s. HasStopped limits (length rules.old) given.now rules.old rules.new (W.told watch.old) (W.told watch.new) s) }
 {
-    for n in 0..given.len() {
-        let equation = &given[n];
+    for (n, equation) in given.iter().enumerate() {
         settle_sides(
             alloc,
             rules,

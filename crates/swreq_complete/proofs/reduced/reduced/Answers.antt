@@ -18,7 +18,7 @@ goes_down rules rule left right from e f r =
       | inr l ↦ less_trans right from left l d
     ]
 
-pub new-requires-3 : goal.new-requires-3
-new-requires-3 c =
-    let d = goes_down c.args.rules.now c.args.rule.now c.in_ok-left.left.items c.reduce.new.w.items c.in_ok-right.right.items (c.in_ok-left.ensures.items ∙ c.symbols.ensures) (c.in_ok-right.ensures.items ∙ c.symbols-2.ensures) c.reduce.ensures.reduced in
-    subst (λ x. WordLess c.new-2.result x) (sym c.new.ensures) (subst (λ x. WordLess x c.in_ok-left.left.items) (sym c.new-2.ensures) d)
+pub new-requires-2 : goal.new-requires-2
+new-requires-2 c =
+    let d = goes_down c.args.rules.now c.args.rule.now c.in_ok-left.left c.reduce.new.w.items c.in_ok-right.right.items c.in_ok-left.ensures.cases (c.in_ok-right.ensures.items ∙ c.symbols.ensures) c.reduce.ensures.reduced in
+    subst (λ x. WordLess x c.in_ok-left.left) (sym c.new.ensures) d
