@@ -14,7 +14,11 @@ use Rattle.swreq_complete.specs.Reached.{IsReached}
 lex_less : (a b c d e f : ℕ) → ordering_then (nat_cmp a b) (ordering_then (nat_cmp c d) (nat_cmp e f)) ≡ Less → (a < b) ⊎ ((a ≡ b) × ((c < d) ⊎ ((c ≡ d) × (e < f))))
 lex_less a b c d e f h = elim (then_less (nat_cmp a b) (ordering_then (nat_cmp c d) (nat_cmp e f)) h) [
   | inl x ↦ inl (nat_less a b x)
-  | inr x ↦ inr (nat_equal a b x.0, elim (then_less (nat_cmp c d) (nat_cmp e f) x.1) [ inl y ↦ inl (nat_less c d y) | inr y ↦ inr (nat_equal c d y.0, nat_less e f y.1) ])
+  | inr x ↦ inr (
+    nat_equal a b x.0,
+    elim (then_less (nat_cmp c d) (nat_cmp e f) x.1)
+        [ inl y ↦ inl (nat_less c d y) | inr y ↦ inr (nat_equal c d y.0, nat_less e f y.1) ],
+  )
 ]
 
 lex_on : (a b i c d j e f at : ℕ) → (a < b) ⊎ ((a ≡ b) × ((c < d) ⊎ ((c ≡ d) × (e < f)))) → (b < i) ⊎ ((b ≡ i) × ((d < j) ⊎ ((d ≡ j) × (f < at))))
@@ -42,7 +46,8 @@ earlier_closed greater i j at (Pair k l to) (Pair u v w) b h =
       ])
     ]
 
-pub below_closed : (base : ℕ) (given : List (List Symbol × List Symbol)) (count : ℕ) (t : List Rule) (n m : Birth) (l r : List Symbol) → HasSides base given t n l r → Before n m → GivenBelow count m → GivenBelow count n
+pub below_closed : (base : ℕ) (given : List (List Symbol × List Symbol)) (count : ℕ) (t : List Rule) (n m : Birth) (l r : List Symbol)
+    → HasSides base given t n l r → Before n m → GivenBelow count m → GivenBelow count n
 below_closed base given count t (Given a) (Given b) l r s h v =
     let e = s.1 in let d = v.1 in
     let f = nat_less a b h in

@@ -3,26 +3,27 @@ use Rattle.std.proofs.Common.{◌≡◌, ℕ, suc, ◌+◌, ◌<◌, ◌≤◌, 
 use Rattle.std.specs.List.{slice_get}
 use Rattle.std.proofs.lemmas.Bool.{cases_lt, cases_eq}
 use Rattle.std.proofs.lemmas.Option.{slice_get_within}
+use Rattle.std.specs.declared.cmp.Ordering.TheVariants.{Less}
+use Rattle.std.specs.Cmp.Lexicographic.{slice_cmp}
 use Rattle.swreq_word.specs.declared.symbols.Symbol.{Symbol}
 use Rattle.swreq_word.specs.Order.{symbol_cmp, WordLess}
+use Rattle.swreq_word.proofs.Comparing.{less_cases}
 use Rattle.swreq_rule.specs.declared.rules.Rule.{Rule}
 use Rattle.swreq_rule.specs.declared.rules.Birth.{Birth}
 use Rattle.swreq_rule.specs.declared.rules.Birth.TheVariants.{Given, Pair}
-use Rattle.swreq_pair.specs.Pairs.{IsPair, OverlapPair, ContainmentPair}
 use Rattle.swreq_rule.specs.Steps.{RuleAt}
-use Rattle.swreq_word.proofs.Comparing.{less_cases}
+use Rattle.swreq_pair.specs.Pairs.{IsPair, OverlapPair, ContainmentPair}
 use Rattle.swreq_complete.specs.Moments.{Before, greater_number, HasSides}
 use Rattle.swreq_complete.specs.Progress.{Settles, Progress, GivenBelow, Earlier}
 use Rattle.swreq_complete.specs.Settled.{Settled}
 use Rattle.swreq_complete.specs.Reached.{IsEnded}
 use Rattle.swreq_complete.proofs.Moments.{greater_before, first_before, second_before, place_before}
 use Rattle.swreq_complete.proofs.Progress.{settle_one}
-use Rattle.std.specs.declared.cmp.Ordering.TheVariants.{Less}
-use Rattle.std.specs.Cmp.Lexicographic.{slice_cmp}
 
 -- more or fewer moments may count as visited, where no others have sides
 pub widen : (base : ℕ) (given : List (List Symbol × List Symbol)) (t : List Rule) (Old New : Birth → Type 0) → Progress base given t Old
-    → ((m : Birth) → Old m → New m) → ((m : Birth) (l r : List Symbol) → HasSides base given t m l r → New m → Old m) → ((m : Birth) → New m → greater_number m ≤ length t) → Progress base given t New
+    → ((m : Birth) → Old m → New m) → ((m : Birth) (l r : List Symbol) → HasSides base given t m l r → New m → Old m)
+    → ((m : Birth) → New m → greater_number m ≤ length t) → Progress base given t New
 widen base given t Old New p more only bound = record {
   has_base = p.has_base;
   born = λ k r lo e. (let b = p.born k r lo e in (b.0, more r.birth b.1));
@@ -51,7 +52,8 @@ earlier_bound greater i j at n (Pair k l to) le (inr h) = let e = h.0 in omega (
 pub earlier_more : (greater i j at : ℕ) (m : Birth) → Earlier greater i j at m → Earlier greater i j (at + 1) m
 earlier_more greater i j at (Given k) h = h
 earlier_more greater i j at (Pair k l to) (inl h) = inl h
-earlier_more greater i j at (Pair k l to) (inr h) = inr (h.0, elim h.1 [ inl a ↦ inl a | inr a ↦ inr (a.0, elim a.1 [ inl b ↦ inl b | inr b ↦ inr (b.0, let l = b.1 in omega (arith, l)) ]) ])
+earlier_more greater i j at (Pair k l to) (inr h) = inr
+    (h.0, elim h.1 [ inl a ↦ inl a | inr a ↦ inr (a.0, elim a.1 [ inl b ↦ inl b | inr b ↦ inr (b.0, let l = b.1 in omega (arith, l)) ]) ])
 
 pub earlier_only : (greater i j at : ℕ) (m : Birth) → Earlier greater i j (at + 1) m → Earlier greater i j at m ⊎ (m ≡ Pair i j at)
 earlier_only greater i j at (Given k) h = inl h
@@ -73,7 +75,8 @@ place_now greater i j at e = inr (e, inr (refl, inr (refl, omega arith)))
 
 -- a pair that is settled
 pub pair_more : (base : ℕ) (given : List (List Symbol × List Symbol)) (old new : List Rule) (greater i j at : ℕ) (left right : List Symbol)
-    → base < greater → max i j ≡ greater → greater ≤ length old → Progress base given old (Earlier greater i j at) → IsPair old (record { i = i; j = j; at = at }) left right
+    → base < greater → max i j ≡ greater → greater ≤ length old → Progress base given old (Earlier greater i j at)
+    → IsPair old (record { i = i; j = j; at = at }) left right
     → Settles old new (Pair i j at) left right → Progress base given new (Earlier greater i j (at + 1))
 pair_more base given old new greater i j at left right lo e le p q s =
     settle_one base given old new (Earlier greater i j at) (Earlier greater i j (at + 1)) (Pair i j at) left right p ((omega arith), q) s
@@ -81,7 +84,8 @@ pair_more base given old new greater i j at left right lo e le p q s =
     (λ m. earlier_bound greater i j (at + 1) (length old) m le)
 
 -- a place with no pair
-pub place_more : (base : ℕ) (given : List (List Symbol × List Symbol)) (t : List Rule) (greater i j at : ℕ) → greater ≤ length t → Progress base given t (Earlier greater i j at)
+pub place_more : (base : ℕ) (given : List (List Symbol × List Symbol)) (t : List Rule) (greater i j at : ℕ) → greater ≤ length t
+    → Progress base given t (Earlier greater i j at)
     → ((l r : List Symbol) → IsPair t (record { i = i; j = j; at = at }) l r → ⊥) → Progress base given t (Earlier greater i j (at + 1))
 place_more base given t greater i j at le p none =
     widen base given t (Earlier greater i j at) (Earlier greater i j (at + 1)) p (earlier_more greater i j at)
@@ -132,12 +136,17 @@ module _ (base : ℕ) (given : List (List Symbol × List Symbol)) (t : List Rule
   -- all places of two rules
   pub places_done : (greater i j k : ℕ) (rule : Rule) → i ≡ suc k → slice_get t k ≡ Some rule → greater ≤ length t
       → Progress base given t (Earlier greater i j (length rule.left)) → Progress base given t (Earlier greater i (j + 1) 0)
-  places_done greater i j k rule ik at le p = widen base given t (Earlier greater i j (length rule.left)) (Earlier greater i (j + 1) 0) p more only (λ m. earlier_bound greater i (j + 1) 0 (length t) m le)
+  places_done greater i j k rule ik at le p = widen base given t (Earlier greater i j (length rule.left)) (Earlier greater i (j + 1) 0) p more only
+      (λ m. earlier_bound greater i (j + 1) 0 (length t) m le)
     where
       more : (m : Birth) → Earlier greater i j (length rule.left) m → Earlier greater i (j + 1) 0 m
       more (Given n) h = h
       more (Pair a b to) (inl h) = inl h
-      more (Pair a b to) (inr h) = inr (h.0, elim h.1 [ inl x ↦ inl x | inr x ↦ inr (x.0, inl (elim x.1 [ inl y ↦ omega arith | inr y ↦ (let z = y.0 in omega (arith, z)) ])) ])
+      more (Pair a b to) (inr h) = inr (
+        h.0,
+        elim h.1
+            [ inl x ↦ inl x | inr x ↦ inr (x.0, inl (elim x.1 [ inl y ↦ omega arith | inr y ↦ (let z = y.0 in omega (arith, z)) ])) ],
+      )
 
       only : (m : Birth) (l r : List Symbol) → HasSides base given t m l r → Earlier greater i (j + 1) 0 m → Earlier greater i j (length rule.left) m
       only (Given n) l r s h = h
@@ -153,7 +162,11 @@ module _ (base : ℕ) (given : List (List Symbol × List Symbol)) (t : List Rule
                 x.0,
                 elim x.1 [
                   | inl y ↦ elim (cases_eq b j) [
-                    | inl z ↦ inr (z, (let same = same_at a q.first k rule q.first_at (x.0 ∙ ik) at in subst (λ (v : Rule). to < length v.left) same (pair_within q.first q.second to l r kinds)))
+                    | inl z ↦ inr (
+                      z,
+                      (let same = same_at a q.first k rule q.first_at (x.0 ∙ ik) at in subst (λ (v : Rule). to < length v.left) same
+                          (pair_within q.first q.second to l r kinds)),
+                    )
                     | inr z ↦ inl (omega (arith, y, z))
                   ]
                   | inr y ↦ absurd (let w = y.1 in omega (arith, w))
@@ -163,13 +176,19 @@ module _ (base : ℕ) (given : List (List Symbol × List Symbol)) (t : List Rule
           )
 
   -- the rows of one greater number
-  pub row_begun : (greater i : ℕ) → i < greater → greater ≤ length t → Progress base given t (Earlier greater i 0 0) → Progress base given t (Earlier greater i greater 0)
-  row_begun greater i lt le p = widen base given t (Earlier greater i 0 0) (Earlier greater i greater 0) p more only (λ m. earlier_bound greater i greater 0 (length t) m le)
+  pub row_begun : (greater i : ℕ) → i < greater → greater ≤ length t → Progress base given t (Earlier greater i 0 0)
+      → Progress base given t (Earlier greater i greater 0)
+  row_begun greater i lt le p = widen base given t (Earlier greater i 0 0) (Earlier greater i greater 0) p more only
+      (λ m. earlier_bound greater i greater 0 (length t) m le)
     where
       more : (m : Birth) → Earlier greater i 0 0 m → Earlier greater i greater 0 m
       more (Given n) h = h
       more (Pair a b to) (inl h) = inl h
-      more (Pair a b to) (inr h) = inr (h.0, elim h.1 [ inl x ↦ inl x | inr x ↦ absurd (elim x.1 [ inl y ↦ omega (arith, y) | inr y ↦ (let w = y.1 in omega (arith, w)) ]) ])
+      more (Pair a b to) (inr h) = inr (
+        h.0,
+        elim h.1
+            [ inl x ↦ inl x | inr x ↦ absurd (elim x.1 [ inl y ↦ omega (arith, y) | inr y ↦ (let w = y.1 in omega (arith, w)) ]) ],
+      )
 
       only : (m : Birth) (l r : List Symbol) → HasSides base given t m l r → Earlier greater i greater 0 m → Earlier greater i 0 0 m
       only (Given n) l r s h = h
@@ -182,8 +201,10 @@ module _ (base : ℕ) (given : List (List Symbol × List Symbol)) (t : List Rule
         ],
       )
 
-  pub row_done : (greater i : ℕ) → greater ≤ length t → Progress base given t (Earlier greater i (greater + 1) 0) → Progress base given t (Earlier greater (i + 1) 0 0)
-  row_done greater i le p = widen base given t (Earlier greater i (greater + 1) 0) (Earlier greater (i + 1) 0 0) p more only (λ m. earlier_bound greater (i + 1) 0 0 (length t) m le)
+  pub row_done : (greater i : ℕ) → greater ≤ length t → Progress base given t (Earlier greater i (greater + 1) 0)
+      → Progress base given t (Earlier greater (i + 1) 0 0)
+  row_done greater i le p = widen base given t (Earlier greater i (greater + 1) 0) (Earlier greater (i + 1) 0 0) p more only
+      (λ m. earlier_bound greater (i + 1) 0 0 (length t) m le)
     where
       more : (m : Birth) → Earlier greater i (greater + 1) 0 m → Earlier greater (i + 1) 0 0 m
       more (Given n) h = h
@@ -202,12 +223,17 @@ module _ (base : ℕ) (given : List (List Symbol × List Symbol)) (t : List Rule
       )
 
   pub column_begun : (greater : ℕ) → greater ≤ length t → Progress base given t (Earlier greater greater 0 0) → Progress base given t (Earlier greater greater 1 0)
-  column_begun greater le p = widen base given t (Earlier greater greater 0 0) (Earlier greater greater 1 0) p more only (λ m. earlier_bound greater greater 1 0 (length t) m le)
+  column_begun greater le p = widen base given t (Earlier greater greater 0 0) (Earlier greater greater 1 0) p more only
+      (λ m. earlier_bound greater greater 1 0 (length t) m le)
     where
       more : (m : Birth) → Earlier greater greater 0 0 m → Earlier greater greater 1 0 m
       more (Given n) h = h
       more (Pair a b to) (inl h) = inl h
-      more (Pair a b to) (inr h) = inr (h.0, elim h.1 [ inl x ↦ inl x | inr x ↦ absurd (elim x.1 [ inl y ↦ omega (arith, y) | inr y ↦ (let w = y.1 in omega (arith, w)) ]) ])
+      more (Pair a b to) (inr h) = inr (
+        h.0,
+        elim h.1
+            [ inl x ↦ inl x | inr x ↦ absurd (elim x.1 [ inl y ↦ omega (arith, y) | inr y ↦ (let w = y.1 in omega (arith, w)) ]) ],
+      )
 
       only : (m : Birth) (l r : List Symbol) → HasSides base given t m l r → Earlier greater greater 1 0 m → Earlier greater greater 0 0 m
       only (Given n) l r s h = h
@@ -220,7 +246,8 @@ module _ (base : ℕ) (given : List (List Symbol × List Symbol)) (t : List Rule
         ],
       )
 
-  pub greater_done : (greater : ℕ) → greater ≤ length t → Progress base given t (Earlier greater greater (greater + 1) 0) → Progress base given t (Earlier (greater + 1) 0 0 0)
+  pub greater_done : (greater : ℕ) → greater ≤ length t → Progress base given t (Earlier greater greater (greater + 1) 0)
+      → Progress base given t (Earlier (greater + 1) 0 0 0)
   greater_done greater le p = widen base given t (Earlier greater greater (greater + 1) 0) (Earlier (greater + 1) 0 0 0) p more only bound
     where
       more : (m : Birth) → Earlier greater greater (greater + 1) 0 m → Earlier (greater + 1) 0 0 0 m
@@ -240,7 +267,8 @@ module _ (base : ℕ) (given : List (List Symbol × List Symbol)) (t : List Rule
       bound : (m : Birth) → Earlier (greater + 1) 0 0 0 m → greater_number m ≤ length t
       bound (Given n) h = omega arith
       bound (Pair a b to) (inl h) = omega (arith, h, le)
-      bound (Pair a b to) (inr h) = absurd (elim h.1 [ inl x ↦ omega (arith, x) | inr x ↦ elim x.1 [ inl y ↦ omega (arith, y) | inr y ↦ (let w = y.1 in omega (arith, w)) ] ])
+      bound (Pair a b to) (inr h) = absurd (elim h.1
+          [ inl x ↦ omega (arith, x) | inr x ↦ elim x.1 [ inl y ↦ omega (arith, y) | inr y ↦ (let w = y.1 in omega (arith, w)) ] ])
 
   pub rows_begun : (greater : ℕ) → greater ≤ length t → Progress base given t (Earlier greater 0 0 0) → Progress base given t (Earlier greater 1 0 0)
   rows_begun greater le p = widen base given t (Earlier greater 0 0 0) (Earlier greater 1 0 0) p more only (λ m. earlier_bound greater 1 0 0 (length t) m le)
@@ -248,7 +276,11 @@ module _ (base : ℕ) (given : List (List Symbol × List Symbol)) (t : List Rule
       more : (m : Birth) → Earlier greater 0 0 0 m → Earlier greater 1 0 0 m
       more (Given n) h = h
       more (Pair a b to) (inl h) = inl h
-      more (Pair a b to) (inr h) = inr (h.0, elim h.1 [ inl x ↦ inl (omega (arith, x)) | inr x ↦ absurd (elim x.1 [ inl y ↦ omega (arith, y) | inr y ↦ (let w = y.1 in omega (arith, w)) ]) ])
+      more (Pair a b to) (inr h) = inr (
+        h.0,
+        elim h.1
+            [ inl x ↦ inl (omega (arith, x)) | inr x ↦ absurd (elim x.1 [ inl y ↦ omega (arith, y) | inr y ↦ (let w = y.1 in omega (arith, w)) ]) ],
+      )
 
       only : (m : Birth) (l r : List Symbol) → HasSides base given t m l r → Earlier greater 1 0 0 m → Earlier greater 0 0 0 m
       only (Given n) l r s h = h
@@ -268,12 +300,14 @@ module _ (base : ℕ) (given : List (List Symbol × List Symbol)) (t : List Rule
       only : (m : Birth) (l r : List Symbol) → HasSides base given t m l r → Earlier (base + 1) 0 0 0 m → GivenBelow (length given) m
       only (Given n) l r s h = (let e = s.1 in omega (arith, e), let e = s.1 in let w = slice_get_within given s.0 (l, r) s.2 in omega (arith, e, w))
       only (Pair a b to) l r s (inl h) = absurd (let e = s.0 in omega (arith, h, e))
-      only (Pair a b to) l r s (inr h) = absurd (elim h.1 [ inl x ↦ omega (arith, x) | inr x ↦ elim x.1 [ inl y ↦ omega (arith, y) | inr y ↦ (let w = y.1 in omega (arith, w)) ] ])
+      only (Pair a b to) l r s (inr h) = absurd
+          (elim h.1 [ inl x ↦ omega (arith, x) | inr x ↦ elim x.1 [ inl y ↦ omega (arith, y) | inr y ↦ (let w = y.1 in omega (arith, w)) ] ])
 
       bound : (m : Birth) → Earlier (base + 1) 0 0 0 m → greater_number m ≤ length t
       bound (Given n) h = omega arith
       bound (Pair a b to) (inl h) = let b = p.has_base in omega (arith, h, b)
-      bound (Pair a b to) (inr h) = absurd (elim h.1 [ inl x ↦ omega (arith, x) | inr x ↦ elim x.1 [ inl y ↦ omega (arith, y) | inr y ↦ (let w = y.1 in omega (arith, w)) ] ])
+      bound (Pair a b to) (inr h) = absurd (elim h.1
+          [ inl x ↦ omega (arith, x) | inr x ↦ elim x.1 [ inl y ↦ omega (arith, y) | inr y ↦ (let w = y.1 in omega (arith, w)) ] ])
 
   pub all_done : (greater : ℕ) → length t < greater → Progress base given t (Earlier greater 0 0 0) → IsEnded base given t
   all_done greater lt p = record {

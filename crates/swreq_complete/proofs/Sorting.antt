@@ -6,9 +6,9 @@ use Rattle.std.proofs.lemmas.Option.{slice_get_within}
 use Rattle.swreq_word.specs.Order.{WordLess}
 use Rattle.swreq_word.proofs.Comparing.{trichotomy, less_trans}
 use Rattle.swreq_rule.specs.declared.rules.Rule.{Rule}
-use Rattle.swreq_complete.proofs.Lists.{there_is}
 use Rattle.swreq_complete.specs.Reduced.{IsSorted}
 use Rattle.swreq_complete.specs.Search.{BelongsAt}
+use Rattle.swreq_complete.proofs.Lists.{there_is}
 
 -- an element of a list with one more put in
 pub data Inserted {X : Type 0} (xs : List X) (at : ℕ) (x : X) (k : ℕ) (r : X) : Type 0 where
@@ -16,7 +16,8 @@ pub data Inserted {X : Type 0} (xs : List X) (at : ℕ) (x : X) (k : ℕ) (r : X
   here : k ≡ at → r ≡ x → Inserted xs at x k r
   after : (j : ℕ) → k ≡ suc j → at ≤ j → slice_get xs j ≡ Some r → Inserted xs at x k r
 
-pub get_inserted : {X : Type 0} (xs : List X) (at : ℕ) (x : X) (k : ℕ) (r : X) → at ≤ length xs → slice_get (take at xs ++ x ∷ drop at xs) k ≡ Some r → Inserted xs at x k r
+pub get_inserted : {X : Type 0} (xs : List X) (at : ℕ) (x : X) (k : ℕ) (r : X) → at ≤ length xs → slice_get (take at xs ++ x ∷ drop at xs) k ≡ Some r
+    → Inserted xs at x k r
 get_inserted [] zero x zero r l e = here refl (cc)
 get_inserted [] zero x (suc k) r l e = after k refl (omega arith) e
 get_inserted [] (suc at) x k r l e = absurd (omega (arith, l))
@@ -32,13 +33,15 @@ get_new [] (suc at) x l = absurd (omega (arith, l))
 get_new (y ∷ xs) zero x l = refl
 get_new (y ∷ xs) (suc at) x l = get_new xs at x (omega (arith, l))
 
-pub get_moved : {X : Type 0} (xs : List X) (at : ℕ) (x : X) (k : ℕ) (r : X) → slice_get xs k ≡ Some r → (n : ℕ) × (slice_get (take at xs ++ x ∷ drop at xs) n ≡ Some r)
+pub get_moved : {X : Type 0} (xs : List X) (at : ℕ) (x : X) (k : ℕ) (r : X) → slice_get xs k ≡ Some r
+    → (n : ℕ) × (slice_get (take at xs ++ x ∷ drop at xs) n ≡ Some r)
 get_moved [] at x k r e = cc
 get_moved (y ∷ xs) zero x k r e = (suc k, e)
 get_moved (y ∷ xs) (suc at) x zero r e = (zero, e)
 get_moved (y ∷ xs) (suc at) x (suc k) r e = let m = get_moved xs at x k r e in (suc m.0, m.1)
 
-module _ (xs : List Rule) (x : Rule) (at : ℕ) (sorted : IsSorted xs) (belongs : BelongsAt xs x.left at) (new : (k : ℕ) (r : Rule) → slice_get xs k ≡ Some r → r.left ≡ x.left → ⊥) where
+module _ (xs : List Rule) (x : Rule) (at : ℕ) (sorted : IsSorted xs) (belongs : BelongsAt xs x.left at)
+    (new : (k : ℕ) (r : Rule) → slice_get xs k ≡ Some r → r.left ≡ x.left → ⊥) where
   next_above : (r : Rule) → slice_get xs at ≡ Some r → WordLess x.left r.left
   next_above r e = elim (trichotomy x.left r.left) [ inl h ↦ h | inr o ↦ elim o [ inl h ↦ absurd (new at r e (sym h)) | inr h ↦ absurd (belongs.here r e h) ] ]
 

@@ -24,7 +24,8 @@ use Rattle.swreq_complete.proofs.Closed.{reached}
 pub grown_none : (rules : List Rule) (told : Option (List Event)) → Grown rules rules told told
 grown_none rules told = record { more = []; new_is = sym (append-nil rules); told_is = grew_none told }
 
-pub grown_one : (rules new : List Rule) (rule : Rule) (told told' : Option (List Event)) → new ≡ rules ++ rule ∷ [] → GrewBy told told' (Born rule ∷ []) → Grown rules new told told'
+pub grown_one : (rules new : List Rule) (rule : Rule) (told told' : Option (List Event)) → new ≡ rules ++ rule ∷ []
+    → GrewBy told told' (Born rule ∷ []) → Grown rules new told told'
 grown_one rules new rule told told' e g = record { more = rule ∷ []; new_is = e; told_is = g }
 
 pub grown_on : (a b c : List Rule) (told told' told'' : Option (List Event)) → Grown a b told told' → Grown b c told' told'' → Grown a c told told''
@@ -74,7 +75,8 @@ module _ (limits : Limits) (base : ℕ) (old new : List Rule) (kept : KeepsAll l
   ]
 
 -- where a thing done takes a completion on, a stop at it is a stop of the completion
-module _ (limits : Limits) (base : ℕ) (given : List (List Symbol × List Symbol)) (Visited Next : Birth → Type 0) (Done : List Rule → Type 0) (old new : List Rule) (told told' : Option (List Event))
+module _ (limits : Limits) (base : ℕ) (given : List (List Symbol × List Symbol)) (Visited Next : Birth → Type 0) (Done : List Rule → Type 0)
+    (old new : List Rule) (told told' : Option (List Event))
     (progress : Progress base given old Visited) (kept : KeepsAll limits base old)
     (closed : (n m : Birth) (l r : List Symbol) → HasSides base given old n l r → Before n m → Visited m → Visited n)
     (closed' : (t : List Rule) (n m : Birth) (l r : List Symbol) → HasSides base given t n l r → Before n m → Next m → Next n)
@@ -101,32 +103,39 @@ module _ (limits : Limits) (base : ℕ) (given : List (List Symbol × List Symbo
   stops Memory d = (
     d.0,
     elim d.1 [
-      | inl e ↦ subst (IsWithin limits base given) (sym e) (record { reached = reached base given old Visited progress closed; kept = λ k rule lo l h. kept k rule lo h })
+      | inl e ↦ subst (IsWithin limits base given) (sym e)
+          (record { reached = reached base given old Visited progress closed; kept = λ k rule lo l h. kept k rule lo h })
       | inr h ↦ within d.0 h
     ],
     d.2,
   )
 
 -- a stop after some rules were born
-pub stops_later : (limits : Limits) (base : ℕ) (given : List (List Symbol × List Symbol)) (a b c : List Rule) (told told' told'' : Option (List Event)) → Grown a b told told'
+pub stops_later : (limits : Limits) (base : ℕ) (given : List (List Symbol × List Symbol)) (a b c : List Rule)
+    (told told' told'' : Option (List Event)) → Grown a b told told'
     → (s : Stop) → HasStopped limits base given b c told' told'' s → HasStopped limits base given a c told told'' s
 stops_later limits base given a b c told told' told'' g (Limit which) d = (d.0, grown_on a b c told told' told'' g d.1)
 stops_later limits base given a b c told told' told'' g Memory d = (d.0, d.1, grown_on a b d.0 told told' told'' g d.2)
 
-pub goes_later : (limits : Limits) (base : ℕ) (given : List (List Symbol × List Symbol)) (Visited : Birth → Type 0) (a b c : List Rule) (told told' told'' : Option (List Event)) → Grown a b told told'
+pub goes_later : (limits : Limits) (base : ℕ) (given : List (List Symbol × List Symbol)) (Visited : Birth → Type 0) (a b c : List Rule)
+    (told told' told'' : Option (List Event)) → Grown a b told told'
     → HasCome limits base given Visited b c told' told'' → HasCome limits base given Visited a c told told''
-goes_later limits base given Visited a b c told told' told'' g d = record { progress = d.progress; kept = d.kept; grown = grown_on a b c told told' told'' g d.grown }
+goes_later limits base given Visited a b c told told' told'' g d = record
+    { progress = d.progress; kept = d.kept; grown = grown_on a b c told told' told'' g d.grown }
 
 -- what stopped for want of memory before it did anything
-pub stops_before : (limits : Limits) (Done : List Rule → Type 0) (old new : List Rule) (told : Option (List Event)) (s : Stop) → s ≡ Memory → StoppedAt limits Done old new told told s
+pub stops_before : (limits : Limits) (Done : List Rule → Type 0) (old new : List Rule) (told : Option (List Event)) (s : Stop) → s ≡ Memory
+    → StoppedAt limits Done old new told told s
 stops_before limits Done old new told (Limit which) e = cc
 stops_before limits Done old new told Memory e = (old, inl refl, grown_none old told)
 
 -- the same of more that is done
-pub does_more : (limits : Limits) (P Q : List Rule → Type 0) (old new : List Rule) (told told' : Option (List Event)) → ((t : List Rule) → P t → Q t) → DoneWithin limits P old new told told' → DoneWithin limits Q old new told told'
+pub does_more : (limits : Limits) (P Q : List Rule → Type 0) (old new : List Rule) (told told' : Option (List Event)) → ((t : List Rule) → P t → Q t)
+    → DoneWithin limits P old new told told' → DoneWithin limits Q old new told told'
 does_more limits P Q old new told told' f d = record { done = f new d.done; kept = d.kept; grown = d.grown }
 
-pub stops_more : (limits : Limits) (P Q : List Rule → Type 0) (old new : List Rule) (told told' : Option (List Event)) → ((t : List Rule) → P t → Q t) → (s : Stop) → StoppedAt limits P old new told told' s → StoppedAt limits Q old new told told' s
+pub stops_more : (limits : Limits) (P Q : List Rule → Type 0) (old new : List Rule) (told told' : Option (List Event)) → ((t : List Rule) → P t → Q t)
+    → (s : Stop) → StoppedAt limits P old new told told' s → StoppedAt limits Q old new told told' s
 stops_more limits P Q old new told told' f (Limit which) d = (f new d.0, d.1, d.2)
 stops_more limits P Q old new told told' f Memory d = (d.0, elim d.1 [ inl e ↦ inl e | inr p ↦ inr (f d.0 p) ], d.2)
 
@@ -145,6 +154,8 @@ kept_length limits base t kept = elim (cases_lt base (length t)) [
   | inr l ↦ omega (arith, l)
 ]
 
-pub goes_along : (limits : Limits) (base : ℕ) (given : List (List Symbol × List Symbol)) (Visited Next : Birth → Type 0) (old new : List Rule) (told told' : Option (List Event))
-    → (Progress base given new Visited → Progress base given new Next) → HasCome limits base given Visited old new told told' → HasCome limits base given Next old new told told'
+pub goes_along : (limits : Limits) (base : ℕ) (given : List (List Symbol × List Symbol)) (Visited Next : Birth → Type 0) (old new : List Rule)
+    (told told' : Option (List Event))
+    → (Progress base given new Visited → Progress base given new Next) → HasCome limits base given Visited old new told told'
+    → HasCome limits base given Next old new told told'
 goes_along limits base given Visited Next old new told told' f d = record { progress = f d.progress; kept = d.kept; grown = d.grown }

@@ -11,9 +11,11 @@ greater-init g c =
     let a = c.args in let told = g.W.Watch.told in let new = c.settle_given.new.rules in
     let fits = c.requires.base_fits in
     record {
-      goes = goes_along a.limits a.base a.given.now (GivenBelow (length a.given.now)) (Earlier (a.base + 1) 0 0 0) a.rules.now new (told a.watch.now) (told c.settle_given.new.watch)
+      goes = goes_along a.limits a.base a.given.now (GivenBelow (length a.given.now)) (Earlier (a.base + 1) 0 0 0) a.rules.now new (told a.watch.now)
+          (told c.settle_given.new.watch)
           (equations_done a.base a.given.now new)
-          (subst (λ n. HasCome a.limits n a.given.now (GivenBelow (length a.given.now)) a.rules.now new (told a.watch.now) (told c.settle_given.new.watch)) (sym c.requires.base_is) c.in_ok-settle_given.ensures);
+          (subst (λ n. HasCome a.limits n a.given.now (GivenBelow (length a.given.now)) a.rules.now new (told a.watch.now)
+          (told c.settle_given.new.watch)) (sym c.requires.base_is) c.in_ok-settle_given.ensures);
       new = omega arith;
       small = omega (arith, fits);
     }
@@ -37,7 +39,8 @@ greater-preserved g c =
     let t = c.greater-test.true in let e = ap length c.rules.ensures in
     let n = l.invariant.new in
     record {
-      goes = goes_later a.limits a.base a.given.now (Earlier (l.greater + 1) 0 0 0) a.rules.now l.rules c.settle_greater.new.rules (told a.watch.now) (told l.watch) (told c.settle_greater.new.watch) l.invariant.goes.grown c.in_ok-settle_greater.ensures;
+      goes = goes_later a.limits a.base a.given.now (Earlier (l.greater + 1) 0 0 0) a.rules.now l.rules c.settle_greater.new.rules (told a.watch.now)
+          (told l.watch) (told c.settle_greater.new.watch) l.invariant.goes.grown c.in_ok-settle_greater.ensures;
       new = omega (arith, n);
       small = omega (arith, k, t, e);
     }
@@ -46,17 +49,21 @@ pub returns-in_err-settle_given : goal.returns-in_err-settle_given
 returns-in_err-settle_given g c =
     let a = c.args in let told = g.W.Watch.told in
     let p = err_from_is_err_and c.from_residual.result c.from_residual.ensures.1 in
-    rw (p.1, p.2) (subst (λ n. HasStopped a.limits n a.given.now a.rules.now c.settle_given.new.rules (told a.watch.now) (told c.settle_given.new.watch) c.in_err-settle_given.field-0.0) (sym c.requires.base_is) c.in_err-settle_given.ensures)
+    rw (p.1, p.2) (subst (λ n. HasStopped a.limits n a.given.now a.rules.now c.settle_given.new.rules (told a.watch.now)
+    (told c.settle_given.new.watch) c.in_err-settle_given.field-0.0) (sym c.requires.base_is) c.in_err-settle_given.ensures)
 
 pub returns-in_err-settle_greater : goal.returns-in_err-settle_greater
 returns-in_err-settle_greater g c =
     let a = c.args in let l = c.greater in let told = g.W.Watch.told in
     let p = err_from_is_err_and c.from_residual-in_err-settle_greater.result c.from_residual-in_err-settle_greater.ensures.1 in
     rw (p.1, p.2)
-    (stops_later a.limits a.base a.given.now a.rules.now l.rules c.settle_greater.new.rules (told a.watch.now) (told l.watch) (told c.settle_greater.new.watch) l.invariant.goes.grown c.in_err-settle_greater.field-0.0 c.in_err-settle_greater.ensures)
+    (stops_later a.limits a.base a.given.now a.rules.now l.rules c.settle_greater.new.rules (told a.watch.now) (told l.watch)
+    (told c.settle_greater.new.watch) l.invariant.goes.grown c.in_err-settle_greater.field-0.0 c.in_err-settle_greater.ensures)
 
 pub returns : goal.returns
 returns g c =
     let a = c.args in let l = c.greater in
-    let f = ap length c.rules.ensures in let t = c.greater-test.false in
-    (record { ended = all_done a.base a.given.now l.rules l.greater (omega (arith, f, t)) l.invariant.goes.progress; kept = l.invariant.goes.kept }, l.invariant.goes.grown)
+    let f = ap length c.rules.ensures in let t = c.greater-test.false in (
+      record { ended = all_done a.base a.given.now l.rules l.greater (omega (arith, f, t)) l.invariant.goes.progress; kept = l.invariant.goes.kept },
+      l.invariant.goes.grown,
+    )

@@ -30,7 +30,8 @@ settle_pairs_of-requires-clause-so_far g c =
     let l = c.loop-i in
     let f = grown_longer c.args.rules.now l.rules (g.W.Watch.told c.args.watch.now) (g.W.Watch.told l.watch) l.invariant.grown in
     let h = c.requires.in_range in
-    rw (max_right l.i c.args.greater c.loop-i-test.true) (row_begun c.args.base c.args.given.now l.rules c.args.greater l.i c.loop-i-test.true (omega (arith, f, h)) l.invariant.progress)
+    rw (max_right l.i c.args.greater c.loop-i-test.true)
+    (row_begun c.args.base c.args.given.now l.rules c.args.greater l.i c.loop-i-test.true (omega (arith, f, h)) l.invariant.progress)
 
 pub loop-i-preserved : goal.loop-i-preserved
 loop-i-preserved g c =
@@ -41,7 +42,8 @@ loop-i-preserved g c =
     let h = grown_longer l.rules new (told l.watch) (told c.settle_pairs_of.new.watch) e.grown in
     let k = c.requires.in_range in
     record {
-      progress = row_done a.base a.given.now new a.greater l.i (omega (arith, f, h, k)) (subst (λ n. Progress a.base a.given.now new (Earlier n l.i (a.greater + 1) 0)) (max_right l.i a.greater c.loop-i-test.true) e.progress);
+      progress = row_done a.base a.given.now new a.greater l.i (omega (arith, f, h, k))
+          (subst (λ n. Progress a.base a.given.now new (Earlier n l.i (a.greater + 1) 0)) (max_right l.i a.greater c.loop-i-test.true) e.progress);
       kept = e.kept;
       grown = grown_on a.rules.now l.rules new (told a.watch.now) (told l.watch) (told c.settle_pairs_of.new.watch) l.invariant.grown e.grown;
     }
@@ -51,7 +53,8 @@ returns-in_err-settle_pairs_of g c =
     let a = c.args in let l = c.loop-i in let told = g.W.Watch.told in
     let p = err_from_is_err_and c.from_residual.result c.from_residual.ensures.1 in
     rw (p.1, p.2)
-    (stops_later a.limits a.base a.given.now a.rules.now l.rules c.settle_pairs_of.new.rules (told a.watch.now) (told l.watch) (told c.settle_pairs_of.new.watch) l.invariant.grown c.in_err-settle_pairs_of.field-0.0 c.in_err-settle_pairs_of.ensures)
+    (stops_later a.limits a.base a.given.now a.rules.now l.rules c.settle_pairs_of.new.rules (told a.watch.now) (told l.watch)
+    (told c.settle_pairs_of.new.watch) l.invariant.grown c.in_err-settle_pairs_of.field-0.0 c.in_err-settle_pairs_of.ensures)
 
 pub loop-j-init : goal.loop-j-init
 loop-j-init g c =
@@ -61,7 +64,8 @@ loop-j-init g c =
     let n = c.requires.new in
     let e : l.i ≡ a.greater = omega (arith, n) in
     record {
-      progress = column_begun a.base a.given.now l.rules a.greater (omega (arith, f, h)) (subst (λ i. Progress a.base a.given.now l.rules (Earlier a.greater i 0 0)) e l.invariant.progress);
+      progress = column_begun a.base a.given.now l.rules a.greater (omega (arith, f, h))
+          (subst (λ i. Progress a.base a.given.now l.rules (Earlier a.greater i 0 0)) e l.invariant.progress);
       kept = l.invariant.kept;
       grown = l.invariant.grown;
     }
@@ -92,7 +96,8 @@ returns-in_err-settle_pairs_of-2 g c =
     let a = c.args in let l = c.loop-j in let told = g.W.Watch.told in
     let p = err_from_is_err_and c.from_residual-in_err-settle_pairs_of-2.result c.from_residual-in_err-settle_pairs_of-2.ensures.1 in
     rw (p.1, p.2)
-    (stops_later a.limits a.base a.given.now a.rules.now l.rules c.settle_pairs_of-in-loop-j.new.rules (told a.watch.now) (told l.watch) (told c.settle_pairs_of-in-loop-j.new.watch) l.invariant.grown c.in_err-settle_pairs_of-2.field-0.0 c.in_err-settle_pairs_of-2.ensures)
+    (stops_later a.limits a.base a.given.now a.rules.now l.rules c.settle_pairs_of-in-loop-j.new.rules (told a.watch.now) (told l.watch)
+    (told c.settle_pairs_of-in-loop-j.new.watch) l.invariant.grown c.in_err-settle_pairs_of-2.field-0.0 c.in_err-settle_pairs_of-2.ensures)
 
 pub returns : goal.returns
 returns g c =
@@ -101,7 +106,8 @@ returns g c =
     let h = c.requires.in_range in
     let e : l.j ≡ a.greater + 1 = omega arith in
     record {
-      progress = greater_done a.base a.given.now l.rules a.greater (omega (arith, f, h)) (subst (λ j. Progress a.base a.given.now l.rules (Earlier a.greater a.greater j 0)) e l.invariant.progress);
+      progress = greater_done a.base a.given.now l.rules a.greater (omega (arith, f, h))
+          (subst (λ j. Progress a.base a.given.now l.rules (Earlier a.greater a.greater j 0)) e l.invariant.progress);
       kept = l.invariant.kept;
       grown = l.invariant.grown;
     }

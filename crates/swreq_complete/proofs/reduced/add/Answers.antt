@@ -22,7 +22,8 @@ read all rules k r e l g = slice_get_read rules (length rules) k r refl l (g ∙
 some_is : (w : List Symbol) (r : Rule) → w ≡ r.left → 0 < length w
 some_is w r e = subst (λ x. 0 < length x) (sym e) (left_some r)
 
-factors_along : (all rules : List Rule) (w v : List Symbol) → all ≡ rules → w ≡ v → EachFactor w (IsIrreducible (Step all)) → EachFactor v (IsIrreducible (Step rules))
+factors_along : (all rules : List Rule) (w v : List Symbol) → all ≡ rules → w ≡ v → EachFactor w (IsIrreducible (Step all))
+    → EachFactor v (IsIrreducible (Step rules))
 factors_along all rules w v e f h = subst (λ x. EachFactor v (IsIrreducible (Step x))) e (subst (λ x. EachFactor x (IsIrreducible (Step all))) f h)
 
 pub is_minimal-requires : goal.is_minimal-requires
@@ -33,7 +34,8 @@ returns-then-not-is_minimal c =
     let rules = c.args.rules.now in
     let e = read c.rules-all.result.now rules c.args.k c.index-all-k.result c.rules-all.ensures c.requires.in_range c.index-all-k.is in
     found_skip rules c.args.k c.args.found.now.items c.index-all-k.result e
-    (λ h. (let t = c.is_minimal.ensures.1 (factors_along rules c.rules-all.result.now c.index-all-k.result.left c.symbols.result.now (sym c.rules-all.ensures) (sym c.symbols.ensures) h) in let f = c.if-not-is_minimal.true in cc))
+    (λ h. (let t = c.is_minimal.ensures.1 (factors_along rules c.rules-all.result.now c.index-all-k.result.left c.symbols.result.now
+    (sym c.rules-all.ensures) (sym c.symbols.ensures) h) in let f = c.if-not-is_minimal.true in cc))
     c.requires.so_far
 
 pub returns : goal.returns
@@ -43,8 +45,12 @@ returns c =
     let new = c.in_ok-new.new in
     let r = c.index-all-k.result in
     let e = read c.rules-all.result.now rules c.args.k r c.rules-all.ensures c.requires.in_range c.index-all-k.is in
-    let minimal = factors_along c.rules-all.result.now rules c.symbols.result.now r.left c.rules-all.ensures c.symbols.ensures (c.is_minimal.ensures.0 c.if-not-is_minimal.false) in
-    let belongs : BelongsAt found new.left c.place_of-at.result = subst (λ x. BelongsAt x new.left c.place_of-at.result) c.deref.ensures.value (subst (λ x. BelongsAt c.deref.result.now x c.place_of-at.result) c.symbols-2.ensures c.place_of-at.ensures) in
+    let minimal = factors_along c.rules-all.result.now rules c.symbols.result.now r.left c.rules-all.ensures c.symbols.ensures
+    (c.is_minimal.ensures.0 c.if-not-is_minimal.false) in
+    let belongs : BelongsAt found new.left c.place_of-at.result = subst (λ x. BelongsAt x new.left c.place_of-at.result) c.deref.ensures.value
+    (subst (λ x. BelongsAt c.deref.result.now x c.place_of-at.result) c.symbols-2.ensures c.place_of-at.ensures) in
     on_ok c.put.result
-    (λ f. subst (Found rules (c.args.k + 1)) (sym f) (found_more rules c.args.k c.place_of-at.result found r new c.requires.fresh e minimal c.in_ok-new.ensures.left c.in_ok-new.ensures.birth c.in_ok-new.ensures.right belongs c.requires.so_far))
+    (λ f. subst (Found rules (c.args.k + 1)) (sym f)
+    (found_more rules c.args.k c.place_of-at.result found r new c.requires.fresh e minimal c.in_ok-new.ensures.left c.in_ok-new.ensures.birth
+    c.in_ok-new.ensures.right belongs c.requires.so_far))
     c.put.ensures

@@ -18,7 +18,8 @@ loop-n-init g c = record {
   grown = grown_none c.args.rules.now (g.W.Watch.told c.args.watch.now);
 }
 
-sides : (base : ℕ) (given : List (List Symbol × List Symbol)) (old t : List Rule) (n : ℕ) (l r l' r' : List Symbol) → l' ≡ l → r' ≡ r → Settles old t (Given (n + 1)) l' r' → Settles old t (Given (n + 1)) l r
+sides : (base : ℕ) (given : List (List Symbol × List Symbol)) (old t : List Rule) (n : ℕ) (l r l' r' : List Symbol) → l' ≡ l → r' ≡ r
+    → Settles old t (Given (n + 1)) l' r' → Settles old t (Given (n + 1)) l r
 sides base given old t n l r l' r' e f s = subst (λ x. Settles old t (Given (n + 1)) x r) e (subst (λ x. Settles old t (Given (n + 1)) l' x) f s)
 
 pub loop-n-preserved : goal.loop-n-preserved
@@ -31,15 +32,20 @@ loop-n-preserved g c =
     let x = c.index-given-n.result in
     let e = slice_get_read given (length given) n x refl c.loop-n-test.true c.index-given-n.is in
     let told = g.W.Watch.told in
-    goes_later c.args.limits base given (GivenBelow (n + 1)) c.args.rules.now old c.settle_sides.new.rules (told c.args.watch.now) (told c.loop-n.watch) (told c.settle_sides.new.watch) i.grown
-    (goes_on c.args.limits base given (GivenBelow n) (GivenBelow (n + 1)) (λ t. Settles old t (Given (n + 1)) c.symbols.result.now c.symbols-in-loop-n.result.now) old c.settle_sides.new.rules (told c.loop-n.watch) (told c.settle_sides.new.watch) i.progress i.kept
+    goes_later c.args.limits base given (GivenBelow (n + 1)) c.args.rules.now old c.settle_sides.new.rules (told c.args.watch.now)
+    (told c.loop-n.watch) (told c.settle_sides.new.watch) i.grown
+    (goes_on c.args.limits base given (GivenBelow n) (GivenBelow (n + 1))
+    (λ t. Settles old t (Given (n + 1)) c.symbols.result.now c.symbols-in-loop-n.result.now) old c.settle_sides.new.rules (told c.loop-n.watch)
+    (told c.settle_sides.new.watch) i.progress i.kept
     (below_closed base given n old) (below_closed base given (n + 1))
     (λ t s. settles_adds old t (Given (n + 1)) c.symbols.result.now c.symbols-in-loop-n.result.now s)
-    (λ t s. given_more base given old t n x.0 x.1 i.progress e (sides base given old t n x.0 x.1 c.symbols.result.now c.symbols-in-loop-n.result.now c.symbols.ensures c.symbols-in-loop-n.ensures s))
+    (λ t s. given_more base given old t n x.0 x.1 i.progress e
+    (sides base given old t n x.0 x.1 c.symbols.result.now c.symbols-in-loop-n.result.now c.symbols.ensures c.symbols-in-loop-n.ensures s))
     c.in_ok-settle_sides.ensures)
 
 pub returns : goal.returns
-returns g c = subst (λ n. HasCome c.args.limits (length c.args.rules.now) c.args.given.now (GivenBelow n) c.args.rules.now c.loop-n.rules (g.W.Watch.told c.args.watch.now) (g.W.Watch.told c.loop-n.watch)) (omega arith) c.loop-n.invariant
+returns g c = subst (λ n. HasCome c.args.limits (length c.args.rules.now) c.args.given.now (GivenBelow n) c.args.rules.now c.loop-n.rules
+    (g.W.Watch.told c.args.watch.now) (g.W.Watch.told c.loop-n.watch)) (omega arith) c.loop-n.invariant
 
 pub returns-in_err-settle_sides : goal.returns-in_err-settle_sides
 returns-in_err-settle_sides g c =
@@ -53,11 +59,15 @@ returns-in_err-settle_sides g c =
     let told = g.W.Watch.told in
     let p = err_from_is_err_and c.from_residual.result c.from_residual.ensures.1 in
     rw (p.1, p.2)
-    (stops_later c.args.limits base given c.args.rules.now old c.settle_sides.new.rules (told c.args.watch.now) (told c.loop-n.watch) (told c.settle_sides.new.watch) i.grown c.in_err-settle_sides.field-0.0
-    (stops c.args.limits base given (GivenBelow n) (GivenBelow (n + 1)) (λ t. Settles old t (Given (n + 1)) c.symbols.result.now c.symbols-in-loop-n.result.now) old c.settle_sides.new.rules (told c.loop-n.watch) (told c.settle_sides.new.watch) i.progress i.kept
+    (stops_later c.args.limits base given c.args.rules.now old c.settle_sides.new.rules (told c.args.watch.now) (told c.loop-n.watch)
+    (told c.settle_sides.new.watch) i.grown c.in_err-settle_sides.field-0.0
+    (stops c.args.limits base given (GivenBelow n) (GivenBelow (n + 1))
+    (λ t. Settles old t (Given (n + 1)) c.symbols.result.now c.symbols-in-loop-n.result.now) old c.settle_sides.new.rules (told c.loop-n.watch)
+    (told c.settle_sides.new.watch) i.progress i.kept
     (below_closed base given n old) (below_closed base given (n + 1))
     (λ t s. settles_adds old t (Given (n + 1)) c.symbols.result.now c.symbols-in-loop-n.result.now s)
-    (λ t s. given_more base given old t n x.0 x.1 i.progress e (sides base given old t n x.0 x.1 c.symbols.result.now c.symbols-in-loop-n.result.now c.symbols.ensures c.symbols-in-loop-n.ensures s))
+    (λ t s. given_more base given old t n x.0 x.1 i.progress e
+    (sides base given old t n x.0 x.1 c.symbols.result.now c.symbols-in-loop-n.result.now c.symbols.ensures c.symbols-in-loop-n.ensures s))
     c.in_err-settle_sides.field-0.0 c.in_err-settle_sides.ensures))
 
 pub settle_sides-requires : goal.settle_sides-requires

@@ -8,8 +8,10 @@ use Rattle.swreq_complete.proofs.complete_rules.CompleteRules.canonical.Goals as
 
 pub returns-clause-reduced : goal.returns-clause-reduced
 returns-clause-reduced c =
-    IfOk-weaker c.find.result _ _ (λ v f. found_reduced c.args.self.now v.items (subst IsComplete c.self.view_is c.self.invariant) (subst (λ r. Found r (length r) v.items) c.self.view_is f)) c.find.ensures
+    IfOk-weaker c.find.result _ _ (λ v f. found_reduced c.args.self.now v.items (subst IsComplete c.self.view_is c.self.invariant)
+    (subst (λ r. Found r (length r) v.items) c.self.view_is f)) c.find.ensures
 
 pub returns-clause-births : goal.returns-clause-births
 returns-clause-births c =
-    IfOk-weaker c.find.result _ _ (λ v f. has_births c.args.self.now (length c.args.self.now) v.items (subst (λ r. Found r (length r) v.items) c.self.view_is f)) c.find.ensures
+    IfOk-weaker c.find.result _ _ (λ v f. has_births c.args.self.now (length c.args.self.now) v.items
+    (subst (λ r. Found r (length r) v.items) c.self.view_is f)) c.find.ensures
