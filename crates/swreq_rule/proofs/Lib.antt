@@ -2,6 +2,7 @@ pub mod Context
 pub mod Search
 pub mod Downward
 pub mod Below
+pub mod RedexBelow
 pub mod Places
 pub mod Replace
 pub mod Remaining

@@ -1,20 +1,12 @@
 -- Places of a word, as a search goes up.
-use Rattle.std.proofs.Common.{◌≡◌, ℕ, ◌+◌, ◌<◌, inl, inr, refl, sym, ◌∙◌, ap, subst, arith, List, ◌++◌, append_assoc, length, length-append, take, drop, Some}
+use Rattle.std.proofs.Common.{◌≡◌, ℕ, ◌+◌, ◌<◌, refl, sym, ◌∙◌, ap, arith, List, ◌++◌, append_assoc, length, length-append, take, drop, Some}
 use Rattle.std.proofs.Math.Seq.{drop-append_seam, take-append_seam}
 use Rattle.std.specs.List.{slice_get}
-use Rattle.std.proofs.lemmas.Bool.{cases_eq}
 use Rattle.swreq_word.specs.declared.symbols.Symbol.{Symbol}
 use Rattle.swreq_word.specs.Relations.{IsIrreducible}
 use Rattle.swreq_rule.specs.declared.rules.Rule.{Rule}
-use Rattle.swreq_word.proofs.Cuts.{cut_rest}
 use Rattle.swreq_rule.specs.Steps.{Step}
-use Rattle.swreq_rule.specs.Reduction.{NoneBegins, NoneEarlier, FirstRedex, ReductionStep}
-
-pub none_later : (rules : List Rule) (w : List Symbol) (at : ℕ) → NoneEarlier rules w at → NoneBegins rules (drop at w) → NoneEarlier rules w (at + 1)
-none_later rules w at earlier here before rest e l = elim (cases_eq (length before) at) [
-  | inl h ↦ subst (NoneBegins rules) (ap (λ k. drop k w) (sym h) ∙ cut_rest w before rest e) here
-  | inr h ↦ earlier before rest e (omega arith)
-]
+use Rattle.swreq_rule.specs.Reduction.{NoneEarlier, FirstRedex, ReductionStep}
 
 pub none_anywhere : (rules : List Rule) (w : List Symbol) (at : ℕ) → length w < at → NoneEarlier rules w at → IsIrreducible (Step rules) w
 none_anywhere rules w at l earlier v s =

@@ -1,15 +1,18 @@
 //! The search for the first redex of a word, and the step there.
 
-ghost use Rattle.std.specs.Prelude.{◌≡◌, ◌+◌, ◌<◌, ◌≤◌, List, ◌++◌, length, drop, take, MatchOption, vec_len, vec_capacity};
+ghost use Rattle.std.specs.Prelude.{◌≡◌, ◌+◌, ◌^◌, ◌<◌, ◌≤◌, List, ◌++◌, length, drop, take, MatchOption, vec_len, vec_capacity};
 ghost use Rattle.std.specs.Bool.{Decides, OnFalse, OnTrue};
 ghost use Rattle.swreq_word.specs.declared.symbols.Symbol.{Symbol};
 ghost use Rattle.swreq_word.specs.Relations.{IsIrreducible};
-ghost use Rattle.swreq_rule.specs.Reduction.{Chosen, FirstRedex, NoneBegins, NoneEarlier, ReductionStep};
-ghost use Rattle.swreq_rule.specs.Search.{BeginsAt, ChosenSoFar, NoneLonger, StepsPast};
+ghost use Rattle.swreq_rule.specs.Reduction.{FirstRedex, NoneEarlier, ReductionStep};
+ghost use Rattle.swreq_rule.specs.Search.{FirstPlace, NoneLonger, NowhereBefore, RedexSoFar, StepsPast};
 ghost use Rattle.swreq_rule.specs.Steps.{Step};
 
 use crate::Rule;
 use swreq_word::Symbol;
+
+// How many places of a word are searched in one pass over the rules.
+const WINDOW: usize = 16;
 
 /// Whether the second word begins the first.
 pub fn begins(w: &[Symbol], left: &[Symbol]) -> bool
@@ -26,36 +29,78 @@ pub fn begins(w: &[Symbol], left: &[Symbol]) -> bool
     true
 }
 
-// The chosen one of the rules up to this one, which begins the word, where `found` is that of the rules before it.
-fn better(rules: &[Rule], w: &[Symbol], k: usize, found: Option<usize>) -> Option<usize>
-    requires in_range { k < length rules.now }
-    requires begins { BeginsAt rules.now w.now k }
-    requires so_far { ChosenSoFar rules.now w.now k found }
-    ensures { ChosenSoFar rules.now w.now (k + 1) result }
+// The earliest place before `end` at which the left side begins, where it begins at none before `from`.
+fn first_place(w: &[Symbol], left: &[Symbol], from: usize, end: usize) -> Option<usize>
+    requires within { end ≤ length w.now + 1 }
+    requires earlier { NowhereBefore left.now w.now from }
+    ensures { MatchOption result (NowhereBefore left.now w.now end) (λ at. FirstPlace left.now w.now end at) }
 {
+    for at in from..end {
+        if begins(&w[at..], left) {
+            return Some(at);
+        }
+    }
+    None
+}
+
+// The end of the places at which this left side goes before the other one, which has a lesser number and begins at `at`: of these
+// places `at` is one only if this left side is shorter.
+fn end_before(at: usize, left: &[Symbol], other: &[Symbol]) -> usize
+    requires { at + 1 < 2 ^ 64 }
+    ensures shorter { length left.now < length other.now → result ≡ at + 1 }
+    ensures no_shorter { length other.now ≤ length left.now → result ≡ at }
+{
+    if left.len() < other.len() { at + 1 } else { at }
+}
+
+// The first redex before `end` by the rules up to the one with number `k`, where `found` is that by the rules before it, and no left
+// side begins before `from`.
+fn with_rule(
+    rules: &[Rule],
+    w: &[Symbol],
+    from: usize,
+    end: usize,
+    k: usize,
+    found: Option<(usize, usize)>,
+) -> Option<(usize, usize)>
+    requires in_range { k < length rules.now }
+    requires within { end ≤ length w.now + 1 }
+    requires earlier { NoneEarlier rules.now w.now from }
+    requires so_far { RedexSoFar rules.now w.now end k found }
+    ensures { RedexSoFar rules.now w.now end (k + 1) result }
+{
+    let rule = &rules[k];
+    let left = rule.left.symbols();
     match found {
-        Some(n) => {
-            let rule = &rules[k];
-            let other = &rules[n];
-            if other.left.symbols().len() <= rule.left.symbols().len() {
-                found
-            } else {
-                Some(k)
+        Some((at, number)) => {
+            let other = &rules[number];
+            let end = end_before(at, left, other.left.symbols());
+            match first_place(w, left, from, end) {
+                Some(place) => Some((place, k)),
+                None => found,
             }
         }
-        None => Some(k),
+        None => match first_place(w, left, from, end) {
+            Some(place) => Some((place, k)),
+            None => None,
+        },
     }
 }
 
-// Of the rules whose left side begins the word, the one with the shortest left side, of several the one with the least number.
-fn chosen(rules: &[Rule], w: &[Symbol]) -> Option<usize>
-    ensures { MatchOption result (NoneBegins rules.now w.now) (λ n. Chosen rules.now w.now n) }
+// The first redex, if it stands before `end`, where no left side begins before `from`.
+fn first_redex_before(
+    rules: &[Rule],
+    w: &[Symbol],
+    from: usize,
+    end: usize,
+) -> Option<(usize, usize)>
+    requires within { end ≤ length w.now + 1 }
+    requires earlier { NoneEarlier rules.now w.now from }
+    ensures { MatchOption result (NoneEarlier rules.now w.now end) (λ p. FirstRedex rules.now w.now p.0 p.1) }
 {
-    let mut found: Option<usize> = None;
-    for (k, rule) in rules.iter().enumerate() {
-        if begins(w, rule.left.symbols()) {
-            found = better(rules, w, k, found);
-        }
+    let mut found: Option<(usize, usize)> = None;
+    for k in 0..rules.len() {
+        found = with_rule(rules, w, from, end, k, found);
     }
     found
 }
@@ -72,16 +117,20 @@ pub(crate) fn longest_left(rules: &[Rule]) -> usize
     longest
 }
 
-// The earliest place at which a left side begins, and the rule that is chosen there, where none begins before `from`.
+// The earliest place at which a left side begins, and the rule that is chosen there, where none begins before `from`. The rules
+// are read once for each `WINDOW` places, and not for each place.
 fn first_redex(rules: &[Rule], w: &[Symbol], from: usize) -> Option<(usize, usize)>
     requires earlier { NoneEarlier rules.now w.now from }
     requires within { from ≤ length w.now }
     ensures { MatchOption result (IsIrreducible (Step rules.now) w.now) (λ p. FirstRedex rules.now w.now p.0 p.1) }
 {
-    for at in from..w.len() + 1 {
-        if let Some(number) = chosen(rules, &w[at..]) {
-            return Some((at, number));
+    let mut at = from;
+    'windows: while at <= w.len() {
+        let end = (at + WINDOW).min(w.len() + 1);
+        if let Some(redex) = first_redex_before(rules, w, at, end) {
+            return Some(redex);
         }
+        at = end;
     }
     None
 }

@@ -1,0 +1,5 @@
+pub mod Terminals
+pub mod Kinds
+pub mod Source
+pub mod Written
+pub mod Skeletons

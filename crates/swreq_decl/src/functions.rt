@@ -1,0 +1,111 @@
+//! Reading functions.
+
+ghost use Rattle.std.specs.Prelude.{◌≡◌, ◌∷◌, []};
+ghost use Rattle.swreq_grammar.specs.Gives.{Gives};
+ghost use Rattle.swreq_grammar.specs.Reader.{read};
+ghost use Rattle.swreq_decl.specs.declared.terminal.Terminal.TheVariants.{Comma};
+ghost use Rattle.swreq_decl.specs.Terminals as terminals;
+ghost use Rattle.swreq_decl.specs.Source as lines;
+
+use crate::kind::Kind;
+use crate::reading::{Read, begins, labelled, mark, name};
+use crate::requirements::conditions;
+use crate::skeleton::{FunctionDecl, ParamDecl};
+use crate::terminal::Terminal;
+use crate::types::bounds;
+use std::alloc::Global;
+use swreq_grammar::{Part, Token, many};
+use swreq_text::Seq;
+
+/// A generic parameter.
+#[tactic(auto, unfolding(crate::specs::Source::param))]
+fn param(alloc: Global, tokens: &[Token<Terminal>]) -> Read<'_, ParamDecl>
+    ensures { Gives (λ x. (x.0, x.1.now)) result (read terminals.number lines.param tokens.now) }
+{
+    let (name, rest) = name(tokens)?;
+    if !begins(rest, &[Terminal::Colon]) {
+        let bounds = Seq::new(Vec::new(alloc));
+        return Ok((ParamDecl { name, bounds }, rest));
+    }
+    let (_, rest) = mark(rest, Terminal::Colon)?;
+    let (found, rest) = bounds(alloc, rest)?;
+    let bounds = Seq::new(found);
+    Ok((ParamDecl { name, bounds }, rest))
+}
+
+/// A generic parameter after `,`.
+struct NextParam;
+
+impl Part for NextParam {
+    type Terminal = Terminal;
+
+    type Label = Kind;
+
+    type Value = ParamDecl;
+
+    ghost number = { terminals.number };
+
+    ghost reads = { read terminals.number (lines.after (lines.mark Comma) lines.param) };
+
+    ghost first_set = { Comma ∷ [] };
+
+    fn begins(tokens: &[Token<Terminal>]) -> bool {
+        begins(tokens, &[Terminal::Comma])
+    }
+
+    fn part(alloc: Global, tokens: &[Token<Terminal>]) -> Read<'_, ParamDecl> {
+        let (_, rest) = mark(tokens, Terminal::Comma)?;
+        param(alloc, rest)
+    }
+}
+
+/// The generic parameters, if a function has any.
+#[tactic(auto, unfolding(crate::specs::Source::generics, crate::specs::Source::params))]
+fn params(alloc: Global, tokens: &[Token<Terminal>]) -> Read<'_, Seq<ParamDecl>>
+    ensures { Gives (λ x. (x.0, x.1.now)) result (read terminals.number lines.params tokens.now) }
+{
+    let mut found = Vec::new(alloc);
+    if !begins(tokens, &[Terminal::Less]) {
+        return Ok((Seq::new(found), tokens));
+    }
+    let (_, rest) = mark(tokens, Terminal::Less)?;
+    let (first, rest) = param(alloc, rest)?;
+    let (mut others, rest) = many::<NextParam>(alloc, rest)?;
+    let (_, rest) = mark(rest, Terminal::Greater)?;
+    found.push(first)?;
+    found.append(&mut others)?;
+    Ok((Seq::new(found), rest))
+}
+
+/// The empty braces, if they are there.
+#[tactic(auto, unfolding(crate::specs::Source::no_body))]
+fn no_body(tokens: &[Token<Terminal>]) -> Read<'_, ()>
+    ensures { Gives (λ x. (tt, x.1.now)) result (read terminals.number lines.no_body tokens.now) }
+{
+    if !begins(tokens, &[Terminal::OpenBrace]) {
+        return Ok(((), tokens));
+    }
+    let (_, rest) = mark(tokens, Terminal::OpenBrace)?;
+    let (_, rest) = labelled(rest, Kind::Body, Terminal::CloseBrace)?;
+    Ok(((), rest))
+}
+
+/// A function, from the word `func` on.
+#[tactic(auto, unfolding(crate::specs::Source::function))]
+pub fn function(alloc: Global, tokens: &[Token<Terminal>]) -> Read<'_, FunctionDecl>
+    ensures { Gives (λ x. (x.0, x.1.now)) result (read terminals.number lines.function tokens.now) }
+{
+    let (_, rest) = mark(tokens, Terminal::Func)?;
+    let (name, rest) = name(rest)?;
+    let (params, rest) = params(alloc, rest)?;
+    let (_, rest) = mark(rest, Terminal::OpenParenthesis)?;
+    let (_, rest) = labelled(rest, Kind::Parameters, Terminal::CloseParenthesis)?;
+    let (clause, rest) = conditions(alloc, rest)?;
+    let (_, rest) = no_body(rest)?;
+    let found = FunctionDecl {
+        name,
+        params,
+        clause,
+    };
+    Ok((found, rest))
+}

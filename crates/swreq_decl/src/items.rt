@@ -1,0 +1,113 @@
+//! Reading the parts of a text.
+
+ghost use Rattle.std.specs.Prelude.{◌≡◌, ◌∷◌, []};
+ghost use Rattle.swreq_grammar.specs.Gives.{Gives};
+ghost use Rattle.swreq_grammar.specs.Reader.{parse, read};
+ghost use Rattle.swreq_decl.specs.declared.terminal.Terminal.TheVariants.{Public, Internal, FilePrivate, Private, Protocol, Func, Query};
+ghost use Rattle.swreq_decl.specs.Terminals as terminals;
+ghost use Rattle.swreq_decl.specs.Source as lines;
+
+use crate::functions::function;
+use crate::kind::Kind;
+use crate::protocols::protocol;
+use crate::queries::query;
+use crate::reading::{Read, begins, one_of, past_semicolon};
+use crate::skeleton::Item;
+use crate::terminal::Terminal;
+use std::alloc::Global;
+use swreq_grammar::{Part, Stop, Token, many};
+
+/// The words of access, which mean nothing.
+const ACCESS: [Terminal; 4] = [
+    Terminal::Public,
+    Terminal::Internal,
+    Terminal::FilePrivate,
+    Terminal::Private,
+];
+
+/// A protocol or a function, after its access.
+#[tactic(auto, unfolding(crate::specs::Source::declaration, crate::specs::Source::protocol))]
+fn declaration(alloc: Global, tokens: &[Token<Terminal>]) -> Read<'_, Item>
+    ensures { Gives (λ x. (x.0, x.1.now)) result (read terminals.number lines.declaration tokens.now) }
+{
+    if begins(tokens, &[Terminal::Protocol]) {
+        let (found, rest) = protocol(alloc, tokens)?;
+        return Ok((Item::Protocol(found), rest));
+    }
+    let (found, rest) = function(alloc, tokens)?;
+    Ok((Item::Function(found), rest))
+}
+
+/// An item without its semicolon.
+#[tactic(auto, unfolding(crate::specs::Source::bare_item, crate::specs::Source::access, crate::specs::Source::declaration, crate::specs::Source::protocol, crate::specs::Source::function))]
+fn bare_item(alloc: Global, tokens: &[Token<Terminal>]) -> Read<'_, Item>
+    ensures { Gives (λ x. (x.0, x.1.now)) result (read terminals.number lines.bare_item tokens.now) }
+{
+    if begins(tokens, &ACCESS) {
+        let (_, rest) = one_of(tokens, &ACCESS)?;
+        return declaration(alloc, rest);
+    }
+    if begins(tokens, &[Terminal::Protocol, Terminal::Func]) {
+        return declaration(alloc, tokens);
+    }
+    let (found, rest) = query(alloc, tokens)?;
+    Ok((Item::Query(found), rest))
+}
+
+/// A protocol, a function or a query.
+struct AnyItem;
+
+impl Part for AnyItem {
+    type Terminal = Terminal;
+
+    type Label = Kind;
+
+    type Value = Item;
+
+    ghost number = { terminals.number };
+
+    ghost reads = { read terminals.number lines.item };
+
+    ghost first_set = { Public ∷ Internal ∷ FilePrivate ∷ Private ∷ Protocol ∷ Func ∷ Query ∷ [] };
+
+    fn begins(tokens: &[Token<Terminal>]) -> bool {
+        let firsts = [
+            Terminal::Public,
+            Terminal::Internal,
+            Terminal::FilePrivate,
+            Terminal::Private,
+            Terminal::Protocol,
+            Terminal::Func,
+            Terminal::Query,
+        ];
+        begins(tokens, &firsts)
+    }
+
+    #[tactic(auto, unfolding(crate::specs::Source::item))]
+    fn part(alloc: Global, tokens: &[Token<Terminal>]) -> Read<'_, Item> {
+        let (found, rest) = bare_item(alloc, tokens)?;
+        Ok((found, past_semicolon(rest)))
+    }
+}
+
+/// Items as long as one begins.
+#[tactic(auto, unfolding(crate::specs::Source::source, crate::specs::Source::item, crate::specs::Source::bare_item, crate::specs::Source::access, crate::specs::Source::declaration, crate::specs::Source::protocol, crate::specs::Source::function, crate::specs::Source::query))]
+fn items(alloc: Global, tokens: &[Token<Terminal>]) -> Read<'_, Vec<Item>>
+    ensures { Gives (λ x. (x.0.items, x.1.now)) result (read terminals.number lines.source tokens.now) }
+{
+    many::<AnyItem>(alloc, tokens)
+}
+
+/// The parts of a whole text.
+pub fn all_items(
+    alloc: Global,
+    tokens: &[Token<Terminal>],
+) -> Result<Vec<Item>, Stop<'_, Terminal, Kind>>
+    ensures { Gives (λ found. found.items) result (parse terminals.number lines.source tokens.now) }
+{
+    let (found, rest) = items(alloc, tokens)?;
+    if !rest.is_empty() {
+        return Err(Stop::Refused(rest, None));
+    }
+    Ok(found)
+}

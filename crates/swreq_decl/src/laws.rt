@@ -1,0 +1,38 @@
+//! What holds of the skeletons and refusals of each text.
+
+ghost use Rattle.std.specs.Prelude.{◌≡◌, ◌⊎◌, ℕ, List, Option};
+ghost use Rattle.swreq_lex.specs.declared.token.Token as lexed;
+ghost use Rattle.swreq_lex.specs.Tokens.{HasTokens};
+ghost use Rattle.swreq_decl.specs.declared.kind.Kind.{Kind};
+ghost use Rattle.swreq_decl.specs.declared.skeleton.Skeleton.{Skeleton};
+ghost use Rattle.swreq_decl.specs.Skeletons.{RefusedFor, StandsFor};
+ghost use Rattle.swreq_decl.specs.Source as lines;
+ghost use Rattle.swreq_decl.specs.Written as written;
+ghost use Rattle.swreq_decl.specs.Written.{SameTexts};
+
+use swreq_lex::laws::one_reading;
+
+/// At most one skeleton stands for a text.
+pub fn one_skeleton(text: &[u8])
+    ensures { (s t : Skeleton) → StandsFor text.now s → StandsFor text.now t → s ≡ t }
+{
+    one_reading(text);
+}
+
+/// A text that has tokens has a skeleton or a refusal of the grammar, and one of them alone.
+pub fn one_verdict(text: &[u8])
+    ensures some { (ts : List lexed.Token) → HasTokens text.now ts → ((s : Skeleton) × StandsFor text.now s) ⊎ ((at : ℕ) × (kind : Option Kind) × RefusedFor text.now at kind) }
+    ensures one { (at place : ℕ) (kind other : Option Kind) → RefusedFor text.now at kind → RefusedFor text.now place other → (at ≡ place) × (kind ≡ other) }
+    ensures never_both { (s : Skeleton) (at : ℕ) (kind : Option Kind) → StandsFor text.now s → ¬ (RefusedFor text.now at kind) }
+{
+    one_reading(text);
+}
+
+/// Lines whose alternatives begin alike have the texts and values of the lines as they are written.
+pub fn lines_as_written()
+    ensures inherit { SameTexts lines.inherit written.inherit }
+    ensures requirement { SameTexts lines.requirement written.requirement }
+    ensures qstep { SameTexts lines.qstep written.qstep }
+    ensures ask { SameTexts lines.ask written.ask }
+    ensures item { SameTexts lines.item written.item }
+{}

@@ -1,0 +1,28 @@
+//! The skeleton that stands for a source text, or where the text is refused.
+#![tactic(auto)]
+
+mod classes;
+mod functions;
+mod items;
+mod kind;
+pub mod laws;
+mod parser;
+mod protocols;
+mod queries;
+mod reading;
+mod refusal;
+mod requirements;
+mod skeleton;
+mod terminal;
+mod types;
+
+pub use kind::Kind;
+pub use parser::parse;
+pub use refusal::ParseErr;
+pub use skeleton::{
+    Ask, AssocDecl, Entity, FunctionDecl, ParamDecl, ProtocolDecl, QueryDecl, ReqDecl, Skeleton,
+    Span, StepDecl, TypeDecl,
+};
+
+#[cfg(test)]
+mod tests;

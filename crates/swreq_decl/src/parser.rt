@@ -1,0 +1,118 @@
+//! The skeleton of a text, or where the text is refused.
+
+ghost use Rattle.std.specs.Prelude.{◌≡◌, ◌≤◌, ℕ, List, length, IfOk, Ok, Err, Some, None};
+ghost use Rattle.swreq_lex.specs.declared.lexer.TheConstants.{TEXT_LIMIT};
+ghost use Rattle.swreq_lex.specs.declared.refusal.LexErr.{LexErr};
+ghost use Rattle.swreq_lex.specs.Refusals.{HasRefusal};
+ghost use Rattle.swreq_decl.specs.declared.kind.Kind.{Kind};
+ghost use Rattle.swreq_decl.specs.declared.skeleton.Skeleton.{Skeleton};
+ghost use Rattle.swreq_decl.specs.declared.refusal.ParseErr.TheVariants.{Lex, Syntax, Unsupported};
+ghost use Rattle.swreq_decl.specs.Terminals as classes;
+ghost use Rattle.swreq_decl.specs.Skeletons.{Exactly, RefusedFor, StandsFor, Tells, kind_at, place, refusal_of, skeleton_of};
+
+use crate::classes::terminals;
+use crate::items::all_items;
+use crate::kind::{Kind, kind_of};
+use crate::refusal::ParseErr;
+use crate::skeleton::{Item, Skeleton};
+use crate::terminal::Terminal;
+use std::alloc::{AllocError, Global};
+use swreq_grammar::{Stop, Token};
+use swreq_lex::{LexErr, TEXT_LIMIT, tokens};
+use swreq_text::Seq;
+
+/// The skeleton that stands for a text of at most [`TEXT_LIMIT`] bytes, or why none does: a lexical refusal, or a refusal
+/// at the first token such that no text of the grammar begins with the tokens up to and with it.
+///
+/// `Lex` has the refusal of [`tokens`]. `Syntax` and `Unsupported` have the offset of the refused token, and the kind by
+/// the table of refused tokens (docs/LANGUAGE.md); where the text ends too early it is `Syntax` at its length. The grammar
+/// is this language's own, a part of that of The Swift Programming Language.
+pub fn parse(alloc: Global, text: &[u8]) -> Result<Skeleton, ParseErr>
+    requires { length text.now ≤ TEXT_LIMIT }
+    ensures ok { (skeleton : Skeleton) → Exactly (StandsFor text.now skeleton) (Ok skeleton) result }
+    ensures lex { (fault : LexErr) → Exactly (HasRefusal text.now fault) (Err (Lex fault)) result }
+    ensures syntax { (at : ℕ) → Exactly (RefusedFor text.now at None) (Err (Syntax at)) result }
+    ensures unsupported { (at : ℕ) (kind : Kind) → Exactly (RefusedFor text.now at (Some kind)) (Err (Unsupported at kind)) result }
+{
+    match tokens(alloc, text) {
+        Ok(found) => parse_tokens(alloc, text, &found),
+        Err(LexErr::Memory) => Err(ParseErr::Memory),
+        Err(fault) => Err(ParseErr::Lex { fault }),
+    }
+}
+
+/// The skeleton that stands for the tokens of the text.
+fn parse_tokens(
+    alloc: Global,
+    text: &[u8],
+    found: &[swreq_lex::Token],
+) -> Result<Skeleton, ParseErr>
+    requires { length text.now ≤ TEXT_LIMIT }
+    ensures { Tells (length text.now) (classes.terminals text.now found.now) result }
+{
+    let coded = terminals(alloc, text, found)?;
+    match all_items(alloc, &coded) {
+        Ok(items) => Ok(skeleton_of(alloc, items)?),
+        Err(stop) => Err(refusal(text.len() as u32, stop)),
+    }
+}
+
+/// The parts of each kind, in written order.
+fn skeleton_of(alloc: Global, items: Vec<Item>) -> Result<Skeleton, AllocError>
+    ensures { IfOk result (λ skeleton. skeleton ≡ skeleton_of items.items) }
+{
+    let mut protocols = Vec::new(alloc);
+    let mut functions = Vec::new(alloc);
+    let mut queries = Vec::new(alloc);
+    for item in items {
+        match item {
+            Item::Protocol(protocol) => protocols.push(protocol)?,
+            Item::Function(function) => functions.push(function)?,
+            Item::Query(query) => queries.push(query)?,
+        }
+    }
+    Ok(Skeleton {
+        protocols: Seq::new(protocols),
+        functions: Seq::new(functions),
+        queries: Seq::new(queries),
+    })
+}
+
+/// The place of the first of the tokens, or the end of the text.
+fn place(end: u32, rest: &[Token<Terminal>]) -> u32
+    ensures { result ≡ place end rest.now }
+{
+    match rest {
+        [] => end,
+        [token, ..] => token.start,
+    }
+}
+
+/// The kind of a refusal at the first of the tokens.
+fn kind_at(label: Option<Kind>, rest: &[Token<Terminal>]) -> Option<Kind>
+    ensures { result ≡ kind_at label rest.now }
+{
+    match rest {
+        [] => None,
+        [token, ..] => match label {
+            Some(kind) => Some(kind),
+            None => kind_of(token.terminal),
+        },
+    }
+}
+
+/// The refusal of a text with this end.
+fn refusal(end: u32, stop: Stop<'_, Terminal, Kind>) -> ParseErr
+    ensures { result ≡ refusal_of end stop.entry }
+{
+    match stop {
+        Stop::Memory => ParseErr::Memory,
+        Stop::Refused(rest, label) => {
+            let at = place(end, rest);
+            match kind_at(label, rest) {
+                Some(kind) => ParseErr::Unsupported { at, kind },
+                None => ParseErr::Syntax { at },
+            }
+        }
+    }
+}

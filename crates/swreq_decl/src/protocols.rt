@@ -1,0 +1,75 @@
+//! Reading protocols.
+
+ghost use Rattle.std.specs.Prelude.{◌≡◌, ◌∷◌, []};
+ghost use Rattle.swreq_grammar.specs.Gives.{Gives};
+ghost use Rattle.swreq_grammar.specs.Reader.{read};
+ghost use Rattle.swreq_decl.specs.declared.terminal.Terminal.TheVariants.{AssociatedType};
+ghost use Rattle.swreq_decl.specs.Terminals as terminals;
+ghost use Rattle.swreq_decl.specs.Source as lines;
+
+use crate::kind::Kind;
+use crate::reading::{Read, begins, mark, name, past_semicolon};
+use crate::requirements::conditions;
+use crate::skeleton::{AssocDecl, ProtocolDecl};
+use crate::terminal::Terminal;
+use crate::types::inherits;
+use std::alloc::Global;
+use swreq_grammar::{Part, Token, many};
+use swreq_text::Seq;
+
+/// A member of a protocol.
+struct Member;
+
+impl Part for Member {
+    type Terminal = Terminal;
+
+    type Label = Kind;
+
+    type Value = AssocDecl;
+
+    ghost number = { terminals.number };
+
+    ghost reads = { read terminals.number lines.member };
+
+    ghost first_set = { AssociatedType ∷ [] };
+
+    fn begins(tokens: &[Token<Terminal>]) -> bool {
+        begins(tokens, &[Terminal::AssociatedType])
+    }
+
+    #[tactic(auto, unfolding(crate::specs::Source::member))]
+    fn part(alloc: Global, tokens: &[Token<Terminal>]) -> Read<'_, AssocDecl> {
+        let (_, rest) = mark(tokens, Terminal::AssociatedType)?;
+        let (name, rest) = name(rest)?;
+        let (inherits, rest) = inherits(alloc, rest)?;
+        let (clause, rest) = conditions(alloc, rest)?;
+        let found = AssocDecl {
+            name,
+            inherits,
+            clause,
+        };
+        Ok((found, past_semicolon(rest)))
+    }
+}
+
+/// A protocol, from the word `protocol` on.
+#[tactic(auto, unfolding(crate::specs::Source::protocol, crate::specs::Source::member))]
+pub fn protocol(alloc: Global, tokens: &[Token<Terminal>]) -> Read<'_, ProtocolDecl>
+    ensures { Gives (λ x. (x.0, x.1.now)) result (read terminals.number lines.protocol tokens.now) }
+{
+    let (_, rest) = mark(tokens, Terminal::Protocol)?;
+    let (name, rest) = name(rest)?;
+    let (inherits, rest) = inherits(alloc, rest)?;
+    let (clause, rest) = conditions(alloc, rest)?;
+    let (_, rest) = mark(rest, Terminal::OpenBrace)?;
+    let (found, rest) = many::<Member>(alloc, rest)?;
+    let (_, rest) = mark(rest, Terminal::CloseBrace)?;
+    let members = Seq::new(found);
+    let found = ProtocolDecl {
+        name,
+        inherits,
+        clause,
+        members,
+    };
+    Ok((found, rest))
+}

@@ -1,0 +1,115 @@
+//! Reading queries.
+
+ghost use Rattle.std.specs.Prelude.{◌≡◌, ◌∷◌, []};
+ghost use Rattle.swreq_grammar.specs.Gives.{Gives};
+ghost use Rattle.swreq_grammar.specs.Reader.{read};
+ghost use Rattle.swreq_decl.specs.declared.terminal.Terminal.TheVariants.{Dot};
+ghost use Rattle.swreq_decl.specs.Terminals as terminals;
+ghost use Rattle.swreq_decl.specs.Source as lines;
+
+use crate::kind::Kind;
+use crate::reading::{Read, begins, mark, name};
+use crate::skeleton::{Ask, QueryDecl, StepDecl, TypeDecl};
+use crate::terminal::Terminal;
+use crate::types::{STEP_LIMIT, entity};
+use std::alloc::Global;
+use swreq_grammar::{Part, Token, at_most};
+use swreq_text::Seq;
+
+/// A bound step, after its `.`.
+#[tactic(auto, unfolding(crate::specs::Source::bound_step))]
+fn bound_step(tokens: &[Token<Terminal>]) -> Read<'_, StepDecl>
+    ensures { Gives (λ x. (x.0, x.1.now)) result (read terminals.number lines.bound_step tokens.now) }
+{
+    let (_, rest) = mark(tokens, Terminal::OpenBracket)?;
+    let (proto, rest) = name(rest)?;
+    let (_, rest) = mark(rest, Terminal::CloseBracket)?;
+    let (name, rest) = name(rest)?;
+    Ok((StepDecl::Bound { proto, name }, rest))
+}
+
+/// A step of a type in a query.
+struct QueryStep;
+
+impl Part for QueryStep {
+    type Terminal = Terminal;
+
+    type Label = Kind;
+
+    type Value = StepDecl;
+
+    ghost number = { terminals.number };
+
+    ghost reads = { read terminals.number lines.qstep };
+
+    ghost first_set = { Dot ∷ [] };
+
+    fn begins(tokens: &[Token<Terminal>]) -> bool {
+        begins(tokens, &[Terminal::Dot])
+    }
+
+    #[tactic(auto, unfolding(crate::specs::Source::qstep, crate::specs::Source::bound_step))]
+    fn part(_alloc: Global, tokens: &[Token<Terminal>]) -> Read<'_, StepDecl> {
+        let (_, rest) = mark(tokens, Terminal::Dot)?;
+        if begins(rest, &[Terminal::OpenBracket]) {
+            return bound_step(rest);
+        }
+        let (name, rest) = name(rest)?;
+        Ok((StepDecl::Plain { name }, rest))
+    }
+}
+
+/// A type in a query.
+#[tactic(auto, unfolding(crate::specs::Source::qtype, crate::specs::Source::qstep))]
+fn query_type(alloc: Global, tokens: &[Token<Terminal>]) -> Read<'_, TypeDecl>
+    ensures { Gives (λ x. (x.0, x.1.now)) result (read terminals.number lines.qtype tokens.now) }
+{
+    let (head, rest) = name(tokens)?;
+    let (found, rest) = at_most::<QueryStep>(alloc, STEP_LIMIT, Kind::LongType, rest)?;
+    let steps = Seq::new(found);
+    Ok((TypeDecl { head, steps }, rest))
+}
+
+/// What a query asks, where something stands in its parentheses.
+#[tactic(auto, unfolding(crate::specs::Source::ask))]
+fn ask(alloc: Global, tokens: &[Token<Terminal>]) -> Read<'_, Ask>
+    ensures { Gives (λ x. (x.0, x.1.now)) result (read terminals.number lines.ask tokens.now) }
+{
+    let (t, rest) = query_type(alloc, tokens)?;
+    if begins(rest, &[Terminal::Colon]) {
+        let (_, rest) = mark(rest, Terminal::Colon)?;
+        let (bound, rest) = entity(rest)?;
+        return Ok((Ask::Is { t, bound }, rest));
+    }
+    if begins(rest, &[Terminal::EqualEqual]) {
+        let left = t;
+        let (_, rest) = mark(rest, Terminal::EqualEqual)?;
+        let (right, rest) = query_type(alloc, rest)?;
+        return Ok((Ask::Same { left, right }, rest));
+    }
+    Ok((Ask::Reduced { t }, rest))
+}
+
+/// What a query asks.
+#[tactic(auto, unfolding(crate::specs::Source::asked, crate::specs::Source::ask, crate::specs::Source::qtype, crate::specs::Source::name))]
+fn asked(alloc: Global, tokens: &[Token<Terminal>]) -> Read<'_, Ask>
+    ensures { Gives (λ x. (x.0, x.1.now)) result (read terminals.number lines.asked tokens.now) }
+{
+    if begins(tokens, &[Terminal::Name, Terminal::Query]) {
+        return ask(alloc, tokens);
+    }
+    Ok((Ask::Signature, tokens))
+}
+
+/// A query.
+#[tactic(auto, unfolding(crate::specs::Source::query))]
+pub fn query(alloc: Global, tokens: &[Token<Terminal>]) -> Read<'_, QueryDecl>
+    ensures { Gives (λ x. (x.0, x.1.now)) result (read terminals.number lines.query tokens.now) }
+{
+    let (_, rest) = mark(tokens, Terminal::Query)?;
+    let (function, rest) = name(rest)?;
+    let (_, rest) = mark(rest, Terminal::OpenParenthesis)?;
+    let (ask, rest) = asked(alloc, rest)?;
+    let (_, rest) = mark(rest, Terminal::CloseParenthesis)?;
+    Ok((QueryDecl { function, ask }, rest))
+}

@@ -1,0 +1,166 @@
+//! Reading bounds, types and requirements.
+
+ghost use Rattle.std.specs.Prelude.{◌≡◌, ◌∷◌, []};
+ghost use Rattle.swreq_grammar.specs.Grammar.{terminal, mapped};
+ghost use Rattle.swreq_grammar.specs.Gives.{Gives};
+ghost use Rattle.swreq_grammar.specs.Reader.{read};
+ghost use Rattle.swreq_decl.specs.declared.terminal.Terminal.TheVariants.{Ampersand, Comma, Dot};
+ghost use Rattle.swreq_decl.specs.Terminals as terminals;
+ghost use Rattle.swreq_decl.specs.Source as lines;
+
+use crate::kind::Kind;
+use crate::reading::{Read, begins, mark, name, one_of, span_of};
+use crate::skeleton::{Entity, Span, StepDecl, TypeDecl};
+use crate::terminal::Terminal;
+use std::alloc::Global;
+use swreq_grammar::{Part, Token, at_most, many};
+use swreq_text::Seq;
+
+/// The most steps of a type.
+pub const STEP_LIMIT: usize = 1000;
+
+/// The name of a protocol, or `AnyObject`.
+#[tactic(auto, unfolding(crate::specs::Source::entity, crate::specs::Source::name))]
+pub fn entity(tokens: &[Token<Terminal>]) -> Read<'_, Entity>
+    ensures { Gives (λ x. (x.0, x.1.now)) result (read terminals.number lines.entity tokens.now) }
+{
+    if begins(tokens, &[Terminal::Name, Terminal::Query]) {
+        let (span, rest) = name(tokens)?;
+        let layout = false;
+        return Ok((Entity { span, layout }, rest));
+    }
+    let (token, rest) = mark(tokens, Terminal::AnyObject)?;
+    let span = span_of(token);
+    let layout = true;
+    Ok((Entity { span, layout }, rest))
+}
+
+/// An entity after `&`.
+struct JoinedEntity;
+
+impl Part for JoinedEntity {
+    type Terminal = Terminal;
+
+    type Label = Kind;
+
+    type Value = Entity;
+
+    ghost number = { terminals.number };
+
+    ghost reads = { read terminals.number (lines.after (lines.mark Ampersand) lines.entity) };
+
+    ghost first_set = { Ampersand ∷ [] };
+
+    fn begins(tokens: &[Token<Terminal>]) -> bool {
+        begins(tokens, &[Terminal::Ampersand])
+    }
+
+    fn part(_alloc: Global, tokens: &[Token<Terminal>]) -> Read<'_, Entity> {
+        let (_, rest) = mark(tokens, Terminal::Ampersand)?;
+        entity(rest)
+    }
+}
+
+/// Entities joined by `&`.
+#[tactic(auto, unfolding(crate::specs::Source::bounds))]
+pub fn bounds(alloc: Global, tokens: &[Token<Terminal>]) -> Read<'_, Vec<Entity>>
+    ensures { Gives (λ x. (x.0.items, x.1.now)) result (read terminals.number lines.bounds tokens.now) }
+{
+    let (first, rest) = entity(tokens)?;
+    let (mut others, rest) = many::<JoinedEntity>(alloc, rest)?;
+    let mut found = Vec::new(alloc);
+    found.push(first)?;
+    found.append(&mut others)?;
+    Ok((found, rest))
+}
+
+/// A bound after `,` or `&`.
+struct NextInherited;
+
+impl Part for NextInherited {
+    type Terminal = Terminal;
+
+    type Label = Kind;
+
+    type Value = Entity;
+
+    ghost number = { terminals.number };
+
+    ghost reads = { read terminals.number (lines.after (terminal (Comma ∷ Ampersand ∷ [])) lines.entity) };
+
+    ghost first_set = { Comma ∷ Ampersand ∷ [] };
+
+    fn begins(tokens: &[Token<Terminal>]) -> bool {
+        begins(tokens, &[Terminal::Comma, Terminal::Ampersand])
+    }
+
+    fn part(_alloc: Global, tokens: &[Token<Terminal>]) -> Read<'_, Entity> {
+        let (_, rest) = one_of(tokens, &[Terminal::Comma, Terminal::Ampersand])?;
+        entity(rest)
+    }
+}
+
+/// What is inherited, if anything is.
+#[tactic(auto, unfolding(crate::specs::Source::inherit, crate::specs::Source::inherits))]
+pub fn inherits(alloc: Global, tokens: &[Token<Terminal>]) -> Read<'_, Seq<Entity>>
+    ensures { Gives (λ x. (x.0, x.1.now)) result (read terminals.number lines.inherits tokens.now) }
+{
+    let mut found = Vec::new(alloc);
+    if !begins(tokens, &[Terminal::Colon]) {
+        return Ok((Seq::new(found), tokens));
+    }
+    let (_, rest) = mark(tokens, Terminal::Colon)?;
+    let (first, rest) = entity(rest)?;
+    let (mut others, rest) = many::<NextInherited>(alloc, rest)?;
+    found.push(first)?;
+    found.append(&mut others)?;
+    Ok((Seq::new(found), rest))
+}
+
+/// The first word of a type.
+#[tactic(auto, unfolding(crate::specs::Source::head))]
+fn head(tokens: &[Token<Terminal>]) -> Read<'_, Span>
+    ensures { Gives (λ x. (x.0, x.1.now)) result (read terminals.number lines.head tokens.now) }
+{
+    let heads = [Terminal::Name, Terminal::Query, Terminal::SelfType];
+    let (token, rest) = one_of(tokens, &heads)?;
+    Ok((span_of(token), rest))
+}
+
+/// A step of a type.
+struct PlainStep;
+
+impl Part for PlainStep {
+    type Terminal = Terminal;
+
+    type Label = Kind;
+
+    type Value = StepDecl;
+
+    ghost number = { terminals.number };
+
+    ghost reads = { read terminals.number (lines.after (lines.mark Dot) (mapped lines.plain_step lines.name)) };
+
+    ghost first_set = { Dot ∷ [] };
+
+    fn begins(tokens: &[Token<Terminal>]) -> bool {
+        begins(tokens, &[Terminal::Dot])
+    }
+
+    fn part(_alloc: Global, tokens: &[Token<Terminal>]) -> Read<'_, StepDecl> {
+        let (_, rest) = mark(tokens, Terminal::Dot)?;
+        let (name, rest) = name(rest)?;
+        Ok((StepDecl::Plain { name }, rest))
+    }
+}
+
+/// A type.
+#[tactic(auto, unfolding(crate::specs::Source::written_type))]
+pub fn written_type(alloc: Global, tokens: &[Token<Terminal>]) -> Read<'_, TypeDecl>
+    ensures { Gives (λ x. (x.0, x.1.now)) result (read terminals.number lines.written_type tokens.now) }
+{
+    let (head, rest) = head(tokens)?;
+    let (found, rest) = at_most::<PlainStep>(alloc, STEP_LIMIT, Kind::LongType, rest)?;
+    let steps = Seq::new(found);
+    Ok((TypeDecl { head, steps }, rest))
+}

@@ -1,0 +1,7 @@
+pub mod Sets
+pub mod Reading
+pub mod Exact
+pub mod Whole
+pub mod Labels
+pub mod LabelsRead
+pub mod Repeating

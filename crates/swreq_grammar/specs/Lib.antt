@@ -1,0 +1,4 @@
+pub mod Grammar
+pub mod Refusal
+pub mod Reader
+pub mod Gives

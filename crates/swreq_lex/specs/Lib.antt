@@ -1,0 +1,9 @@
+pub mod Characters
+pub mod Comments
+pub mod Words
+pub mod Marks
+pub mod Tokens
+pub mod Refusals
+pub mod Slices
+pub mod Reader
+pub mod Seen

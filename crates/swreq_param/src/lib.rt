@@ -1,0 +1,7 @@
+//! The ids of names, protocols and associated types, and type parameters over them.
+#![tactic(auto)]
+
+mod ids;
+pub mod laws;
+
+pub use ids::{AssocId, NameId, ParamId, ProtoId, Step};

@@ -1,0 +1,98 @@
+-- What a text is answered with is a verdict on it, and the one that it has.
+use Rattle.std.proofs.Common.{◌≡◌, ◌≢◌, ◌⊎◌, ℕ, ◌+◌, ◌<◌, ◌≤◌, List, ◌++◌, length, Option, Some, None, IfSome, Result, Ok, Err, refl, sym, ◌∙◌, ap, inl, inr, subst, arith, length-append, append-nil}
+use Rattle.std.specs.Prelude.{codes}
+use Rattle.std.specs.Io.KnownBytes.{Appends, Consumes, IsAtEnd}
+use Rattle.swreq_text.specs.Given.{GivesCount}
+use Rattle.swreq_lex.specs.declared.refusal.LexErr.{LexErr}
+use Rattle.swreq_lex.specs.declared.refusal.LexErr.TheVariants as lexical
+use Rattle.swreq_lex.specs.declared.lexer.TheConstants.{TEXT_LIMIT}
+use Rattle.swreq_lex.specs.Refusals.{HasRefusal}
+use Rattle.swreq_decl.specs.declared.kind.Kind.{Kind}
+use Rattle.swreq_decl.specs.declared.skeleton.Skeleton.{Skeleton}
+use Rattle.swreq_decl.specs.declared.refusal.ParseErr.{ParseErr}
+use Rattle.swreq_decl.specs.declared.refusal.ParseErr.TheVariants as grammar
+use Rattle.swreq_decl.specs.Skeletons.{StandsFor, RefusedFor, Exactly}
+use Rattle.swreq_top.specs.declared.outcome.Outcome.{Outcome}
+use Rattle.swreq_top.specs.declared.refusal.RefusalKind.{RefusalKind}
+use Rattle.swreq_top.specs.declared.refusal.RefusalKind.TheVariants as refusals
+use Rattle.swreq_top.specs.Reports.{Reports}
+use Rattle.swreq_top.specs.Verdict.{DeliversVerdict, IsAnswered, IsOutput, IsRefused, IsVerdict, refused_with}
+
+-- what a text was read with is exact
+pub record IsExact (text : List ℕ) (parsed : Result Skeleton ParseErr) : Type 0 where
+  pub within : length text ≤ TEXT_LIMIT
+  pub ok : (skeleton : Skeleton) → Exactly (StandsFor text skeleton) (Ok skeleton) parsed
+  pub lex : (fault : LexErr) → Exactly (HasRefusal text fault) (Err (grammar.Lex fault)) parsed
+  pub syntax : (at : ℕ) → Exactly (RefusedFor text at None) (Err (grammar.Syntax at)) parsed
+  pub unsupported : (at : ℕ) (kind : Kind) → Exactly (RefusedFor text at (Some kind)) (Err (grammar.Unsupported at kind)) parsed
+
+-- what is answered is a verdict
+pub reported_verdict : (text : List ℕ) (parsed : Result Skeleton ParseErr) (o : Outcome) → IsExact text parsed → Reports parsed o → IsVerdict text o
+reported_verdict text (Ok skeleton) o exact reports = inr (skeleton, (exact.ok skeleton).0 refl, reports)
+reported_verdict text (Err (grammar.Lex (lexical.NotUtf8 at))) o exact reports = inl (refusals.NotUtf8 at, (exact.within, (exact.lex (lexical.NotUtf8 at)).0 refl), reports)
+reported_verdict text (Err (grammar.Lex (lexical.BadCharacter at))) o exact reports = inl (refusals.BadCharacter at, (exact.within, (exact.lex (lexical.BadCharacter at)).0 refl), reports)
+reported_verdict text (Err (grammar.Lex (lexical.OpenComment at))) o exact reports = inl (refusals.OpenComment at, (exact.within, (exact.lex (lexical.OpenComment at)).0 refl), reports)
+reported_verdict text (Err (grammar.Lex lexical.Memory)) o exact reports = absurd ((exact.lex lexical.Memory).0 refl)
+reported_verdict text (Err (grammar.Syntax at)) o exact reports = inl (refusals.Syntax at, (exact.within, (exact.syntax at).0 refl), reports)
+reported_verdict text (Err (grammar.Unsupported at kind)) o exact reports = inl (refusals.Unsupported at kind, (exact.within, (exact.unsupported at kind).0 refl), reports)
+reported_verdict text (Err grammar.Memory) o exact reports = absurd reports
+
+-- what is answered is what this reading of the text gives, where it is the one that the text has
+given : (parsed answer : Result Skeleton ParseErr) (o : Outcome) → (parsed ≡ answer) ⊎ (parsed ≡ Err grammar.Memory) → Reports parsed o → Reports answer o
+given parsed answer o (inl is) reports = subst (λ r. Reports r o) is reports
+given parsed answer o (inr none) reports = absurd (subst (λ r. Reports r o) none reports)
+
+-- a text that is refused is answered with its refusal
+pub reported_refusal : (text : List ℕ) (parsed : Result Skeleton ParseErr) (o : Outcome) → IsExact text parsed → Reports parsed o
+    → (refusal : RefusalKind) → IsRefused text refusal → o ≡ refused_with refusal
+reported_refusal text parsed o exact reports refusals.TooLarge long = absurd (omega (arith, exact.within))
+reported_refusal text parsed o exact reports (refusals.NotUtf8 at) has = given parsed (Err (grammar.Lex (lexical.NotUtf8 at))) o ((exact.lex (lexical.NotUtf8 at)).1 has.1) reports
+reported_refusal text parsed o exact reports (refusals.BadCharacter at) has = given parsed (Err (grammar.Lex (lexical.BadCharacter at))) o ((exact.lex (lexical.BadCharacter at)).1 has.1) reports
+reported_refusal text parsed o exact reports (refusals.OpenComment at) has = given parsed (Err (grammar.Lex (lexical.OpenComment at))) o ((exact.lex (lexical.OpenComment at)).1 has.1) reports
+reported_refusal text parsed o exact reports (refusals.Syntax at) has = given parsed (Err (grammar.Syntax at)) o ((exact.syntax at).1 has.1) reports
+reported_refusal text parsed o exact reports (refusals.Unsupported at kind) has = given parsed (Err (grammar.Unsupported at kind)) o ((exact.unsupported at kind).1 has.1) reports
+reported_refusal text parsed o exact reports refusals.NotBuilt has = absurd has
+reported_refusal text parsed o exact reports refusals.ReadFault has = absurd has
+reported_refusal text parsed o exact reports refusals.OutOfMemory has = absurd has
+reported_refusal text parsed o exact reports refusals.Usage has = absurd has
+
+-- a text in the language is answered, or it cannot be answered yet
+pub reported_answer : (text : List ℕ) (parsed : Result Skeleton ParseErr) (o : Outcome) → IsExact text parsed → Reports parsed o
+    → (skeleton : Skeleton) → StandsFor text skeleton → IsAnswered skeleton o
+reported_answer text parsed o exact reports skeleton stands = given parsed (Ok skeleton) o ((exact.ok skeleton).1 stands) reports
+
+-- a source that was read to its end gave all that it had left, and its text has been answered
+pub whole_output : (left rest : Option (List ℕ)) (text output : List ℕ) (status : ℕ)
+    → Consumes left rest text → IsAtEnd rest → IsVerdict text (record { status = status; output = output })
+    → IfSome left (λ all. IsVerdict all (record { status = status; output = output }))
+whole_output None rest text output status came end verdict = tt
+whole_output (Some all) None text output status came end verdict = absurd came
+whole_output (Some all) (Some rest) text output status came end verdict =
+    let whole : all ≡ text = came ∙ ap (λ (l : List ℕ). text ++ l) end ∙ append-nil text in
+    subst (λ (t : List ℕ). IsVerdict t (record { status = status; output = output })) (sym whole) verdict
+
+-- of a text that is too long its first bytes came, one more than the limit
+pub too_large_output : (left rest : Option (List ℕ)) → GivesCount left rest (TEXT_LIMIT + 1)
+    → IfSome left (λ all. IsVerdict all (record { status = 1; output = codes "error: text longer than 1048576 bytes\n" }))
+too_large_output None rest came = tt
+too_large_output (Some all) None came = absurd came.1
+too_large_output (Some all) (Some rest) came =
+    let long : TEXT_LIMIT < length all = omega (arith, ap length came.1, length-append came.0 rest, came.2) in
+    inl (refusals.TooLarge, long, refl)
+
+-- a verdict that the sink took is delivered
+pub delivered : (left old new : Option (List ℕ)) (output : List ℕ) (status : ℕ)
+    → IfSome left (λ all. IsVerdict all (record { status = status; output = output })) → Appends old new output → DeliversVerdict left old new status
+delivered None old new output status verdict appended = tt
+delivered (Some all) old new output status verdict appended = (output, verdict, appended)
+
+-- a verdict has an output
+pub output_of : (left : Option (List ℕ)) (output : List ℕ) (status : ℕ)
+    → IfSome left (λ all. IsVerdict all (record { status = status; output = output })) → IsOutput left output
+output_of None output status verdict = tt
+output_of (Some all) output status verdict = (status, verdict)
+
+-- a verdict's status is not that of a failed write
+pub written : (status : ℕ) → (status ≡ 0) ⊎ (status ≡ 1) → status ≢ 5
+written status (inl zero) five = absurd (omega (arith, zero, five))
+written status (inr one) five = absurd (omega (arith, one, five))

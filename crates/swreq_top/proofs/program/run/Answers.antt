@@ -1,0 +1,46 @@
+use Rattle.std.proofs.Common.{◌≡◌, ◌≢◌, ℕ, List, IfSome, Err, ap, subst, sym, ◌∙◌, inl, inr, refl}
+use Rattle.std.specs.Io.KnownBytes.{Appends}
+use Rattle.swreq_text.specs.Given.{AppendsPart}
+use Rattle.swreq_top.specs.Verdict.{DeliversVerdict, IsVerdict}
+use Rattle.swreq_top.proofs.Verdicts.{delivered, output_of, too_large_output, whole_output, written}
+use Rattle.swreq_top.proofs.program.run.Given as given
+use Rattle.swreq_top.proofs.program.run.Goals as goal
+
+-- the source's text has the verdict that was answered
+answered_text : (g : given.Over) (c : goal.After-drop-text g)
+    → IfSome (g.S.Source.left c.args.src.now) (λ all. IsVerdict all c.in-Ok-reply.outcome)
+answered_text g c =
+    let verdict : IsVerdict c.in-Ok.text.items c.in-Ok-reply.outcome =
+    subst (λ (t : List ℕ). IsVerdict t c.in-Ok-reply.outcome) c.deref.ensures.value c.in-Ok-reply.ensures.verdict in
+    whole_output _ _ c.in-Ok.text.items _ _ c.in-Ok.ensures.all c.in-Ok.ensures.end verdict
+
+pub returns-in-Ok-reply-clause-verdict : goal.returns-in-Ok-reply-clause-verdict
+returns-in-Ok-reply-clause-verdict g c answered =
+    let finish = c.finish-in-Ok-reply in
+    let not_five : finish.result ≢ 5 = written finish.result answered in
+    let appended : Appends (g.K.Sink.taken c.args.out.now) (g.K.Sink.taken finish.new.out) c.in-Ok-reply.outcome.output =
+    subst (λ (b : List ℕ). Appends (g.K.Sink.taken c.args.out.now) (g.K.Sink.taken finish.new.out) b) c.items.ensures (finish.ensures.written not_five) in
+    subst (λ (n : ℕ). DeliversVerdict (g.S.Source.left c.args.src.now) (g.K.Sink.taken c.args.out.now) (g.K.Sink.taken finish.new.out) n)
+    (sym (finish.ensures.status not_five))
+    (delivered _ _ _ c.in-Ok-reply.outcome.output c.in-Ok-reply.outcome.status (answered_text g c) appended)
+
+pub returns-in-Ok-reply-clause-write_part : goal.returns-in-Ok-reply-clause-write_part
+returns-in-Ok-reply-clause-write_part g c five =
+    let finish = c.finish-in-Ok-reply in
+    let part : AppendsPart (g.K.Sink.taken c.args.out.now) (g.K.Sink.taken finish.new.out) c.in-Ok-reply.outcome.output =
+    subst (λ (b : List ℕ). AppendsPart (g.K.Sink.taken c.args.out.now) (g.K.Sink.taken finish.new.out) b) c.items.ensures (finish.ensures.part five) in
+    (c.in-Ok-reply.outcome.output, inl (output_of _ _ _ (answered_text g c)), part)
+
+pub returns-in-Err-TooLarge-clause-verdict : goal.returns-in-Err-TooLarge-clause-verdict
+returns-in-Err-TooLarge-clause-verdict g c answered =
+    let finish = c.finish-in-Err-TooLarge in
+    let not_five : finish.result ≢ 5 = written finish.result answered in
+    let came = c.in-Err-TooLarge.ensures.too_large (ap Err c.in-Err-TooLarge.field-0-is) in
+    subst (λ (n : ℕ). DeliversVerdict (g.S.Source.left c.args.src.now) (g.K.Sink.taken c.args.out.now) (g.K.Sink.taken finish.new.out) n)
+    (sym (finish.ensures.status not_five))
+    (delivered _ _ _ _ 1 (too_large_output _ _ came) (finish.ensures.written not_five))
+
+pub returns-in-Err-TooLarge-clause-write_part : goal.returns-in-Err-TooLarge-clause-write_part
+returns-in-Err-TooLarge-clause-write_part g c five =
+    let came = c.in-Err-TooLarge.ensures.too_large (ap Err c.in-Err-TooLarge.field-0-is) in
+    (_, inl (output_of _ _ 1 (too_large_output _ _ came)), c.finish-in-Err-TooLarge.ensures.part five)

@@ -1,0 +1,49 @@
+-- The lines that are printed for refusals.
+use Rattle.std.specs.Prelude.{ℕ, List, ◌++◌, codes, decimal}
+use Rattle.swreq_decl.specs.declared.kind.Kind.{Kind}
+use Rattle.swreq_decl.specs.declared.kind.Kind.TheVariants as kinds
+use Rattle.swreq_top.specs.declared.refusal.RefusalKind.{RefusalKind}
+use Rattle.swreq_top.specs.declared.refusal.RefusalKind.TheVariants as refusals
+
+-- what is not supported
+abbrev pub kind_text : Kind → List ℕ
+kind_text kinds.Parameters = codes "parameters"
+kind_text kinds.Body = codes "body"
+kind_text kinds.LongType = codes "long type"
+kind_text kinds.Class = codes "class"
+kind_text kinds.Struct = codes "struct"
+kind_text kinds.Enum = codes "enum"
+kind_text kinds.Actor = codes "actor"
+kind_text kinds.Extension = codes "extension"
+kind_text kinds.Typealias = codes "typealias"
+kind_text kinds.Import = codes "import"
+kind_text kinds.Member = codes "member"
+kind_text kinds.Existential = codes "existential"
+kind_text kinds.ParameterPack = codes "parameter pack"
+kind_text kinds.Metatype = codes "metatype"
+kind_text kinds.Effect = codes "effect"
+kind_text kinds.Attribute = codes "attribute"
+kind_text kinds.Backtick = codes "backtick"
+kind_text kinds.SuppressedRequirement = codes "suppressed requirement"
+kind_text kinds.Optional = codes "optional"
+kind_text kinds.Array = codes "array"
+kind_text kinds.Tuple = codes "tuple"
+kind_text kinds.Arrow = codes "arrow"
+kind_text kinds.DefaultValue = codes "default"
+kind_text kinds.GenericArguments = codes "generic arguments"
+
+-- a refusal at an offset of the text
+abbrev pub placed_line : List ℕ → ℕ → List ℕ
+placed_line what at = codes "error: " ++ what ++ codes " at " ++ decimal at ++ codes "\n"
+
+abbrev pub refusal_line : RefusalKind → List ℕ
+refusal_line refusals.TooLarge = codes "error: text longer than 1048576 bytes\n"
+refusal_line (refusals.NotUtf8 at) = placed_line (codes "not UTF-8") at
+refusal_line (refusals.BadCharacter at) = placed_line (codes "bad character") at
+refusal_line (refusals.OpenComment at) = placed_line (codes "open comment") at
+refusal_line (refusals.Syntax at) = placed_line (codes "syntax") at
+refusal_line (refusals.Unsupported at kind) = placed_line (codes "unsupported " ++ kind_text kind) at
+refusal_line refusals.NotBuilt = codes "error: not built\n"
+refusal_line refusals.ReadFault = codes "error: read fault\n"
+refusal_line refusals.OutOfMemory = codes "error: out of memory\n"
+refusal_line refusals.Usage = codes "usage: genreq answer\n"

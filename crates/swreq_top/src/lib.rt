@@ -1,0 +1,15 @@
+//! The program over any source and sink.
+#![tactic(auto)]
+
+mod outcome;
+mod plain;
+mod program;
+mod refusal;
+mod search;
+
+pub use outcome::{Outcome, reply};
+pub use program::run;
+pub use refusal::RefusalKind;
+
+#[cfg(test)]
+mod tests;

@@ -1,0 +1,89 @@
+// From the words and the source to the sink and the status.
+ghost use Rattle.std.specs.Prelude.{◌≡◌, ◌≢◌, ◌≤◌, ◌↔◌, ◌⊎◌, ℕ, List, [], ◌∷◌, map, codes, IsTrue, string_bytes};
+ghost use Rattle.std.specs.Io.KnownBytes.{Appends};
+ghost use Rattle.swreq_text.specs.Faults.{HasRisen};
+ghost use Rattle.swreq_text.specs.Given.{AppendsPart};
+ghost use Rattle.swreq_top.specs.Verdict.{DeliversVerdict, IsPrinted};
+
+use crate::outcome::reply;
+use crate::refusal::{OUT_OF_MEMORY, READ_FAULT, TOO_LARGE, USAGE};
+use std::alloc::Global;
+use swreq_text::{ReadErr, Sink, Source, read_all, write_all};
+
+/// The most bytes that a text may have.
+const TEXT_LIMIT: u32 = swreq_lex::TEXT_LIMIT as u32;
+
+/// Answers the source's text, and gives the status.
+///
+/// | status | meaning | printed |
+/// |---|---|---|
+/// | 0 | answered | the answers |
+/// | 1 | the text is refused | one line |
+/// | 2 | the words are not the one word `answer` | the usage line |
+/// | 4 | a read failed | one line |
+/// | 5 | a write failed | a part of what was to be printed |
+/// | 6 | there was no memory | one line |
+pub fn run<S: Source, K: Sink>(alloc: Global, words: &[String], src: &mut S, out: &mut K) -> u8
+    ensures verdict { (result ≡ 0) ⊎ (result ≡ 1) →
+        DeliversVerdict (S.left src.old) (K.taken out.old) (K.taken out.new) result }
+
+    // The words.
+    ensures wrong_words { map string_bytes words.now ≢ codes "answer" ∷ [] → (result ≡ 2) ⊎ (result ≡ 5) }
+    ensures unread { map string_bytes words.now ≢ codes "answer" ∷ [] → src.new ≡ src.old }
+    ensures usage { result ≡ 2 → map string_bytes words.now ≢ codes "answer" ∷ [] }
+    ensures usage_line { result ≡ 2 → Appends (K.taken out.old) (K.taken out.new) (codes "usage: genreq answer\n") }
+
+    // The streams and memory.
+    ensures read_fault { result ≡ 4 → HasRisen (S.faults src.old) (S.faults src.new) }
+    ensures read_fault_line { result ≡ 4 → Appends (K.taken out.old) (K.taken out.new) (codes "error: read fault\n") }
+    ensures write_fault { result ≡ 5 → HasRisen (K.faults out.old) (K.faults out.new) }
+    ensures write_part { result ≡ 5 → (printed : List ℕ)
+        × IsPrinted (map string_bytes words.now ≢ codes "answer" ∷ []) (HasRisen (S.faults src.old) (S.faults src.new)) (S.left src.old) printed
+        × AppendsPart (K.taken out.old) (K.taken out.new) printed }
+    ensures memory_line { result ≡ 6 → Appends (K.taken out.old) (K.taken out.new) (codes "error: out of memory\n") }
+    ensures statuses { result ≤ 6 }
+    ensures no_limit { result ≢ 3 }
+{
+    if !is_answer(words) {
+        return finish(out, 2, USAGE);
+    }
+    match read_all(alloc, src, TEXT_LIMIT) {
+        Ok(text) => match reply(alloc, &text) {
+            Ok(outcome) => finish(out, outcome.status, outcome.output.items()),
+            Err(_) => finish(out, 6, OUT_OF_MEMORY),
+        },
+        Err(ReadErr::TooLarge) => finish(out, 1, TOO_LARGE),
+        Err(ReadErr::Fault) => finish(out, 4, READ_FAULT),
+        Err(ReadErr::Memory) => finish(out, 6, OUT_OF_MEMORY),
+    }
+}
+
+/// Whether the words are the one word `answer`.
+fn is_answer(words: &[String]) -> bool
+    ensures { IsTrue result ↔ (map string_bytes words.now ≡ codes "answer" ∷ []) }
+{
+    match words {
+        [word] => is_text(word, "answer"),
+        _ => false,
+    }
+}
+
+fn is_text(word: &String, text: &str) -> bool
+    ensures { IsTrue result ↔ (string_bytes word.now ≡ text.now) }
+{
+    word.as_str() == text
+}
+
+/// Writes the bytes, and gives the status, which is 5 where a write failed.
+fn finish<K: Sink>(out: &mut K, status: u8, bytes: &[u8]) -> u8
+    requires { status ≢ 5 }
+    ensures written { result ≢ 5 → Appends (K.taken out.old) (K.taken out.new) bytes.now }
+    ensures status { result ≢ 5 → result ≡ status }
+    ensures fault { result ≡ 5 → HasRisen (K.faults out.old) (K.faults out.new) }
+    ensures part { result ≡ 5 → AppendsPart (K.taken out.old) (K.taken out.new) bytes.now }
+{
+    match write_all(out, bytes) {
+        Ok(()) => status,
+        Err(_) => 5,
+    }
+}
