@@ -1,0 +1,13 @@
+pub mod Moments
+pub mod RulesAt
+pub mod Settled
+pub mod Reached
+pub mod Limits
+pub mod Answers
+pub mod Events
+pub mod Complete
+pub mod Reduced
+pub mod Laws
+pub mod Progress
+pub mod Settling
+pub mod Search

@@ -1,0 +1,157 @@
+//! Complete lists of rules, and the completion that makes them.
+
+ghost use Rattle.std.specs.Prelude.{◌≡◌, ◌⊎◌, ◌≤◌, [], IfOk, vec_len, vec_capacity};
+ghost use Rattle.swreq_word.specs.Relations.{Linked};
+ghost use Rattle.swreq_rule.specs.Steps.{Step};
+ghost use Rattle.swreq_complete.specs.declared.limit.Failed.TheVariants.{Limit, Memory};
+ghost use Rattle.swreq_complete.specs.Answers.{IsAnswer, IsOnlyAnswer};
+ghost use Rattle.swreq_complete.specs.Complete.{IsComplete};
+ghost use Rattle.swreq_complete.specs.Events.{Tells};
+ghost use Rattle.swreq_complete.specs.Limits.{AreInRange};
+ghost use Rattle.swreq_complete.specs.Reduced.{HasBirths, IsLeast, IsReducedSystem};
+
+use crate::completion::complete;
+use crate::limit::{Failed, Limits, Stop, Which};
+use crate::reduced::find;
+use crate::settling::tell;
+use std::alloc::{AllocError, Global};
+use std::marker::Model;
+use swreq_rule::{Rule, RuleList};
+use swreq_text::Seq;
+use swreq_watch::{Event, Watch};
+use swreq_word::{Symbol, Word};
+
+/// A list of rules that is complete: reduction leads congruent words to one word. It is empty, or what a completion ended with.
+#[derive(Drop)]
+pub struct CompleteRules {
+    list: RuleList,
+}
+
+impl Model for CompleteRules {
+    ghost use Rattle.std.specs.Prelude.{List};
+    ghost use Rattle.swreq_rule.specs.declared.rules.Rule.{Rule};
+    ghost use Rattle.swreq_complete.specs.Complete.{IsComplete};
+
+    ghost Value = { List Rule };
+
+    ghost view = { λ c. c.list };
+
+    ghost invariant = { λ c. IsComplete c.list };
+}
+
+// The same rules once more.
+fn copied(alloc: Global, list: &RuleList) -> Result<RuleList, AllocError>
+    ensures { IfOk result (λ c. c ≡ list.now) }
+{
+    let mut new = RuleList::new(alloc);
+    for rule in list.rules() {
+        if let Err(_) = new.push(rule.clone()?) {
+            return Err(AllocError);
+        }
+    }
+    Ok(new)
+}
+
+impl CompleteRules {
+    /// No rules, which takes no memory.
+    pub fn empty(alloc: Global) -> CompleteRules
+        ensures { result ≡ [] }
+    {
+        CompleteRules {
+            list: RuleList::new(alloc),
+        }
+    }
+
+    /// The rules in the order of their births.
+    pub fn rules(&self) -> &[Rule]
+        ensures same { result.now ≡ self.now }
+        ensures complete { IsComplete self.now }
+    {
+        self.list.rules()
+    }
+
+    /// Reduces the word, which leaves the least of all words congruent to it. The word never grows, and keeps its capacity.
+    pub fn reduce(&self, w: &mut Vec<Symbol>)
+        ensures congruent { Linked (Step self.now) w.old.items w.new.items }
+        ensures least { IsLeast (Linked (Step self.now)) w.new.items }
+        ensures no_longer { vec_len w.new ≤ vec_len w.old }
+        ensures room { vec_capacity w.new ≡ vec_capacity w.old }
+    {
+        self.list.reduce(w);
+    }
+
+    /// The same rules once more.
+    pub fn copy(&self, alloc: Global) -> Result<CompleteRules, AllocError>
+        ensures { IfOk result (λ c. c ≡ self.now) }
+    {
+        let list = copied(alloc, &self.list)?;
+        Ok(CompleteRules { list })
+    }
+
+    /// The reduced system of the congruence: as left sides all words that are reducible while none of their proper factors is, each
+    /// once and in order, as right sides the words to which they reduce. A rule has the birth of the rule here with its left side.
+    pub fn canonical(&self, alloc: Global) -> Result<Vec<Rule>, AllocError>
+        ensures reduced { IfOk result (λ v. IsReducedSystem (Linked (Step self.now)) v.items) }
+        ensures births { IfOk result (λ v. HasBirths self.now v.items) }
+    {
+        find(alloc, &self.list)
+    }
+}
+
+// The rules of the list, in order.
+fn into_seq(alloc: Global, list: RuleList) -> Result<Seq<Rule>, AllocError>
+    ensures { IfOk result (λ s. s ≡ list) }
+{
+    let mut list = list;
+    let mut rules: Vec<Rule> = Vec::with_capacity(alloc, list.rules().len())?;
+    while let Some(rule) = list.pop() {
+        if let Err(_) = rules.push(rule) {
+            return Err(AllocError);
+        }
+    }
+    rules.reverse();
+    Ok(Seq::new(rules))
+}
+
+// The answer that the completion passed the limit with these rules.
+fn passed_limit(alloc: Global, which: Which, list: RuleList) -> Failed
+    ensures { (result ≡ Limit which list) ⊎ (result ≡ Memory) }
+{
+    match into_seq(alloc, list) {
+        Ok(trace) => Failed::Limit { which, trace },
+        Err(_) => Failed::Memory,
+    }
+}
+
+/// Completes the base by the equations, within the limits.
+///
+/// The equations are settled in order, and then the pairs whose greater number is above the count of the base, in the order of their
+/// places, also those of rules that are born on the way. To settle one, both sides are reduced by all rules so far, and where they
+/// differ a rule is born, with the greater side on its left.
+///
+/// The answer is the ended trace. It is `Failed::Limit` exactly where a rule born passes a limit, with that rule as the last of the
+/// trace, and `Failed::Memory` for want of memory. The watcher is told the start and each rule born, the last one of a limit too.
+pub fn extend<W: Watch>(
+    alloc: Global,
+    base: CompleteRules,
+    given: &[(Word, Word)],
+    limits: Limits,
+    watch: &mut W,
+) -> Result<CompleteRules, Failed>
+    requires { AreInRange limits }
+    ensures answer { IsAnswer limits base given.now result }
+    ensures only { IsOnlyAnswer limits base given.now result }
+    ensures told { Tells limits base given.now (W.told watch.old) (W.told watch.new) result }
+{
+    let mut list = base.list;
+    let count = list.rules().len();
+    let start = Event::Start { base: count as u32 };
+    if let Err(_) = tell(watch, &start) {
+        return Err(Failed::Memory);
+    }
+    match complete(alloc, &mut list, count, given, limits, watch) {
+        Ok(()) => Ok(CompleteRules { list }),
+        Err(Stop::Limit(which)) => Err(passed_limit(alloc, which, list)),
+        Err(Stop::Memory) => Err(Failed::Memory),
+    }
+}

@@ -1,0 +1,15 @@
+//! The completion of a list of rules by equations, within limits, and what complete rules are good for.
+#![tactic(auto)]
+
+mod complete_rules;
+mod completion;
+pub mod laws;
+mod limit;
+mod reduced;
+mod settling;
+
+pub use complete_rules::{CompleteRules, extend};
+pub use limit::{Failed, Limits, Which};
+
+#[cfg(test)]
+mod tests;

@@ -1,0 +1,15 @@
+//! What completions tell, and watchers that are told it.
+#![tactic(auto)]
+
+mod counting;
+mod events;
+mod recording;
+mod watching;
+
+pub use counting::Counter;
+pub use events::Event;
+pub use recording::Recorder;
+pub use watching::{Quiet, Watch};
+
+#[cfg(test)]
+mod tests;

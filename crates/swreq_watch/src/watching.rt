@@ -1,0 +1,37 @@
+//! The trait of watchers, and the watcher that does nothing.
+
+ghost use Rattle.std.specs.Prelude.{◌≡◌, List, ◌∷◌, [], Option, Ok, OnErr, OnOk};
+ghost use Rattle.swreq_watch.specs.declared.events.Event.{Event};
+ghost use Rattle.swreq_watch.specs.Told.{GrewBy, untold};
+
+use crate::Event;
+use std::alloc::AllocError;
+
+/// What is told the events of a completion, one by one.
+///
+/// A watcher may tell the list of the events that it was told, or not, and whether it does never changes.
+pub trait Watch: Drop {
+    /// The events that it was told, in order, where it tells them.
+    ghost told: { Self → Option (List Event) };
+
+    /// Takes the event to the end of its list, or answers an error for want of memory, with the list unchanged.
+    fn tell(&mut self, event: &Event) -> Result<(), AllocError>
+        ensures ok { OnOk result (GrewBy (told self.old) (told self.new) (event.now ∷ [])) }
+        ensures err { OnErr result (told self.new ≡ told self.old) };
+}
+
+/// A watcher that does nothing. It does not tell its list, takes no memory, and never fails.
+#[derive(Drop)]
+pub struct Quiet;
+
+impl Watch for Quiet {
+    ghost told = { λ _. untold };
+
+    fn tell(&mut self, _event: &Event) -> Result<(), AllocError>
+        ensures ok { OnOk result (GrewBy untold untold (_event.now ∷ [])) }
+        ensures err { OnErr result (untold ≡ untold) }
+        ensures never_fails { result ≡ Ok tt }
+    {
+        Ok(())
+    }
+}
