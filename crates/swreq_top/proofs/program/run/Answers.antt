@@ -1,4 +1,4 @@
-use Rattle.std.proofs.Common.{◌≡◌, ◌≢◌, ℕ, List, IfSome, Err, ap, subst, sym, ◌∙◌, inl, inr, refl}
+use Rattle.std.proofs.Common.{◌≢◌, ℕ, List, IfSome, Err, ap, subst, sym, inl}
 use Rattle.std.specs.Io.KnownBytes.{Appends}
 use Rattle.swreq_text.specs.Given.{AppendsPart}
 use Rattle.swreq_top.specs.Verdict.{DeliversVerdict, IsVerdict}
