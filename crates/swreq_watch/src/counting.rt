@@ -1,8 +1,8 @@
 //! The watcher that counts the rules born.
 
-ghost use Rattle.std.specs.Prelude.{◌≡◌, ◌∷◌, [], Ok, OnErr, OnOk};
+ghost use Rattle.std.specs.Prelude.{◌≡◌, Ok};
 ghost use Rattle.swreq_watch.specs.Counted.{counted};
-ghost use Rattle.swreq_watch.specs.Told.{GrewBy, untold};
+ghost use Rattle.swreq_watch.specs.Told.{untold};
 
 use crate::{Event, Watch};
 use std::alloc::AllocError;
@@ -42,8 +42,6 @@ impl Watch for Counter {
     ghost told = { λ _. untold };
 
     fn tell(&mut self, event: &Event) -> Result<(), AllocError>
-        ensures ok { OnOk result (GrewBy untold untold (event.now ∷ [])) }
-        ensures err { OnErr result (untold ≡ untold) }
         ensures never_fails { result ≡ Ok tt }
         ensures counts { self.new ≡ counted event.now self.old }
     {
