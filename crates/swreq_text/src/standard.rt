@@ -1,6 +1,6 @@
 // A reader and a writer of std as a source and a sink.
 ghost use Rattle.std.specs.Prelude.{◌≡◌, ◌<◌, ◌≤◌, length, take, is_ok, if◌then◌else◌, IfOk, IfSome, OnErr, None, Some};
-ghost use Rattle.std.specs.Io.KnownBytes.{Consumes, IsAtEnd, Keeps};
+ghost use Rattle.std.specs.Io.KnownBytes.{Appends, Consumes, IsAtEnd, Keeps};
 ghost use Rattle.swreq_text.specs.Faults.{HasRisen, one_more};
 
 use crate::{IoFailed, Sink, Source};
@@ -56,8 +56,8 @@ impl<R: Read> Source for StdSource<R> {
     }
 }
 
-/// A writer as a sink, flushed at each write, with a count of its errors. Nothing is told of what it took, since a
-/// flush may fail after bytes were taken.
+/// A writer as a sink, flushed at each write, with a count of its errors. It hands on what it is given; as a sink it tells
+/// nothing of it, since a flush may fail after bytes were taken.
 #[derive(Drop)]
 pub struct StdSink<W: Write> {
     inner: W,
@@ -89,6 +89,8 @@ impl<W: Write> Sink for StdSink<W> {
     fn write(&mut self, piece: &[u8]) -> Result<usize, IoFailed>
         ensures count { IfOk result (λ n. n ≤ length piece.now) }
         ensures some { result ≡ Ok 0 → length piece.now ≡ 0 }
+        ensures through { IfOk result (λ n.
+            Appends (W.contents self.old.inner) (W.contents self.new.inner) (take n piece.now)) }
         ensures counted { self.new.faults ≡
             (if is_ok result then self.old.faults else one_more self.old.faults) }
         ensures steady { self.old.faults ≤ self.new.faults }
@@ -107,6 +109,8 @@ impl<W: Write> Sink for StdSink<W> {
 fn write_through<W: Write>(inner: &mut W, piece: &[u8]) -> Option<usize>
     ensures count { IfSome result (λ n. n ≤ length piece.now) }
     ensures some { result ≡ Some 0 → length piece.now ≡ 0 }
+    ensures through { IfSome result (λ n.
+        Appends (W.contents inner.old) (W.contents inner.new) (take n piece.now)) }
 {
     let n = inner.write(piece).ok()?;
     inner.flush().ok()?;

@@ -1,5 +1,5 @@
 // A source and a sink of bytes.
-ghost use Rattle.std.specs.Prelude.{◌≡◌, ◌<◌, ◌≤◌, List, ℕ, Option, length, take, IfOk, OnErr};
+ghost use Rattle.std.specs.Prelude.{◌≡◌, ◌<◌, ◌≤◌, List, ℕ, Option, length, take, IfOk, OnOk, OnErr};
 ghost use Rattle.std.specs.Io.KnownBytes.{Appends, Consumes, IsAtEnd, Keeps};
 ghost use Rattle.swreq_text.specs.Faults.{HasRisen};
 
@@ -23,6 +23,7 @@ pub trait Source {
         ensures next { IfOk result (λ n. Consumes (left self.old) (left self.new) (take n buf.new)) }
         ensures end { result ≡ Ok 0 → 0 < length buf.new → IsAtEnd (left self.new) }
         ensures kept { OnErr result (Keeps (left self.old) (left self.new)) }
+        ensures uncounted { OnOk result (faults self.new ≡ faults self.old) }
         ensures cause { OnErr result (HasRisen (faults self.old) (faults self.new)) }
         ensures steady { faults self.old ≤ faults self.new };
 }
@@ -41,6 +42,7 @@ pub trait Sink {
         ensures some { result ≡ Ok 0 → length piece.now ≡ 0 }
         ensures appended { IfOk result (λ n. Appends (taken self.old) (taken self.new) (take n piece.now)) }
         ensures kept { OnErr result (Keeps (taken self.old) (taken self.new)) }
+        ensures uncounted { OnOk result (faults self.new ≡ faults self.old) }
         ensures cause { OnErr result (HasRisen (faults self.old) (faults self.new)) }
         ensures steady { faults self.old ≤ faults self.new };
 }

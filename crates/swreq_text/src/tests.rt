@@ -136,6 +136,26 @@ fn an_error_of_a_writer_is_a_fault_and_the_next_write_goes_on(rt: HostRuntime) {
     assert_eq!(rt; write_all(&mut out, b"yes\n"), Ok(()));
 }
 
+/// A writer that takes every piece and never gets it out.
+#[derive(Drop)]
+struct Clogged;
+
+impl Write for Clogged {
+    fn write(&mut self, buf: &[u8]) -> io::Result<usize> {
+        Ok(buf.len())
+    }
+
+    fn flush(&mut self) -> io::Result<()> {
+        Err(ErrorKind::BrokenPipe.into())
+    }
+}
+
+#[test]
+fn a_flush_that_fails_is_a_fault(rt: HostRuntime) {
+    let mut out = StdSink::new(Clogged);
+    assert_eq!(rt; write_all(&mut out, b"yes\n"), Err(WriteFault));
+}
+
 #[test]
 fn sequences_compare_item_by_item(rt: HostRuntime) -> Result<(), Fail> {
     let alloc = rt.alloc();

@@ -28,7 +28,8 @@ const CHUNK: usize = 4096;
 /// All that the source has left, which may be at most `limit` bytes.
 ///
 /// Of a longer one `limit + 1` bytes are taken, and the answer is `TooLarge`. `Fault` comes only where the source
-/// counted one. In each case at most `limit + 1` bytes are gone from the source, the next ones of it.
+/// counted one, and where none was counted the count is as before. In each case at most `limit + 1` bytes are gone from the
+/// source, the next ones of it.
 pub fn read_all<S: Source>(alloc: Global, src: &mut S, limit: u32) -> Result<Vec<u8>, ReadErr>
     requires { limit + 1 < 2 ^ 32 }
     ensures all { IfOk result (λ bytes. Consumes (S.left src.old) (S.left src.new) bytes.items) }
@@ -41,6 +42,7 @@ pub fn read_all<S: Source>(alloc: Global, src: &mut S, limit: u32) -> Result<Vec
     ensures exactly { HasGiven (S.left src.old) (S.left src.new) (limit + 1) →
         IsErrOf result ReadErr.TooLarge ⊎ IsErrOf result ReadErr.Memory }
     ensures fault { IsErrOf result ReadErr.Fault → HasRisen (S.faults src.old) (S.faults src.new) }
+    ensures uncounted { IsErrOf result ReadErr.Fault ⊎ (S.faults src.new ≡ S.faults src.old) }
 
     // What is left, in every case.
     ensures rest { (n : ℕ) × (n ≤ limit + 1) × GivesCount (S.left src.old) (S.left src.new) n }
@@ -70,6 +72,7 @@ pub fn write_all<K: Sink>(out: &mut K, bytes: &[u8]) -> Result<(), WriteFault>
     ensures all { OnOk result (Appends (K.taken out.old) (K.taken out.new) bytes.now) }
     ensures part { OnErr result (AppendsPart (K.taken out.old) (K.taken out.new) bytes.now) }
     ensures fault { OnErr result (HasRisen (K.faults out.old) (K.faults out.new)) }
+    ensures uncounted { OnOk result (K.faults out.new ≡ K.faults out.old) }
     ensures steady { K.faults out.old ≤ K.faults out.new }
 {
     let mut at = 0;

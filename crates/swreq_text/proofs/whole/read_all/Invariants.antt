@@ -6,7 +6,7 @@ abbrev pub invariant-loop-buf : goal.invariant-loop-buf
 invariant-loop-buf g l = record {
   most : l.most ≡ l.limit + 1;
   within : length l.bytes.items ≤ l.most;
-  steady : g.S.Source.faults l.fn.src ≤ g.S.Source.faults l.src;
+  uncounted : g.S.Source.faults l.src ≡ g.S.Source.faults l.fn.src;
   so_far : Consumes (g.S.Source.left l.fn.src) (g.S.Source.left l.src) l.bytes.items;
 }
 

@@ -1,4 +1,4 @@
-use Rattle.std.proofs.Common.{arith}
+use Rattle.std.proofs.Common.{◌∙◌, arith}
 use Rattle.std.proofs.lemmas.Grind.{common_steps}
 use Rattle.swreq_text.proofs.SoFar.{Appends-more}
 use Rattle.swreq_text.proofs.whole.write_all.Goals as goal
@@ -6,6 +6,6 @@ use Rattle.swreq_text.proofs.whole.write_all.Goals as goal
 pub loop-at-preserved : goal.loop-at-preserved
 loop-at-preserved g c = record {
   within = omega (arith, c.in-Ok.ensures.count);
-  steady = omega (arith, c.loop-at.invariant.steady, c.in-Ok.ensures.steady);
+  uncounted = c.in-Ok.ensures.uncounted ∙ c.loop-at.invariant.uncounted;
   so_far = Appends-more _ _ _ c.args.bytes.now _ c.loop-at.at c.in-Ok.n (grind (arith, common_steps)) c.loop-at.invariant.so_far c.in-Ok.ensures.appended;
 }
