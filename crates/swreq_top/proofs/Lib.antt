@@ -1,1 +1,2 @@
+pub mod OneRefusal
 pub mod Verdicts

@@ -1,5 +1,5 @@
 -- What a text is answered with is a verdict on it, and the one that it has.
-use Rattle.std.proofs.Common.{◌≡◌, ◌≢◌, ◌⊎◌, ℕ, ◌+◌, ◌<◌, ◌≤◌, List, ◌++◌, length, Option, Some, None, IfSome, Result, Ok, Err, refl, sym, ◌∙◌, ap, inl, inr, subst, arith, length-append, append-nil}
+use Rattle.std.proofs.Common.{◌≡◌, ◌≢◌, ◌⊎◌, ℕ, ◌+◌, ◌<◌, ◌≤◌, List, [], ◌++◌, length, Option, Some, None, IfSome, Result, Ok, Err, refl, sym, ◌∙◌, ap, inl, inr, subst, arith, length-append, append-nil}
 use Rattle.std.specs.Prelude.{codes}
 use Rattle.std.specs.Io.KnownBytes.{Appends, Consumes, IsAtEnd}
 use Rattle.swreq_text.specs.Given.{GivesCount}
@@ -16,7 +16,8 @@ use Rattle.swreq_top.specs.declared.outcome.Outcome.{Outcome}
 use Rattle.swreq_top.specs.declared.refusal.RefusalKind.{RefusalKind}
 use Rattle.swreq_top.specs.declared.refusal.RefusalKind.TheVariants as refusals
 use Rattle.swreq_top.specs.Reports.{Reports}
-use Rattle.swreq_top.specs.Verdict.{DeliversVerdict, IsAnswered, IsOutput, IsRefused, IsVerdict, refused_with}
+use Rattle.swreq_top.specs.Runs.{DeliversVerdict, IsOutput, IsRead}
+use Rattle.swreq_top.specs.Verdict.{IsAnswered, IsRefused, IsVerdict, refused_with}
 
 -- what a text was read with is exact
 pub record IsExact (text : List ℕ) (parsed : Result Skeleton ParseErr) : Type 0 where
@@ -28,7 +29,7 @@ pub record IsExact (text : List ℕ) (parsed : Result Skeleton ParseErr) : Type 
 
 -- what is answered is a verdict
 pub reported_verdict : (text : List ℕ) (parsed : Result Skeleton ParseErr) (o : Outcome) → IsExact text parsed → Reports parsed o → IsVerdict text o
-reported_verdict text (Ok skeleton) o exact reports = inr (skeleton, (exact.ok skeleton).0 refl, reports)
+reported_verdict text (Ok skeleton) o exact reports = inr (exact.within, (skeleton, (exact.ok skeleton).0 refl, reports))
 reported_verdict text (Err (grammar.Lex (lexical.NotUtf8 at))) o exact reports = inl (refusals.NotUtf8 at, (exact.within, (exact.lex (lexical.NotUtf8 at)).0 refl), reports)
 reported_verdict text (Err (grammar.Lex (lexical.BadCharacter at))) o exact reports = inl (refusals.BadCharacter at, (exact.within, (exact.lex (lexical.BadCharacter at)).0 refl), reports)
 reported_verdict text (Err (grammar.Lex (lexical.OpenComment at))) o exact reports = inl (refusals.OpenComment at, (exact.within, (exact.lex (lexical.OpenComment at)).0 refl), reports)
@@ -96,3 +97,22 @@ output_of (Some all) output status verdict = (status, verdict)
 pub written : (status : ℕ) → (status ≡ 0) ⊎ (status ≡ 1) → status ≢ 5
 written status (inl zero) five = absurd (omega (arith, zero, five))
 written status (inr one) five = absurd (omega (arith, one, five))
+
+-- a text that was read to its end is read
+pub read_whole : (left rest : Option (List ℕ)) (text : List ℕ) → Consumes left rest text → IsAtEnd rest → length text ≤ TEXT_LIMIT → IsRead left rest
+read_whole None rest text came end within = tt
+read_whole (Some all) None text came end within = absurd came
+read_whole (Some all) (Some rest) text came end within =
+    let whole : all ≡ text = came ∙ ap (λ (l : List ℕ). text ++ l) end ∙ append-nil text in
+    inl (omega (arith, ap length whole, within), end)
+
+-- and so is one that is too long
+pub read_too_large : (left rest : Option (List ℕ)) → GivesCount left rest (TEXT_LIMIT + 1) → IsRead left rest
+read_too_large None rest came = tt
+read_too_large (Some all) None came = absurd came.1
+read_too_large (Some all) (Some rest) came = inr (omega (arith, ap length came.1, length-append came.0 rest, came.2), came)
+
+-- nothing is gone of what stayed as it was
+pub none_given : (left : Option (List ℕ)) → GivesCount left left 0
+none_given None = ([], tt, refl)
+none_given (Some all) = ([], refl, refl)

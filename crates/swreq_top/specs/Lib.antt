@@ -1,4 +1,5 @@
 pub mod Lines
 pub mod Plain
 pub mod Reports
+pub mod Runs
 pub mod Verdict

@@ -2,6 +2,7 @@
 use Rattle.std.specs.Prelude.{ℕ, List, ◌++◌, codes, decimal}
 use Rattle.swreq_decl.specs.declared.kind.Kind.{Kind}
 use Rattle.swreq_decl.specs.declared.kind.Kind.TheVariants as kinds
+use Rattle.swreq_top.specs.declared.refusal.TheConstants.{NOT_BUILT, OUT_OF_MEMORY, READ_FAULT, TOO_LARGE, USAGE}
 use Rattle.swreq_top.specs.declared.refusal.RefusalKind.{RefusalKind}
 use Rattle.swreq_top.specs.declared.refusal.RefusalKind.TheVariants as refusals
 
@@ -37,13 +38,13 @@ abbrev pub placed_line : List ℕ → ℕ → List ℕ
 placed_line what at = codes "error: " ++ what ++ codes " at " ++ decimal at ++ codes "\n"
 
 abbrev pub refusal_line : RefusalKind → List ℕ
-refusal_line refusals.TooLarge = codes "error: text longer than 1048576 bytes\n"
+refusal_line refusals.TooLarge = TOO_LARGE.now
 refusal_line (refusals.NotUtf8 at) = placed_line (codes "not UTF-8") at
 refusal_line (refusals.BadCharacter at) = placed_line (codes "bad character") at
 refusal_line (refusals.OpenComment at) = placed_line (codes "open comment") at
 refusal_line (refusals.Syntax at) = placed_line (codes "syntax") at
 refusal_line (refusals.Unsupported at kind) = placed_line (codes "unsupported " ++ kind_text kind) at
-refusal_line refusals.NotBuilt = codes "error: not built\n"
-refusal_line refusals.ReadFault = codes "error: read fault\n"
-refusal_line refusals.OutOfMemory = codes "error: out of memory\n"
-refusal_line refusals.Usage = codes "usage: genreq answer\n"
+refusal_line refusals.NotBuilt = NOT_BUILT.now
+refusal_line refusals.ReadFault = READ_FAULT.now
+refusal_line refusals.OutOfMemory = OUT_OF_MEMORY.now
+refusal_line refusals.Usage = USAGE.now

@@ -1,6 +1,5 @@
 -- What a text is answered with.
-use Rattle.std.specs.Prelude.{◌≡◌, ◌⊎◌, ℕ, ◌<◌, ◌≤◌, List, length, codes, Option, Some, None, IfSome, IsTrue}
-use Rattle.std.specs.Io.KnownBytes.{Appends}
+use Rattle.std.specs.Prelude.{◌≡◌, ◌⊎◌, ℕ, ◌<◌, ◌≤◌, List, length, Some, None, IsTrue}
 use Rattle.swreq_lex.specs.declared.refusal.LexErr.TheVariants as lexical
 use Rattle.swreq_lex.specs.declared.lexer.TheConstants.{TEXT_LIMIT}
 use Rattle.swreq_lex.specs.Refusals.{HasRefusal}
@@ -33,24 +32,9 @@ IsRefused text refusals.Usage = ⊥
 abbrev pub IsAnswered : Skeleton → Outcome → Type 0
 IsAnswered skeleton o = (IsTrue (is_plain skeleton) × (o.status ≡ 0)) ⊎ (o ≡ refused_with refusals.NotBuilt)
 
--- A verdict on the text: it is refused with the line of its refusal, or a skeleton stands for it and it is answered.
+-- A verdict on the text: it is refused with the line of its refusal, or it is not too long, a skeleton stands for it, and it is
+-- answered.
 abbrev pub IsVerdict : List ℕ → Outcome → Type 0
 IsVerdict text o =
     ((refusal : RefusalKind) × IsRefused text refusal × (o ≡ refused_with refusal))
-    ⊎ ((skeleton : Skeleton) × StandsFor text skeleton × IsAnswered skeleton o)
-
--- The sink has taken a verdict on the text that the source had left.
-abbrev pub DeliversVerdict : Option (List ℕ) → Option (List ℕ) → Option (List ℕ) → ℕ → Type 0
-DeliversVerdict left old new status =
-    IfSome left (λ text. (output : List ℕ) × IsVerdict text (record { status = status; output = output }) × Appends old new output)
-
--- It is a verdict's output on the text that the source had left.
-abbrev pub IsOutput : Option (List ℕ) → List ℕ → Type 0
-IsOutput left output = IfSome left (λ text. (status : ℕ) × IsVerdict text (record { status = status; output = output }))
-
--- What a run prints: a verdict's output, the usage line for wrong words, the line of a read that failed, or that of no memory.
-abbrev pub IsPrinted : (has_wrong_words read_failed : Type 0) → Option (List ℕ) → List ℕ → Type 0
-IsPrinted has_wrong_words read_failed left printed =
-    IsOutput left printed
-    ⊎ ((has_wrong_words × (printed ≡ codes "usage: genreq answer\n"))
-    ⊎ ((read_failed × (printed ≡ codes "error: read fault\n")) ⊎ (printed ≡ codes "error: out of memory\n")))
+    ⊎ ((length text ≤ TEXT_LIMIT) × ((skeleton : Skeleton) × StandsFor text skeleton × IsAnswered skeleton o))

@@ -1,6 +1,7 @@
 //! The program over any source and sink.
 #![tactic(auto)]
 
+pub mod laws;
 mod outcome;
 mod plain;
 mod program;

@@ -1,9 +1,9 @@
 // From the words and the source to the sink and the status.
-ghost use Rattle.std.specs.Prelude.{◌≡◌, ◌≢◌, ◌≤◌, ◌↔◌, ◌⊎◌, ℕ, List, [], ◌∷◌, map, codes, IsTrue, string_bytes};
+ghost use Rattle.std.specs.Prelude.{◌≡◌, ◌≢◌, ◌+◌, ◌≤◌, ◌↔◌, ◌⊎◌, ℕ, List, map, IsTrue, string_bytes};
 ghost use Rattle.std.specs.Io.KnownBytes.{Appends};
 ghost use Rattle.swreq_text.specs.Faults.{HasRisen};
-ghost use Rattle.swreq_text.specs.Given.{AppendsPart};
-ghost use Rattle.swreq_top.specs.Verdict.{DeliversVerdict, IsPrinted};
+ghost use Rattle.swreq_text.specs.Given.{AppendsPart, GivesCount};
+ghost use Rattle.swreq_top.specs.Runs.{AreRight, AreWrong, DeliversVerdict, IsPrinted, IsRead};
 
 use crate::outcome::reply;
 use crate::refusal::{OUT_OF_MEMORY, READ_FAULT, TOO_LARGE, USAGE};
@@ -24,23 +24,30 @@ const TEXT_LIMIT: u32 = swreq_lex::TEXT_LIMIT as u32;
 /// | 5 | a write failed | a part of what was to be printed |
 /// | 6 | there was no memory | one line |
 pub fn run<S: Source, K: Sink>(alloc: Global, words: &[String], src: &mut S, out: &mut K) -> u8
+    // What the text is answered with.
     ensures verdict { (result ≡ 0) ⊎ (result ≡ 1) →
         DeliversVerdict (S.left src.old) (K.taken out.old) (K.taken out.new) result }
 
     // The words.
-    ensures wrong_words { map string_bytes words.now ≢ codes "answer" ∷ [] → (result ≡ 2) ⊎ (result ≡ 5) }
-    ensures unread { map string_bytes words.now ≢ codes "answer" ∷ [] → src.new ≡ src.old }
-    ensures usage { result ≡ 2 → map string_bytes words.now ≢ codes "answer" ∷ [] }
-    ensures usage_line { result ≡ 2 → Appends (K.taken out.old) (K.taken out.new) (codes "usage: genreq answer\n") }
+    ensures wrong_words { AreWrong (map string_bytes words.now) → (result ≡ 2) ⊎ (result ≡ 5) }
+    ensures usage { result ≡ 2 → AreWrong (map string_bytes words.now) }
+    ensures usage_line { result ≡ 2 → Appends (K.taken out.old) (K.taken out.new) USAGE.now }
 
-    // The streams and memory.
+    // What is left of the source.
+    ensures unread { AreWrong (map string_bytes words.now) → src.new ≡ src.old }
+    ensures read { (result ≡ 0) ⊎ (result ≡ 1) → IsRead (S.left src.old) (S.left src.new) }
+    ensures no_more { (n : ℕ) × (n ≤ TEXT_LIMIT + 1) × GivesCount (S.left src.old) (S.left src.new) n }
+
+    // The faults of the streams, and memory.
     ensures read_fault { result ≡ 4 → HasRisen (S.faults src.old) (S.faults src.new) }
-    ensures read_fault_line { result ≡ 4 → Appends (K.taken out.old) (K.taken out.new) (codes "error: read fault\n") }
+    ensures read_fault_line { result ≡ 4 → Appends (K.taken out.old) (K.taken out.new) READ_FAULT.now }
+    ensures no_read_fault { (result ≡ 4) ⊎ ((result ≡ 5) ⊎ (S.faults src.new ≡ S.faults src.old)) }
     ensures write_fault { result ≡ 5 → HasRisen (K.faults out.old) (K.faults out.new) }
     ensures write_part { result ≡ 5 → (printed : List ℕ)
-        × IsPrinted (map string_bytes words.now ≢ codes "answer" ∷ []) (HasRisen (S.faults src.old) (S.faults src.new)) (S.left src.old) printed
+        × IsPrinted (map string_bytes words.now) (HasRisen (S.faults src.old) (S.faults src.new)) (S.left src.old) printed
         × AppendsPart (K.taken out.old) (K.taken out.new) printed }
-    ensures memory_line { result ≡ 6 → Appends (K.taken out.old) (K.taken out.new) (codes "error: out of memory\n") }
+    ensures no_write_fault { (result ≡ 5) ⊎ (K.faults out.new ≡ K.faults out.old) }
+    ensures memory_line { result ≡ 6 → Appends (K.taken out.old) (K.taken out.new) OUT_OF_MEMORY.now }
     ensures statuses { result ≤ 6 }
     ensures no_limit { result ≢ 3 }
 {
@@ -60,7 +67,7 @@ pub fn run<S: Source, K: Sink>(alloc: Global, words: &[String], src: &mut S, out
 
 /// Whether the words are the one word `answer`.
 fn is_answer(words: &[String]) -> bool
-    ensures { IsTrue result ↔ (map string_bytes words.now ≡ codes "answer" ∷ []) }
+    ensures { IsTrue result ↔ AreRight (map string_bytes words.now) }
 {
     match words {
         [word] => is_text(word, "answer"),
@@ -81,6 +88,7 @@ fn finish<K: Sink>(out: &mut K, status: u8, bytes: &[u8]) -> u8
     ensures status { result ≢ 5 → result ≡ status }
     ensures fault { result ≡ 5 → HasRisen (K.faults out.old) (K.faults out.new) }
     ensures part { result ≡ 5 → AppendsPart (K.taken out.old) (K.taken out.new) bytes.now }
+    ensures uncounted { (result ≡ 5) ⊎ (K.faults out.new ≡ K.faults out.old) }
 {
     match write_all(out, bytes) {
         Ok(()) => status,

@@ -7,15 +7,20 @@ use std::alloc::{AllocError, Global};
 use swreq_decl::{Kind, ParseErr};
 use swreq_lex::LexErr;
 
-pub(crate) const TOO_LARGE: &[u8] = b"error: text longer than 1048576 bytes\n";
+/// The line of a text that is too long.
+pub const TOO_LARGE: &[u8] = b"error: text longer than 1048576 bytes\n";
 
-pub(crate) const NOT_BUILT: &[u8] = b"error: not built\n";
+/// The line of a text in the language that cannot be answered yet.
+pub const NOT_BUILT: &[u8] = b"error: not built\n";
 
-pub(crate) const READ_FAULT: &[u8] = b"error: read fault\n";
+/// The line of a read that failed.
+pub const READ_FAULT: &[u8] = b"error: read fault\n";
 
-pub(crate) const OUT_OF_MEMORY: &[u8] = b"error: out of memory\n";
+/// The line where there was no memory.
+pub const OUT_OF_MEMORY: &[u8] = b"error: out of memory\n";
 
-pub(crate) const USAGE: &[u8] = b"usage: genreq answer\n";
+/// The line for wrong words.
+pub const USAGE: &[u8] = b"usage: genreq answer\n";
 
 /// Why a text, or a run, is not answered. `at` is an offset into the text, in bytes.
 #[derive(Clone, Copy, Debug, PartialEq, Eq)]

@@ -1,8 +1,9 @@
-use Rattle.std.proofs.Common.{◌≢◌, ℕ, List, IfSome, Err, ap, subst, sym, inl}
+use Rattle.std.proofs.Common.{◌≢◌, ℕ, List, IfSome, Err, ap, subst, sym, inl, inr}
 use Rattle.std.specs.Io.KnownBytes.{Appends}
 use Rattle.swreq_text.specs.Given.{AppendsPart}
-use Rattle.swreq_top.specs.Verdict.{DeliversVerdict, IsVerdict}
-use Rattle.swreq_top.proofs.Verdicts.{delivered, output_of, too_large_output, whole_output, written}
+use Rattle.swreq_top.specs.Runs.{DeliversVerdict}
+use Rattle.swreq_top.specs.Verdict.{IsVerdict}
+use Rattle.swreq_top.proofs.Verdicts.{delivered, output_of, read_too_large, read_whole, too_large_output, whole_output, written}
 use Rattle.swreq_top.proofs.program.run.Given as given
 use Rattle.swreq_top.proofs.program.run.Goals as goal
 
@@ -29,7 +30,7 @@ returns-in-Ok-reply-clause-write_part g c five =
     let finish = c.finish-in-Ok-reply in
     let part : AppendsPart (g.K.Sink.taken c.args.out.now) (g.K.Sink.taken finish.new.out) c.in-Ok-reply.outcome.output =
     subst (λ (b : List ℕ). AppendsPart (g.K.Sink.taken c.args.out.now) (g.K.Sink.taken finish.new.out) b) c.items.ensures (finish.ensures.part five) in
-    (c.in-Ok-reply.outcome.output, inl (output_of _ _ _ (answered_text g c)), part)
+    (c.in-Ok-reply.outcome.output, inr (c.is_answer.ensures.0 c.if-not-is_answer.false, inl (output_of _ _ _ (answered_text g c))), part)
 
 pub returns-in-Err-TooLarge-clause-verdict : goal.returns-in-Err-TooLarge-clause-verdict
 returns-in-Err-TooLarge-clause-verdict g c answered =
@@ -43,4 +44,10 @@ returns-in-Err-TooLarge-clause-verdict g c answered =
 pub returns-in-Err-TooLarge-clause-write_part : goal.returns-in-Err-TooLarge-clause-write_part
 returns-in-Err-TooLarge-clause-write_part g c five =
     let came = c.in-Err-TooLarge.ensures.too_large (ap Err c.in-Err-TooLarge.field-0-is) in
-    (_, inl (output_of _ _ 1 (too_large_output _ _ came)), c.finish-in-Err-TooLarge.ensures.part five)
+    (_, inr (c.is_answer.ensures.0 c.if-not-is_answer.false, inl (output_of _ _ 1 (too_large_output _ _ came))), c.finish-in-Err-TooLarge.ensures.part five)
+
+pub returns-in-Ok-reply-clause-read : goal.returns-in-Ok-reply-clause-read
+returns-in-Ok-reply-clause-read g c answered = read_whole _ _ c.in-Ok.text.items c.in-Ok.ensures.all c.in-Ok.ensures.end c.in-Ok.ensures.within
+
+pub returns-in-Err-TooLarge-clause-read : goal.returns-in-Err-TooLarge-clause-read
+returns-in-Err-TooLarge-clause-read g c answered = read_too_large _ _ (c.in-Err-TooLarge.ensures.too_large (ap Err c.in-Err-TooLarge.field-0-is))
