@@ -21,7 +21,7 @@ pub use parser::parse;
 pub use refusal::ParseErr;
 pub use skeleton::{
     Ask, AssocDecl, Entity, FunctionDecl, ParamDecl, ProtocolDecl, QueryDecl, ReqDecl, Skeleton,
-    Span, StepDecl, TypeDecl,
+    Span, StepDecl, StructDecl, TypeDecl,
 };
 
 #[cfg(test)]
