@@ -1,5 +1,6 @@
 -- The skeleton that stands for a text, the refusal of a text outside the grammar, and exact answers.
 use Rattle.std.specs.Prelude.{◌≡◌, ℕ, List, [], ◌∷◌, length, Option, Some, None, Result, Ok, Err, ◌⊎◌}
+use Rattle.std.specs.List.{filter_map}
 use Rattle.swreq_lex.specs.declared.token.Token as lexed
 use Rattle.swreq_lex.specs.Tokens.{HasTokens}
 use Rattle.swreq_grammar.specs.declared.token.Token.{Token}
@@ -10,6 +11,10 @@ use Rattle.swreq_grammar.specs.Reader.{Fault}
 use Rattle.swreq_grammar.specs.Refusal.{Refuses}
 use Rattle.swreq_decl.specs.declared.terminal.Terminal.{Terminal}
 use Rattle.swreq_decl.specs.declared.kind.Kind.{Kind}
+use Rattle.swreq_decl.specs.declared.skeleton.ProtocolDecl.{ProtocolDecl}
+use Rattle.swreq_decl.specs.declared.skeleton.StructDecl.{StructDecl}
+use Rattle.swreq_decl.specs.declared.skeleton.FunctionDecl.{FunctionDecl}
+use Rattle.swreq_decl.specs.declared.skeleton.QueryDecl.{QueryDecl}
 use Rattle.swreq_decl.specs.declared.skeleton.Item.{Item}
 use Rattle.swreq_decl.specs.declared.skeleton.Item.TheVariants as items
 use Rattle.swreq_decl.specs.declared.skeleton.Skeleton.{Skeleton}
@@ -21,12 +26,25 @@ use Rattle.swreq_decl.specs.Source.{source}
 
 -- ---- skeletons
 
--- The skeleton lists its parts in written order.
+abbrev pub protocol_of : Item → Option ProtocolDecl
+protocol_of (items.Protocol p) = Some p
+protocol_of _ = None
+
+abbrev pub struct_of : Item → Option StructDecl
+struct_of (items.Struct s) = Some s
+struct_of _ = None
+
+abbrev pub function_of : Item → Option FunctionDecl
+function_of (items.Function f) = Some f
+function_of _ = None
+
+abbrev pub query_of : Item → Option QueryDecl
+query_of (items.Query q) = Some q
+query_of _ = None
+
+-- The skeleton lists the parts of each kind in written order. The functions of a struct stand in it alone.
 abbrev pub skeleton_of : List Item → Skeleton
-skeleton_of [] = record { protocols = []; functions = []; queries = [] }
-skeleton_of (items.Protocol p ∷ rest) = record (skeleton_of rest) { protocols = p ∷ (skeleton_of rest).protocols }
-skeleton_of (items.Function f ∷ rest) = record (skeleton_of rest) { functions = f ∷ (skeleton_of rest).functions }
-skeleton_of (items.Query q ∷ rest) = record (skeleton_of rest) { queries = q ∷ (skeleton_of rest).queries }
+skeleton_of parts = record { protocols = filter_map protocol_of parts; structs = filter_map struct_of parts; functions = filter_map function_of parts; queries = filter_map query_of parts }
 
 -- The skeleton stands for the tokens: they are a source of the grammar with these parts.
 abbrev pub IsSource : List (Token Terminal) → Skeleton → Type 0

@@ -59,9 +59,9 @@ impl Part for NextParam {
     }
 }
 
-/// The generic parameters, if a function has any.
+/// The generic parameters, if there are any.
 #[tactic(auto, unfolding(crate::specs::Source::generics, crate::specs::Source::params))]
-fn params(alloc: Global, tokens: &[Token<Terminal>]) -> Read<'_, Seq<ParamDecl>>
+pub fn params(alloc: Global, tokens: &[Token<Terminal>]) -> Read<'_, Seq<ParamDecl>>
     ensures { Gives (λ x. (x.0, x.1.now)) result (read terminals.number lines.params tokens.now) }
 {
     let mut found = Vec::new(alloc);

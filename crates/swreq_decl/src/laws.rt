@@ -28,11 +28,7 @@ pub fn one_verdict(text: &[u8])
     one_reading(text);
 }
 
-/// Lines whose alternatives begin alike have the texts and values of the lines as they are written.
-pub fn lines_as_written()
-    ensures inherit { SameTexts lines.inherit written.inherit }
-    ensures requirement { SameTexts lines.requirement written.requirement }
-    ensures qstep { SameTexts lines.qstep written.qstep }
-    ensures ask { SameTexts lines.ask written.ask }
-    ensures item { SameTexts lines.item written.item }
+/// The source has the texts and values that it has by its lines as they are written.
+pub fn source_as_written()
+    ensures { SameTexts lines.source written.source }
 {}

@@ -13,6 +13,7 @@ mod reading;
 mod refusal;
 mod requirements;
 mod skeleton;
+mod structs;
 mod terminal;
 mod types;
 

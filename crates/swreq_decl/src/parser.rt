@@ -62,17 +62,20 @@ fn skeleton_of(alloc: Global, items: Vec<Item>) -> Result<Skeleton, AllocError>
     ensures { IfOk result (λ skeleton. skeleton ≡ skeleton_of items.items) }
 {
     let mut protocols = Vec::new(alloc);
+    let mut structs = Vec::new(alloc);
     let mut functions = Vec::new(alloc);
     let mut queries = Vec::new(alloc);
     for item in items {
         match item {
             Item::Protocol(protocol) => protocols.push(protocol)?,
+            Item::Struct(structure) => structs.push(structure)?,
             Item::Function(function) => functions.push(function)?,
             Item::Query(query) => queries.push(query)?,
         }
     }
     Ok(Skeleton {
         protocols: Seq::new(protocols),
+        structs: Seq::new(structs),
         functions: Seq::new(functions),
         queries: Seq::new(queries),
     })

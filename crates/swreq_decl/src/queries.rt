@@ -9,9 +9,9 @@ ghost use Rattle.swreq_decl.specs.Source as lines;
 
 use crate::kind::Kind;
 use crate::reading::{Read, begins, mark, name};
-use crate::skeleton::{Ask, QueryDecl, StepDecl, TypeDecl};
+use crate::skeleton::{Ask, QueryDecl, Span, StepDecl, TypeDecl};
 use crate::terminal::Terminal;
-use crate::types::{STEP_LIMIT, entity};
+use crate::types::{STEP_LIMIT, query_entity};
 use std::alloc::Global;
 use swreq_grammar::{Part, Token, at_most};
 use swreq_text::Seq;
@@ -78,7 +78,7 @@ fn ask(alloc: Global, tokens: &[Token<Terminal>]) -> Read<'_, Ask>
     let (t, rest) = query_type(alloc, tokens)?;
     if begins(rest, &[Terminal::Colon]) {
         let (_, rest) = mark(rest, Terminal::Colon)?;
-        let (bound, rest) = entity(rest)?;
+        let (bound, rest) = query_entity(alloc, rest)?;
         return Ok((Ask::Is { t, bound }, rest));
     }
     if begins(rest, &[Terminal::EqualEqual]) {
@@ -101,15 +101,34 @@ fn asked(alloc: Global, tokens: &[Token<Terminal>]) -> Read<'_, Ask>
     Ok((Ask::Signature, tokens))
 }
 
+/// The struct, if one is named, and the signature of a query.
+#[tactic(auto, unfolding(crate::specs::Source::sname))]
+fn signature_name(tokens: &[Token<Terminal>]) -> Read<'_, (Option<Span>, Span)>
+    ensures { Gives (λ x. (x.0, x.1.now)) result (read terminals.number lines.sname tokens.now) }
+{
+    let (first, rest) = name(tokens)?;
+    if !begins(rest, &[Terminal::Dot]) {
+        return Ok(((None, first), rest));
+    }
+    let (_, rest) = mark(rest, Terminal::Dot)?;
+    let (function, rest) = name(rest)?;
+    Ok(((Some(first), function), rest))
+}
+
 /// A query.
 #[tactic(auto, unfolding(crate::specs::Source::query))]
 pub fn query(alloc: Global, tokens: &[Token<Terminal>]) -> Read<'_, QueryDecl>
     ensures { Gives (λ x. (x.0, x.1.now)) result (read terminals.number lines.query tokens.now) }
 {
     let (_, rest) = mark(tokens, Terminal::Query)?;
-    let (function, rest) = name(rest)?;
+    let ((outer, function), rest) = signature_name(rest)?;
     let (_, rest) = mark(rest, Terminal::OpenParenthesis)?;
     let (ask, rest) = asked(alloc, rest)?;
     let (_, rest) = mark(rest, Terminal::CloseParenthesis)?;
-    Ok((QueryDecl { function, ask }, rest))
+    let found = QueryDecl {
+        outer,
+        function,
+        ask,
+    };
+    Ok((found, rest))
 }

@@ -4,7 +4,7 @@ ghost use Rattle.std.specs.Prelude.{◌≡◌, ◌∷◌, []};
 ghost use Rattle.swreq_grammar.specs.Grammar.{terminal, mapped};
 ghost use Rattle.swreq_grammar.specs.Gives.{Gives};
 ghost use Rattle.swreq_grammar.specs.Reader.{read};
-ghost use Rattle.swreq_decl.specs.declared.terminal.Terminal.TheVariants.{Ampersand, Comma, Dot};
+ghost use Rattle.swreq_decl.specs.declared.terminal.Terminal.TheVariants.{Ampersand, AnyObject, Comma, Dot};
 ghost use Rattle.swreq_decl.specs.Terminals as terminals;
 ghost use Rattle.swreq_decl.specs.Source as lines;
 
@@ -19,20 +19,89 @@ use swreq_text::Seq;
 /// The most steps of a type.
 pub const STEP_LIMIT: usize = 1000;
 
-/// The name of a protocol, or `AnyObject`.
+/// A type argument after `,`.
+struct NextArgument;
+
+impl Part for NextArgument {
+    type Terminal = Terminal;
+
+    type Label = Kind;
+
+    type Value = TypeDecl;
+
+    ghost number = { terminals.number };
+
+    ghost reads = { read terminals.number (lines.after (lines.mark Comma) lines.written_type) };
+
+    ghost first_set = { Comma ∷ [] };
+
+    fn begins(tokens: &[Token<Terminal>]) -> bool {
+        begins(tokens, &[Terminal::Comma])
+    }
+
+    fn part(alloc: Global, tokens: &[Token<Terminal>]) -> Read<'_, TypeDecl> {
+        let (_, rest) = mark(tokens, Terminal::Comma)?;
+        written_type(alloc, rest)
+    }
+}
+
+/// The arguments of a constraint, if it has any.
+#[tactic(auto, unfolding(crate::specs::Source::args, crate::specs::Source::arguments))]
+fn arguments(alloc: Global, tokens: &[Token<Terminal>]) -> Read<'_, Seq<TypeDecl>>
+    ensures { Gives (λ x. (x.0, x.1.now)) result (read terminals.number lines.arguments tokens.now) }
+{
+    let mut found = Vec::new(alloc);
+    if !begins(tokens, &[Terminal::Less]) {
+        return Ok((Seq::new(found), tokens));
+    }
+    let (_, rest) = mark(tokens, Terminal::Less)?;
+    let (first, rest) = written_type(alloc, rest)?;
+    let (mut others, rest) = many::<NextArgument>(alloc, rest)?;
+    let (_, rest) = mark(rest, Terminal::Greater)?;
+    found.push(first)?;
+    found.append(&mut others)?;
+    Ok((Seq::new(found), rest))
+}
+
+/// `AnyObject`.
+fn any_object(alloc: Global, tokens: &[Token<Terminal>]) -> Read<'_, Entity>
+    ensures { Gives (λ x. (x.0, x.1.now)) result (read terminals.number (mapped lines.any_object (lines.mark AnyObject)) tokens.now) }
+{
+    let (token, rest) = mark(tokens, Terminal::AnyObject)?;
+    let found = Entity {
+        span: span_of(token),
+        layout: true,
+        args: Seq::new(Vec::new(alloc)),
+    };
+    Ok((found, rest))
+}
+
+/// The name of a protocol with its arguments, or `AnyObject`.
 #[tactic(auto, unfolding(crate::specs::Source::entity, crate::specs::Source::name))]
-pub fn entity(tokens: &[Token<Terminal>]) -> Read<'_, Entity>
+fn entity(alloc: Global, tokens: &[Token<Terminal>]) -> Read<'_, Entity>
     ensures { Gives (λ x. (x.0, x.1.now)) result (read terminals.number lines.entity tokens.now) }
 {
-    if begins(tokens, &[Terminal::Name, Terminal::Query]) {
-        let (span, rest) = name(tokens)?;
-        let layout = false;
-        return Ok((Entity { span, layout }, rest));
+    if !begins(tokens, &[Terminal::Name, Terminal::Query]) {
+        return any_object(alloc, tokens);
     }
-    let (token, rest) = mark(tokens, Terminal::AnyObject)?;
-    let span = span_of(token);
-    let layout = true;
-    Ok((Entity { span, layout }, rest))
+    let (span, rest) = name(tokens)?;
+    let (args, rest) = arguments(alloc, rest)?;
+    let layout = false;
+    Ok((Entity { span, layout, args }, rest))
+}
+
+/// The name of a protocol, or `AnyObject`, as a query has it.
+#[tactic(auto, unfolding(crate::specs::Source::qentity, crate::specs::Source::name))]
+pub fn query_entity(alloc: Global, tokens: &[Token<Terminal>]) -> Read<'_, Entity>
+    ensures { Gives (λ x. (x.0, x.1.now)) result (read terminals.number lines.qentity tokens.now) }
+{
+    if !begins(tokens, &[Terminal::Name, Terminal::Query]) {
+        return any_object(alloc, tokens);
+    }
+    let (span, rest) = name(tokens)?;
+    let layout = false;
+    let args = Seq::new(Vec::new(alloc));
+    Ok((Entity { span, layout, args }, rest))
 }
 
 /// An entity after `&`.
@@ -55,9 +124,9 @@ impl Part for JoinedEntity {
         begins(tokens, &[Terminal::Ampersand])
     }
 
-    fn part(_alloc: Global, tokens: &[Token<Terminal>]) -> Read<'_, Entity> {
+    fn part(alloc: Global, tokens: &[Token<Terminal>]) -> Read<'_, Entity> {
         let (_, rest) = mark(tokens, Terminal::Ampersand)?;
-        entity(rest)
+        entity(alloc, rest)
     }
 }
 
@@ -66,7 +135,7 @@ impl Part for JoinedEntity {
 pub fn bounds(alloc: Global, tokens: &[Token<Terminal>]) -> Read<'_, Vec<Entity>>
     ensures { Gives (λ x. (x.0.items, x.1.now)) result (read terminals.number lines.bounds tokens.now) }
 {
-    let (first, rest) = entity(tokens)?;
+    let (first, rest) = entity(alloc, tokens)?;
     let (mut others, rest) = many::<JoinedEntity>(alloc, rest)?;
     let mut found = Vec::new(alloc);
     found.push(first)?;
@@ -94,9 +163,9 @@ impl Part for NextInherited {
         begins(tokens, &[Terminal::Comma, Terminal::Ampersand])
     }
 
-    fn part(_alloc: Global, tokens: &[Token<Terminal>]) -> Read<'_, Entity> {
+    fn part(alloc: Global, tokens: &[Token<Terminal>]) -> Read<'_, Entity> {
         let (_, rest) = one_of(tokens, &[Terminal::Comma, Terminal::Ampersand])?;
-        entity(rest)
+        entity(alloc, rest)
     }
 }
 
@@ -110,7 +179,7 @@ pub fn inherits(alloc: Global, tokens: &[Token<Terminal>]) -> Read<'_, Seq<Entit
         return Ok((Seq::new(found), tokens));
     }
     let (_, rest) = mark(tokens, Terminal::Colon)?;
-    let (first, rest) = entity(rest)?;
+    let (first, rest) = entity(alloc, rest)?;
     let (mut others, rest) = many::<NextInherited>(alloc, rest)?;
     found.push(first)?;
     found.append(&mut others)?;
