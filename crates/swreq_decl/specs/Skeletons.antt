@@ -20,7 +20,7 @@ use Rattle.swreq_decl.specs.declared.skeleton.Item.TheVariants as items
 use Rattle.swreq_decl.specs.declared.skeleton.Skeleton.{Skeleton}
 use Rattle.swreq_decl.specs.declared.refusal.ParseErr.{ParseErr}
 use Rattle.swreq_decl.specs.declared.refusal.ParseErr.TheVariants as errors
-use Rattle.swreq_decl.specs.Terminals.{number, terminals}
+use Rattle.swreq_decl.specs.Terminals.{number, with_terminals}
 use Rattle.swreq_decl.specs.Kinds.{kind_by_token}
 use Rattle.swreq_decl.specs.Source.{source}
 
@@ -52,7 +52,7 @@ IsSource ts skeleton = (parts : List Item) × Matches number source ts parts × 
 
 -- The skeleton stands for the text: it does for the text's tokens.
 abbrev pub StandsFor : List ℕ → Skeleton → Type 0
-StandsFor text skeleton = (found : List lexed.Token) × HasTokens text found × IsSource (terminals text found) skeleton
+StandsFor text skeleton = (found : List lexed.Token) × HasTokens text found × IsSource (with_terminals text found) skeleton
 
 -- ---- refusals
 
@@ -62,27 +62,27 @@ place end [] = end
 place end (t ∷ rest) = t.start
 
 -- the kind of a refusal with this label at the first token of the rest; at the end of the text it is a syntax error
-abbrev pub kind_at : Option Kind → List (Token Terminal) → Option Kind
-kind_at label [] = None
-kind_at (Some kind) (t ∷ rest) = Some kind
-kind_at None (t ∷ rest) = kind_by_token t.terminal
+abbrev pub refused_kind : Option Kind → List (Token Terminal) → Option Kind
+refused_kind label [] = None
+refused_kind (Some kind) (t ∷ rest) = Some kind
+refused_kind None (t ∷ rest) = kind_by_token t.terminal
 
 -- The tokens are refused at this place, for this kind; with no kind it is a syntax error.
-abbrev pub IsRefused : ℕ → List (Token Terminal) → ℕ → Option Kind → Type 0
-IsRefused end ts at kind = (fault : Fault Terminal Kind) × Refuses number source ts fault × (at ≡ place end fault.0) × (kind ≡ kind_at fault.1 fault.0)
+abbrev pub AreRefused : ℕ → List (Token Terminal) → ℕ → Option Kind → Type 0
+AreRefused end ts at kind = (fault : Fault Terminal Kind) × Refuses number source ts fault × (at ≡ place end fault.0) × (kind ≡ refused_kind fault.1 fault.0)
 
 -- The text has tokens, and they are refused at this place, for this kind.
 abbrev pub RefusedFor : List ℕ → ℕ → Option Kind → Type 0
-RefusedFor text at kind = (found : List lexed.Token) × HasTokens text found × IsRefused (length text) (terminals text found) at kind
+RefusedFor text at kind = (found : List lexed.Token) × HasTokens text found × AreRefused (length text) (with_terminals text found) at kind
 
 -- the refusal with this kind, or a syntax error
 abbrev pub refused : ℕ → Option Kind → ParseErr
 refused at None = errors.Syntax at
 refused at (Some kind) = errors.Unsupported at kind
 
-abbrev pub refusal_of : ℕ → Stop Terminal Kind → ParseErr
-refusal_of end stops.Memory = errors.Memory
-refusal_of end (stops.Refused rest label) = refused (place end rest.now) (kind_at label rest.now)
+abbrev pub error_of : ℕ → Stop Terminal Kind → ParseErr
+error_of end stops.Memory = errors.Memory
+error_of end (stops.Refused rest label) = refused (place end rest.now) (refused_kind label rest.now)
 
 -- ---- exact answers
 
@@ -95,5 +95,5 @@ abbrev pub Tells : ℕ → List (Token Terminal) → Result Skeleton ParseErr �
 Tells end ts (Ok skeleton) = IsSource ts skeleton
 Tells end ts (Err errors.Memory) = Unit {0}
 Tells end ts (Err (errors.Lex fault)) = ⊥
-Tells end ts (Err (errors.Syntax at)) = IsRefused end ts at None
-Tells end ts (Err (errors.Unsupported at kind)) = IsRefused end ts at (Some kind)
+Tells end ts (Err (errors.Syntax at)) = AreRefused end ts at None
+Tells end ts (Err (errors.Unsupported at kind)) = AreRefused end ts at (Some kind)

@@ -1,12 +1,17 @@
 //! What holds of the skeletons and refusals of each text.
 
-ghost use Rattle.std.specs.Prelude.{◌≡◌, ◌⊎◌, ℕ, List, Option};
+ghost use Rattle.std.specs.Prelude.{◌≡◌, ◌⊎◌, ℕ, List, Option, Some, map};
 ghost use Rattle.swreq_lex.specs.declared.token.Token as lexed;
+ghost use Rattle.swreq_lex.specs.Marks.{spellings};
 ghost use Rattle.swreq_lex.specs.Tokens.{HasTokens};
+ghost use Rattle.swreq_lex.specs.Words.{reserved};
 ghost use Rattle.swreq_decl.specs.declared.kind.Kind.{Kind};
 ghost use Rattle.swreq_decl.specs.declared.skeleton.Skeleton.{Skeleton};
+ghost use Rattle.swreq_decl.specs.declared.terminal.Terminal.TheVariants.{Query};
 ghost use Rattle.swreq_decl.specs.Skeletons.{RefusedFor, StandsFor};
 ghost use Rattle.swreq_decl.specs.Source as lines;
+ghost use Rattle.swreq_decl.specs.Spellings.{spelling};
+ghost use Rattle.swreq_decl.specs.Terminals.{marks, query_word, reserved_words};
 ghost use Rattle.swreq_decl.specs.Written as written;
 ghost use Rattle.swreq_decl.specs.Written.{SameTexts};
 
@@ -31,4 +36,11 @@ pub fn one_verdict(text: &[u8])
 /// The source has the texts and values that it has by its lines as they are written.
 pub fn source_as_written()
     ensures { SameTexts lines.source written.source }
+{}
+
+/// The terminals of the reserved words and marks, in the order in which the tokens count them, are spelled as those are.
+pub fn terminals_are_spelled()
+    ensures words { map spelling reserved_words ≡ map (λ word. Some word) reserved }
+    ensures marks { map spelling marks ≡ map (λ mark. Some mark) spellings }
+    ensures query { spelling Query ≡ Some query_word }
 {}

@@ -1,7 +1,6 @@
 //! The skeleton that stands for a source text, or where the text is refused.
 #![tactic(auto)]
 
-mod classes;
 mod functions;
 mod items;
 mod kind;
@@ -15,6 +14,7 @@ mod requirements;
 mod skeleton;
 mod structs;
 mod terminal;
+mod tokens;
 mod types;
 
 pub use kind::Kind;
@@ -25,5 +25,7 @@ pub use skeleton::{
     Span, StepDecl, StructDecl, TypeDecl,
 };
 
+#[cfg(test)]
+mod skeleton_tests;
 #[cfg(test)]
 mod tests;

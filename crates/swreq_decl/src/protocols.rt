@@ -4,7 +4,7 @@ ghost use Rattle.std.specs.Prelude.{◌≡◌, ◌∷◌, []};
 ghost use Rattle.swreq_grammar.specs.Gives.{Gives};
 ghost use Rattle.swreq_grammar.specs.Reader.{read};
 ghost use Rattle.swreq_decl.specs.declared.terminal.Terminal.TheVariants.{AssociatedType, Comma};
-ghost use Rattle.swreq_decl.specs.Terminals as terminals;
+ghost use Rattle.swreq_decl.specs.Terminals.{number};
 ghost use Rattle.swreq_decl.specs.Source as lines;
 
 use crate::kind::Kind;
@@ -27,9 +27,9 @@ impl Part for NextPrimary {
 
     type Value = Span;
 
-    ghost number = { terminals.number };
+    ghost number = { number };
 
-    ghost reads = { read terminals.number (lines.after (lines.mark Comma) lines.name) };
+    ghost reads = { read number (lines.after (lines.mark Comma) lines.name) };
 
     ghost first_set = { Comma ∷ [] };
 
@@ -46,7 +46,7 @@ impl Part for NextPrimary {
 /// The names of the primary associated types, if a protocol has any.
 #[tactic(auto, unfolding(crate::specs::Source::primaries, crate::specs::Source::primary_names))]
 fn primaries(alloc: Global, tokens: &[Token<Terminal>]) -> Read<'_, Seq<Span>>
-    ensures { Gives (λ x. (x.0, x.1.now)) result (read terminals.number lines.primary_names tokens.now) }
+    ensures { Gives (λ x. (x.0, x.1.now)) result (read number lines.primary_names tokens.now) }
 {
     let mut found = Vec::new(alloc);
     if !begins(tokens, &[Terminal::Less]) {
@@ -71,9 +71,9 @@ impl Part for Member {
 
     type Value = AssocDecl;
 
-    ghost number = { terminals.number };
+    ghost number = { number };
 
-    ghost reads = { read terminals.number lines.member };
+    ghost reads = { read number lines.member };
 
     ghost first_set = { AssociatedType ∷ [] };
 
@@ -99,7 +99,7 @@ impl Part for Member {
 /// A protocol, from the word `protocol` on.
 #[tactic(auto, unfolding(crate::specs::Source::protocol, crate::specs::Source::member))]
 pub fn protocol(alloc: Global, tokens: &[Token<Terminal>]) -> Read<'_, ProtocolDecl>
-    ensures { Gives (λ x. (x.0, x.1.now)) result (read terminals.number lines.protocol tokens.now) }
+    ensures { Gives (λ x. (x.0, x.1.now)) result (read number lines.protocol tokens.now) }
 {
     let (_, rest) = mark(tokens, Terminal::Protocol)?;
     let (name, rest) = name(rest)?;

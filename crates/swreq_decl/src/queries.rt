@@ -4,7 +4,7 @@ ghost use Rattle.std.specs.Prelude.{◌≡◌, ◌∷◌, []};
 ghost use Rattle.swreq_grammar.specs.Gives.{Gives};
 ghost use Rattle.swreq_grammar.specs.Reader.{read};
 ghost use Rattle.swreq_decl.specs.declared.terminal.Terminal.TheVariants.{Dot};
-ghost use Rattle.swreq_decl.specs.Terminals as terminals;
+ghost use Rattle.swreq_decl.specs.Terminals.{number};
 ghost use Rattle.swreq_decl.specs.Source as lines;
 
 use crate::kind::Kind;
@@ -19,7 +19,7 @@ use swreq_text::Seq;
 /// A bound step, after its `.`.
 #[tactic(auto, unfolding(crate::specs::Source::bound_step))]
 fn bound_step(tokens: &[Token<Terminal>]) -> Read<'_, StepDecl>
-    ensures { Gives (λ x. (x.0, x.1.now)) result (read terminals.number lines.bound_step tokens.now) }
+    ensures { Gives (λ x. (x.0, x.1.now)) result (read number lines.bound_step tokens.now) }
 {
     let (_, rest) = mark(tokens, Terminal::OpenBracket)?;
     let (proto, rest) = name(rest)?;
@@ -38,9 +38,9 @@ impl Part for QueryStep {
 
     type Value = StepDecl;
 
-    ghost number = { terminals.number };
+    ghost number = { number };
 
-    ghost reads = { read terminals.number lines.qstep };
+    ghost reads = { read number lines.qstep };
 
     ghost first_set = { Dot ∷ [] };
 
@@ -62,7 +62,7 @@ impl Part for QueryStep {
 /// A type in a query.
 #[tactic(auto, unfolding(crate::specs::Source::qtype, crate::specs::Source::qstep))]
 fn query_type(alloc: Global, tokens: &[Token<Terminal>]) -> Read<'_, TypeDecl>
-    ensures { Gives (λ x. (x.0, x.1.now)) result (read terminals.number lines.qtype tokens.now) }
+    ensures { Gives (λ x. (x.0, x.1.now)) result (read number lines.qtype tokens.now) }
 {
     let (head, rest) = name(tokens)?;
     let (found, rest) = at_most::<QueryStep>(alloc, STEP_LIMIT, Kind::LongType, rest)?;
@@ -73,7 +73,7 @@ fn query_type(alloc: Global, tokens: &[Token<Terminal>]) -> Read<'_, TypeDecl>
 /// What a query asks, where something stands in its parentheses.
 #[tactic(auto, unfolding(crate::specs::Source::ask))]
 fn ask(alloc: Global, tokens: &[Token<Terminal>]) -> Read<'_, Ask>
-    ensures { Gives (λ x. (x.0, x.1.now)) result (read terminals.number lines.ask tokens.now) }
+    ensures { Gives (λ x. (x.0, x.1.now)) result (read number lines.ask tokens.now) }
 {
     let (t, rest) = query_type(alloc, tokens)?;
     if begins(rest, &[Terminal::Colon]) {
@@ -93,7 +93,7 @@ fn ask(alloc: Global, tokens: &[Token<Terminal>]) -> Read<'_, Ask>
 /// What a query asks.
 #[tactic(auto, unfolding(crate::specs::Source::asked, crate::specs::Source::ask, crate::specs::Source::qtype, crate::specs::Source::name))]
 fn asked(alloc: Global, tokens: &[Token<Terminal>]) -> Read<'_, Ask>
-    ensures { Gives (λ x. (x.0, x.1.now)) result (read terminals.number lines.asked tokens.now) }
+    ensures { Gives (λ x. (x.0, x.1.now)) result (read number lines.asked tokens.now) }
 {
     if begins(tokens, &[Terminal::Name, Terminal::Query]) {
         return ask(alloc, tokens);
@@ -104,7 +104,7 @@ fn asked(alloc: Global, tokens: &[Token<Terminal>]) -> Read<'_, Ask>
 /// The struct, if one is named, and the signature of a query.
 #[tactic(auto, unfolding(crate::specs::Source::sname))]
 fn signature_name(tokens: &[Token<Terminal>]) -> Read<'_, (Option<Span>, Span)>
-    ensures { Gives (λ x. (x.0, x.1.now)) result (read terminals.number lines.sname tokens.now) }
+    ensures { Gives (λ x. (x.0, x.1.now)) result (read number lines.sname tokens.now) }
 {
     let (first, rest) = name(tokens)?;
     if !begins(rest, &[Terminal::Dot]) {
@@ -118,7 +118,7 @@ fn signature_name(tokens: &[Token<Terminal>]) -> Read<'_, (Option<Span>, Span)>
 /// A query.
 #[tactic(auto, unfolding(crate::specs::Source::query))]
 pub fn query(alloc: Global, tokens: &[Token<Terminal>]) -> Read<'_, QueryDecl>
-    ensures { Gives (λ x. (x.0, x.1.now)) result (read terminals.number lines.query tokens.now) }
+    ensures { Gives (λ x. (x.0, x.1.now)) result (read number lines.query tokens.now) }
 {
     let (_, rest) = mark(tokens, Terminal::Query)?;
     let ((outer, function), rest) = signature_name(rest)?;

@@ -4,7 +4,7 @@ ghost use Rattle.std.specs.Prelude.{◌≡◌, ◌∷◌, []};
 ghost use Rattle.swreq_grammar.specs.Gives.{Gives};
 ghost use Rattle.swreq_grammar.specs.Reader.{read};
 ghost use Rattle.swreq_decl.specs.declared.terminal.Terminal.TheVariants.{Func, FilePrivate, Internal, Private, Public};
-ghost use Rattle.swreq_decl.specs.Terminals as terminals;
+ghost use Rattle.swreq_decl.specs.Terminals.{number};
 ghost use Rattle.swreq_decl.specs.Source as lines;
 
 use crate::functions::{function, params};
@@ -27,9 +27,9 @@ impl Part for InnerFunction {
 
     type Value = FunctionDecl;
 
-    ghost number = { terminals.number };
+    ghost number = { number };
 
-    ghost reads = { read terminals.number lines.inner_function };
+    ghost reads = { read number lines.inner_function };
 
     ghost first_set = { Public ∷ Internal ∷ FilePrivate ∷ Private ∷ Func ∷ [] };
 
@@ -55,7 +55,7 @@ impl Part for InnerFunction {
 /// A struct, from the word `struct` on.
 #[tactic(auto, unfolding(crate::specs::Source::structure, crate::specs::Source::inner_function, crate::specs::Source::access, crate::specs::Source::function))]
 pub fn structure(alloc: Global, tokens: &[Token<Terminal>]) -> Read<'_, StructDecl>
-    ensures { Gives (λ x. (x.0, x.1.now)) result (read terminals.number lines.structure tokens.now) }
+    ensures { Gives (λ x. (x.0, x.1.now)) result (read number lines.structure tokens.now) }
 {
     let (_, rest) = mark(tokens, Terminal::Struct)?;
     let (name, rest) = name(rest)?;

@@ -5,7 +5,7 @@ ghost use Rattle.swreq_grammar.specs.Grammar.{terminal, mapped};
 ghost use Rattle.swreq_grammar.specs.Gives.{Gives};
 ghost use Rattle.swreq_grammar.specs.Reader.{read};
 ghost use Rattle.swreq_decl.specs.declared.terminal.Terminal.TheVariants.{Ampersand, AnyObject, Comma, Dot};
-ghost use Rattle.swreq_decl.specs.Terminals as terminals;
+ghost use Rattle.swreq_decl.specs.Terminals.{number};
 ghost use Rattle.swreq_decl.specs.Source as lines;
 
 use crate::kind::Kind;
@@ -29,9 +29,9 @@ impl Part for NextArgument {
 
     type Value = TypeDecl;
 
-    ghost number = { terminals.number };
+    ghost number = { number };
 
-    ghost reads = { read terminals.number (lines.after (lines.mark Comma) lines.written_type) };
+    ghost reads = { read number (lines.after (lines.mark Comma) lines.written_type) };
 
     ghost first_set = { Comma ∷ [] };
 
@@ -48,7 +48,7 @@ impl Part for NextArgument {
 /// The arguments of a constraint, if it has any.
 #[tactic(auto, unfolding(crate::specs::Source::args, crate::specs::Source::arguments))]
 fn arguments(alloc: Global, tokens: &[Token<Terminal>]) -> Read<'_, Seq<TypeDecl>>
-    ensures { Gives (λ x. (x.0, x.1.now)) result (read terminals.number lines.arguments tokens.now) }
+    ensures { Gives (λ x. (x.0, x.1.now)) result (read number lines.arguments tokens.now) }
 {
     let mut found = Vec::new(alloc);
     if !begins(tokens, &[Terminal::Less]) {
@@ -65,7 +65,7 @@ fn arguments(alloc: Global, tokens: &[Token<Terminal>]) -> Read<'_, Seq<TypeDecl
 
 /// `AnyObject`.
 fn any_object(alloc: Global, tokens: &[Token<Terminal>]) -> Read<'_, Entity>
-    ensures { Gives (λ x. (x.0, x.1.now)) result (read terminals.number (mapped lines.any_object (lines.mark AnyObject)) tokens.now) }
+    ensures { Gives (λ x. (x.0, x.1.now)) result (read number (mapped lines.any_object (lines.mark AnyObject)) tokens.now) }
 {
     let (token, rest) = mark(tokens, Terminal::AnyObject)?;
     let found = Entity {
@@ -79,7 +79,7 @@ fn any_object(alloc: Global, tokens: &[Token<Terminal>]) -> Read<'_, Entity>
 /// The name of a protocol with its arguments, or `AnyObject`.
 #[tactic(auto, unfolding(crate::specs::Source::entity, crate::specs::Source::name))]
 fn entity(alloc: Global, tokens: &[Token<Terminal>]) -> Read<'_, Entity>
-    ensures { Gives (λ x. (x.0, x.1.now)) result (read terminals.number lines.entity tokens.now) }
+    ensures { Gives (λ x. (x.0, x.1.now)) result (read number lines.entity tokens.now) }
 {
     if !begins(tokens, &[Terminal::Name, Terminal::Query]) {
         return any_object(alloc, tokens);
@@ -93,7 +93,7 @@ fn entity(alloc: Global, tokens: &[Token<Terminal>]) -> Read<'_, Entity>
 /// The name of a protocol, or `AnyObject`, as a query has it.
 #[tactic(auto, unfolding(crate::specs::Source::qentity, crate::specs::Source::name))]
 pub fn query_entity(alloc: Global, tokens: &[Token<Terminal>]) -> Read<'_, Entity>
-    ensures { Gives (λ x. (x.0, x.1.now)) result (read terminals.number lines.qentity tokens.now) }
+    ensures { Gives (λ x. (x.0, x.1.now)) result (read number lines.qentity tokens.now) }
 {
     if !begins(tokens, &[Terminal::Name, Terminal::Query]) {
         return any_object(alloc, tokens);
@@ -114,9 +114,9 @@ impl Part for JoinedEntity {
 
     type Value = Entity;
 
-    ghost number = { terminals.number };
+    ghost number = { number };
 
-    ghost reads = { read terminals.number (lines.after (lines.mark Ampersand) lines.entity) };
+    ghost reads = { read number (lines.after (lines.mark Ampersand) lines.entity) };
 
     ghost first_set = { Ampersand ∷ [] };
 
@@ -133,7 +133,7 @@ impl Part for JoinedEntity {
 /// Entities joined by `&`.
 #[tactic(auto, unfolding(crate::specs::Source::bounds))]
 pub fn bounds(alloc: Global, tokens: &[Token<Terminal>]) -> Read<'_, Vec<Entity>>
-    ensures { Gives (λ x. (x.0.items, x.1.now)) result (read terminals.number lines.bounds tokens.now) }
+    ensures { Gives (λ x. (x.0.items, x.1.now)) result (read number lines.bounds tokens.now) }
 {
     let (first, rest) = entity(alloc, tokens)?;
     let (mut others, rest) = many::<JoinedEntity>(alloc, rest)?;
@@ -153,9 +153,9 @@ impl Part for NextInherited {
 
     type Value = Entity;
 
-    ghost number = { terminals.number };
+    ghost number = { number };
 
-    ghost reads = { read terminals.number (lines.after (terminal (Comma ∷ Ampersand ∷ [])) lines.entity) };
+    ghost reads = { read number (lines.after (terminal (Comma ∷ Ampersand ∷ [])) lines.entity) };
 
     ghost first_set = { Comma ∷ Ampersand ∷ [] };
 
@@ -172,7 +172,7 @@ impl Part for NextInherited {
 /// What is inherited, if anything is.
 #[tactic(auto, unfolding(crate::specs::Source::inherit, crate::specs::Source::inherits))]
 pub fn inherits(alloc: Global, tokens: &[Token<Terminal>]) -> Read<'_, Seq<Entity>>
-    ensures { Gives (λ x. (x.0, x.1.now)) result (read terminals.number lines.inherits tokens.now) }
+    ensures { Gives (λ x. (x.0, x.1.now)) result (read number lines.inherits tokens.now) }
 {
     let mut found = Vec::new(alloc);
     if !begins(tokens, &[Terminal::Colon]) {
@@ -189,7 +189,7 @@ pub fn inherits(alloc: Global, tokens: &[Token<Terminal>]) -> Read<'_, Seq<Entit
 /// The first word of a type.
 #[tactic(auto, unfolding(crate::specs::Source::head))]
 fn head(tokens: &[Token<Terminal>]) -> Read<'_, Span>
-    ensures { Gives (λ x. (x.0, x.1.now)) result (read terminals.number lines.head tokens.now) }
+    ensures { Gives (λ x. (x.0, x.1.now)) result (read number lines.head tokens.now) }
 {
     let heads = [Terminal::Name, Terminal::Query, Terminal::SelfType];
     let (token, rest) = one_of(tokens, &heads)?;
@@ -206,9 +206,9 @@ impl Part for PlainStep {
 
     type Value = StepDecl;
 
-    ghost number = { terminals.number };
+    ghost number = { number };
 
-    ghost reads = { read terminals.number (lines.after (lines.mark Dot) (mapped lines.plain_step lines.name)) };
+    ghost reads = { read number (lines.after (lines.mark Dot) (mapped lines.plain_step lines.name)) };
 
     ghost first_set = { Dot ∷ [] };
 
@@ -226,7 +226,7 @@ impl Part for PlainStep {
 /// A type.
 #[tactic(auto, unfolding(crate::specs::Source::written_type))]
 pub fn written_type(alloc: Global, tokens: &[Token<Terminal>]) -> Read<'_, TypeDecl>
-    ensures { Gives (λ x. (x.0, x.1.now)) result (read terminals.number lines.written_type tokens.now) }
+    ensures { Gives (λ x. (x.0, x.1.now)) result (read number lines.written_type tokens.now) }
 {
     let (head, rest) = head(tokens)?;
     let (found, rest) = at_most::<PlainStep>(alloc, STEP_LIMIT, Kind::LongType, rest)?;
