@@ -6,3 +6,4 @@ pub mod SameTexts
 pub mod Factoring
 pub mod Separating
 pub mod AsWritten
+pub mod WrittenOrder

@@ -1,10 +1,15 @@
 -- The signatures of a skeleton in written order.
-use Rattle.std.specs.Prelude.{Bool, not, nat_lt, List, [], ◌∷◌, ◌++◌, map, filter}
+use Rattle.std.specs.Prelude.{ℕ, Bool, not, nat_lt, List, [], ◌∷◌, ◌++◌, map, filter}
+use Rattle.swreq_lex.specs.declared.token.Token as lexed
+use Rattle.swreq_lex.specs.Tokens.{HasTokens}
+use Rattle.swreq_grammar.specs.Grammar.{Matches}
 use Rattle.swreq_decl.specs.declared.skeleton.FunctionDecl.{FunctionDecl}
 use Rattle.swreq_decl.specs.declared.skeleton.StructDecl.{StructDecl}
 use Rattle.swreq_decl.specs.declared.skeleton.Item.{Item}
 use Rattle.swreq_decl.specs.declared.skeleton.Item.TheVariants as items
 use Rattle.swreq_decl.specs.declared.skeleton.Skeleton.{Skeleton}
+use Rattle.swreq_decl.specs.Terminals.{number, with_terminals}
+use Rattle.swreq_decl.specs.Source.{source}
 
 -- a signature: that of a struct, of a function of a struct, or of a function at the top
 pub data Signature : Type 0 where
@@ -36,3 +41,7 @@ item_signatures (items.Struct s) = with_functions s
 item_signatures (items.Function f) = of_function f ∷ []
 item_signatures (items.Protocol p) = []
 item_signatures (items.Query q) = []
+
+-- The text has these parts, in written order.
+abbrev pub HasParts : List ℕ → List Item → Type 0
+HasParts text parts = (found : List lexed.Token) × HasTokens text found × Matches number source (with_terminals text found) parts
