@@ -4,29 +4,10 @@ use Rattle.std.proofs.lemmas.List.{append-nil}
 use Rattle.swreq_grammar.specs.declared.token.Token.{Token}
 use Rattle.swreq_grammar.specs.Grammar.{empty, mapped, sequence, alternative, Matches}
 use Rattle.swreq_decl.specs.declared.terminal.Terminal.{Terminal}
-use Rattle.swreq_decl.specs.declared.terminal.Terminal.TheVariants.{Colon, Dot, EqualEqual}
-use Rattle.swreq_decl.specs.declared.skeleton.ReqDecl.TheVariants as requirements
-use Rattle.swreq_decl.specs.declared.skeleton.Ask.TheVariants as asks
-use Rattle.swreq_decl.specs.declared.skeleton.Item.TheVariants as items
 use Rattle.swreq_decl.specs.Terminals.{number}
-use Rattle.swreq_decl.specs.Source as lines
-use Rattle.swreq_decl.specs.Source.{Line, mark, after, before, continued, skipped}
-use Rattle.swreq_decl.specs.Written as written
+use Rattle.swreq_decl.specs.Source.{Line, after, before, continued, skipped}
 use Rattle.swreq_decl.specs.Written.{SameTexts}
-
-then : {A : Type 0} {g h k : Line A} → SameTexts g h → SameTexts h k → SameTexts g k
-then a b = record { onward = λ ts v m. b.onward ts v (a.onward ts v m); back = λ ts v m. a.back ts v (b.back ts v m) }
-
-either : {A : Type 0} {g g2 h h2 : Line A} → SameTexts g g2 → SameTexts h h2 → SameTexts (alternative g h) (alternative g2 h2)
-either {A} {g} {g2} {h} {h2} a b = record { onward = to; back = from }
-  where
-    to : (ts : List (Token Terminal)) (v : A) → Matches number (alternative g h) ts v → Matches number (alternative g2 h2) ts v
-    to ts v (inl n) = inl (a.onward ts v n)
-    to ts v (inr n) = inr (b.onward ts v n)
-
-    from : (ts : List (Token Terminal)) (v : A) → Matches number (alternative g2 h2) ts v → Matches number (alternative g h) ts v
-    from ts v (inl n) = inl (a.back ts v n)
-    from ts v (inr n) = inr (b.back ts v n)
+use Rattle.swreq_decl.proofs.SameTexts.{same, reversed, then, either, before_same}
 
 -- ---- continued
 
@@ -69,39 +50,58 @@ three_ways a f g k h j =
     then (continued_either a (mapped f g) (alternative (mapped k h) (empty j)))
     (either (continued_mapped a f g) (then (continued_either a (mapped k h) (empty j)) (either (continued_mapped a k h) (continued_empty a j))))
 
-rotated : {A : Type 0} (g h k : Line A) → SameTexts (alternative g (alternative h k)) (alternative k (alternative g h))
-rotated {A} g h k = record { onward = to; back = from }
+-- ---- the order and grouping of alternatives
+
+pub swapped : {A : Type 0} (g h : Line A) → SameTexts (alternative g h) (alternative h g)
+swapped {A} g h = record { onward = to g h; back = to h g }
   where
-    to : (ts : List (Token Terminal)) (v : A) → Matches number (alternative g (alternative h k)) ts v → Matches number (alternative k (alternative g h)) ts v
-    to ts v (inl n) = inr (inl n)
-    to ts v (inr (inl n)) = inr (inr n)
-    to ts v (inr (inr n)) = inl n
+    to : (x y : Line A) (ts : List (Token Terminal)) (v : A) → Matches number (alternative x y) ts v → Matches number (alternative y x) ts v
+    to x y ts v (inl n) = inr n
+    to x y ts v (inr n) = inl n
 
-    from : (ts : List (Token Terminal)) (v : A) → Matches number (alternative k (alternative g h)) ts v → Matches number (alternative g (alternative h k)) ts v
-    from ts v (inl n) = inr (inr n)
-    from ts v (inr (inl n)) = inl n
-    from ts v (inr (inr n)) = inr (inl n)
+pub grouped : {A : Type 0} (g h k : Line A) → SameTexts (alternative g (alternative h k)) (alternative (alternative g h) k)
+grouped {A} g h k = record { onward = to; back = from }
+  where
+    to : (ts : List (Token Terminal)) (v : A) → Matches number (alternative g (alternative h k)) ts v → Matches number (alternative (alternative g h) k) ts v
+    to ts v (inl n) = inl (inl n)
+    to ts v (inr (inl n)) = inl (inr n)
+    to ts v (inr (inr n)) = inr n
 
--- ---- after and before
+    from : (ts : List (Token Terminal)) (v : A) → Matches number (alternative (alternative g h) k) ts v → Matches number (alternative g (alternative h k)) ts v
+    from ts v (inl (inl n)) = inl n
+    from ts v (inl (inr n)) = inr (inl n)
+    from ts v (inr n) = inr (inr n)
 
-pub after_either : {A B : Type 0} (a : Line A) (g h : Line B) → SameTexts (after a (alternative g h)) (alternative (after a h) (after a g))
+-- the first of each of two groups are paired
+paired : {A : Type 0} (a b c d q : Line A) → SameTexts (alternative (alternative a b) (alternative (alternative c d) q)) (alternative (alternative a c) (alternative b (alternative d q)))
+paired {A} a b c d q = record { onward = to; back = from }
+  where
+    to : (ts : List (Token Terminal)) (v : A) → Matches number (alternative (alternative a b) (alternative (alternative c d) q)) ts v → Matches number (alternative (alternative a c) (alternative b (alternative d q))) ts v
+    to ts v (inl (inl n)) = inl (inl n)
+    to ts v (inl (inr n)) = inr (inl n)
+    to ts v (inr (inl (inl n))) = inl (inr n)
+    to ts v (inr (inl (inr n))) = inr (inr (inl n))
+    to ts v (inr (inr n)) = inr (inr (inr n))
+
+    from : (ts : List (Token Terminal)) (v : A) → Matches number (alternative (alternative a c) (alternative b (alternative d q))) ts v → Matches number (alternative (alternative a b) (alternative (alternative c d) q)) ts v
+    from ts v (inl (inl n)) = inl (inl n)
+    from ts v (inl (inr n)) = inr (inl (inl n))
+    from ts v (inr (inl n)) = inl (inr n)
+    from ts v (inr (inr (inl n))) = inr (inl (inr n))
+    from ts v (inr (inr (inr n))) = inr (inr n)
+
+pub after_either : {A B : Type 0} (a : Line A) (g h : Line B) → SameTexts (after a (alternative g h)) (alternative (after a g) (after a h))
 after_either {A} {B} a g h = record { onward = to; back = from }
   where
-    to : (ts : List (Token Terminal)) (v : B) → Matches number (after a (alternative g h)) ts v → Matches number (alternative (after a h) (after a g)) ts v
-    to ts v (w, (first, rest, s, m, inl n), e) = inr (w, (first, rest, s, m, n), e)
-    to ts v (w, (first, rest, s, m, inr n), e) = inl (w, (first, rest, s, m, n), e)
+    to : (ts : List (Token Terminal)) (v : B) → Matches number (after a (alternative g h)) ts v → Matches number (alternative (after a g) (after a h)) ts v
+    to ts v (w, (first, rest, s, m, inl n), e) = inl (w, (first, rest, s, m, n), e)
+    to ts v (w, (first, rest, s, m, inr n), e) = inr (w, (first, rest, s, m, n), e)
 
-    from : (ts : List (Token Terminal)) (v : B) → Matches number (alternative (after a h) (after a g)) ts v → Matches number (after a (alternative g h)) ts v
-    from ts v (inl (w, (first, rest, s, m, n), e)) = (w, (first, rest, s, m, inr n), e)
-    from ts v (inr (w, (first, rest, s, m, n), e)) = (w, (first, rest, s, m, inl n), e)
+    from : (ts : List (Token Terminal)) (v : B) → Matches number (alternative (after a g) (after a h)) ts v → Matches number (after a (alternative g h)) ts v
+    from ts v (inl (w, (first, rest, s, m, n), e)) = (w, (first, rest, s, m, inl n), e)
+    from ts v (inr (w, (first, rest, s, m, n), e)) = (w, (first, rest, s, m, inr n), e)
 
 -- ---- optional access
-
-same : {A : Type 0} (g : Line A) → SameTexts g g
-same g = record { onward = λ ts v m. m; back = λ ts v m. m }
-
-reversed : {A : Type 0} {g h : Line A} → SameTexts g h → SameTexts h g
-reversed a = record { onward = a.back; back = a.onward }
 
 maybe_after : {A B : Type 0} (a : Line A) (g : Line B) → SameTexts (alternative (after a g) g) (after (skipped a) g)
 maybe_after {A} {B} a g = record { onward = to; back = from }
@@ -125,17 +125,9 @@ mapped_after {A} {B} {C} f a g = record { onward = to; back = from }
     from : (ts : List (Token Terminal)) (v : C) → Matches number (after a (mapped f g)) ts v → Matches number (mapped f (after a g)) ts v
     from ts v (w, (first, rest, s, m, (x, n, k)), e) = (x, ((w.0, x), (first, rest, s, m, n), refl), k ∙ e)
 
+-- a line with and without what stands at its front
 maybe_mapped : {A B C : Type 0} (f : B → C) (a : Line A) (g : Line B) → SameTexts (alternative (after a (mapped f g)) (mapped f g)) (mapped f (after (skipped a) g))
 maybe_mapped f a g = then (maybe_after a (mapped f g)) (reversed (mapped_after f (skipped a) g))
-
-before_same : {A B : Type 0} {g h : Line A} (s : Line B) → SameTexts g h → SameTexts (before g s) (before h s)
-before_same {A} {B} {g} {h} s a = record { onward = to; back = from }
-  where
-    to : (ts : List (Token Terminal)) (v : A) → Matches number (before g s) ts v → Matches number (before h s) ts v
-    to ts v (w, (first, rest, e, m, n), k) = (w, (first, rest, e, a.onward first w.0 m, n), k)
-
-    from : (ts : List (Token Terminal)) (v : A) → Matches number (before h s) ts v → Matches number (before g s) ts v
-    from ts v (w, (first, rest, e, m, n), k) = (w, (first, rest, e, a.back first w.0 m, n), k)
 
 before_either : {A B : Type 0} (g h : Line A) (s : Line B) → SameTexts (before (alternative g h) s) (alternative (before g s) (before h s))
 before_either {A} {B} g h s = record { onward = to; back = from }
@@ -148,57 +140,24 @@ before_either {A} {B} g h s = record { onward = to; back = from }
     from ts v (inl (w, (first, rest, e, m, n), k)) = (w, (first, rest, e, inl m, n), k)
     from ts v (inr (w, (first, rest, e, m, n), k)) = (w, (first, rest, e, inr m, n), k)
 
-before_three : {A B : Type 0} (g h k : Line A) (s : Line B) → SameTexts (before (alternative g (alternative h k)) s) (alternative (before g s) (alternative (before h s) (before k s)))
-before_three g h k s = then (before_either g (alternative h k) s) (either (same (before g s)) (before_either h k s))
+before_four : {A B : Type 0} (g h i j : Line A) (s : Line B) → SameTexts (before (alternative g (alternative h (alternative i j))) s) (alternative (before g s) (alternative (before h s) (alternative (before i s) (before j s))))
+before_four g h i j s =
+    then (before_either g (alternative h (alternative i j)) s)
+    (either (same (before g s)) (then (before_either h (alternative i j) s) (either (same (before h s)) (before_either i j s))))
 
-regrouped : {A : Type 0} (a b c d q : Line A) → SameTexts (alternative (alternative b a) (alternative (alternative c d) q)) (alternative (alternative a c) (alternative (alternative b d) q))
-regrouped {A} a b c d q = record { onward = to; back = from }
-  where
-    to : (ts : List (Token Terminal)) (v : A) → Matches number (alternative (alternative b a) (alternative (alternative c d) q)) ts v → Matches number (alternative (alternative a c) (alternative (alternative b d) q)) ts v
-    to ts v (inl (inl n)) = inr (inl (inl n))
-    to ts v (inl (inr n)) = inl (inl n)
-    to ts v (inr (inl (inl n))) = inl (inr n)
-    to ts v (inr (inl (inr n))) = inr (inl (inr n))
-    to ts v (inr (inr n)) = inr (inr n)
-
-    from : (ts : List (Token Terminal)) (v : A) → Matches number (alternative (alternative a c) (alternative (alternative b d) q)) ts v → Matches number (alternative (alternative b a) (alternative (alternative c d) q)) ts v
-    from ts v (inl (inl n)) = inl (inr n)
-    from ts v (inl (inr n)) = inr (inl (inl n))
-    from ts v (inr (inl (inl n))) = inl (inl n)
-    from ts v (inr (inl (inr n))) = inr (inl (inr n))
-    from ts v (inr (inr n)) = inr (inr n)
-
--- two declarations with an optional access, and a third part
-pub with_access : {A B C D E : Type 0} (f : B → D) (k : C → D) (a : Line A) (g : Line B) (h : Line C) (q : Line D) (s : Line E) →
-    SameTexts (before (alternative (after a (alternative (mapped f g) (mapped k h))) (alternative (alternative (mapped f g) (mapped k h)) q)) s)
-    (alternative (before (mapped f (after (skipped a) g)) s) (alternative (before (mapped k (after (skipped a) h)) s) (before q s)))
-with_access f k a g h q s =
+-- three parts with an optional front, and a fourth part without one
+pub with_front : {A B C D E F : Type 0} (a : Line A) (b : B → E) (g : Line B) (c : C → E) (h : Line C) (d : D → E) (i : Line D) (q : Line E) (s : Line F) →
+    let front : Line E = alternative (mapped b g) (alternative (mapped c h) (mapped d i)) in
+    SameTexts (before (alternative (after a front) (alternative front q)) s)
+    (alternative (before (mapped b (after (skipped a) g)) s) (alternative (before (mapped c (after (skipped a) h)) s) (alternative (before (mapped d (after (skipped a) i)) s) (before q s))))
+with_front a b g c h d i q s =
     then
     (before_same s
-    (then (either (after_either a (mapped f g) (mapped k h)) (same (alternative (alternative (mapped f g) (mapped k h)) q)))
-    (then (regrouped (after a (mapped f g)) (after a (mapped k h)) (mapped f g) (mapped k h) q)
-    (either (maybe_mapped f a g) (either (maybe_mapped k a h) (same q))))))
-    (before_three (mapped f (after (skipped a) g)) (mapped k (after (skipped a) h)) q s)
-
--- ---- the lines
-
-pub requirement_as_written : SameTexts lines.requirement written.requirement
-unfolding lines.requirement
-requirement_as_written =
-    two_ways lines.written_type (λ found subject. requirements.Bound subject found) (after (mark Colon) lines.bounds) (λ right left. requirements.Same left right) (after (mark EqualEqual) lines.written_type)
-
-pub qstep_as_written : SameTexts lines.qstep written.qstep
-unfolding lines.qstep
-qstep_as_written = after_either (mark Dot) lines.bound_step (mapped lines.plain_step lines.name)
-
-pub ask_as_written : SameTexts lines.ask written.ask
-unfolding lines.ask
-ask_as_written =
-    then
-    (three_ways lines.qtype (λ bound t. asks.Is t bound) (after (mark Colon) lines.entity) (λ right left. asks.Same left right) (after (mark EqualEqual) lines.qtype) (λ t. asks.Reduced t))
-    (rotated _ _ _)
-
-pub item_as_written : SameTexts lines.item written.item
-unfolding lines.item lines.bare_item lines.declaration
-item_as_written =
-    with_access (λ p. items.Protocol p) (λ f. items.Function f) lines.access lines.protocol lines.function (mapped (λ q. items.Query q) lines.query) lines.semicolon
+    (then (either (then (after_either a (mapped b g) (alternative (mapped c h) (mapped d i))) (either (same (after a (mapped b g))) (after_either a (mapped c h) (mapped d i)))) (same (alternative (alternative (mapped b g) (alternative (mapped c h) (mapped d i))) q)))
+    (then (paired (after a (mapped b g)) (alternative (after a (mapped c h)) (after a (mapped d i))) (mapped b g) (alternative (mapped c h) (mapped d i)) q)
+    (either (maybe_mapped b a g)
+    (then (paired (after a (mapped c h)) (after a (mapped d i)) (mapped c h) (mapped d i) q)
+    (either (maybe_mapped c a h)
+    (then (grouped (after a (mapped d i)) (mapped d i) q)
+    (either (maybe_mapped d a i) (same q)))))))))
+    (before_four (mapped b (after (skipped a) g)) (mapped c (after (skipped a) h)) (mapped d (after (skipped a) i)) q s)

@@ -11,9 +11,7 @@ use Rattle.swreq_decl.specs.Source as lines
 use Rattle.swreq_decl.specs.Source.{Line, mark, after, separated}
 use Rattle.swreq_decl.specs.Written as written
 use Rattle.swreq_decl.specs.Written.{SameTexts, joined}
-
-abbrev Tokens : Type 0
-Tokens = List (Token Terminal)
+use Rattle.swreq_decl.proofs.SameTexts.{Tokens, after_same}
 
 module _ {A : Type 0} (c d : Terminal) (g : Line A) where
   -- a part after either separator, after the inner one, and a list of parts after the outer one
@@ -94,15 +92,6 @@ module _ {A : Type 0} (c d : Terminal) (g : Line A) where
         (b1, b2 ++ rest, s ∙ ap (λ (us : Tokens). us ++ rest) f ∙ append_assoc b1 b2 rest, m, (join_inner o.1 b2 ns (joined p.1) rest (join_outer p.1 rest ms), tt)),
         ap (λ (us : List A). us ++ joined p.1) j ∙ ap joined k ∙ e,
       )
-
-after_same : {A B : Type 0} {g h : Line B} (a : Line A) → SameTexts g h → SameTexts (after a g) (after a h)
-after_same {A} {B} {g} {h} a k = record { onward = to; back = from }
-  where
-    to : (ts : Tokens) (v : B) → Matches number (after a g) ts v → Matches number (after a h) ts v
-    to ts v (w, (first, rest, s, m, n), e) = (w, (first, rest, s, m, k.onward rest w.1 n), e)
-
-    from : (ts : Tokens) (v : B) → Matches number (after a h) ts v → Matches number (after a g) ts v
-    from ts v (w, (first, rest, s, m, n), e) = (w, (first, rest, s, m, k.back rest w.1 n), e)
 
 pub inherit_as_written : SameTexts lines.inherit written.inherit
 unfolding lines.inherit lines.bounds

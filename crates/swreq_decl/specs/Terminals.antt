@@ -115,5 +115,5 @@ abbrev pub terminal_of : List ℕ → lexed.Token → Terminal
 terminal_of text t = by_kind (slice text t.start t.end) t.kind
 
 -- The tokens of a text, each with its terminal.
-abbrev pub terminals : List ℕ → List lexed.Token → List (Token Terminal)
-terminals text ts = map (λ t. record { terminal = terminal_of text t; start = t.start; end = t.end }) ts
+abbrev pub with_terminals : List ℕ → List lexed.Token → List (Token Terminal)
+with_terminals text ts = map (λ t. record { terminal = terminal_of text t; start = t.start; end = t.end }) ts

@@ -4,7 +4,7 @@ ghost use Rattle.std.specs.Prelude.{◌≡◌, ◌∷◌, []};
 ghost use Rattle.swreq_grammar.specs.Gives.{Gives};
 ghost use Rattle.swreq_grammar.specs.Reader.{read};
 ghost use Rattle.swreq_decl.specs.declared.terminal.Terminal.TheVariants.{Comma};
-ghost use Rattle.swreq_decl.specs.Terminals as terminals;
+ghost use Rattle.swreq_decl.specs.Terminals.{number};
 ghost use Rattle.swreq_decl.specs.Source as lines;
 
 use crate::kind::Kind;
@@ -20,7 +20,7 @@ use swreq_text::Seq;
 /// A generic parameter.
 #[tactic(auto, unfolding(crate::specs::Source::param))]
 fn param(alloc: Global, tokens: &[Token<Terminal>]) -> Read<'_, ParamDecl>
-    ensures { Gives (λ x. (x.0, x.1.now)) result (read terminals.number lines.param tokens.now) }
+    ensures { Gives (λ x. (x.0, x.1.now)) result (read number lines.param tokens.now) }
 {
     let (name, rest) = name(tokens)?;
     if !begins(rest, &[Terminal::Colon]) {
@@ -43,9 +43,9 @@ impl Part for NextParam {
 
     type Value = ParamDecl;
 
-    ghost number = { terminals.number };
+    ghost number = { number };
 
-    ghost reads = { read terminals.number (lines.after (lines.mark Comma) lines.param) };
+    ghost reads = { read number (lines.after (lines.mark Comma) lines.param) };
 
     ghost first_set = { Comma ∷ [] };
 
@@ -59,10 +59,10 @@ impl Part for NextParam {
     }
 }
 
-/// The generic parameters, if a function has any.
+/// The generic parameters, if there are any.
 #[tactic(auto, unfolding(crate::specs::Source::generics, crate::specs::Source::params))]
-fn params(alloc: Global, tokens: &[Token<Terminal>]) -> Read<'_, Seq<ParamDecl>>
-    ensures { Gives (λ x. (x.0, x.1.now)) result (read terminals.number lines.params tokens.now) }
+pub fn params(alloc: Global, tokens: &[Token<Terminal>]) -> Read<'_, Seq<ParamDecl>>
+    ensures { Gives (λ x. (x.0, x.1.now)) result (read number lines.params tokens.now) }
 {
     let mut found = Vec::new(alloc);
     if !begins(tokens, &[Terminal::Less]) {
@@ -80,7 +80,7 @@ fn params(alloc: Global, tokens: &[Token<Terminal>]) -> Read<'_, Seq<ParamDecl>>
 /// The empty braces, if they are there.
 #[tactic(auto, unfolding(crate::specs::Source::no_body))]
 fn no_body(tokens: &[Token<Terminal>]) -> Read<'_, ()>
-    ensures { Gives (λ x. (tt, x.1.now)) result (read terminals.number lines.no_body tokens.now) }
+    ensures { Gives (λ x. (tt, x.1.now)) result (read number lines.no_body tokens.now) }
 {
     if !begins(tokens, &[Terminal::OpenBrace]) {
         return Ok(((), tokens));
@@ -93,7 +93,7 @@ fn no_body(tokens: &[Token<Terminal>]) -> Read<'_, ()>
 /// A function, from the word `func` on.
 #[tactic(auto, unfolding(crate::specs::Source::function))]
 pub fn function(alloc: Global, tokens: &[Token<Terminal>]) -> Read<'_, FunctionDecl>
-    ensures { Gives (λ x. (x.0, x.1.now)) result (read terminals.number lines.function tokens.now) }
+    ensures { Gives (λ x. (x.0, x.1.now)) result (read number lines.function tokens.now) }
 {
     let (_, rest) = mark(tokens, Terminal::Func)?;
     let (name, rest) = name(rest)?;

@@ -1,16 +1,24 @@
 //! What holds of the skeletons and refusals of each text.
 
-ghost use Rattle.std.specs.Prelude.{◌≡◌, ◌⊎◌, ℕ, List, Option};
+ghost use Rattle.std.specs.Prelude.{◌≡◌, ◌⊎◌, ℕ, List, Option, Some, map};
+ghost use Rattle.std.specs.List.{flat_map};
 ghost use Rattle.swreq_lex.specs.declared.token.Token as lexed;
+ghost use Rattle.swreq_lex.specs.Marks.{spellings};
 ghost use Rattle.swreq_lex.specs.Tokens.{HasTokens};
+ghost use Rattle.swreq_lex.specs.Words.{reserved};
 ghost use Rattle.swreq_decl.specs.declared.kind.Kind.{Kind};
+ghost use Rattle.swreq_decl.specs.declared.skeleton.Item.{Item};
 ghost use Rattle.swreq_decl.specs.declared.skeleton.Skeleton.{Skeleton};
-ghost use Rattle.swreq_decl.specs.Skeletons.{RefusedFor, StandsFor};
+ghost use Rattle.swreq_decl.specs.declared.terminal.Terminal.TheVariants.{Query};
+ghost use Rattle.swreq_decl.specs.Signatures.{HasParts, item_signatures, signatures};
+ghost use Rattle.swreq_decl.specs.Skeletons.{RefusedFor, StandsFor, skeleton_of};
 ghost use Rattle.swreq_decl.specs.Source as lines;
+ghost use Rattle.swreq_decl.specs.Spellings.{spelling};
+ghost use Rattle.swreq_decl.specs.Terminals.{marks, query_word, reserved_words};
 ghost use Rattle.swreq_decl.specs.Written as written;
 ghost use Rattle.swreq_decl.specs.Written.{SameTexts};
 
-use swreq_lex::laws::one_reading;
+use swreq_lex::laws::{one_reading, tokens_are_slices};
 
 /// At most one skeleton stands for a text.
 pub fn one_skeleton(text: &[u8])
@@ -28,11 +36,21 @@ pub fn one_verdict(text: &[u8])
     one_reading(text);
 }
 
-/// Lines whose alternatives begin alike have the texts and values of the lines as they are written.
-pub fn lines_as_written()
-    ensures inherit { SameTexts lines.inherit written.inherit }
-    ensures requirement { SameTexts lines.requirement written.requirement }
-    ensures qstep { SameTexts lines.qstep written.qstep }
-    ensures ask { SameTexts lines.ask written.ask }
-    ensures item { SameTexts lines.item written.item }
+/// The source has the texts and values that it has by its lines as they are written.
+pub fn source_as_written()
+    ensures { SameTexts lines.source written.source }
+{}
+
+/// The signatures that are read off the skeleton of a text are those of its parts, in written order.
+pub fn signatures_in_written_order(text: &[u8])
+    ensures { (parts : List Item) → HasParts text.now parts → signatures (skeleton_of parts) ≡ flat_map item_signatures parts }
+{
+    tokens_are_slices(text);
+}
+
+/// The terminals of the reserved words and marks, in the order in which the tokens count them, are spelled as those are.
+pub fn terminals_are_spelled()
+    ensures words { map spelling reserved_words ≡ map (λ word. Some word) reserved }
+    ensures marks { map spelling marks ≡ map (λ mark. Some mark) spellings }
+    ensures query { spelling Query ≡ Some query_word }
 {}

@@ -1,7 +1,6 @@
 //! The skeleton that stands for a source text, or where the text is refused.
 #![tactic(auto)]
 
-mod classes;
 mod functions;
 mod items;
 mod kind;
@@ -13,7 +12,9 @@ mod reading;
 mod refusal;
 mod requirements;
 mod skeleton;
+mod structs;
 mod terminal;
+mod tokens;
 mod types;
 
 pub use kind::Kind;
@@ -21,8 +22,10 @@ pub use parser::parse;
 pub use refusal::ParseErr;
 pub use skeleton::{
     Ask, AssocDecl, Entity, FunctionDecl, ParamDecl, ProtocolDecl, QueryDecl, ReqDecl, Skeleton,
-    Span, StepDecl, TypeDecl,
+    Span, StepDecl, StructDecl, TypeDecl,
 };
 
+#[cfg(test)]
+mod skeleton_tests;
 #[cfg(test)]
 mod tests;

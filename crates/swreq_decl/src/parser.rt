@@ -7,15 +7,15 @@ ghost use Rattle.swreq_lex.specs.Refusals.{HasRefusal};
 ghost use Rattle.swreq_decl.specs.declared.kind.Kind.{Kind};
 ghost use Rattle.swreq_decl.specs.declared.skeleton.Skeleton.{Skeleton};
 ghost use Rattle.swreq_decl.specs.declared.refusal.ParseErr.TheVariants.{Lex, Syntax, Unsupported};
-ghost use Rattle.swreq_decl.specs.Terminals as classes;
-ghost use Rattle.swreq_decl.specs.Skeletons.{Exactly, RefusedFor, StandsFor, Tells, kind_at, place, refusal_of, skeleton_of};
+ghost use Rattle.swreq_decl.specs.Terminals.{with_terminals};
+ghost use Rattle.swreq_decl.specs.Skeletons.{Exactly, RefusedFor, StandsFor, Tells, refused_kind, place, error_of, skeleton_of};
 
-use crate::classes::terminals;
 use crate::items::all_items;
 use crate::kind::{Kind, kind_of};
 use crate::refusal::ParseErr;
 use crate::skeleton::{Item, Skeleton};
 use crate::terminal::Terminal;
+use crate::tokens::with_terminals;
 use std::alloc::{AllocError, Global};
 use swreq_grammar::{Stop, Token};
 use swreq_lex::{LexErr, TEXT_LIMIT, tokens};
@@ -48,9 +48,9 @@ fn parse_tokens(
     found: &[swreq_lex::Token],
 ) -> Result<Skeleton, ParseErr>
     requires { length text.now ≤ TEXT_LIMIT }
-    ensures { Tells (length text.now) (classes.terminals text.now found.now) result }
+    ensures { Tells (length text.now) (with_terminals text.now found.now) result }
 {
-    let coded = terminals(alloc, text, found)?;
+    let coded = with_terminals(alloc, text, found)?;
     match all_items(alloc, &coded) {
         Ok(items) => Ok(skeleton_of(alloc, items)?),
         Err(stop) => Err(refusal(text.len() as u32, stop)),
@@ -62,17 +62,20 @@ fn skeleton_of(alloc: Global, items: Vec<Item>) -> Result<Skeleton, AllocError>
     ensures { IfOk result (λ skeleton. skeleton ≡ skeleton_of items.items) }
 {
     let mut protocols = Vec::new(alloc);
+    let mut structs = Vec::new(alloc);
     let mut functions = Vec::new(alloc);
     let mut queries = Vec::new(alloc);
     for item in items {
         match item {
             Item::Protocol(protocol) => protocols.push(protocol)?,
+            Item::Struct(structure) => structs.push(structure)?,
             Item::Function(function) => functions.push(function)?,
             Item::Query(query) => queries.push(query)?,
         }
     }
     Ok(Skeleton {
         protocols: Seq::new(protocols),
+        structs: Seq::new(structs),
         functions: Seq::new(functions),
         queries: Seq::new(queries),
     })
@@ -89,8 +92,8 @@ fn place(end: u32, rest: &[Token<Terminal>]) -> u32
 }
 
 /// The kind of a refusal at the first of the tokens.
-fn kind_at(label: Option<Kind>, rest: &[Token<Terminal>]) -> Option<Kind>
-    ensures { result ≡ kind_at label rest.now }
+fn refused_kind(label: Option<Kind>, rest: &[Token<Terminal>]) -> Option<Kind>
+    ensures { result ≡ refused_kind label rest.now }
 {
     match rest {
         [] => None,
@@ -103,13 +106,13 @@ fn kind_at(label: Option<Kind>, rest: &[Token<Terminal>]) -> Option<Kind>
 
 /// The refusal of a text with this end.
 fn refusal(end: u32, stop: Stop<'_, Terminal, Kind>) -> ParseErr
-    ensures { result ≡ refusal_of end stop.entry }
+    ensures { result ≡ error_of end stop.entry }
 {
     match stop {
         Stop::Memory => ParseErr::Memory,
         Stop::Refused(rest, label) => {
             let at = place(end, rest);
-            match kind_at(label, rest) {
+            match refused_kind(label, rest) {
                 Some(kind) => ParseErr::Unsupported { at, kind },
                 None => ParseErr::Syntax { at },
             }

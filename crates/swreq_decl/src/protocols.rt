@@ -3,19 +3,63 @@
 ghost use Rattle.std.specs.Prelude.{◌≡◌, ◌∷◌, []};
 ghost use Rattle.swreq_grammar.specs.Gives.{Gives};
 ghost use Rattle.swreq_grammar.specs.Reader.{read};
-ghost use Rattle.swreq_decl.specs.declared.terminal.Terminal.TheVariants.{AssociatedType};
-ghost use Rattle.swreq_decl.specs.Terminals as terminals;
+ghost use Rattle.swreq_decl.specs.declared.terminal.Terminal.TheVariants.{AssociatedType, Comma};
+ghost use Rattle.swreq_decl.specs.Terminals.{number};
 ghost use Rattle.swreq_decl.specs.Source as lines;
 
 use crate::kind::Kind;
 use crate::reading::{Read, begins, mark, name, past_semicolon};
 use crate::requirements::conditions;
-use crate::skeleton::{AssocDecl, ProtocolDecl};
+use crate::skeleton::{AssocDecl, ProtocolDecl, Span};
 use crate::terminal::Terminal;
 use crate::types::inherits;
 use std::alloc::Global;
 use swreq_grammar::{Part, Token, many};
 use swreq_text::Seq;
+
+/// A primary name after `,`.
+struct NextPrimary;
+
+impl Part for NextPrimary {
+    type Terminal = Terminal;
+
+    type Label = Kind;
+
+    type Value = Span;
+
+    ghost number = { number };
+
+    ghost reads = { read number (lines.after (lines.mark Comma) lines.name) };
+
+    ghost first_set = { Comma ∷ [] };
+
+    fn begins(tokens: &[Token<Terminal>]) -> bool {
+        begins(tokens, &[Terminal::Comma])
+    }
+
+    fn part(_alloc: Global, tokens: &[Token<Terminal>]) -> Read<'_, Span> {
+        let (_, rest) = mark(tokens, Terminal::Comma)?;
+        name(rest)
+    }
+}
+
+/// The names of the primary associated types, if a protocol has any.
+#[tactic(auto, unfolding(crate::specs::Source::primaries, crate::specs::Source::primary_names))]
+fn primaries(alloc: Global, tokens: &[Token<Terminal>]) -> Read<'_, Seq<Span>>
+    ensures { Gives (λ x. (x.0, x.1.now)) result (read number lines.primary_names tokens.now) }
+{
+    let mut found = Vec::new(alloc);
+    if !begins(tokens, &[Terminal::Less]) {
+        return Ok((Seq::new(found), tokens));
+    }
+    let (_, rest) = mark(tokens, Terminal::Less)?;
+    let (first, rest) = name(rest)?;
+    let (mut others, rest) = many::<NextPrimary>(alloc, rest)?;
+    let (_, rest) = mark(rest, Terminal::Greater)?;
+    found.push(first)?;
+    found.append(&mut others)?;
+    Ok((Seq::new(found), rest))
+}
 
 /// A member of a protocol.
 struct Member;
@@ -27,9 +71,9 @@ impl Part for Member {
 
     type Value = AssocDecl;
 
-    ghost number = { terminals.number };
+    ghost number = { number };
 
-    ghost reads = { read terminals.number lines.member };
+    ghost reads = { read number lines.member };
 
     ghost first_set = { AssociatedType ∷ [] };
 
@@ -55,10 +99,11 @@ impl Part for Member {
 /// A protocol, from the word `protocol` on.
 #[tactic(auto, unfolding(crate::specs::Source::protocol, crate::specs::Source::member))]
 pub fn protocol(alloc: Global, tokens: &[Token<Terminal>]) -> Read<'_, ProtocolDecl>
-    ensures { Gives (λ x. (x.0, x.1.now)) result (read terminals.number lines.protocol tokens.now) }
+    ensures { Gives (λ x. (x.0, x.1.now)) result (read number lines.protocol tokens.now) }
 {
     let (_, rest) = mark(tokens, Terminal::Protocol)?;
     let (name, rest) = name(rest)?;
+    let (primaries, rest) = primaries(alloc, rest)?;
     let (inherits, rest) = inherits(alloc, rest)?;
     let (clause, rest) = conditions(alloc, rest)?;
     let (_, rest) = mark(rest, Terminal::OpenBrace)?;
@@ -67,6 +112,7 @@ pub fn protocol(alloc: Global, tokens: &[Token<Terminal>]) -> Read<'_, ProtocolD
     let members = Seq::new(found);
     let found = ProtocolDecl {
         name,
+        primaries,
         inherits,
         clause,
         members,

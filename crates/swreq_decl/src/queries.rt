@@ -4,14 +4,14 @@ ghost use Rattle.std.specs.Prelude.{◌≡◌, ◌∷◌, []};
 ghost use Rattle.swreq_grammar.specs.Gives.{Gives};
 ghost use Rattle.swreq_grammar.specs.Reader.{read};
 ghost use Rattle.swreq_decl.specs.declared.terminal.Terminal.TheVariants.{Dot};
-ghost use Rattle.swreq_decl.specs.Terminals as terminals;
+ghost use Rattle.swreq_decl.specs.Terminals.{number};
 ghost use Rattle.swreq_decl.specs.Source as lines;
 
 use crate::kind::Kind;
 use crate::reading::{Read, begins, mark, name};
-use crate::skeleton::{Ask, QueryDecl, StepDecl, TypeDecl};
+use crate::skeleton::{Ask, QueryDecl, Span, StepDecl, TypeDecl};
 use crate::terminal::Terminal;
-use crate::types::{STEP_LIMIT, entity};
+use crate::types::{STEP_LIMIT, query_entity};
 use std::alloc::Global;
 use swreq_grammar::{Part, Token, at_most};
 use swreq_text::Seq;
@@ -19,7 +19,7 @@ use swreq_text::Seq;
 /// A bound step, after its `.`.
 #[tactic(auto, unfolding(crate::specs::Source::bound_step))]
 fn bound_step(tokens: &[Token<Terminal>]) -> Read<'_, StepDecl>
-    ensures { Gives (λ x. (x.0, x.1.now)) result (read terminals.number lines.bound_step tokens.now) }
+    ensures { Gives (λ x. (x.0, x.1.now)) result (read number lines.bound_step tokens.now) }
 {
     let (_, rest) = mark(tokens, Terminal::OpenBracket)?;
     let (proto, rest) = name(rest)?;
@@ -38,9 +38,9 @@ impl Part for QueryStep {
 
     type Value = StepDecl;
 
-    ghost number = { terminals.number };
+    ghost number = { number };
 
-    ghost reads = { read terminals.number lines.qstep };
+    ghost reads = { read number lines.qstep };
 
     ghost first_set = { Dot ∷ [] };
 
@@ -62,7 +62,7 @@ impl Part for QueryStep {
 /// A type in a query.
 #[tactic(auto, unfolding(crate::specs::Source::qtype, crate::specs::Source::qstep))]
 fn query_type(alloc: Global, tokens: &[Token<Terminal>]) -> Read<'_, TypeDecl>
-    ensures { Gives (λ x. (x.0, x.1.now)) result (read terminals.number lines.qtype tokens.now) }
+    ensures { Gives (λ x. (x.0, x.1.now)) result (read number lines.qtype tokens.now) }
 {
     let (head, rest) = name(tokens)?;
     let (found, rest) = at_most::<QueryStep>(alloc, STEP_LIMIT, Kind::LongType, rest)?;
@@ -73,12 +73,12 @@ fn query_type(alloc: Global, tokens: &[Token<Terminal>]) -> Read<'_, TypeDecl>
 /// What a query asks, where something stands in its parentheses.
 #[tactic(auto, unfolding(crate::specs::Source::ask))]
 fn ask(alloc: Global, tokens: &[Token<Terminal>]) -> Read<'_, Ask>
-    ensures { Gives (λ x. (x.0, x.1.now)) result (read terminals.number lines.ask tokens.now) }
+    ensures { Gives (λ x. (x.0, x.1.now)) result (read number lines.ask tokens.now) }
 {
     let (t, rest) = query_type(alloc, tokens)?;
     if begins(rest, &[Terminal::Colon]) {
         let (_, rest) = mark(rest, Terminal::Colon)?;
-        let (bound, rest) = entity(rest)?;
+        let (bound, rest) = query_entity(alloc, rest)?;
         return Ok((Ask::Is { t, bound }, rest));
     }
     if begins(rest, &[Terminal::EqualEqual]) {
@@ -93,7 +93,7 @@ fn ask(alloc: Global, tokens: &[Token<Terminal>]) -> Read<'_, Ask>
 /// What a query asks.
 #[tactic(auto, unfolding(crate::specs::Source::asked, crate::specs::Source::ask, crate::specs::Source::qtype, crate::specs::Source::name))]
 fn asked(alloc: Global, tokens: &[Token<Terminal>]) -> Read<'_, Ask>
-    ensures { Gives (λ x. (x.0, x.1.now)) result (read terminals.number lines.asked tokens.now) }
+    ensures { Gives (λ x. (x.0, x.1.now)) result (read number lines.asked tokens.now) }
 {
     if begins(tokens, &[Terminal::Name, Terminal::Query]) {
         return ask(alloc, tokens);
@@ -101,15 +101,34 @@ fn asked(alloc: Global, tokens: &[Token<Terminal>]) -> Read<'_, Ask>
     Ok((Ask::Signature, tokens))
 }
 
+/// The struct, if one is named, and the signature of a query.
+#[tactic(auto, unfolding(crate::specs::Source::sname))]
+fn signature_name(tokens: &[Token<Terminal>]) -> Read<'_, (Option<Span>, Span)>
+    ensures { Gives (λ x. (x.0, x.1.now)) result (read number lines.sname tokens.now) }
+{
+    let (first, rest) = name(tokens)?;
+    if !begins(rest, &[Terminal::Dot]) {
+        return Ok(((None, first), rest));
+    }
+    let (_, rest) = mark(rest, Terminal::Dot)?;
+    let (function, rest) = name(rest)?;
+    Ok(((Some(first), function), rest))
+}
+
 /// A query.
 #[tactic(auto, unfolding(crate::specs::Source::query))]
 pub fn query(alloc: Global, tokens: &[Token<Terminal>]) -> Read<'_, QueryDecl>
-    ensures { Gives (λ x. (x.0, x.1.now)) result (read terminals.number lines.query tokens.now) }
+    ensures { Gives (λ x. (x.0, x.1.now)) result (read number lines.query tokens.now) }
 {
     let (_, rest) = mark(tokens, Terminal::Query)?;
-    let (function, rest) = name(rest)?;
+    let ((outer, function), rest) = signature_name(rest)?;
     let (_, rest) = mark(rest, Terminal::OpenParenthesis)?;
     let (ask, rest) = asked(alloc, rest)?;
     let (_, rest) = mark(rest, Terminal::CloseParenthesis)?;
-    Ok((QueryDecl { function, ask }, rest))
+    let found = QueryDecl {
+        outer,
+        function,
+        ask,
+    };
+    Ok((found, rest))
 }

@@ -87,6 +87,25 @@ pub fn span_of(token: Token<Terminal>) -> Span
     }
 }
 
+/// The words of access, which mean nothing.
+pub const ACCESS: [Terminal; 4] = [
+    Terminal::Public,
+    Terminal::Internal,
+    Terminal::FilePrivate,
+    Terminal::Private,
+];
+
+/// The tokens without a word of access, if one is there.
+#[tactic(auto, unfolding(crate::specs::Source::access))]
+pub fn past_access(tokens: &[Token<Terminal>]) -> &[Token<Terminal>]
+    ensures { read number (lines.skipped lines.access) tokens.now ≡ Ok (tt, result.now) }
+{
+    match tokens {
+        [token, rest @ ..] if has(&ACCESS, token.terminal) => rest,
+        _ => tokens,
+    }
+}
+
 /// The tokens without the semicolon, if one is there.
 #[tactic(auto, unfolding(crate::specs::Source::semicolon))]
 pub fn past_semicolon(tokens: &[Token<Terminal>]) -> &[Token<Terminal>]

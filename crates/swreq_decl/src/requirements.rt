@@ -4,7 +4,7 @@ ghost use Rattle.std.specs.Prelude.{◌≡◌, ◌∷◌, []};
 ghost use Rattle.swreq_grammar.specs.Gives.{Gives};
 ghost use Rattle.swreq_grammar.specs.Reader.{read};
 ghost use Rattle.swreq_decl.specs.declared.terminal.Terminal.TheVariants.{Comma};
-ghost use Rattle.swreq_decl.specs.Terminals as terminals;
+ghost use Rattle.swreq_decl.specs.Terminals.{number};
 ghost use Rattle.swreq_decl.specs.Source as lines;
 
 use crate::kind::Kind;
@@ -19,7 +19,7 @@ use swreq_text::Seq;
 /// A requirement.
 #[tactic(auto, unfolding(crate::specs::Source::requirement))]
 fn requirement(alloc: Global, tokens: &[Token<Terminal>]) -> Read<'_, ReqDecl>
-    ensures { Gives (λ x. (x.0, x.1.now)) result (read terminals.number lines.requirement tokens.now) }
+    ensures { Gives (λ x. (x.0, x.1.now)) result (read number lines.requirement tokens.now) }
 {
     let (left, rest) = written_type(alloc, tokens)?;
     if begins(rest, &[Terminal::Colon]) {
@@ -44,9 +44,9 @@ impl Part for NextRequirement {
 
     type Value = ReqDecl;
 
-    ghost number = { terminals.number };
+    ghost number = { number };
 
-    ghost reads = { read terminals.number (lines.after (lines.mark Comma) lines.requirement) };
+    ghost reads = { read number (lines.after (lines.mark Comma) lines.requirement) };
 
     ghost first_set = { Comma ∷ [] };
 
@@ -63,7 +63,7 @@ impl Part for NextRequirement {
 /// The requirements after `where`, if it is there.
 #[tactic(auto, unfolding(crate::specs::Source::where_clause, crate::specs::Source::conditions))]
 pub fn conditions(alloc: Global, tokens: &[Token<Terminal>]) -> Read<'_, Seq<ReqDecl>>
-    ensures { Gives (λ x. (x.0, x.1.now)) result (read terminals.number lines.conditions tokens.now) }
+    ensures { Gives (λ x. (x.0, x.1.now)) result (read number lines.conditions tokens.now) }
 {
     let mut found = Vec::new(alloc);
     if !begins(tokens, &[Terminal::Where]) {

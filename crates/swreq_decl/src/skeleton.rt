@@ -9,11 +9,13 @@ pub struct Span {
     pub end: u32,
 }
 
-/// What stands on the right of `:` or `&`: the name of a protocol, or `AnyObject`, which is the layout.
-#[derive(Clone, Copy, Debug, Drop)]
+/// What stands on the right of `:` or `&`: the name of a protocol, with its arguments if it has any, or `AnyObject`, which is
+/// the layout and has none. In a query it has no arguments.
+#[derive(Debug, Drop)]
 pub struct Entity {
     pub span: Span,
     pub layout: bool,
+    pub args: Seq<TypeDecl>,
 }
 
 /// A step of a written type: `.A`, or in a query also `.[P]A`.
@@ -51,16 +53,17 @@ pub struct AssocDecl {
     pub clause: Seq<ReqDecl>,
 }
 
-/// A protocol.
+/// A protocol. Its primaries are the names of its primary associated types.
 #[derive(Debug, Drop)]
 pub struct ProtocolDecl {
     pub name: Span,
+    pub primaries: Seq<Span>,
     pub inherits: Seq<Entity>,
     pub clause: Seq<ReqDecl>,
     pub members: Seq<AssocDecl>,
 }
 
-/// A generic parameter of a function.
+/// A generic parameter of a struct or a function.
 #[derive(Debug, Drop)]
 pub struct ParamDecl {
     pub name: Span,
@@ -75,7 +78,16 @@ pub struct FunctionDecl {
     pub clause: Seq<ReqDecl>,
 }
 
-/// What a query asks of its function: the minimised signature, the reduced type of `t`, whether `t` conforms to a protocol
+/// A struct with its functions in written order.
+#[derive(Debug, Drop)]
+pub struct StructDecl {
+    pub name: Span,
+    pub params: Seq<ParamDecl>,
+    pub clause: Seq<ReqDecl>,
+    pub functions: Seq<FunctionDecl>,
+}
+
+/// What a query asks of its signature: the minimised signature, the reduced type of `t`, whether `t` conforms to a protocol
 /// or has the layout, or whether two types are equal.
 #[derive(Debug, Drop)]
 pub enum Ask {
@@ -85,9 +97,10 @@ pub enum Ask {
     Same { left: TypeDecl, right: TypeDecl },
 }
 
-/// A query.
+/// A query: on the function of the struct `outer`, or without one on a function or struct at the top.
 #[derive(Debug, Drop)]
 pub struct QueryDecl {
+    pub outer: Option<Span>,
     pub function: Span,
     pub ask: Ask,
 }
@@ -96,14 +109,16 @@ pub struct QueryDecl {
 #[derive(Debug, Drop)]
 pub enum Item {
     Protocol(ProtocolDecl),
+    Struct(StructDecl),
     Function(FunctionDecl),
     Query(QueryDecl),
 }
 
-/// The parts of a text, each kind in written order.
+/// The parts of a text, each kind in written order; the functions of a struct stand in it alone.
 #[derive(Debug, Drop)]
 pub struct Skeleton {
     pub protocols: Seq<ProtocolDecl>,
+    pub structs: Seq<StructDecl>,
     pub functions: Seq<FunctionDecl>,
     pub queries: Seq<QueryDecl>,
 }

@@ -1,6 +1,5 @@
 //! Texts, and the skeletons or refusals that they have.
 
-use crate::skeleton::*;
 use crate::{ParseErr, parse};
 use std::alloc::Global;
 use std::process::Abort;
@@ -37,7 +36,6 @@ func f() { x } | Body 11
 func f() { ] } | Body 11
 func f() { | syntax 10
 func f( | syntax 7
-struct S { } | Struct 0
 enum E { } | Enum 0
 actor A { } | Actor 0
 extension P { } | Extension 0
@@ -67,7 +65,6 @@ func f<T>() where T == (U) | Tuple 23
 func f() -> T | Arrow 9
 protocol P { associatedtype A = B } | DefaultValue 30
 func f<T>() where T === T | DefaultValue 22
-protocol P<A> { } | GenericArguments 10
 query f(T<U>) | GenericArguments 9
 query f((T)) | Tuple 8
 public query f() | syntax 7
@@ -96,6 +93,56 @@ func f() func g | syntax 15
 func f() where AnyObject: P | syntax 15
 func f() where T.Self: P | syntax 17
 f | syntax 0
+struct S { struct R { } } | Struct 11
+struct S { public struct R { } } | Struct 18
+struct S { class C { } } | Class 11
+struct S { enum E { } } | Enum 11
+struct S { actor A { } } | Actor 11
+struct S { extension P { } } | Extension 11
+struct S { typealias A = B } | Typealias 11
+struct S { import M } | Import 11
+struct S { var x } | Member 11
+struct S { public var x } | Member 18
+struct S { let x } | Member 11
+struct S { init() } | Member 11
+struct S { subscript() } | Member 11
+struct S { static func f() } | Member 11
+struct S { mutating func f() } | Member 11
+struct S { @a func f() } | Attribute 11
+struct S { protocol P { } } | syntax 11
+struct S { associatedtype A } | syntax 11
+struct S { query f() } | syntax 11
+struct S { func f();; } | syntax 20
+struct S { func f(T) } | Parameters 18
+struct S { func f() { x } } | Body 22
+struct S { func f() } } | syntax 22
+struct S: P { } | syntax 8
+struct S() { } | Tuple 8
+struct S<> { } | syntax 9
+struct S.R { } | syntax 8
+struct { } | syntax 7
+public public struct S { } | syntax 7
+query S.f.g() | syntax 9
+query S.() | Tuple 8
+query .f() | syntax 6
+query S.[P]f() | Array 8
+public query S.f() | syntax 7
+protocol P<> { } | syntax 11
+protocol P<A,> { } | syntax 13
+protocol P<A: Q> { } | syntax 12
+protocol P<A.B> { } | syntax 12
+protocol P<Self> { } | syntax 11
+protocol P: Q <A> <B> { } | GenericArguments 18
+func f<T: P<>>() | syntax 12
+func f<T: P<A,>>() | syntax 14
+func f<T: P<A | syntax 13
+func f<T: P<Q<U>>>() | GenericArguments 13
+func f<T: P<T == U>>() | syntax 14
+func f<T: P<some Q>>() | Existential 12
+func f<T: AnyObject<U>>() | GenericArguments 19
+func f<T: P>() where T<U>: P | GenericArguments 22
+query f(T : P<T>) | GenericArguments 13
+query f(T : AnyObject<T>) | GenericArguments 21
 ";
 
 #[test]
@@ -109,12 +156,21 @@ fn texts_outside_the_grammar_are_refused(rt: HostRuntime) -> Result<(), Fail> {
 }
 
 #[test]
+fn arguments_in_a_query_are_refused(rt: HostRuntime) -> Result<(), Fail> {
+    let text = b"protocol P<A> { associatedtype A }\nquery f(T : P<T>)\n";
+    let found = verdict(&rt, rt.alloc(), text)?;
+    assert_eq!(rt; found.as_str(), "GenericArguments 48");
+    Ok(())
+}
+
+#[test]
 fn a_text_that_ends_in_a_construct_is_refused_at_its_end(rt: HostRuntime) -> Result<(), Fail> {
     let wholes = [
-        "public protocol P : Q & R , S where Self . A == B , C : D { associatedtype E : F where G == H ; }",
+        "public protocol P < A , B > : Q < A , B . C > & R , S where Self . A == B , C : D < E > { associatedtype E : F < G > where G == H ; }",
+        "internal struct S < T : P < U > > where T : Q { public func f ( ) ; func g < V > ( ) where V == T { } }",
         "private func f < T : P & Q , U > ( ) where T . A : B & C , Self == U { }",
         "query f ( T . [ P ] A . B == U . [ Q ] C )",
-        "query f ( T . A : AnyObject )",
+        "query S . f ( T . A : AnyObject )",
     ];
     for whole in wholes {
         // a space stands between all tokens
@@ -234,6 +290,17 @@ fn texts_of_the_grammar_are_accepted(rt: HostRuntime) -> Result<(), Fail> {
         "protocol P: Q & R, AnyObject where Self: S { associatedtype A associatedtype B: C; }",
         "func f() query g()func h()",
         "func f() where Self.A.B: P",
+        "struct S { }",
+        "public struct S { };",
+        "private struct S<T> { internal func f() }",
+        "struct S<T: P> where T.A: P, T == U { func f() { }; func g<U>(); }",
+        "struct S { func f() func g() { } fileprivate func h() } struct R { }",
+        "query S.f() query S.f(T) query S()",
+        "protocol P<A> { } protocol Q<A, B>: P<A> where Self: R<A, B.C> { }",
+        "protocol P: Q<A>, R<B> & S { associatedtype A: P<A> & Q, R<Self.B> where A: Q<A> }",
+        "func f<T: P<U> & Q<V, W.X>>() where T: P<Self>, U == V",
+        "protocol query<query, query>: query<query> { }",
+        "struct query<query> { func query() } query query.query(query : query)",
     ];
     for text in cases {
         let found = verdict(&rt, rt.alloc(), text.as_bytes())?;
@@ -264,6 +331,28 @@ fn a_type_has_at_most_a_thousand_steps(rt: HostRuntime) -> Result<(), Fail> {
     Ok(())
 }
 
+/// A function with a constraint whose argument has so many steps.
+fn long_argument(alloc: Global, steps: u32) -> Result<String, Fail> {
+    let mut text = String::new(alloc);
+    write!(text, "func f<T: P<T")?;
+    for _ in 0..steps {
+        write!(text, ".A")?;
+    }
+    write!(text, ", U>>()\n")?;
+    Ok(text)
+}
+
+#[test]
+fn an_argument_has_at_most_a_thousand_steps(rt: HostRuntime) -> Result<(), Fail> {
+    let text = long_argument(rt.alloc(), 1000)?;
+    let found = verdict(&rt, rt.alloc(), text.as_bytes())?;
+    assert_eq!(rt; found.as_str(), "ok");
+    let text = long_argument(rt.alloc(), 1001)?;
+    let found = verdict(&rt, rt.alloc(), text.as_bytes())?;
+    assert_eq!(rt; found.as_str(), "LongType 2013");
+    Ok(())
+}
+
 #[test]
 fn the_longest_text_is_accepted(rt: HostRuntime) -> Result<(), Fail> {
     let mut text = Vec::new(rt.alloc());
@@ -273,114 +362,5 @@ fn the_longest_text_is_accepted(rt: HostRuntime) -> Result<(), Fail> {
     }
     let found = verdict(&rt, rt.alloc(), &text)?;
     assert_eq!(rt; found.as_str(), "ok");
-    Ok(())
-}
-
-/// The parts of a skeleton as lines, each name by its offset.
-fn describe(line: &mut String, skeleton: &Skeleton) -> Result<(), Fail> {
-    for protocol in skeleton.protocols.items() {
-        write!(line, "protocol {}", protocol.name.start)?;
-        describe_entities(line, protocol.inherits.items())?;
-        describe_requirements(line, protocol.clause.items())?;
-        for member in protocol.members.items() {
-            write!(line, " member {}", member.name.start)?;
-            describe_entities(line, member.inherits.items())?;
-            describe_requirements(line, member.clause.items())?;
-        }
-        write!(line, "\n")?;
-    }
-    for function in skeleton.functions.items() {
-        write!(line, "func {}", function.name.start)?;
-        for param in function.params.items() {
-            write!(line, " param {}", param.name.start)?;
-            describe_entities(line, param.bounds.items())?;
-        }
-        describe_requirements(line, function.clause.items())?;
-        write!(line, "\n")?;
-    }
-    for query in skeleton.queries.items() {
-        write!(line, "query {} ", query.function.start)?;
-        describe_ask(line, &query.ask)?;
-        write!(line, "\n")?;
-    }
-    Ok(())
-}
-
-fn describe_entities(line: &mut String, entities: &[Entity]) -> Result<(), Fail> {
-    for entity in entities {
-        let mark = if entity.layout { "layout" } else { "" };
-        write!(line, " :{mark}{}-{}", entity.span.start, entity.span.end)?;
-    }
-    Ok(())
-}
-
-fn describe_requirements(line: &mut String, requirements: &[ReqDecl]) -> Result<(), Fail> {
-    for requirement in requirements {
-        match requirement {
-            ReqDecl::Bound { subject, bounds } => {
-                write!(line, " where ")?;
-                describe_type(line, subject)?;
-                describe_entities(line, bounds.items())?;
-            }
-            ReqDecl::Same { left, right } => {
-                write!(line, " where ")?;
-                describe_type(line, left)?;
-                write!(line, "==")?;
-                describe_type(line, right)?;
-            }
-        }
-    }
-    Ok(())
-}
-
-fn describe_ask(line: &mut String, ask: &Ask) -> Result<(), Fail> {
-    match ask {
-        Ask::Signature => write!(line, "signature")?,
-        Ask::Reduced { t } => describe_type(line, t)?,
-        Ask::Is { t, bound } => {
-            describe_type(line, t)?;
-            write!(line, ":{}-{}", bound.span.start, bound.span.end)?;
-        }
-        Ask::Same { left, right } => {
-            describe_type(line, left)?;
-            write!(line, "==")?;
-            describe_type(line, right)?;
-        }
-    }
-    Ok(())
-}
-
-fn describe_type(line: &mut String, t: &TypeDecl) -> Result<(), Fail> {
-    write!(line, "{}-{}", t.head.start, t.head.end)?;
-    for step in t.steps.items() {
-        match step {
-            StepDecl::Plain { name } => write!(line, ".{}", name.start)?,
-            StepDecl::Bound { proto, name } => write!(line, ".[{}]{}", proto.start, name.start)?,
-        }
-    }
-    Ok(())
-}
-
-#[test]
-fn a_skeleton_has_the_parts_in_written_order(rt: HostRuntime) -> Result<(), Fail> {
-    let text = b"query f(T.[P]A == U)\n\
-        protocol P: Q & R, AnyObject where Self.A == A { associatedtype A: Q where A: R & S }\n\
-        public func f<T: P & Q, U>() where T.A: R, U == T { }\n\
-        query f(); query f(T.A : AnyObject) query g(T)\n\
-        protocol Q { associatedtype B; associatedtype C }\n";
-    let expected =
-        "protocol 30 :33-34 :37-38 :layout40-49 where 56-60.61==66-67 member 85 :88-89 where 96-97 :99-100 :103-104\n\
-        protocol 217 member 236 member 254\n\
-        func 119 param 121 :124-125 :128-129 param 131 where 142-143.144 :147-148 where 150-151==155-156\n\
-        query 6 8-9.[11]13==18-19\n\
-        query 167 signature\n\
-        query 178 180-181.182:186-195\n\
-        query 203 205-206\n";
-    let mut line = String::new(rt.alloc());
-    match parse(rt.alloc(), text) {
-        Ok(skeleton) => describe(&mut line, &skeleton)?,
-        Err(_) => write!(line, "refused")?,
-    }
-    assert_eq!(rt; line.as_str(), expected);
     Ok(())
 }

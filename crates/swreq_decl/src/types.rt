@@ -4,8 +4,8 @@ ghost use Rattle.std.specs.Prelude.{◌≡◌, ◌∷◌, []};
 ghost use Rattle.swreq_grammar.specs.Grammar.{terminal, mapped};
 ghost use Rattle.swreq_grammar.specs.Gives.{Gives};
 ghost use Rattle.swreq_grammar.specs.Reader.{read};
-ghost use Rattle.swreq_decl.specs.declared.terminal.Terminal.TheVariants.{Ampersand, Comma, Dot};
-ghost use Rattle.swreq_decl.specs.Terminals as terminals;
+ghost use Rattle.swreq_decl.specs.declared.terminal.Terminal.TheVariants.{Ampersand, AnyObject, Comma, Dot};
+ghost use Rattle.swreq_decl.specs.Terminals.{number};
 ghost use Rattle.swreq_decl.specs.Source as lines;
 
 use crate::kind::Kind;
@@ -19,20 +19,89 @@ use swreq_text::Seq;
 /// The most steps of a type.
 pub const STEP_LIMIT: usize = 1000;
 
-/// The name of a protocol, or `AnyObject`.
-#[tactic(auto, unfolding(crate::specs::Source::entity, crate::specs::Source::name))]
-pub fn entity(tokens: &[Token<Terminal>]) -> Read<'_, Entity>
-    ensures { Gives (λ x. (x.0, x.1.now)) result (read terminals.number lines.entity tokens.now) }
-{
-    if begins(tokens, &[Terminal::Name, Terminal::Query]) {
-        let (span, rest) = name(tokens)?;
-        let layout = false;
-        return Ok((Entity { span, layout }, rest));
+/// A type argument after `,`.
+struct NextArgument;
+
+impl Part for NextArgument {
+    type Terminal = Terminal;
+
+    type Label = Kind;
+
+    type Value = TypeDecl;
+
+    ghost number = { number };
+
+    ghost reads = { read number (lines.after (lines.mark Comma) lines.written_type) };
+
+    ghost first_set = { Comma ∷ [] };
+
+    fn begins(tokens: &[Token<Terminal>]) -> bool {
+        begins(tokens, &[Terminal::Comma])
     }
+
+    fn part(alloc: Global, tokens: &[Token<Terminal>]) -> Read<'_, TypeDecl> {
+        let (_, rest) = mark(tokens, Terminal::Comma)?;
+        written_type(alloc, rest)
+    }
+}
+
+/// The arguments of a constraint, if it has any.
+#[tactic(auto, unfolding(crate::specs::Source::args, crate::specs::Source::arguments))]
+fn arguments(alloc: Global, tokens: &[Token<Terminal>]) -> Read<'_, Seq<TypeDecl>>
+    ensures { Gives (λ x. (x.0, x.1.now)) result (read number lines.arguments tokens.now) }
+{
+    let mut found = Vec::new(alloc);
+    if !begins(tokens, &[Terminal::Less]) {
+        return Ok((Seq::new(found), tokens));
+    }
+    let (_, rest) = mark(tokens, Terminal::Less)?;
+    let (first, rest) = written_type(alloc, rest)?;
+    let (mut others, rest) = many::<NextArgument>(alloc, rest)?;
+    let (_, rest) = mark(rest, Terminal::Greater)?;
+    found.push(first)?;
+    found.append(&mut others)?;
+    Ok((Seq::new(found), rest))
+}
+
+/// `AnyObject`.
+fn any_object(alloc: Global, tokens: &[Token<Terminal>]) -> Read<'_, Entity>
+    ensures { Gives (λ x. (x.0, x.1.now)) result (read number (mapped lines.any_object (lines.mark AnyObject)) tokens.now) }
+{
     let (token, rest) = mark(tokens, Terminal::AnyObject)?;
-    let span = span_of(token);
-    let layout = true;
-    Ok((Entity { span, layout }, rest))
+    let found = Entity {
+        span: span_of(token),
+        layout: true,
+        args: Seq::new(Vec::new(alloc)),
+    };
+    Ok((found, rest))
+}
+
+/// The name of a protocol with its arguments, or `AnyObject`.
+#[tactic(auto, unfolding(crate::specs::Source::entity, crate::specs::Source::name))]
+fn entity(alloc: Global, tokens: &[Token<Terminal>]) -> Read<'_, Entity>
+    ensures { Gives (λ x. (x.0, x.1.now)) result (read number lines.entity tokens.now) }
+{
+    if !begins(tokens, &[Terminal::Name, Terminal::Query]) {
+        return any_object(alloc, tokens);
+    }
+    let (span, rest) = name(tokens)?;
+    let (args, rest) = arguments(alloc, rest)?;
+    let layout = false;
+    Ok((Entity { span, layout, args }, rest))
+}
+
+/// The name of a protocol, or `AnyObject`, as a query has it.
+#[tactic(auto, unfolding(crate::specs::Source::qentity, crate::specs::Source::name))]
+pub fn query_entity(alloc: Global, tokens: &[Token<Terminal>]) -> Read<'_, Entity>
+    ensures { Gives (λ x. (x.0, x.1.now)) result (read number lines.qentity tokens.now) }
+{
+    if !begins(tokens, &[Terminal::Name, Terminal::Query]) {
+        return any_object(alloc, tokens);
+    }
+    let (span, rest) = name(tokens)?;
+    let layout = false;
+    let args = Seq::new(Vec::new(alloc));
+    Ok((Entity { span, layout, args }, rest))
 }
 
 /// An entity after `&`.
@@ -45,9 +114,9 @@ impl Part for JoinedEntity {
 
     type Value = Entity;
 
-    ghost number = { terminals.number };
+    ghost number = { number };
 
-    ghost reads = { read terminals.number (lines.after (lines.mark Ampersand) lines.entity) };
+    ghost reads = { read number (lines.after (lines.mark Ampersand) lines.entity) };
 
     ghost first_set = { Ampersand ∷ [] };
 
@@ -55,18 +124,18 @@ impl Part for JoinedEntity {
         begins(tokens, &[Terminal::Ampersand])
     }
 
-    fn part(_alloc: Global, tokens: &[Token<Terminal>]) -> Read<'_, Entity> {
+    fn part(alloc: Global, tokens: &[Token<Terminal>]) -> Read<'_, Entity> {
         let (_, rest) = mark(tokens, Terminal::Ampersand)?;
-        entity(rest)
+        entity(alloc, rest)
     }
 }
 
 /// Entities joined by `&`.
 #[tactic(auto, unfolding(crate::specs::Source::bounds))]
 pub fn bounds(alloc: Global, tokens: &[Token<Terminal>]) -> Read<'_, Vec<Entity>>
-    ensures { Gives (λ x. (x.0.items, x.1.now)) result (read terminals.number lines.bounds tokens.now) }
+    ensures { Gives (λ x. (x.0.items, x.1.now)) result (read number lines.bounds tokens.now) }
 {
-    let (first, rest) = entity(tokens)?;
+    let (first, rest) = entity(alloc, tokens)?;
     let (mut others, rest) = many::<JoinedEntity>(alloc, rest)?;
     let mut found = Vec::new(alloc);
     found.push(first)?;
@@ -84,9 +153,9 @@ impl Part for NextInherited {
 
     type Value = Entity;
 
-    ghost number = { terminals.number };
+    ghost number = { number };
 
-    ghost reads = { read terminals.number (lines.after (terminal (Comma ∷ Ampersand ∷ [])) lines.entity) };
+    ghost reads = { read number (lines.after (terminal (Comma ∷ Ampersand ∷ [])) lines.entity) };
 
     ghost first_set = { Comma ∷ Ampersand ∷ [] };
 
@@ -94,23 +163,23 @@ impl Part for NextInherited {
         begins(tokens, &[Terminal::Comma, Terminal::Ampersand])
     }
 
-    fn part(_alloc: Global, tokens: &[Token<Terminal>]) -> Read<'_, Entity> {
+    fn part(alloc: Global, tokens: &[Token<Terminal>]) -> Read<'_, Entity> {
         let (_, rest) = one_of(tokens, &[Terminal::Comma, Terminal::Ampersand])?;
-        entity(rest)
+        entity(alloc, rest)
     }
 }
 
 /// What is inherited, if anything is.
 #[tactic(auto, unfolding(crate::specs::Source::inherit, crate::specs::Source::inherits))]
 pub fn inherits(alloc: Global, tokens: &[Token<Terminal>]) -> Read<'_, Seq<Entity>>
-    ensures { Gives (λ x. (x.0, x.1.now)) result (read terminals.number lines.inherits tokens.now) }
+    ensures { Gives (λ x. (x.0, x.1.now)) result (read number lines.inherits tokens.now) }
 {
     let mut found = Vec::new(alloc);
     if !begins(tokens, &[Terminal::Colon]) {
         return Ok((Seq::new(found), tokens));
     }
     let (_, rest) = mark(tokens, Terminal::Colon)?;
-    let (first, rest) = entity(rest)?;
+    let (first, rest) = entity(alloc, rest)?;
     let (mut others, rest) = many::<NextInherited>(alloc, rest)?;
     found.push(first)?;
     found.append(&mut others)?;
@@ -120,7 +189,7 @@ pub fn inherits(alloc: Global, tokens: &[Token<Terminal>]) -> Read<'_, Seq<Entit
 /// The first word of a type.
 #[tactic(auto, unfolding(crate::specs::Source::head))]
 fn head(tokens: &[Token<Terminal>]) -> Read<'_, Span>
-    ensures { Gives (λ x. (x.0, x.1.now)) result (read terminals.number lines.head tokens.now) }
+    ensures { Gives (λ x. (x.0, x.1.now)) result (read number lines.head tokens.now) }
 {
     let heads = [Terminal::Name, Terminal::Query, Terminal::SelfType];
     let (token, rest) = one_of(tokens, &heads)?;
@@ -137,9 +206,9 @@ impl Part for PlainStep {
 
     type Value = StepDecl;
 
-    ghost number = { terminals.number };
+    ghost number = { number };
 
-    ghost reads = { read terminals.number (lines.after (lines.mark Dot) (mapped lines.plain_step lines.name)) };
+    ghost reads = { read number (lines.after (lines.mark Dot) (mapped lines.plain_step lines.name)) };
 
     ghost first_set = { Dot ∷ [] };
 
@@ -157,7 +226,7 @@ impl Part for PlainStep {
 /// A type.
 #[tactic(auto, unfolding(crate::specs::Source::written_type))]
 pub fn written_type(alloc: Global, tokens: &[Token<Terminal>]) -> Read<'_, TypeDecl>
-    ensures { Gives (λ x. (x.0, x.1.now)) result (read terminals.number lines.written_type tokens.now) }
+    ensures { Gives (λ x. (x.0, x.1.now)) result (read number lines.written_type tokens.now) }
 {
     let (head, rest) = head(tokens)?;
     let (found, rest) = at_most::<PlainStep>(alloc, STEP_LIMIT, Kind::LongType, rest)?;

@@ -4,8 +4,10 @@ use Rattle.std.proofs.Common.{◌≡◌, ℕ, zero, suc, Bool, true, false, cond
 use Rattle.std.specs.Prelude.{◌&&◌, not}
 use Rattle.std.proofs.lemmas.Bool.{and_parts}
 use Rattle.swreq_grammar.specs.Grammar.{Limit, unlimited, at_most, Grammar, terminal, empty, mapped, sequence, alternative, repetition, labelled, has, Within, Parts, Matches}
-use Rattle.swreq_grammar.specs.Reader.{Read, ◌>>=◌, begins, nullable, first_set, follow_last, disjoint, is_predictive, read_terminal, steps, read_parts, read}
-use Rattle.swreq_grammar.specs.Refusal.{IsFull, HasLabel}
+use Rattle.swreq_grammar.specs.Reader.{Read, ◌>>=◌, begins, nullable, first_set, follow_last, disjoint, is_predictive, read_terminal, is_empty, steps, read_parts, read}
+use Rattle.swreq_grammar.specs.Refusal.{BeginsText, IsFull, HasLabel, begins_labelled, is_well_labelled}
+use Rattle.swreq_grammar.proofs.Sets.{not_true}
+use Rattle.swreq_grammar.proofs.Beginning.{begins_text, no_text_begins}
 use Rattle.swreq_grammar.proofs.Reading.{Shows, read_shows}
 
 -- which label stands between the tokens before and the rest
@@ -51,9 +53,9 @@ abbrev Left : {L : Type 0} → Limit L → ℕ → Limit L
 Left unlimited n = unlimited
 Left (at_most l label) n = at_most n label
 
-full_more : {L : Type 0} (limit : Limit L) (n k : ℕ) (b : Bool) (label : L) → IsFull (Left limit n) k b label → IsFull (Left limit (suc n)) (suc k) b label
-full_more unlimited n k b label h = absurd h
-full_more (at_most l wanted) n k b label h = (omega arith, h.1, h.2)
+full_more : {L : Type 0} (limit : Limit L) (n k : ℕ) (label : L) → IsFull (Left limit n) k label → IsFull (Left limit (suc n)) (suc k) label
+full_more unlimited n k label h = absurd h
+full_more (at_most l wanted) n k label h = (omega arith, h.1)
 
 within_more : {L : Type 0} (limit : Limit L) (n k : ℕ) → Within (Left limit n) (suc k) → Within (Left limit (suc n)) (suc (suc k))
 within_more unlimited n k h = tt
@@ -63,16 +65,16 @@ within_first : {L : Type 0} (limit : Limit L) (n : ℕ) → Within (Left limit (
 within_first unlimited n = tt
 within_first (at_most l wanted) n = omega arith
 
-module _ {T L A : Type 0} (number : T → ℕ) (G : List (Token T) → A → Type 0) (N : Standing T L) (R : List (Token T) → Read T L A) (firsts : List T) where
+module _ {T L A : Type 0} (number : T → ℕ) (G : List (Token T) → A → Type 0) (N : Standing T L) (R : List (Token T) → Read T L A) (firsts : List T) (One : List (Token T) → Type 0) (one : (ts : List (Token T)) → begins number firsts ts ≡ true → One ts) where
   abbrev InRepetition : Limit L → Standing T L
   InRepetition limit label pre rest =
       ((first mid : List (Token T)) × (vs : List A) × (pre ≡ first ++ mid) × Parts G first vs × N label mid rest × Within limit (suc (length vs)))
-      ⊎ ((vs : List A) × Parts G pre vs × IsFull limit (length vs) (begins number firsts rest) label)
+      ⊎ ((vs : List A) × Parts G pre vs × IsFull limit (length vs) label × One rest)
 
   last_stands : (limit : Limit L) (ts : List (Token T)) → Stands (InRepetition (Left limit 0)) ts (read_parts number R firsts limit 0 ts)
   unfolding read_parts
   last_stands unlimited ts = tt
-  last_stands (at_most l label) ts = choice_stands (InRepetition (at_most 0 label)) ts (begins number firsts ts) (Err (ts, Some label)) (Ok ([], ts)) (λ b. inr (label, [], refl, refl, inr ([], refl, (refl, b, refl)))) (λ b. tt)
+  last_stands (at_most l label) ts = choice_stands (InRepetition (at_most 0 label)) ts (begins number firsts ts) (Err (ts, Some label)) (Ok ([], ts)) (λ b. inr (label, [], refl, refl, inr ([], refl, (refl, refl), one ts b))) (λ b. tt)
 
   later_stands : (limit : Limit L) (n : ℕ) (ts p : List (Token T)) (x : A × List (Token T)) → ts ≡ p ++ x.1 → G p x.0 → (r : Read T L (List A)) → Stands (InRepetition (Left limit n)) x.1 r → Stands (InRepetition (Left limit (suc n))) ts (r >>= λ y. Ok (x.0 ∷ y.0, y.1))
   later_stands limit n ts p x e l (Ok y) t = tt
@@ -81,7 +83,7 @@ module _ {T L A : Type 0} (number : T → ℕ) (G : List (Token T) → A → Typ
     where
       go : InRepetition (Left limit n) t.0 t.1 f.0 → InRepetition (Left limit (suc n)) t.0 (p ++ t.1) f.0
       go (inl k) = inl (p ++ k.0, k.1, x.0 ∷ k.2, ap (λ (zs : List (Token T)). p ++ zs) k.3 ∙ sym (append_assoc p k.0 k.1), (p, k.0, refl, l, k.4), k.5, within_more limit n (length k.2) k.6)
-      go (inr k) = inr (x.0 ∷ k.0, (p, t.1, refl, l, k.1), full_more limit n (length k.0) (begins number firsts f.0) t.0 k.2)
+      go (inr k) = inr (x.0 ∷ k.0, (p, t.1, refl, l, k.1), full_more limit n (length k.0) t.0 k.2, k.3)
 
   first_stands : (limit : Limit L) (n : ℕ) (ts : List (Token T)) (r : Read T L A) → Shows G R ts r → Stands N ts r → ((rest : List (Token T)) → Stands (InRepetition (Left limit n)) rest (read_parts number R firsts limit n rest)) →
       Stands (InRepetition (Left limit (suc n))) ts (r >>= λ x. read_parts number R firsts limit n x.1 >>= λ y. Ok (x.0 ∷ y.0, y.1))
@@ -104,31 +106,38 @@ module _ {T : Type 0} (number : T → ℕ) where
   terminal_stands L N terminals [] = inl refl
   terminal_stands L N terminals (t ∷ ts) = choice_stands N (t ∷ ts) (has number terminals t.terminal) (Ok (t, ts)) (Err (t ∷ ts, None)) (λ b. tt) (λ b. inl refl)
 
-  in_repetition : {L A : Type 0} (g : Grammar T L A) (limit : Limit L) (ts : List (Token T)) (label : L) (pre rest : List (Token T)) →
-      InRepetition number (Matches number g) (Labels g) (read number g) (first_set g) (Left limit (steps limit ts)) label pre rest → HasLabel number label (repetition limit g) pre rest
-  in_repetition g unlimited ts label pre rest h = h
-  in_repetition g (at_most n wanted) ts label pre rest h = h
+  in_repetition : {L A : Type 0} (g : Grammar T L A) (one : (ts : List (Token T)) → begins number (first_set g) ts ≡ true → BeginsText number g ts) (limit : Limit L) (ts : List (Token T)) (label : L) (pre rest : List (Token T)) →
+      InRepetition number (Matches number g) (Labels g) (read number g) (first_set g) (BeginsText number g) one (Left limit (steps limit ts)) label pre rest → HasLabel number label (repetition limit g) pre rest
+  in_repetition g one unlimited ts label pre rest h = h
+  in_repetition g one (at_most n wanted) ts label pre rest h = h
 
-  pub read_stands : {L A : Type 0} (g : Grammar T L A) → is_predictive number g ≡ true → (ts : List (Token T)) → Stands (Labels g) ts (read number g ts)
-  read_stands {L} (terminal terminals) p ts = terminal_stands L (Labels {L = L} (terminal terminals)) terminals ts
-  read_stands (empty v) p ts = tt
-  read_stands (mapped f g) p ts = mapped_stands (Labels g) f ts (read number g ts) (read_stands g p ts)
-  read_stands (sequence g h) p ts =
-      let q = and_parts (is_predictive number g) (is_predictive number h && disjoint number (follow_last g) (first_set h)) p in
-      let r = and_parts (is_predictive number h) (disjoint number (follow_last g) (first_set h)) q.1 in
-      sequence_stands (Matches number g) (Labels g) (Labels h) (read number g) (read number h) ts (read number g ts) (read_shows number g q.0 ts) (read_stands g q.0 ts) (read_stands h r.0)
-  read_stands (alternative g h) p ts =
-      let q = and_parts (is_predictive number g && is_predictive number h) (not (nullable g) && disjoint number (first_set g) (first_set h)) p in
-      let r = and_parts (is_predictive number g) (is_predictive number h) q.0 in
+  pub read_stands : {L A : Type 0} (g : Grammar T L A) → is_predictive number g ≡ true → is_well_labelled g ≡ true → (ts : List (Token T)) → Stands (Labels g) ts (read number g ts)
+  read_stands {L} (terminal terminals) p q ts = terminal_stands L (Labels {L = L} (terminal terminals)) terminals ts
+  read_stands (empty v) p q ts = tt
+  read_stands (mapped f g) p q ts = mapped_stands (Labels g) f ts (read number g ts) (read_stands g p q ts)
+  read_stands (sequence g h) p q ts =
+      let a = and_parts (is_predictive number g) (is_predictive number h && disjoint number (follow_last g) (first_set h)) p in
+      let b = and_parts (is_predictive number h) (disjoint number (follow_last g) (first_set h)) a.1 in
+      let c = and_parts (is_well_labelled g) (is_well_labelled h && cond (begins_labelled h) (is_empty (follow_last g)) true) q in
+      let d = and_parts (is_well_labelled h) (cond (begins_labelled h) (is_empty (follow_last g)) true) c.1 in
+      sequence_stands (Matches number g) (Labels g) (Labels h) (read number g) (read number h) ts (read number g ts) (read_shows number g a.0 ts) (read_stands g a.0 c.0 ts) (read_stands h b.0 d.0)
+  read_stands (alternative g h) p q ts =
+      let a = and_parts (is_predictive number g && is_predictive number h) (not (nullable g) && disjoint number (first_set g) (first_set h)) p in
+      let b = and_parts (is_predictive number g) (is_predictive number h) a.0 in
+      let c = and_parts (is_well_labelled g && is_well_labelled h) (not (begins_labelled g) && not (begins_labelled h)) q in
+      let d = and_parts (is_well_labelled g) (is_well_labelled h) c.0 in
       choice_stands (Labels (alternative g h)) ts (begins number (first_set g) ts) (read number g ts) (read number h ts)
-      (λ b. stands_also (Labels g) (Labels (alternative g h)) (λ label pre rest k. inl k) ts (read number g ts) (read_stands g r.0 ts))
-      (λ b. stands_also (Labels h) (Labels (alternative g h)) (λ label pre rest k. inr k) ts (read number h ts) (read_stands h r.1 ts))
-  read_stands (repetition limit g) p ts =
-      let q = and_parts (is_predictive number g) (not (nullable g) && disjoint number (follow_last g) (first_set g)) p in
-      stands_also _ (Labels (repetition limit g)) (in_repetition g limit ts) ts (read number (repetition limit g) ts)
-      (parts_stand number (Matches number g) (Labels g) (read number g) (first_set g) limit (read_shows number g q.0) (read_stands g q.0) (steps limit ts) ts)
-  read_stands (labelled label g) p ts =
-      let q = and_parts (is_predictive number g) (not (nullable g)) p in
+      (λ k. stands_also (Labels g) (Labels (alternative g h)) (λ label pre rest l. inl l) ts (read number g ts) (read_stands g b.0 d.0 ts))
+      (λ k. stands_also (Labels h) (Labels (alternative g h)) (λ label pre rest l. inr l) ts (read number h ts) (read_stands h b.1 d.1 ts))
+  read_stands (repetition limit g) p q ts =
+      let a = and_parts (is_predictive number g) (not (nullable g) && disjoint number (follow_last g) (first_set g)) p in
+      let c = and_parts (is_well_labelled g) (not (begins_labelled g)) q in
+      let one = begins_text number g a.0 (not_true (begins_labelled g) c.1) in
+      stands_also _ (Labels (repetition limit g)) (in_repetition g one limit ts) ts (read number (repetition limit g) ts)
+      (parts_stand number (Matches number g) (Labels g) (read number g) (first_set g) (BeginsText number g) one limit (read_shows number g a.0) (read_stands g a.0 c.0) (steps limit ts) ts)
+  read_stands (labelled label g) p q ts =
+      let a = and_parts (is_predictive number g) (not (nullable g)) p in
+      let c = and_parts (is_well_labelled g) (not (begins_labelled g)) q in
       choice_stands (Labels (labelled label g)) ts (begins number (first_set g) ts) (read number g ts) (Err (ts, Some label))
-      (λ b. stands_also (Labels g) (Labels (labelled label g)) (λ other pre rest k. inr k) ts (read number g ts) (read_stands g q.0 ts))
-      (λ b. inr (label, [], refl, refl, inl (refl, refl, b)))
+      (λ k. stands_also (Labels g) (Labels (labelled label g)) (λ other pre rest l. inr l) ts (read number g ts) (read_stands g a.0 c.0 ts))
+      (λ k. inr (label, [], refl, refl, inl (refl, refl, no_text_begins number g ts k)))

@@ -8,6 +8,7 @@ use Rattle.swreq_grammar.specs.Grammar.{Limit, unlimited, at_most, Grammar, term
 use Rattle.swreq_grammar.specs.Reader.{Fault, begins, nullable, first_set, follow_last, disjoint, is_empty, is_predictive, steps, read_parts, read}
 use Rattle.swreq_grammar.specs.Refusal.{HasLabel, begins_labelled, is_well_labelled}
 use Rattle.swreq_grammar.proofs.Sets.{or_left, or_right, not_true, not_in_disjoint, ends_front, nullable_of, first_of, first_step, first_parts, more_left, more_right}
+use Rattle.swreq_grammar.proofs.Beginning.{text_begins, begins_no_text}
 use Rattle.swreq_grammar.proofs.Reading.{text_some, parts_goes, parts_long}
 use Rattle.swreq_grammar.proofs.Exact.{apart_front, front_begins, longer, complete, Complete}
 
@@ -33,8 +34,8 @@ module _ {T L : Type 0} (number : T → ℕ) (label : L) (rest : List (Token T))
       let q = and_parts (is_predictive number g) (not (nullable g) && disjoint number (follow_last g) (first_set g)) p in
       or_left (begins_labelled g) (nat_eq n 0) (label_first g q.0 (subst (λ zs. HasLabel number label g zs rest) (ends_front number k.0 k.1 k.3).1 k.5))
   label_first (repetition unlimited g) p (inr k) = absurd k.2
-  label_first (repetition (at_most n wanted) g) p (inr ([], a, f)) = or_right (begins_labelled g) (nat_eq n 0) (eq-eqb n 0 (sym f.0))
-  label_first (repetition (at_most n wanted) g) p (inr (v ∷ vs, a, f)) =
+  label_first (repetition (at_most n wanted) g) p (inr ([], a, f, b)) = or_right (begins_labelled g) (nat_eq n 0) (eq-eqb n 0 (sym f.0))
+  label_first (repetition (at_most n wanted) g) p (inr (v ∷ vs, a, f, b)) =
       let q = and_parts (is_predictive number g) (not (nullable g) && disjoint number (follow_last g) (first_set g)) p in
       let r = and_parts (not (nullable g)) (disjoint number (follow_last g) (first_set g)) q.1 in
       absurd (text_some number g (not_true (nullable g) r.0) v (subst (λ zs. Matches number g zs v) (ends_front number a.0 a.1 a.2).0 a.3))
@@ -155,9 +156,14 @@ module _ {T L : Type 0} (number : T → ℕ) (label : L) (rest : List (Token T))
       let r = and_parts (not (nullable g)) (disjoint number (follow_last g) (first_set g)) a.1 in
       let some = not_true (nullable g) r.0 in
       let z : l ≡ length k.0 + 0 = omega (arith, k.2.0) in
-      let now : read_parts number (read number g) (first_set g) (at_most l wanted) 0 rest ≡ Err (rest, Some label) = parts_long number (Matches number g) (read number g) (first_set g) l 0 wanted rest refl k.2.1 ∙ rw k.2.2 refl in
-      ap (λ n. read_parts number (read number g) (first_set g) (at_most l wanted) n (pre ++ rest)) z ∙ parts_before g (at_most l wanted) some r.1 (complete number g a.0) k.0 0 pre rest (rest, Some label) k.1 k.2.1 now
-  label_read (labelled other g) p q pre (inl k) = rw (k.0, k.2, k.1) refl
+      let more = text_begins number g rest k.3 in
+      let now : read_parts number (read number g) (first_set g) (at_most l wanted) 0 rest ≡ Err (rest, Some label) = parts_long number (Matches number g) (read number g) (first_set g) l 0 wanted rest refl more ∙ rw k.2.1 refl in
+      ap (λ n. read_parts number (read number g) (first_set g) (at_most l wanted) n (pre ++ rest)) z ∙ parts_before g (at_most l wanted) some r.1 (complete number g a.0) k.0 0 pre rest (rest, Some label) k.1 more now
+  label_read (labelled other g) p q pre (inl k) =
+      let a = and_parts (is_predictive number g) (not (nullable g)) p in
+      let c = and_parts (is_well_labelled g) (not (begins_labelled g)) q in
+      let none = begins_no_text number g a.0 (not_true (begins_labelled g) c.1) rest k.2 in
+      rw (k.0, none, k.1) refl
   label_read (labelled other g) p q pre (inr k) =
       let a = and_parts (is_predictive number g) (not (nullable g)) p in
       let c = and_parts (is_well_labelled g) (not (begins_labelled g)) q in

@@ -1,4 +1,5 @@
 pub mod Sets
+pub mod Beginning
 pub mod Reading
 pub mod Exact
 pub mod Whole

@@ -1,11 +1,12 @@
 -- What the sets of terminals of a grammar say of its texts.
 use Rattle.swreq_grammar.specs.declared.token.Token.{Token}
-use Rattle.std.proofs.Common.{◌≡◌, ℕ, Bool, true, false, cond, List, [], ◌∷◌, ◌++◌, refl, sym, subst, ◌∙◌, arith, inl, inr, eq-eqb}
+use Rattle.std.proofs.Common.{◌≡◌, ℕ, Bool, true, false, cond, List, [], ◌∷◌, ◌++◌, refl, sym, subst, ◌∙◌, arith, inl, inr, ◌⊎◌, zero, suc, ◌≤◌, eq-eqb}
+use Rattle.std.proofs.lemmas.List.{append-nil}
 use Rattle.std.specs.Prelude.{◌&&◌, ◌||◌, not, nat_eq}
 use Rattle.std.proofs.lemmas.Bool.{and_parts, eqb-true}
 use Rattle.swreq_grammar.specs.Grammar.{Limit, unlimited, at_most, Grammar, terminal, empty, mapped, sequence, alternative, repetition, labelled, has, Within, Parts, Matches}
 use Rattle.swreq_grammar.specs.Reader.{begins, nullable, first_set, follow_last, disjoint, is_predictive}
-use Rattle.swreq_grammar.specs.Refusal.{Viable}
+use Rattle.swreq_grammar.specs.Refusal.{Viable, begins_labelled}
 
 -- ---- small facts
 
@@ -20,6 +21,10 @@ or_right false b e = e
 pub or_false : (a b : Bool) → (a || b) ≡ false → (a ≡ false) × (b ≡ false)
 or_false true b e = absurd cc
 or_false false b e = (refl, e)
+
+either_true : (a b : Bool) → (a || b) ≡ true → (a ≡ true) ⊎ (b ≡ true)
+either_true true b e = inl refl
+either_true false b e = inr e
 
 pub not_true : (a : Bool) → not a ≡ true → a ≡ false
 not_true true e = absurd cc
@@ -123,3 +128,68 @@ module _ {T : Type 0} (number : T → ℕ) where
       let a = text_of g r.0 in (a.0, a.1, inl a.2)
   text_of (repetition limit g) p = ([], [], (refl, within_none limit))
   text_of (labelled label g) p = text_of g (and_parts (is_predictive number g) (not (nullable g)) p).0
+
+  empty_text : {L A : Type 0} (g : Grammar T L A) → nullable g ≡ true → (v : A) × Matches number g [] v
+  empty_text (terminal terminals) e = absurd cc
+  empty_text (empty v) e = (v, (refl, refl))
+  empty_text (mapped f g) e = let t = empty_text g e in (f t.0, (t.0, t.1, refl))
+  empty_text (sequence g h) e =
+      let n = and_parts (nullable g) (nullable h) e in
+      let a = empty_text g n.0 in let b = empty_text h n.1 in
+      ((a.0, b.0), ([], [], refl, a.1, b.1))
+  empty_text {A = A} (alternative g h) e = go (either_true (nullable g) (nullable h) e) (empty_text g) (empty_text h)
+    where
+      go : (nullable g ≡ true) ⊎ (nullable h ≡ true) → (nullable g ≡ true → (v : A) × Matches number g [] v) → (nullable h ≡ true → (v : A) × Matches number h [] v) → (v : A) × Matches number (alternative g h) [] v
+      go (inl n) a b = let t = a n in (t.0, inl t.1)
+      go (inr n) a b = let t = b n in (t.0, inr t.1)
+  empty_text (repetition limit g) e = ([], (refl, within_none limit))
+  empty_text (labelled label g) e = empty_text g e
+
+  -- ---- each terminal of the first set begins a text
+
+  abbrev Begun : {L A : Type 0} → Grammar T L A → Token T → Type 0
+  Begun g t = has number (first_set g) t.terminal ≡ true → Viable number g (t ∷ [])
+
+  first_in_sequence : {L A B : Type 0} (g : Grammar T L A) (h : Grammar T L B) (t : Token T) → Begun g t → (nullable g ≡ true → Begun h t) → Viable number h [] → Begun (sequence g h) t
+  first_in_sequence g h t a b w e = go (either_true (has number (first_set g) t.terminal) (has number (cond (nullable g) (first_set h) []) t.terminal) (sym (has_append (first_set g) (cond (nullable g) (first_set h) []) t.terminal) ∙ e))
+    where
+      after_none : (n : Bool) → nullable g ≡ n → has number (cond n (first_set h) []) t.terminal ≡ true → Viable number (sequence g h) (t ∷ [])
+      after_none true n k = let u = empty_text g n in let v = b n k in (v.0, (u.0, v.1), ([], t ∷ v.0, refl, u.1, v.2))
+      after_none false n k = absurd cc
+
+      go : (has number (first_set g) t.terminal ≡ true) ⊎ (has number (cond (nullable g) (first_set h) []) t.terminal ≡ true) → Viable number (sequence g h) (t ∷ [])
+      go (inl k) = let u = a k in (u.0 ++ w.0, (u.1, w.1), (t ∷ u.0, w.0, refl, u.2, w.2))
+      go (inr k) = after_none (nullable g) refl k
+
+  first_in_alternative : {L A : Type 0} (g h : Grammar T L A) (t : Token T) → Begun g t → Begun h t → Begun (alternative g h) t
+  first_in_alternative g h t a b e = go (either_true (has number (first_set g) t.terminal) (has number (first_set h) t.terminal) (sym (has_append (first_set g) (first_set h) t.terminal) ∙ e))
+    where
+      go : (has number (first_set g) t.terminal ≡ true) ⊎ (has number (first_set h) t.terminal ≡ true) → Viable number (alternative g h) (t ∷ [])
+      go (inl k) = let u = a k in (u.0, u.1, inl u.2)
+      go (inr k) = let u = b k in (u.0, u.1, inr u.2)
+
+  room_for_one : {L A : Type 0} (limit : Limit L) (g : Grammar T L A) → begins_labelled (repetition limit g) ≡ false → Within limit 1 × (begins_labelled g ≡ false)
+  room_for_one unlimited g e = (tt, e)
+  room_for_one (at_most zero label) g e = absurd (let f = or_false (begins_labelled g) true e in cc)
+  room_for_one (at_most (suc n) label) g e = (omega arith, (or_false (begins_labelled g) (nat_eq (suc n) 0) e).0)
+
+  pub first_begins : {L A : Type 0} (g : Grammar T L A) → is_predictive number g ≡ true → begins_labelled g ≡ false → (t : Token T) → Begun g t
+  first_begins (terminal terminals) p q t h = ([], t, (refl, h))
+  first_begins (empty v) p q t h = absurd cc
+  first_begins (mapped f g) p q t h = let a = first_begins g p q t h in (a.0, f a.1, (a.1, a.2, refl))
+  first_begins (sequence g h) p q t k =
+      let a = and_parts (is_predictive number g) (is_predictive number h && disjoint number (follow_last g) (first_set h)) p in
+      let b = and_parts (is_predictive number h) (disjoint number (follow_last g) (first_set h)) a.1 in
+      let c = or_false (begins_labelled g) (nullable g && begins_labelled h) q in
+      first_in_sequence g h t (first_begins g a.0 c.0 t) (λ n. first_begins h b.0 (rw n at c.1) t) (text_of h b.0) k
+  first_begins (alternative g h) p q t k =
+      let a = and_parts (is_predictive number g && is_predictive number h) (not (nullable g) && disjoint number (first_set g) (first_set h)) p in
+      let b = and_parts (is_predictive number g) (is_predictive number h) a.0 in
+      let c = or_false (begins_labelled g) (begins_labelled h) q in
+      first_in_alternative g h t (first_begins g b.0 c.0 t) (first_begins h b.1 c.1 t) k
+  first_begins (repetition limit g) p q t h =
+      let a = and_parts (is_predictive number g) (not (nullable g) && disjoint number (follow_last g) (first_set g)) p in
+      let b = room_for_one limit g q in
+      let c = first_begins g a.0 b.1 t h in
+      (c.0, c.1 ∷ [], ((t ∷ c.0, [], sym (append-nil (t ∷ c.0)), c.2, refl), b.0))
+  first_begins (labelled label g) p q t h = absurd cc

@@ -4,7 +4,7 @@ use Rattle.std.proofs.Common.{◌≡◌, ℕ, true, List, [], ◌∷◌, ◌++�
 use Rattle.std.specs.Prelude.{MatchResult}
 use Rattle.std.proofs.lemmas.List.{append_cancel_right, append-nil}
 use Rattle.swreq_grammar.specs.Grammar.{Grammar, Matches}
-use Rattle.swreq_grammar.specs.Reader.{Fault, Read, ◌>>=◌, is_predictive, read, whole, parse}
+use Rattle.swreq_grammar.specs.Reader.{Fault, Read, ◌>>=◌, is_predictive, read, whole, read_whole}
 use Rattle.swreq_grammar.specs.Refusal.{Viable, IsStuck, RefusedAt, HasLabel, LabelAt, Refuses, is_well_labelled}
 use Rattle.swreq_grammar.proofs.Labels.{Labels, Stands, read_stands}
 use Rattle.swreq_grammar.proofs.LabelsRead.{label_read}
@@ -12,21 +12,21 @@ use Rattle.swreq_grammar.proofs.Reading.{Shows, read_shows}
 use Rattle.swreq_grammar.proofs.Exact.{complete}
 
 module _ {T : Type 0} (number : T → ℕ) where
-  pub parse_takes : {L A : Type 0} (g : Grammar T L A) → is_predictive number g ≡ true → (ts : List (Token T)) (v : A) → Matches number g ts v → parse number g ts ≡ Ok v
-  parse_takes g p ts v m =
+  pub whole_takes : {L A : Type 0} (g : Grammar T L A) → is_predictive number g ≡ true → (ts : List (Token T)) (v : A) → Matches number g ts v → read_whole number g ts ≡ Ok v
+  whole_takes g p ts v m =
       let e : read number g ts ≡ Ok (v, []) = subst (λ zs. read number g zs ≡ Ok (v, [])) (append-nil ts) (complete number g p ts v [] m refl) in
       rw e refl
 
   -- at most one value stands for a text
   pub one_value : {L A : Type 0} (g : Grammar T L A) → is_predictive number g ≡ true → (ts : List (Token T)) (v w : A) → Matches number g ts v → Matches number g ts w → v ≡ w
-  one_value g p ts v w m n = let a = parse_takes g p ts v m in let b = parse_takes g p ts w n in cc
+  one_value g p ts v w m n = let a = whole_takes g p ts v m in let b = whole_takes g p ts w n in cc
 
   -- a text on which the reader stops is none
-  stuck : {L A : Type 0} (g : Grammar T L A) → is_predictive number g ≡ true → (pre : List (Token T)) (t : Token T) (why : Option L) → ((more : List (Token T)) → parse number g (pre ++ (t ∷ more)) ≡ Err (t ∷ more, why)) → Viable number g (pre ++ t ∷ []) → ⊥
+  stuck : {L A : Type 0} (g : Grammar T L A) → is_predictive number g ≡ true → (pre : List (Token T)) (t : Token T) (why : Option L) → ((more : List (Token T)) → read_whole number g (pre ++ (t ∷ more)) ≡ Err (t ∷ more, why)) → Viable number g (pre ++ t ∷ []) → ⊥
   stuck g p pre t why k v =
-      let a = parse_takes g p ((pre ++ t ∷ []) ++ v.0) v.1 v.2 in
+      let a = whole_takes g p ((pre ++ t ∷ []) ++ v.0) v.1 v.2 in
       let b = k v.0 in
-      let c : parse number g ((pre ++ t ∷ []) ++ v.0) ≡ parse number g (pre ++ (t ∷ v.0)) = ap (parse number g) (append_assoc pre (t ∷ []) v.0) in
+      let c : read_whole number g ((pre ++ t ∷ []) ++ v.0) ≡ read_whole number g (pre ++ (t ∷ v.0)) = ap (read_whole number g) (append_assoc pre (t ∷ []) v.0) in
       cc
 
   -- ---- the refused token
@@ -44,28 +44,28 @@ module _ {T : Type 0} (number : T → ℕ) where
     s.1,
     (
       s.2,
-      λ v m. let a = parse_takes g p s.0 v m in let b = s.3 [] refl in
+      λ v m. let a = whole_takes g p s.0 v m in let b = s.3 [] refl in
           let c : read number g s.0 ≡ read number g (s.0 ++ []) = ap (read number g) (sym (append-nil s.0)) in
           let d : read number g s.0 ≡ Err ([], why) = c ∙ b in
-          let e : parse number g s.0 ≡ Err ([], why) = rw d refl in cc,
+          let e : read_whole number g s.0 ≡ Err ([], why) = rw d refl in cc,
     ),
   )
   shows_whole g p ts (Err (t ∷ rest, why)) s =
       (s.0, s.1, (s.2, stuck g p s.0 t why (λ more. rw (s.3 (t ∷ more) (more, refl)) refl)))
 
-  parse_shows : {L A : Type 0} (g : Grammar T L A) → is_predictive number g ≡ true → (ts : List (Token T)) → MatchResult (parse number g ts) (λ v. Matches number g ts v) (λ f. RefusedIn g ts f.0)
-  parse_shows g p ts = shows_whole g p ts (read number g ts) (read_shows number g p ts)
+  whole_shows : {L A : Type 0} (g : Grammar T L A) → is_predictive number g ≡ true → (ts : List (Token T)) → MatchResult (read_whole number g ts) (λ v. Matches number g ts v) (λ f. RefusedIn g ts f.0)
+  whole_shows g p ts = shows_whole g p ts (read number g ts) (read_shows number g p ts)
 
   -- what is read is a text of the grammar
-  pub parsed_matches : {L A : Type 0} (g : Grammar T L A) → is_predictive number g ≡ true → (ts : List (Token T)) (v : A) → parse number g ts ≡ Ok v → Matches number g ts v
-  parsed_matches {L} {A} g p ts v e =
+  pub whole_matches : {L A : Type 0} (g : Grammar T L A) → is_predictive number g ≡ true → (ts : List (Token T)) (v : A) → read_whole number g ts ≡ Ok v → Matches number g ts v
+  whole_matches {L} {A} g p ts v e =
       let P : Result A (Fault T L) → Type 0 = λ r. MatchResult r (λ w. Matches number g ts w) (λ f. RefusedIn g ts f.0) in
-      subst P e (parse_shows g p ts)
+      subst P e (whole_shows g p ts)
 
-  pub parse_refuses : {L A : Type 0} (g : Grammar T L A) → is_predictive number g ≡ true → (ts : List (Token T)) (f : Fault T L) → parse number g ts ≡ Err f → RefusedIn g ts f.0
-  parse_refuses {L} {A} g p ts f e =
+  pub whole_refuses : {L A : Type 0} (g : Grammar T L A) → is_predictive number g ≡ true → (ts : List (Token T)) (f : Fault T L) → read_whole number g ts ≡ Err f → RefusedIn g ts f.0
+  whole_refuses {L} {A} g p ts f e =
       let P : Result A (Fault T L) → Type 0 = λ r. MatchResult r (λ w. Matches number g ts w) (λ h. RefusedIn g ts h.0) in
-      subst P e (parse_shows g p ts)
+      subst P e (whole_shows g p ts)
 
   -- ---- over the grammar alone
 
@@ -142,10 +142,10 @@ module _ {T : Type 0} (number : T → ℕ) where
   -- ---- the reader is exact
 
   -- a refusal of the reader is at the refused token, with its label
-  pub parse_refusal : {L A : Type 0} (g : Grammar T L A) → is_predictive number g ≡ true → is_well_labelled g ≡ true → (ts : List (Token T)) (fault : Fault T L) → parse number g ts ≡ Err fault → Refuses number g ts fault
-  parse_refusal g p q ts (rest, found) e =
-      let r = parse_refuses g p ts (rest, found) e in
-      (r.0, r.1, r.2, refusal_label g p q ts (read number g ts) refl (read_stands number g p ts) r.0 rest found r.1 e)
+  pub whole_refusal : {L A : Type 0} (g : Grammar T L A) → is_predictive number g ≡ true → is_well_labelled g ≡ true → (ts : List (Token T)) (fault : Fault T L) → read_whole number g ts ≡ Err fault → Refuses number g ts fault
+  whole_refusal g p q ts (rest, found) e =
+      let r = whole_refuses g p ts (rest, found) e in
+      (r.0, r.1, r.2, refusal_label g p q ts (read number g ts) refl (read_stands number g p q ts) r.0 rest found r.1 e)
 
   same_label : {L A : Type 0} (g : Grammar T L A) (before rest : List (Token T)) (a b : Option L) → LabelAt number g before rest a → LabelAt number g before rest b → a ≡ b
   same_label g before rest None None x y = refl
@@ -161,9 +161,9 @@ module _ {T : Type 0} (number : T → ℕ) where
       let label = same_label g x.0 rest a b x.3 here in
       rw (same.1, label) refl
 
-  pub refused_parse : {L A : Type 0} (g : Grammar T L A) → is_predictive number g ≡ true → is_well_labelled g ≡ true → (ts : List (Token T)) (fault : Fault T L) → Refuses number g ts fault → parse number g ts ≡ Err fault
-  refused_parse {L} {A} g p q ts fault x = go (parse number g ts) refl
+  pub refused_whole : {L A : Type 0} (g : Grammar T L A) → is_predictive number g ≡ true → is_well_labelled g ≡ true → (ts : List (Token T)) (fault : Fault T L) → Refuses number g ts fault → read_whole number g ts ≡ Err fault
+  refused_whole {L} {A} g p q ts fault x = go (read_whole number g ts) refl
     where
-      go : (r : Result A (Fault T L)) → parse number g ts ≡ r → r ≡ Err fault
-      go (Ok v) e = absurd (text_not_refused g ts v (parsed_matches g p ts v e) x.0 fault.0 x.1 x.2)
-      go (Err other) e = ap (λ (f : Fault T L). Err f) (one_refusal g ts other fault (parse_refusal g p q ts other e) x)
+      go : (r : Result A (Fault T L)) → read_whole number g ts ≡ r → r ≡ Err fault
+      go (Ok v) e = absurd (text_not_refused g ts v (whole_matches g p ts v e) x.0 fault.0 x.1 x.2)
+      go (Err other) e = ap (λ (f : Fault T L). Err f) (one_refusal g ts other fault (whole_refusal g p q ts other e) x)

@@ -107,5 +107,5 @@ module _ {T : Type 0} (number : T → ℕ) where
   read (labelled label g) ts = cond (begins (first_set g) ts) (read g ts) (Err (ts, Some label))
 
   -- the value of a whole text, or its refusal
-  abbrev pub parse : {L A : Type 0} → Grammar T L A → List (Token T) → Result A (Fault T L)
-  parse g ts = read g ts >>= whole
+  abbrev pub read_whole : {L A : Type 0} → Grammar T L A → List (Token T) → Result A (Fault T L)
+  read_whole g ts = read g ts >>= whole

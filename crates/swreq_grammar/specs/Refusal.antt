@@ -2,12 +2,12 @@
 use Rattle.std.specs.Prelude.{◌≡◌, ℕ, suc, Bool, true, false, ◌&&◌, ◌||◌, not, cond, List, [], ◌∷◌, ◌++◌, length, Option, Some, None, ◌⊎◌, nat_eq}
 use Rattle.swreq_grammar.specs.declared.token.Token.{Token}
 use Rattle.swreq_grammar.specs.Grammar.{Limit, unlimited, at_most, Grammar, terminal, empty, mapped, sequence, alternative, repetition, labelled, Within, Parts, Matches}
-use Rattle.swreq_grammar.specs.Reader.{Fault, begins, first_set, nullable, follow_last, is_empty}
+use Rattle.swreq_grammar.specs.Reader.{Fault, nullable, follow_last, is_empty}
 
--- a repetition that has as many parts as it may, though another one begins
-abbrev pub IsFull : {L : Type 0} → Limit L → ℕ → Bool → L → Type 0
-IsFull unlimited n more label = ⊥
-IsFull (at_most limit wanted) n more label = (n ≡ limit) × (more ≡ true) × (wanted ≡ label)
+-- so many parts are as many as a repetition may have; one part more is refused with the label
+abbrev pub IsFull : {L : Type 0} → Limit L → ℕ → L → Type 0
+IsFull unlimited n label = ⊥
+IsFull (at_most limit wanted) n label = (n ≡ limit) × (wanted ≡ label)
 
 module _ {T : Type 0} (number : T → ℕ) where
   -- A viable prefix: some text of the grammar begins with the tokens.
@@ -26,8 +26,13 @@ module _ {T : Type 0} (number : T → ℕ) where
 
   -- ---- the label of a refusal
 
-  -- After the tokens stands a part with the label, and the rest does not begin it; or a repetition is full there, and the
-  -- rest begins one part more.
+  -- Some text of the grammar begins with the first of the tokens.
+  abbrev pub BeginsText : {L A : Type 0} → Grammar T L A → List (Token T) → Type 0
+  BeginsText g [] = ⊥
+  BeginsText g (t ∷ ts) = Viable g (t ∷ [])
+
+  -- After the tokens stands a part with the label, and the rest begins no text of it; or a repetition is full there, and
+  -- the rest begins a text of one part more.
   abbrev pub HasLabel : {L A : Type 0} → L → Grammar T L A → (before rest : List (Token T)) → Type 0
   HasLabel label (terminal terminals) before rest = ⊥
   HasLabel label (empty v) before rest = ⊥
@@ -37,8 +42,8 @@ module _ {T : Type 0} (number : T → ℕ) where
   HasLabel label (alternative g h) before rest = HasLabel label g before rest ⊎ HasLabel label h before rest
   HasLabel label (repetition {A} limit g) before rest =
       ((first mid : List (Token T)) × (vs : List A) × (before ≡ first ++ mid) × Parts (Matches number g) first vs × HasLabel label g mid rest × Within limit (suc (length vs)))
-      ⊎ ((vs : List A) × Parts (Matches number g) before vs × IsFull limit (length vs) (begins number (first_set g) rest) label)
-  HasLabel label (labelled other g) before rest = ((before ≡ []) × (other ≡ label) × (begins number (first_set g) rest ≡ false)) ⊎ HasLabel label g before rest
+      ⊎ ((vs : List A) × Parts (Matches number g) before vs × IsFull limit (length vs) label × BeginsText g rest)
+  HasLabel label (labelled other g) before rest = ((before ≡ []) × (other ≡ label) × ¬ (BeginsText g rest)) ⊎ HasLabel label g before rest
 
   -- the one label that a refusal has there, or none where it has none
   abbrev pub LabelAt : {L A : Type 0} → Grammar T L A → (before rest : List (Token T)) → Option L → Type 0

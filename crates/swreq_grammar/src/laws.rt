@@ -4,7 +4,7 @@ ghost use Rattle.std.specs.Prelude.{◌≡◌, ◌++◌, ℕ, List, Result, Ok, 
 ghost use Rattle.swreq_grammar.specs.declared.token.Token.{Token};
 ghost use Rattle.swreq_grammar.specs.Grammar.{Grammar, Matches};
 ghost use Rattle.swreq_grammar.specs.Refusal.{RefusedAt, Refuses, Viable, is_well_labelled};
-ghost use Rattle.swreq_grammar.specs.Reader.{Fault, is_predictive, parse};
+ghost use Rattle.swreq_grammar.specs.Reader.{Fault, is_predictive, read_whole};
 
 /// A grammar, of which the laws speak.
 pub trait Language {
@@ -21,8 +21,8 @@ pub trait Language {
 
 /// Over a predictive grammar, what is read is a text of the grammar with its value, and each text is read.
 pub fn texts_are_read<G: Language>()
-    ensures read { is_predictive G.number G.grammar ≡ true → (ts : List (Token G.Terminal)) (v : G.Value) → Matches G.number G.grammar ts v → parse G.number G.grammar ts ≡ Ok v }
-    ensures text { is_predictive G.number G.grammar ≡ true → (ts : List (Token G.Terminal)) (v : G.Value) → parse G.number G.grammar ts ≡ Ok v → Matches G.number G.grammar ts v }
+    ensures read { is_predictive G.number G.grammar ≡ true → (ts : List (Token G.Terminal)) (v : G.Value) → Matches G.number G.grammar ts v → read_whole G.number G.grammar ts ≡ Ok v }
+    ensures text { is_predictive G.number G.grammar ≡ true → (ts : List (Token G.Terminal)) (v : G.Value) → read_whole G.number G.grammar ts ≡ Ok v → Matches G.number G.grammar ts v }
 {}
 
 /// At most one value stands for a text of a predictive grammar.
@@ -33,8 +33,8 @@ pub fn one_value<G: Language>()
 /// Over a predictive grammar that is well labelled, the reader refuses a text exactly at its refused token, with the
 /// label that stands there.
 pub fn refusals_are_read<G: Language>()
-    ensures read { is_predictive G.number G.grammar ≡ true → is_well_labelled G.grammar ≡ true → (ts : List (Token G.Terminal)) (fault : Fault G.Terminal G.Label) → Refuses G.number G.grammar ts fault → parse G.number G.grammar ts ≡ Err fault }
-    ensures refused { is_predictive G.number G.grammar ≡ true → is_well_labelled G.grammar ≡ true → (ts : List (Token G.Terminal)) (fault : Fault G.Terminal G.Label) → parse G.number G.grammar ts ≡ Err fault → Refuses G.number G.grammar ts fault }
+    ensures read { is_predictive G.number G.grammar ≡ true → is_well_labelled G.grammar ≡ true → (ts : List (Token G.Terminal)) (fault : Fault G.Terminal G.Label) → Refuses G.number G.grammar ts fault → read_whole G.number G.grammar ts ≡ Err fault }
+    ensures refused { is_predictive G.number G.grammar ≡ true → is_well_labelled G.grammar ≡ true → (ts : List (Token G.Terminal)) (fault : Fault G.Terminal G.Label) → read_whole G.number G.grammar ts ≡ Err fault → Refuses G.number G.grammar ts fault }
 {}
 
 /// Over each grammar, a text of the grammar begins with each front of the tokens before the refused one, so that this is

@@ -2,13 +2,13 @@
 use Rattle.std.proofs.Common.{◌≡◌, ℕ, zero, suc, true, false, List, [], ◌∷◌, ◌++◌, Option, Some, None, refl, sym, ap, subst, ◌∙◌, append_assoc, nat_eq, arith}
 use Rattle.std.proofs.lemmas.Bool.{eqb-true}
 use Rattle.swreq_lex.specs.Comments.{is_opening, is_closing, IsInside, closing, character, nested}
-use Rattle.swreq_lex.specs.Reader.{past_comment}
+use Rattle.swreq_lex.specs.Reader.{forgotten, past_comment}
 use Rattle.swreq_lex.proofs.MarkLemmas.{both}
 
 -- what is left after the end of a comment that stands inside this many more
 abbrev closed : ℕ → List ℕ → Option (List ℕ)
 closed zero rest = Some rest
-closed (suc n) rest = past_comment n 32 rest
+closed (suc n) rest = past_comment n forgotten rest
 
 -- ---- one step of the scan
 
@@ -17,7 +17,7 @@ unfolding past_comment
 at_end zero b = refl
 at_end (suc n) b = refl
 
-at_opening : (n b c : ℕ) (cs : List ℕ) → is_opening b c ≡ true → past_comment n b (c ∷ cs) ≡ past_comment (suc n) 32 cs
+at_opening : (n b c : ℕ) (cs : List ℕ) → is_opening b c ≡ true → past_comment n b (c ∷ cs) ≡ past_comment (suc n) forgotten cs
 unfolding past_comment
 at_opening zero b c cs o = rw o refl
 at_opening (suc n) b c cs o = rw o refl
@@ -34,7 +34,7 @@ at_other (suc n) b c cs o h = rw (o, h) refl
 
 -- ---- each comment is passed
 
-pub passes : {inside : List ℕ} → IsInside inside → (n : ℕ) (rest : List ℕ) → past_comment n 32 (inside ++ rest) ≡ closed n rest
+pub passes : {inside : List ℕ} → IsInside inside → (n : ℕ) (rest : List ℕ) → past_comment n forgotten (inside ++ rest) ≡ closed n rest
 passes closing n rest = at_other n 32 42 (47 ∷ rest) refl refl ∙ at_closing n 42 47 rest refl refl
 passes (character {c} {d} {cs} o h i) n rest =
     at_other n 32 c (d ∷ (cs ++ rest)) refl refl
@@ -44,7 +44,7 @@ passes (nested {inside} {after} {cs} i a e) n rest =
     let parts : cs ++ rest ≡ inside ++ (after ++ rest) = rw e (append_assoc inside after rest) in
     at_other n 32 47 (42 ∷ (cs ++ rest)) refl refl
     ∙ (at_opening n 47 42 (cs ++ rest) refl
-    ∙ (ap (λ (ds : List ℕ). past_comment (suc n) 32 ds) parts
+    ∙ (ap (λ (ds : List ℕ). past_comment (suc n) forgotten ds) parts
     ∙ (passes i (suc n) (after ++ rest) ∙ passes a n rest)))
 
 -- ---- what is passed is a comment
@@ -85,7 +85,7 @@ joined inside cs after i e (more {inside = second} {after = later} j p l) = more
 opened : {rest : List ℕ} {n : ℕ} (cs : List ℕ) → Insides rest (suc n) cs → Insides rest n (47 ∷ 42 ∷ cs)
 opened cs (more {inside = inside} {after = after} i e l) = joined inside cs after i e l
 
-after_closing : {rest : List ℕ} (n : ℕ) (cs : List ℕ) → closed n cs ≡ Some rest → ((m : ℕ) → past_comment m 32 cs ≡ Some rest → Insides rest m (32 ∷ cs)) → Insides rest n (42 ∷ 47 ∷ cs)
+after_closing : {rest : List ℕ} (n : ℕ) (cs : List ℕ) → closed n cs ≡ Some rest → ((m : ℕ) → past_comment m forgotten cs ≡ Some rest → Insides rest m (32 ∷ cs)) → Insides rest n (42 ∷ 47 ∷ cs)
 after_closing zero cs e go = last closing (cc)
 after_closing (suc n) cs e go = more closing refl (forget_space cs (go n e))
 
@@ -107,7 +107,7 @@ passed (c ∷ cs) {rest} n b e =
 
 -- ---- from inside the outermost comment
 
-pub comment_passed : (inside rest : List ℕ) → past_comment 0 32 inside ≡ Some rest → (i : List ℕ) × IsInside i × (inside ≡ i ++ rest)
+pub comment_passed : (inside rest : List ℕ) → past_comment 0 forgotten inside ≡ Some rest → (i : List ℕ) × IsInside i × (inside ≡ i ++ rest)
 comment_passed inside rest e = go (forget_space inside (passed inside 0 32 e))
   where
     go : Insides rest 0 inside → (i : List ℕ) × IsInside i × (inside ≡ i ++ rest)

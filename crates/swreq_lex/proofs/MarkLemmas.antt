@@ -7,7 +7,7 @@ use Rattle.std.proofs.lemmas.List.Quantifiers.{position-Some}
 use Rattle.std.specs.Str.{chars, IsUtf8, IsCharBoundary}
 use Rattle.std.specs.List.{starts_with, list_all, position_or_len}
 use lib.Utf8.{encodes, encode}
-use Rattle.swreq_lex.specs.Marks.{texts, first_at, are_ascii}
+use Rattle.swreq_lex.specs.Reader.{texts, first_at, are_ascii}
 
 abbrev pub is_ascii_mark : List ℕ → Bool
 is_ascii_mark mark = list_all (λ c. nat_lt c 128) mark

@@ -11,12 +11,13 @@ use Rattle.swreq_lex.specs.declared.token.TokenKind.{TokenKind}
 use Rattle.swreq_lex.specs.Characters.{is_white_space, continues_line, starts_word, continues_word, IsLongestRun}
 use Rattle.swreq_lex.specs.Comments as comments
 use Rattle.swreq_lex.specs.Words as words
-use Rattle.swreq_lex.specs.Marks.{IsMark, mark_at, spellings}
+use Rattle.swreq_lex.specs.Marks.{IsMark, spellings}
 use Rattle.swreq_lex.specs.Tokens as pieces
 use Rattle.swreq_lex.specs.Tokens.{IsGap, IsToken}
 use Rattle.swreq_lex.specs.Refusals.{IsBadCharacter, IsOpenComment}
-use Rattle.swreq_lex.specs.Reader.{past, past_comment, Front, nothing, gap, word, mark, bad_character, open_comment, after_comment, after_slash, at_mark, front}
+use Rattle.swreq_lex.specs.Reader.{past, past_comment, Front, nothing, gap, word, mark, bad_character, open_comment, after_comment, after_slash, at_mark, forgotten, front, mark_at}
 use Rattle.swreq_lex.proofs.MarkLemmas.{both, starts-split}
+use Rattle.swreq_lex.proofs.LongestMark.{longest_is_first, first_is_longest}
 use Rattle.swreq_lex.proofs.CommentLemmas.{passes, comment_passed}
 
 -- ---- runs
@@ -123,7 +124,7 @@ front_line : (line rest : List ℕ) → IsLongestRun continues_line line rest �
 unfolding after_slash
 front_line line rest r = front_slash (47 ∷ (line ++ rest)) ∙ ap (λ (cs : List ℕ). gap cs) (past_run continues_line line rest r)
 
-front_comment : (cs : List ℕ) → front (47 ∷ 42 ∷ cs) ≡ after_comment (past_comment 0 32 cs)
+front_comment : (cs : List ℕ) → front (47 ∷ 42 ∷ cs) ≡ after_comment (past_comment 0 forgotten cs)
 unfolding after_slash
 front_comment cs = front_slash (42 ∷ cs)
 
@@ -149,7 +150,7 @@ pub front_of_mark : (n : ℕ) (cs piece rest : List ℕ) → cs ≡ piece ++ res
 front_of_mark n cs [] rest e m = absurd (let k = test_at begins_mark spellings n [] m.spelled each_begins_mark in cc)
 front_of_mark n cs (c ∷ ds) rest e m =
     let h = head_of_mark c ds (test_at begins_mark spellings n (c ∷ ds) m.spelled each_begins_mark) in
-    let found = front_other c (ds ++ rest) h.not_white h.not_word h.not_slash ∙ ap (λ (o : Option ℕ). at_mark o (c ∷ (ds ++ rest))) m.taken in
+    let found = front_other c (ds ++ rest) h.not_white h.not_word h.not_slash ∙ ap (λ (o : Option ℕ). at_mark o (c ∷ (ds ++ rest))) (longest_is_first n (c ∷ ds) rest m) in
     let spelled : unwrap_or (slice_get spellings n) [] ≡ c ∷ ds = ap (λ (o : Option (List ℕ)). unwrap_or o []) m.spelled in
     rw e (found ∙ ap (λ (ds : List ℕ). mark n ds) (ap (λ (m : List ℕ). drop (length m) (c ∷ (ds ++ rest))) spelled ∙ drop_front (c ∷ ds) rest))
 
@@ -165,13 +166,13 @@ Shown cs (gap rest) = (piece : List ℕ) × (cs ≡ piece ++ rest) × IsGap piec
 Shown cs (word rest) = (piece : List ℕ) × (cs ≡ piece ++ rest) × words.IsWord piece rest
 Shown cs (mark n rest) = (piece : List ℕ) × (cs ≡ piece ++ rest) × IsMark n piece rest
 Shown cs bad_character = cs ≢ []
-Shown cs open_comment = (inside : List ℕ) × (cs ≡ 47 ∷ 42 ∷ inside) × (past_comment 0 32 inside ≡ None)
+Shown cs open_comment = (inside : List ℕ) × (cs ≡ 47 ∷ 42 ∷ inside) × (past_comment 0 forgotten inside ≡ None)
 
 shown_if : (cs : List ℕ) (b : Bool) (f g : Front) → (b ≡ true → Shown cs f) → (b ≡ false → Shown cs g) → Shown cs (cond b f g)
 shown_if cs true f g p q = p refl
 shown_if cs false f g p q = q refl
 
-shown_comment : (cs : List ℕ) (o : Option (List ℕ)) → past_comment 0 32 cs ≡ o → Shown (47 ∷ 42 ∷ cs) (after_comment o)
+shown_comment : (cs : List ℕ) (o : Option (List ℕ)) → past_comment 0 forgotten cs ≡ o → Shown (47 ∷ 42 ∷ cs) (after_comment o)
 shown_comment cs None e = (cs, refl, e)
 shown_comment cs (Some rest) e =
     let c = comment_passed cs rest e in
@@ -183,8 +184,8 @@ shown_slash [] = λ e. cc
 shown_slash (c ∷ cs) =
     shown_if (47 ∷ c ∷ cs) (nat_eq c 47) (gap (past continues_line cs)) _
     (λ h. let r = run_of continues_line cs in rw (eqb-true c 47 h) (47 ∷ 47 ∷ r.run, ap (λ (ds : List ℕ). 47 ∷ 47 ∷ ds) r.is, pieces.line_comment (comments.line_comment r.longest)))
-    (λ k. shown_if (47 ∷ c ∷ cs) (nat_eq c 42) (after_comment (past_comment 0 32 cs)) bad_character
-    (λ h. rw (eqb-true c 42 h) (shown_comment cs (past_comment 0 32 cs) refl))
+    (λ k. shown_if (47 ∷ c ∷ cs) (nat_eq c 42) (after_comment (past_comment 0 forgotten cs)) bad_character
+    (λ h. rw (eqb-true c 42 h) (shown_comment cs (past_comment 0 forgotten cs) refl))
     (λ h e. cc))
 
 shown_mark : (c : ℕ) (cs : List ℕ) (o : Option ℕ) → mark_at (c ∷ cs) ≡ o → Shown (c ∷ cs) (at_mark o (c ∷ cs))
@@ -195,7 +196,7 @@ shown_mark c cs (Some n) e =
     let split : c ∷ cs ≡ get_or spellings n [] ++ drop (length (get_or spellings n [])) (c ∷ cs) = starts-split (get_or spellings n []) (c ∷ cs) p.1 in
     let same : unwrap_or (slice_get spellings n) [] ≡ get_or spellings n [] = ap (λ (o : Option (List ℕ)). unwrap_or o []) spelled in
     subst (λ (m : List ℕ). Shown (c ∷ cs) (mark n (drop (length m) (c ∷ cs)))) (sym same)
-    (get_or spellings n [], split, record { spelled = spelled; taken = subst (λ (ds : List ℕ). mark_at ds ≡ Some n) split e })
+    (get_or spellings n [], split, first_is_longest n (get_or spellings n []) (drop (length (get_or spellings n [])) (c ∷ cs)) spelled (subst (λ (ds : List ℕ). mark_at ds ≡ Some n) split e))
 
 pub shown : (cs : List ℕ) → Shown cs (front cs)
 unfolding front
@@ -223,7 +224,7 @@ bad_found cs e = record {
   some = λ h. let k : front cs ≡ nothing = rw h front_nil in cc;
   no_gap = λ piece rest p g. let k = front_gap cs piece rest p g in cc;
   no_token = λ kind piece rest p t. neither rest (no_token_at cs bad_character e kind piece rest p t);
-  no_opening = λ inside p. go (past_comment 0 32 inside) (sym e ∙ (ap front p ∙ front_comment inside));
+  no_opening = λ inside p. go (past_comment 0 forgotten inside) (sym e ∙ (ap front p ∙ front_comment inside));
 }
   where
     go : (o : Option (List ℕ)) → bad_character ≡ after_comment o → ⊥
@@ -251,9 +252,9 @@ front_bad cs b = go (front cs) (shown cs)
     go open_comment s = absurd (b.no_opening s.0 s.1)
 
 pub front_open : (cs : List ℕ) → IsOpenComment cs → front cs ≡ open_comment
-front_open cs b = ap front b.opened ∙ (front_comment b.inside ∙ go (past_comment 0 32 b.inside) refl)
+front_open cs b = ap front b.opened ∙ (front_comment b.inside ∙ go (past_comment 0 forgotten b.inside) refl)
   where
-    go : (o : Option (List ℕ)) → past_comment 0 32 b.inside ≡ o → after_comment o ≡ open_comment
+    go : (o : Option (List ℕ)) → past_comment 0 forgotten b.inside ≡ o → after_comment o ≡ open_comment
     go None e = refl
     go (Some rest) e =
         let c = comment_passed b.inside rest e in

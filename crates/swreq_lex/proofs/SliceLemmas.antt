@@ -15,7 +15,7 @@ use Rattle.swreq_lex.specs.declared.token.TokenKind.TheVariants as kinds
 use Rattle.swreq_lex.specs.Characters.{byte_length, is_byte_order_mark, continues_line, BeginsWithout}
 use Rattle.swreq_lex.specs.Comments as comments
 use Rattle.swreq_lex.specs.Words as words
-use Rattle.swreq_lex.specs.Words.{reserved, kind_at, kind_of_word, kind_of_bytes}
+use Rattle.swreq_lex.specs.Words.{reserved, word_kind, kind_of_word, kind_of_bytes}
 use Rattle.swreq_lex.specs.Marks.{spellings}
 use Rattle.swreq_lex.specs.Tokens as pieces
 use Rattle.swreq_lex.specs.Tokens.{IsGap, IsToken, Reads, done, after_byte_order_mark, first_offset, HasTokens}
@@ -90,7 +90,7 @@ none_among xs bytes e n h =
     let other = prefix_len_passes (λ (word : List ℕ). not (bytes_eq word bytes)) xs n [] (omega (arith, at.0)) in
     other_text (get_or xs n []) bytes (when_not (bytes_eq (get_or xs n []) bytes) other) at.1
 
-spelled_by : (bytes : List ℕ) → IsSpelledWord bytes → (o : Option ℕ) → position (λ word. bytes_eq word bytes) reserved ≡ o → IsSpelled (kind_at o bytes) bytes
+spelled_by : (bytes : List ℕ) → IsSpelledWord bytes → (o : Option ℕ) → position (λ word. bytes_eq word bytes) reserved ≡ o → IsSpelled (word_kind o bytes) bytes
 spelled_by bytes w (Some n) e = among reserved bytes n e
 spelled_by bytes w None e = elim (bytes_eq bytes (95 ∷ [])) as (λ b. bytes_eq bytes (95 ∷ []) ≡ b → IsSpelled (cond b kinds.Underscore kinds.Name) bytes) [
   | true ↦ λ h. same_text bytes (95 ∷ []) (sym h)

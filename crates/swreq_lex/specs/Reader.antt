@@ -1,5 +1,8 @@
--- How the characters of a text are read from the front, as the functions of `src` do it.
-use Rattle.std.specs.Prelude.{◌≡◌, ℕ, zero, suc, ◌-◌, Bool, ◌==◌, List, [], ◌∷◌, length, drop, Option, Some, None, Result, Ok, Err, slice_get, if◌then◌else◌, unwrap_or, take}
+-- How the characters of a text are read from the front, as the functions of `src` do it. No public promise rests on this
+-- file: `Tokens` and `Refusals` say what is read.
+use Rattle.std.specs.Prelude.{◌≡◌, ℕ, zero, suc, ◌-◌, Bool, ◌==◌, List, [], ◌∷◌, length, drop, map, nat_eq, nat_lt, Option, Some, None, Result, Ok, Err, position, slice_get, if◌then◌else◌, unwrap_or, take}
+use Rattle.std.specs.Borrow.{Bor}
+use Rattle.std.specs.List.{starts_with, list_all}
 use Rattle.std.specs.Str.{encode_utf8_all}
 use Rattle.std.specs.Global.{Vec}
 use Rattle.swreq_lex.specs.declared.token.Token.{Token}
@@ -10,24 +13,27 @@ use Rattle.swreq_lex.specs.declared.refusal.LexErr.TheVariants as errors
 use Rattle.swreq_lex.specs.Characters.{is_white_space, starts_word, continues_word, continues_line, byte_length}
 use Rattle.swreq_lex.specs.Comments.{is_opening, is_closing}
 use Rattle.swreq_lex.specs.Words.{kind_of_bytes}
-use Rattle.swreq_lex.specs.Marks.{spellings, mark_at}
+use Rattle.swreq_lex.specs.Marks.{spellings}
 
 -- what is left after the longest run of characters that pass the test
 unfoldable pub past : (ℕ → Bool) → List ℕ → List ℕ
 past test [] = []
 past test (c ∷ cs) = if test c then past test cs else c ∷ cs
 
--- What is left after the end of a comment, from inside it and this many more, after the character
--- `before`. A character that has opened or closed a comment is forgotten, as if it were a space.
+-- what stands for a character that has opened or closed a comment, so that it does so once: a space, which does neither
+abbrev pub forgotten : ℕ
+forgotten = 32
+
+-- What is left after the end of a comment, from inside it and this many more, after the character `before`.
 unfoldable pub past_comment : ℕ → ℕ → List ℕ → Option (List ℕ)
 past_comment depth before [] = None
 past_comment zero before (c ∷ cs) =
-    if is_opening before c then past_comment 1 32 cs
+    if is_opening before c then past_comment 1 forgotten cs
     else (if is_closing before c then Some cs
     else past_comment 0 c cs)
 past_comment (suc depth) before (c ∷ cs) =
-    if is_opening before c then past_comment (suc (suc depth)) 32 cs
-    else (if is_closing before c then past_comment depth 32 cs
+    if is_opening before c then past_comment (suc (suc depth)) forgotten cs
+    else (if is_closing before c then past_comment depth forgotten cs
     else past_comment (suc depth) c cs)
 
 -- what stands at the front, and what is left after it
@@ -48,8 +54,22 @@ unfoldable pub after_slash : List ℕ → Front
 after_slash [] = bad_character
 after_slash (c ∷ cs) =
     if c == 47 then gap (past continues_line cs)
-    else (if c == 42 then after_comment (past_comment 0 32 cs)
+    else (if c == 42 then after_comment (past_comment 0 forgotten cs)
     else bad_character)
+
+abbrev pub texts : List (Bor (List ℕ)) → List (List ℕ)
+texts marks = map (λ mark. mark.now) marks
+
+-- each character of each mark is ASCII
+abbrev pub are_ascii : List (List ℕ) → Bool
+are_ascii marks = list_all (λ mark. list_all (λ c. nat_lt c 128) mark) marks
+
+-- the place of the first of these marks that the characters begin with
+abbrev pub first_at : List (List ℕ) → List ℕ → Option ℕ
+first_at marks cs = position (λ mark. starts_with nat_eq cs mark) marks
+
+abbrev pub mark_at : List ℕ → Option ℕ
+mark_at cs = first_at spellings cs
 
 -- what is left after the n-th of these marks
 abbrev pub past_mark : List (List ℕ) → ℕ → List ℕ → List ℕ

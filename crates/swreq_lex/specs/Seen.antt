@@ -1,11 +1,12 @@
--- What the code finds at the front of a text, as what the definitions find at the front of its characters.
+-- What the code finds at the front of a text, as what `Reader` finds at the front of its characters. No public promise
+-- rests on this file.
 use Rattle.std.specs.Prelude.{◌≡◌, ℕ, ◌≤◌, List, length, Option, Some, None, MatchOption}
 use Rattle.std.specs.Borrow.{Bor}
 use Rattle.std.specs.Str.{chars}
 use Rattle.swreq_lex.specs.declared.front.Front.{Front}
 use Rattle.swreq_lex.specs.declared.front.Front.TheVariants as fronts
-use Rattle.swreq_lex.specs.Marks.{first_at}
 use Rattle.swreq_lex.specs.Reader as reader
+use Rattle.swreq_lex.specs.Reader.{first_at}
 
 abbrev pub seen : Front → reader.Front
 seen fronts.Nothing = reader.nothing

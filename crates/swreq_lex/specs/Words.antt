@@ -15,12 +15,12 @@ abbrev pub reserved : List (List ℕ)
 reserved = map (λ word. word.now) RESERVED
 
 -- what a word with these bytes is, by its place among the reserved words
-abbrev pub kind_at : Option ℕ → List ℕ → TokenKind
-kind_at (Some n) bytes = kinds.Reserved n
-kind_at None bytes = if bytes_eq bytes (95 ∷ []) then kinds.Underscore else kinds.Name
+abbrev pub word_kind : Option ℕ → List ℕ → TokenKind
+word_kind (Some n) bytes = kinds.Reserved n
+word_kind None bytes = if bytes_eq bytes (95 ∷ []) then kinds.Underscore else kinds.Name
 
 abbrev pub kind_of_bytes : List ℕ → TokenKind
-kind_of_bytes bytes = kind_at (position (λ word. bytes_eq word bytes) reserved) bytes
+kind_of_bytes bytes = word_kind (position (λ word. bytes_eq word bytes) reserved) bytes
 
 -- what a word is
 abbrev pub kind_of_word : List ℕ → TokenKind
