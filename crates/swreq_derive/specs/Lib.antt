@@ -6,3 +6,8 @@ pub mod Equivalence
 pub mod Inheritance
 pub mod Worked
 pub mod Plain
+pub mod Facts
+pub mod Instances
+pub mod Lines
+pub mod Paths
+pub mod Kept
