@@ -1,5 +1,5 @@
 -- The places that the trie gives are all places of pairs with the number as the greater one.
-use Rattle.std.proofs.Common.{◌≡◌, ◌≢◌, ℕ, suc, ◌<◌, ◌⊎◌, inl, inr, refl, sym, ◌∙◌, ap, subst, arith, List, ◌++◌, max, Some}
+use Rattle.std.proofs.Common.{◌≡◌, ◌≢◌, ℕ, suc, ◌⊎◌, inl, inr, refl, sym, ◌∙◌, ap, subst, arith, List, ◌++◌, max, Some}
 use Rattle.std.specs.List.{slice_get}
 use Rattle.std.proofs.lemmas.Bool.{cases_lt}
 use Rattle.swreq_word.specs.declared.symbols.Symbol.{Symbol}

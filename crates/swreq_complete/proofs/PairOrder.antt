@@ -1,15 +1,12 @@
 -- What counts as visited, and where the equations and the pairs are done.
-use Rattle.std.proofs.Common.{◌≡◌, ℕ, suc, ◌+◌, ◌<◌, ◌≤◌, ◌⊎◌, inl, inr, refl, sym, ◌∙◌, ap, subst, arith, List, [], ◌∷◌, length, length-append, Some, max}
-use Rattle.std.specs.List.{slice_get}
-use Rattle.std.proofs.lemmas.Bool.{cases_lt, cases_eq}
+use Rattle.std.proofs.Common.{ℕ, ◌+◌, ◌<◌, ◌≤◌, arith, List, length}
 use Rattle.std.proofs.lemmas.Option.{slice_get_within}
-use Rattle.std.specs.declared.cmp.Ordering.TheVariants.{Less}
 use Rattle.swreq_word.specs.declared.symbols.Symbol.{Symbol}
 use Rattle.swreq_rule.specs.declared.rules.Rule.{Rule}
 use Rattle.swreq_rule.specs.declared.rules.Birth.{Birth}
 use Rattle.swreq_rule.specs.declared.rules.Birth.TheVariants.{Given, Pair}
 use Rattle.swreq_rule.proofs.Numbers.{number_within}
-use Rattle.swreq_complete.specs.Moments.{Before, greater_number, HasSides}
+use Rattle.swreq_complete.specs.Moments.{greater_number, HasSides}
 use Rattle.swreq_complete.specs.Progress.{Progress, GivenBelow, UpTo}
 use Rattle.swreq_complete.specs.Settled.{Settled}
 use Rattle.swreq_complete.specs.Reached.{IsEnded}

@@ -1,9 +1,7 @@
 -- The reduced system of the congruence of some rules.
-use Rattle.std.proofs.Common.{◌≡◌, ℕ, ◌+◌, ◌-◌, ◌<◌, inl, inr, refl, sym, ◌∙◌, ap, subst, arith, List, [], ◌∷◌, ◌++◌, append-nil, length, length-append, length-take, length-drop, take, drop, take-append-drop, Some}
+use Rattle.std.proofs.Common.{◌≡◌, ℕ, ◌<◌, inl, inr, refl, sym, ◌∙◌, ap, subst, arith, List, [], ◌∷◌, append-nil, length, length-append, take, Some}
 use Rattle.std.specs.List.{slice_get}
-use Rattle.std.proofs.Math.Seq.{drop-append_seam, take-append-add}
-use Rattle.std.proofs.lemmas.Bool.{cases_lt, cases_eq}
-use Rattle.std.proofs.lemmas.Option.{slice_get_within}
+use Rattle.std.proofs.lemmas.Bool.{cases_lt}
 use Rattle.swreq_word.specs.declared.symbols.Symbol.{Symbol}
 use Rattle.swreq_word.specs.Order.{WordLess}
 use Rattle.swreq_word.specs.Relations.{Linked, IsLocallyConfluent, IsIrreducible}
@@ -15,9 +13,8 @@ use Rattle.swreq_word.proofs.Chains.{linked_chain}
 use Rattle.swreq_word.proofs.WordsFounded as founded
 use Rattle.swreq_rule.specs.declared.rules.Rule.{Rule}
 use Rattle.swreq_rule.specs.Steps.{Step}
-use Rattle.swreq_rule.specs.Reduction.{Reduces}
 use Rattle.swreq_rule.proofs.Downward.{step_down}
-use Rattle.swreq_rule.proofs.Search.{reduction_step, a_step, irreducible_factor}
+use Rattle.swreq_rule.proofs.Search.{reduction_step, a_step}
 use Rattle.swreq_word.specs.Least.{IsLeast, EachFactor}
 use Rattle.swreq_complete.specs.Reduced.{IsReducedSystem, HasBirths}
 use Rattle.swreq_complete.specs.Complete.{IsFresh}

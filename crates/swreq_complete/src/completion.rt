@@ -30,12 +30,7 @@ fn settle_place<W: Watch>(
         (λ _. DoneWithin limits (λ t. SettlesPlace rules.old t place) rules.old rules.new (W.told watch.old) (W.told watch.new))
         (λ s. StoppedAt limits (λ t. SettlesPlace rules.old t place) rules.old rules.new (W.told watch.old) (W.told watch.new) s) }
 {
-    match write_sides(
-        rules.rules(),
-        place,
-        &mut sides.left,
-        &mut sides.right,
-    ) {
+    match write_sides(rules.rules(), place, &mut sides.left, &mut sides.right) {
         Err(_) => Err(Stop::Memory),
         Ok(()) => {
             let birth = Birth::Pair(place.i, place.j, place.at);

@@ -3,7 +3,6 @@ use Rattle.std.proofs.Common.{◌≡◌, ℕ, ◌-◌, inl, inr, refl, sym, ◌�
 use Rattle.swreq_word.specs.declared.symbols.Symbol.{Symbol}
 use Rattle.swreq_word.specs.Replacement.{Replaced}
 use Rattle.swreq_rule.specs.declared.rules.Rule.{Rule}
-use Rattle.swreq_rule.specs.declared.rules.Place.{Place}
 use Rattle.swreq_rule.proofs.Numbers.{one_rule}
 use Rattle.swreq_rule.proofs.Overlapping.{containment_within}
 use Rattle.swreq_pair.specs.Pairs.{OverlapPair, ContainmentPair}

@@ -9,7 +9,7 @@ mod rules;
 
 pub use list::RuleList;
 pub use overlap::{contains, overlaps};
-pub use reduction::{Redex, begins, first_redex, is_reducible, take_step};
+pub use reduction::{Redex, first_redex, take_step};
 pub use rules::{Birth, Place, Rule};
 
 #[cfg(test)]

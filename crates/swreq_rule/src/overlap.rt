@@ -3,7 +3,7 @@
 ghost use Rattle.std.specs.Bool.{Decides};
 ghost use Rattle.swreq_word.specs.Overlap.{Containment, Overlap};
 
-use crate::begins;
+use crate::reduction::begins;
 use swreq_word::Symbol;
 
 /// Whether the first word overlaps the second at the place, counted from 0: from there on the first ends as the second begins.

@@ -1,11 +1,11 @@
 -- Places, as their keys are collected.
-use Rattle.std.proofs.Common.{◌≡◌, ◌⊎◌, inl, inr, ℕ, zero, suc, ◌+◌, ◌<◌, ◌≤◌, List, [], ◌∷◌, ◌++◌, append_assoc, append-nil, drop, length, length-append, get_or, refl, sym, ◌∙◌, ap, subst, arith, Option, Some, Vec}
+use Rattle.std.proofs.Common.{◌≡◌, ◌⊎◌, inl, inr, ℕ, zero, suc, ◌+◌, ◌<◌, ◌≤◌, List, [], ◌∷◌, ◌++◌, append-nil, drop, length, length-append, get_or, refl, sym, ◌∙◌, ap, subst, arith, Option, Some, Vec}
 use Rattle.std.specs.List.{slice_get}
 use Rattle.std.specs.declared.alloc.Global.{Global}
 use Rattle.std.proofs.lemmas.Bool.{cases_eq}
 use Rattle.std.proofs.lemmas.Option.{slice_get_within, get_or_from_slice_get}
 use Rattle.swreq_word.specs.declared.symbols.Symbol.{Symbol}
-use Rattle.swreq_word.specs.Overlap.{Overlap, Containment}
+use Rattle.swreq_word.specs.Overlap.{Overlap}
 use Rattle.swreq_rule.specs.declared.rules.Place.{Place}
 use Rattle.swreq_trie.specs.declared.edges.Edge.{Edge}
 use Rattle.swreq_trie.specs.declared.spots.Spot.{Spot}
@@ -18,7 +18,7 @@ use Rattle.swreq_trie.specs.Places.{Meets, IsOnto, IsFrom, IsOwn, IsPlace}
 use Rattle.swreq_trie.specs.Keys.{Added, place_of, key_of}
 use Rattle.swreq_rule.proofs.Overlapping.{overlap_within, common_is, containing_rest}
 use Rattle.swreq_trie.proofs.Paths.{one_end}
-use Rattle.swreq_word.proofs.Lists.{get_last, get_left, get_cases}
+use Rattle.swreq_word.proofs.Lists.{get_cases}
 use Rattle.swreq_trie.proofs.Marks.{holds_last, holds_more}
 
 module _ (stored : List Entry) (left : List Symbol) (number : ℕ) where
@@ -172,7 +172,7 @@ module _ (edges : List Edge) (ends : List (Option ℕ)) (passing inside : List (
           → Added (λ p. (k : ℕ) × IsOnto now left number k 0 p) now left number old new
       begins_added some met a =
           let Wanted : List Entry → List (Vec Spot Global) → List ℕ → Place → Type 0 = λ entries lists xs p.
-              (node : ℕ) × Holds xs node × ((spot : Spot) × IsListed lists node spot × IsOnto entries left number spot.side spot.at p) in
+          (node : ℕ) × Holds xs node × ((spot : Spot) × IsListed lists node spot × IsOnto entries left number spot.side spot.at p) in
           let met' = subst (λ x. AreMet edges x left nodes) is_ends met in
           let b = subst (λ x. Added (Wanted stored' passing' x) stored' left number old new) is_nodes a in
           let c = subst (λ x. Added (Wanted stored' x nodes) stored' left number old new) is_passing b in
@@ -187,7 +187,7 @@ module _ (edges : List Edge) (ends : List (Option ℕ)) (passing inside : List (
           → Added (λ p. (k : ℕ) × IsFrom now left number k at p) now left number old new
       from_added at w rest met a =
           let Wanted : List Entry → List (Vec Spot Global) → List ℕ → Place → Type 0 = λ entries lists xs p.
-              (node : ℕ) × Holds xs node × ((spot : Spot) × IsListed lists node spot × IsFrom entries left number spot.side at p) in
+          (node : ℕ) × Holds xs node × ((spot : Spot) × IsListed lists node spot × IsFrom entries left number spot.side at p) in
           let met' = subst (λ x. AreMet edges x w nodes) is_ends met in
           let b = subst (λ x. Added (Wanted stored' passing' x) stored' left number old new) is_nodes a in
           let c = subst (λ x. Added (Wanted stored' x nodes) stored' left number old new) is_passing b in
@@ -207,10 +207,10 @@ module _ (edges : List Edge) (ends : List (Option ℕ)) (passing inside : List (
         subst (λ x. Added (λ p. (k : ℕ) × (at : ℕ) × (0 < at) × IsOnto x left number k at p) x left number old new) is_now
         (added_less stored left number (Wanted stored) (λ p. (k : ℕ) × (at : ℕ) × (0 < at) × IsOnto stored left number k at p) old new
         (λ p q.
-            let h = inside_listed some d q.0 q.1 p q.2 q.3 in
-            let same : h.0 ≡ node = index.forked 0 (get_or left 0 d) h.0 node h.1 child in
-            let spot : Spot = record { side = q.0; at = q.1 } in
-            (spot, all' spot (subst (λ n. IsListed inside n spot) same h.2), q.3)) b)
+        let h = inside_listed some d q.0 q.1 p q.2 q.3 in
+        let same : h.0 ≡ node = index.forked 0 (get_or left 0 d) h.0 node h.1 child in
+        let spot : Spot = record { side = q.0; at = q.1 } in
+        (spot, all' spot (subst (λ n. IsListed inside n spot) same h.2), q.3)) b)
 
   -- where no edge leads by the first symbol there is nothing to add
   pub no_insides : (now : List Entry) → stored ≡ now → (d : Symbol) → 0 < length left → NoChild edges 0 (get_or left 0 d) → (keys : List (ℕ × ℕ × ℕ))

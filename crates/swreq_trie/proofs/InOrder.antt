@@ -1,8 +1,8 @@
 -- Keys in order, and the places that they stand for.
-use Rattle.std.proofs.Common.{◌≡◌, ◌⊎◌, inl, inr, ℕ, zero, suc, ◌+◌, ◌<◌, max, Bool, true, false, List, [], ◌∷◌, ◌++◌, length, get_or, refl, sym, ◌∙◌, ap, subst, arith, Some, true≢false}
+use Rattle.std.proofs.Common.{◌≡◌, ◌⊎◌, inl, inr, ℕ, suc, ◌+◌, max, false, List, [], ◌∷◌, ◌++◌, length, get_or, refl, sym, ◌∙◌, ap, subst, arith, Some, true≢false}
 use Rattle.std.specs.List.{slice_get, Contains}
 use Rattle.std.specs.List.Sorted.{IsSorted, IsPermutation}
-use Rattle.std.specs.Ordering.{nat_cmp, ordering_then, is_lt, on, then_cmp}
+use Rattle.std.specs.Ordering.{nat_cmp, ordering_then, is_lt}
 use Rattle.std.specs.Cmp.{IsTotalOrder}
 use Rattle.std.specs.declared.cmp.Ordering.{Ordering}
 use Rattle.std.specs.declared.cmp.Ordering.TheVariants.{Less, Equal, Greater}
@@ -11,15 +11,14 @@ use Rattle.std.proofs.lemmas.Cmp.{on_total, then_total, nat_cmp_total, tied_itse
 use Rattle.std.proofs.lemmas.List.Sorted.{Contains-permutation, IsPermutation-sym}
 use Rattle.std.proofs.lemmas.Option.{slice_get_within, slice_get-get_or, get_or_from_slice_get}
 use Rattle.swreq_word.specs.declared.symbols.Symbol.{Symbol}
-use Rattle.swreq_word.specs.OrderLaws.{then_less, then_equal, nat_less, nat_equal}
-use Rattle.swreq_word.proofs.Comparing.{nat_cmp_less}
+use Rattle.swreq_word.specs.OrderLaws.{then_less, then_equal, nat_equal}
 use Rattle.swreq_rule.specs.declared.rules.Place.{Place}
 use Rattle.swreq_rule.specs.Places.{place_cmp}
 use Rattle.swreq_trie.specs.declared.trie.Entry.{Entry}
 use Rattle.swreq_trie.specs.Marks.{Holds}
 use Rattle.swreq_trie.specs.Places.{IsPlace, ArePlaces}
 use Rattle.swreq_trie.specs.Keys.{Added, AreTheirPlaces, ArePlacesBelow, place_of, key_of, key_cmp}
-use Rattle.swreq_word.proofs.Lists.{get_last, get_left, get_cases}
+use Rattle.swreq_word.proofs.Lists.{get_cases}
 use Rattle.swreq_trie.proofs.Marks.{holds_last, holds_more}
 
 key_total : IsTotalOrder key_cmp

@@ -1,5 +1,5 @@
 -- What the nodes of a trie say, as sides are stored and sought.
-use Rattle.std.proofs.Common.{◌≡◌, ◌⊎◌, inl, inr, ℕ, zero, suc, ◌+◌, ◌<◌, ◌≤◌, max, get_or, take, List, [], ◌∷◌, ◌++◌, length, length-append, refl, sym, ◌∙◌, ap, subst, arith, Option, Some, Vec}
+use Rattle.std.proofs.Common.{◌≡◌, ◌⊎◌, inl, inr, ℕ, ◌+◌, ◌<◌, ◌≤◌, max, get_or, take, List, [], ◌∷◌, ◌++◌, length, length-append, refl, sym, ◌∙◌, ap, subst, arith, Option, Some, Vec}
 use Rattle.std.specs.List.{slice_get}
 use Rattle.std.specs.declared.alloc.Global.{Global}
 use Rattle.std.proofs.lemmas.Bool.{cases_lt, cases_eq}
@@ -9,7 +9,7 @@ use Rattle.swreq_word.proofs.Cuts.{same_cut}
 use Rattle.swreq_trie.specs.declared.edges.Edge.{Edge}
 use Rattle.swreq_trie.specs.declared.spots.Spot.{Spot}
 use Rattle.swreq_trie.specs.declared.trie.Entry.{Entry}
-use Rattle.swreq_trie.specs.Paths.{IsChild, IsForked, IsGrown, Leads}
+use Rattle.swreq_trie.specs.Paths.{IsForked, IsGrown, Leads}
 use Rattle.swreq_trie.specs.Marks.{EndsAt, SameEnds, Marked, IsListed, KeepsListed}
 use Rattle.swreq_trie.specs.Walk.{NoEnd, FirstEnd}
 use Rattle.swreq_trie.specs.Stored.{NoneBegins, Shortest}

@@ -1,5 +1,5 @@
 -- Keys by their places, where a test tells which are equal.
-use Rattle.std.proofs.Common.{◌≡◌, ℕ, zero, suc, ◌+◌, Bool, true, false, ◌||◌, ◌&&◌, ◌==◌, cond, not, if◌then◌else◌, List, [], ◌∷◌, ◌++◌, length, get_or, slice_get, Some, position, refl, sym, ap, subst, ◌∙◌, arith, true≢false}
+use Rattle.std.proofs.Common.{◌≡◌, ℕ, zero, suc, ◌+◌, Bool, true, false, ◌||◌, ◌==◌, cond, not, if◌then◌else◌, List, [], ◌∷◌, ◌++◌, length, get_or, slice_get, Some, position, refl, sym, ap, subst, ◌∙◌, arith, true≢false}
 use Rattle.std.specs.Bool.{Decides}
 use Rattle.std.specs.List.{IsDistinct, AllByRecursion, list_any, position_or_len}
 use Rattle.std.proofs.Math.Numerals.{one-add}

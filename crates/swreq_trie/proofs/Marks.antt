@@ -1,10 +1,10 @@
 -- What stands at nodes, as ends and spots are added.
-use Rattle.std.proofs.Common.{◌≡◌, ◌⊎◌, inl, inr, ℕ, ◌<◌, List, [], ◌∷◌, ◌++◌, length, refl, sym, ◌∙◌, ap, subst, arith, Option, Some, None, Result, Ok, Err, OnOk, Vec}
+use Rattle.std.proofs.Common.{◌≡◌, inl, inr, ℕ, ◌<◌, List, [], ◌∷◌, ◌++◌, length, sym, subst, Option, Some, None, Result, Ok, Err, OnOk, Vec}
 use Rattle.std.specs.List.{slice_get}
 use Rattle.std.specs.declared.alloc.Global.{Global}
 use Rattle.std.proofs.Math.ListN.{set}
 use Rattle.swreq_trie.specs.declared.spots.Spot.{Spot}
-use Rattle.swreq_trie.specs.Marks.{EndsAt, SameEnds, Holds, IsListed, KeepsListed}
+use Rattle.swreq_trie.specs.Marks.{SameEnds, Holds, IsListed, KeepsListed}
 use Rattle.swreq_word.proofs.Lists.{get_left, get_last, get_cases}
 use Rattle.swreq_trie.proofs.Changed.{set_here, set_kept}
 

@@ -1,5 +1,5 @@
 -- A symbol more on the way of a word.
-use Rattle.std.proofs.Common.{◌≡◌, ◌⊎◌, inl, inr, ℕ, suc, ◌+◌, ◌<◌, ◌≤◌, List, [], ◌∷◌, ◌++◌, length, length-append, length-take, take, drop, take-append-drop, append_assoc, append-nil, get_or, refl, sym, ◌∙◌, ap, subst, arith, Option}
+use Rattle.std.proofs.Common.{◌≡◌, inl, inr, ℕ, ◌+◌, ◌<◌, List, [], ◌∷◌, ◌++◌, length, length-append, length-take, take, drop, take-append-drop, append-nil, get_or, sym, ◌∙◌, ap, subst, arith, Option}
 use Rattle.std.proofs.Math.Seq.{take-length}
 use Rattle.std.proofs.lemmas.Bool.{cases_lt}
 use Rattle.std.proofs.lemmas.List.{take_more, take-append-le}

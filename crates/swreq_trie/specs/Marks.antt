@@ -1,5 +1,5 @@
 -- What stands at the nodes of a trie: which side ends there, and which sides are listed there.
-use Rattle.std.specs.Prelude.{◌≡◌, ◌≢◌, ◌⊎◌, ℕ, List, slice_get, Option, Some, Vec}
+use Rattle.std.specs.Prelude.{◌≡◌, ◌⊎◌, ℕ, List, slice_get, Option, Some, Vec}
 use Rattle.std.specs.declared.alloc.Global.{Global}
 use Rattle.swreq_trie.specs.declared.spots.Spot.{Spot}
 

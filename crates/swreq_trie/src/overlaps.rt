@@ -241,7 +241,13 @@ impl Trie {
     {
         match self.edges.child(0, left[0]) {
             None => Ok(()),
-            Some(node) => add_onto(&self.entries, spots_of(&self.inside, node), left, number, keys),
+            Some(node) => add_onto(
+                &self.entries,
+                spots_of(&self.inside, node),
+                left,
+                number,
+                keys,
+            ),
         }
     }
 

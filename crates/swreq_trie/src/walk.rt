@@ -35,11 +35,7 @@ pub(crate) fn find(edges: &Edges, ends: &[Option<usize>], w: &[Symbol]) -> Optio
 }
 
 // Puts the node last, if a side ends at it.
-fn add_ended(
-    ends: &[Option<usize>],
-    node: usize,
-    nodes: &mut Vec<usize>,
-) -> Result<(), AllocError>
+fn add_ended(ends: &[Option<usize>], node: usize, nodes: &mut Vec<usize>) -> Result<(), AllocError>
     ensures ended { OnOk result ((side : ℕ) → EndsAt ends.now node side → Holds nodes.new.items node) }
     ensures kept { OnOk result ((other : ℕ) → Holds nodes.old.items other → Holds nodes.new.items other) }
 {

@@ -1,8 +1,7 @@
 -- Least words of classes, and factors of words.
-use Rattle.std.proofs.Common.{◌≡◌, ℕ, ◌+◌, ◌-◌, ◌<◌, ◌⊎◌, inl, inr, sym, ◌∙◌, ap, subst, arith, List, [], ◌∷◌, ◌++◌, append-nil, length, length-append, length-take, length-drop, take, drop, take-append-drop}
+use Rattle.std.proofs.Common.{◌≡◌, ◌+◌, ◌-◌, ◌<◌, inl, inr, sym, ◌∙◌, ap, subst, arith, List, [], ◌∷◌, ◌++◌, append-nil, length, length-append, length-take, length-drop, take, drop, take-append-drop}
 use Rattle.std.proofs.Math.Seq.{drop-append_seam, take-append-add}
 use Rattle.swreq_word.specs.declared.symbols.Symbol.{Symbol}
-use Rattle.swreq_word.specs.Order.{WordLess}
 use Rattle.swreq_word.specs.Least.{IsLeast, EachFactor, IsMinimal}
 use Rattle.swreq_word.proofs.Comparing.{not_both_below}
 

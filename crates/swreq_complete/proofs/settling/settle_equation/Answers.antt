@@ -1,6 +1,5 @@
 use Rattle.std.proofs.Common.{inl, refl, ◌∙◌, subst, List}
 use Rattle.std.proofs.lemmas.Result.{MatchResult-weaker}
-use Rattle.swreq_word.specs.declared.symbols.Symbol.{Symbol}
 use Rattle.swreq_rule.specs.declared.rules.Rule.{Rule}
 use Rattle.swreq_rule.specs.declared.rules.Birth.TheVariants.{Given}
 use Rattle.swreq_complete.specs.Progress.{Settles}

@@ -1,8 +1,6 @@
-use Rattle.std.proofs.Common.{arith, ℕ, ◌≡◌, ◌+◌, subst, refl, length, List}
+use Rattle.std.proofs.Common.{arith, ◌+◌, subst, refl, length}
 use Rattle.std.proofs.lemmas.Option.{slice_get_read, slice_get_within}
 use Rattle.std.proofs.lemmas.Result.{err_from_is_err_and}
-use Rattle.swreq_word.specs.declared.symbols.Symbol.{Symbol}
-use Rattle.swreq_rule.specs.declared.rules.Rule.{Rule}
 use Rattle.swreq_rule.specs.declared.rules.Birth.TheVariants.{Given}
 use Rattle.swreq_complete.specs.Progress.{GivenBelow, Settles}
 use Rattle.swreq_complete.specs.Settling.{HasCome}

@@ -1,7 +1,7 @@
-use Rattle.std.proofs.Common.{◌+◌, ◌<◌, ◌≤◌, ap, arith, length}
+use Rattle.std.proofs.Common.{ap, arith, length}
 use Rattle.std.proofs.lemmas.Result.{on_ok_weaker}
 use Rattle.swreq_rule.proofs.Numbers.{rule_read, number_some, number_within}
-use Rattle.swreq_pair.proofs.Located.{begins_within, overlaps_there, contains_there, by_overlap, by_containment}
+use Rattle.swreq_pair.proofs.Located.{begins_within, contains_there, by_overlap, by_containment}
 use Rattle.swreq_pair.proofs.sides.write_sides.Goals as goal
 
 pub returns-then-symbols-place : goal.returns-then-symbols-place

@@ -1,6 +1,6 @@
 use Rattle.std.proofs.Common.{arith, ◌++◌, sym, ◌∙◌, ap, length-drop}
 use Rattle.swreq_word.proofs.Cuts.{whole_rest}
-use Rattle.swreq_rule.proofs.Overlapping.{overlapping, common_is, overlap_within}
+use Rattle.swreq_rule.proofs.Overlapping.{overlapping, common_is}
 use Rattle.swreq_rule.proofs.overlap.overlaps.Goals as goal
 
 pub returns : goal.returns

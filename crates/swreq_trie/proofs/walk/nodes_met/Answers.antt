@@ -12,8 +12,11 @@ loop-symbol-preserved c =
     let more = met_more c.args.edges.now c.args.ends.now c.args.w.now c.loop-symbol.symbol-index c.loop-symbol.node c.loop-symbol.invariant.walked
     c.loop-symbol.nodes.items c.loop-symbol.invariant.met _ c.loop-symbol-test.true c.in-Some.child c.add_ended.new.nodes.items c.requires c.in-Some.ensures.found
     c.in_ok-add_ended-in-Some.ensures.ended c.in_ok-add_ended-in-Some.ensures.kept in
-    record { walked = one_further c.args.edges.now c.args.w.now c.loop-symbol.symbol-index c.loop-symbol.node c.loop-symbol.invariant.walked _ c.loop-symbol-test.true
-        c.in-Some.child c.in-Some.ensures.found; met = more }
+    record {
+      walked = one_further c.args.edges.now c.args.w.now c.loop-symbol.symbol-index c.loop-symbol.node c.loop-symbol.invariant.walked _ c.loop-symbol-test.true
+          c.in-Some.child c.in-Some.ensures.found;
+      met = more;
+    }
 
 pub returns : goal.returns
 returns c =
