@@ -1,0 +1,11 @@
+pub mod Tests
+pub mod Search
+pub mod Made
+pub mod Firsts
+pub mod Pieces
+pub mod Declaring
+pub mod Walks
+pub mod Beginnings
+pub mod Heirs
+pub mod Order
+pub mod Answers

@@ -1,0 +1,10 @@
+use Rattle.std.proofs.Common.{◌≡◌, ◌⊎◌, ◌↔◌, ℕ, List, [], length, take, slice_get, get_or, Some, Contains}
+use Rattle.swreq_names.specs.Directories.{names_of}
+use Rattle.swreq_names.proofs.declarers.add_names.Given as goal
+
+abbrev pub invariant-loop-item : goal.invariant-loop-item
+invariant-loop-item l = record {
+  len : length l.lists.items ≡ length l.fn.lists.items;
+  added : (r : ℕ) (q : List ℕ) → slice_get l.ranks r ≡ Some q → (j : ℕ)
+      → Contains (get_or l.lists.items r []) j ↔ (Contains (get_or l.fn.lists.items r []) j ⊎ ((j ≡ l.place) × Contains (names_of (take l.item-index l.items)) q));
+}

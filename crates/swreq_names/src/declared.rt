@@ -1,0 +1,356 @@
+// The names that a text declares.
+ghost use Rattle.std.specs.Prelude.{◌≡◌, ◌↔◌, ℕ, [], map, slice_index_or, Contains, IfOk};
+ghost use Rattle.swreq_names.specs.Spaces.{spaces, declarations, of_params, protocol_of, struct_of, function_of, signature_of, nested_in, nested_of, outer_params, own_params, param_of, declares};
+ghost use Rattle.swreq_names.specs.Directories.{names_of};
+
+use crate::declarers::{Places, all_names, list_at, lists_of};
+use crate::directory::Directory;
+use crate::signature::{Param, Signature};
+use crate::sorted::Ranks;
+use crate::words::{Named, declarations};
+use std::alloc::{AllocError, Global};
+use std::marker::Model;
+use swreq_decl::{FunctionDecl, ProtocolDecl, Skeleton, StructDecl};
+use swreq_text::Seq;
+
+/// The names that a text declares, in their spaces.
+#[derive(Drop)]
+pub struct Declared {
+    protocols: Directory,
+    members: Vec<Directory>,
+    primaries: Vec<Directory>,
+    structs: Directory,
+    struct_params: Vec<Directory>,
+    nested: Vec<Directory>,
+    nested_params: Vec<Seq<Directory>>,
+    functions: Directory,
+    params: Vec<Directory>,
+    /// All names of associated types, and of each the protocols that declare it.
+    ranks: Ranks,
+    declarers: Vec<Places>,
+    /// What stands for a list of declarations that is not there.
+    empty: Directory,
+}
+
+impl Model for Declared {
+    ghost use Rattle.std.specs.Prelude.{◌≡◌, []};
+    ghost use Rattle.swreq_names.specs.Spaces.{Spaces};
+    ghost use Rattle.swreq_names.specs.Directories.{AreDeclarers};
+
+    ghost Value = { Spaces };
+
+    ghost view = { λ d. record {
+      protocols = d.protocols;
+      members = d.members.items;
+      primaries = d.primaries.items;
+      structs = d.structs;
+      struct_params = d.struct_params.items;
+      nested = d.nested.items;
+      nested_params = d.nested_params.items;
+      functions = d.functions;
+      params = d.params.items;
+    } };
+
+    ghost invariant = { λ d. AreDeclarers d.members.items d.ranks d.declarers.items × (d.empty ≡ []) };
+}
+
+impl Declared {
+    /// The names that the skeleton of a text declares.
+    pub fn of(alloc: Global, text: &[u8], s: &Skeleton) -> Result<Self, AllocError>
+        ensures { IfOk result (λ d. d ≡ spaces text.now s.now) }
+    {
+        let ps = s.protocols.items();
+        let ts = s.structs.items();
+        let fs = s.functions.items();
+        let protocols = directory_of(alloc, text, ps)?;
+        let members = members(alloc, text, ps)?;
+        let primaries = primaries(alloc, text, ps)?;
+        let structs = directory_of(alloc, text, ts)?;
+        let struct_params = struct_params(alloc, text, ts)?;
+        let nested = nested(alloc, text, ts)?;
+        let nested_params = nested_params(alloc, text, ts)?;
+        let functions = directory_of(alloc, text, fs)?;
+        let params = params(alloc, text, fs)?;
+        let ranks = Ranks::of(alloc, all_names(alloc, &members)?)?;
+        let declarers = lists_of(alloc, &ranks, &members)?;
+        let empty = Directory::of(alloc, Vec::new(alloc))?;
+        Ok(Declared {
+            protocols,
+            members,
+            primaries,
+            structs,
+            struct_params,
+            nested,
+            nested_params,
+            functions,
+            params,
+            ranks,
+            declarers,
+            empty,
+        })
+    }
+
+    /// The names of the protocols.
+    pub fn protocols(&self) -> &Directory
+        ensures { result.now ≡ self.now.protocols }
+    {
+        &self.protocols
+    }
+
+    /// The names of the structs.
+    pub fn structs(&self) -> &Directory
+        ensures { result.now ≡ self.now.structs }
+    {
+        &self.structs
+    }
+
+    /// The names of the functions at the top.
+    pub fn functions(&self) -> &Directory
+        ensures { result.now ≡ self.now.functions }
+    {
+        &self.functions
+    }
+
+    /// The names of the associated types of a protocol.
+    pub fn members(&self, protocol: usize) -> &Directory
+        ensures { result.now ≡ slice_index_or self.now.members protocol [] }
+    {
+        at(&self.members, protocol, &self.empty)
+    }
+
+    /// The primary names of a protocol.
+    pub fn primaries(&self, protocol: usize) -> &Directory
+        ensures { result.now ≡ slice_index_or self.now.primaries protocol [] }
+    {
+        at(&self.primaries, protocol, &self.empty)
+    }
+
+    /// The names of the functions of a struct.
+    pub fn nested(&self, outer: usize) -> &Directory
+        ensures { result.now ≡ slice_index_or self.now.nested outer [] }
+    {
+        at(&self.nested, outer, &self.empty)
+    }
+
+    /// The protocol that a name refers to.
+    pub fn protocol_of(&self, name: &[u8]) -> Option<usize>
+        ensures { result ≡ protocol_of self.now name.now }
+    {
+        self.protocols.refers_to(&self.structs, name)
+    }
+
+    /// The struct that a name refers to, where a signature is asked.
+    pub fn struct_of(&self, name: &[u8]) -> Option<usize>
+        ensures { result ≡ struct_of self.now name.now }
+    {
+        self.structs.refers_to(&self.functions, name)
+    }
+
+    /// The function at the top that a name refers to.
+    fn function_of(&self, name: &[u8]) -> Option<usize>
+        ensures { result ≡ function_of self.now name.now }
+    {
+        self.functions.refers_to(&self.structs, name)
+    }
+
+    /// The struct, or the function at the top, that a name refers to.
+    pub fn signature_of(&self, name: &[u8]) -> Option<Signature>
+        ensures { result ≡ signature_of self.now name.now }
+    {
+        match self.struct_of(name) {
+            Some(place) => Some(Signature::Struct(place)),
+            None => match self.function_of(name) {
+                Some(place) => Some(Signature::Function(place)),
+                None => None,
+            },
+        }
+    }
+
+    /// The function of a struct that a name refers to.
+    pub fn nested_in(&self, outer: usize, name: &[u8]) -> Option<Signature>
+        ensures { result ≡ nested_in self.now outer name.now }
+    {
+        match self.nested(outer).find(name) {
+            Some(function) => Some(Signature::Nested { outer, function }),
+            None => None,
+        }
+    }
+
+    /// The function of the struct that the one name refers to.
+    pub fn nested_of(&self, outer: &[u8], name: &[u8]) -> Option<Signature>
+        ensures { result ≡ nested_of self.now outer.now name.now }
+    {
+        match self.struct_of(outer) {
+            Some(place) => self.nested_in(place, name),
+            None => None,
+        }
+    }
+
+    /// The generic parameters of the struct around a signature.
+    pub fn outer_params(&self, signature: Signature) -> &Directory
+        ensures { result.now ≡ outer_params self.now signature }
+    {
+        match signature {
+            Signature::Nested { outer, .. } => at(&self.struct_params, outer, &self.empty),
+            _ => &self.empty,
+        }
+    }
+
+    /// The generic parameters of a signature itself.
+    pub fn own_params(&self, signature: Signature) -> &Directory
+        ensures { result.now ≡ own_params self.now signature }
+    {
+        match signature {
+            Signature::Struct(place) => at(&self.struct_params, place, &self.empty),
+            Signature::Function(place) => at(&self.params, place, &self.empty),
+            Signature::Nested { outer, function } => {
+                at(list_of(&self.nested_params, outer), function, &self.empty)
+            }
+        }
+    }
+
+    /// The generic parameter of a signature that a name refers to.
+    pub fn param_of(&self, signature: Signature, name: &[u8]) -> Option<Param>
+        ensures { result ≡ param_of self.now signature name.now }
+    {
+        match self.outer_params(signature).find(name) {
+            Some(place) => Some(Param::Outer(place)),
+            None => match self.own_params(signature).find(name) {
+                Some(place) => Some(Param::Own(place)),
+                None => None,
+            },
+        }
+    }
+
+    /// Whether a protocol declares the name itself.
+    pub fn declares(&self, protocol: usize, name: &[u8]) -> bool
+        ensures { result ≡ declares self.now protocol name.now }
+    {
+        self.members(protocol).has(name)
+    }
+
+    /// The protocols that declare the name themselves.
+    pub fn declarers(&self, name: &[u8]) -> &[usize]
+        ensures { (j : ℕ) → Contains result.now j ↔ Contains (names_of (slice_index_or self.now.members j [])) name.now }
+    {
+        match self.ranks.find(name) {
+            Some(rank) => list_at(&self.declarers, rank),
+            None => &[],
+        }
+    }
+}
+
+/// The directory at this place, or the empty one where there is none.
+fn at<'a>(directories: &'a [Directory], place: usize, empty: &'a Directory) -> &'a Directory
+    requires { empty.now ≡ [] }
+    ensures { result.now ≡ slice_index_or directories.now place [] }
+{
+    match directories.get(place) {
+        Some(directory) => directory,
+        None => empty,
+    }
+}
+
+/// The list at this place, or the empty one where there is none.
+fn list_of(lists: &[Seq<Directory>], place: usize) -> &[Directory]
+    ensures { result.now ≡ slice_index_or lists.now place [] }
+{
+    match lists.get(place) {
+        Some(list) => list.items(),
+        None => &[],
+    }
+}
+
+/// The names of these items.
+fn directory_of<T: Named>(alloc: Global, text: &[u8], items: &[T]) -> Result<Directory, AllocError>
+    ensures { IfOk result (λ d. d ≡ declarations text.now (map T.name_of items.now)) }
+{
+    let names = declarations(alloc, text, items)?;
+    Directory::of(alloc, names)
+}
+
+fn members(
+    alloc: Global,
+    text: &[u8],
+    protocols: &[ProtocolDecl],
+) -> Result<Vec<Directory>, AllocError>
+    ensures { IfOk result (λ found. found.items ≡ map (λ p. declarations text.now (map (λ m. m.name) p.members)) protocols.now) }
+{
+    let mut found = Vec::new(alloc);
+    for protocol in protocols {
+        let names = directory_of(alloc, text, protocol.members.items())?;
+        found.push(names)?;
+    }
+    Ok(found)
+}
+
+fn primaries(
+    alloc: Global,
+    text: &[u8],
+    protocols: &[ProtocolDecl],
+) -> Result<Vec<Directory>, AllocError>
+    ensures { IfOk result (λ found. found.items ≡ map (λ p. declarations text.now p.primaries) protocols.now) }
+{
+    let mut found = Vec::new(alloc);
+    for protocol in protocols {
+        let names = directory_of(alloc, text, protocol.primaries.items())?;
+        found.push(names)?;
+    }
+    Ok(found)
+}
+
+fn struct_params(
+    alloc: Global,
+    text: &[u8],
+    structs: &[StructDecl],
+) -> Result<Vec<Directory>, AllocError>
+    ensures { IfOk result (λ found. found.items ≡ map (λ t. of_params text.now t.params) structs.now) }
+{
+    let mut found = Vec::new(alloc);
+    for item in structs {
+        let names = directory_of(alloc, text, item.params.items())?;
+        found.push(names)?;
+    }
+    Ok(found)
+}
+
+fn nested(alloc: Global, text: &[u8], structs: &[StructDecl]) -> Result<Vec<Directory>, AllocError>
+    ensures { IfOk result (λ found. found.items ≡ map (λ t. declarations text.now (map (λ f. f.name) t.functions)) structs.now) }
+{
+    let mut found = Vec::new(alloc);
+    for item in structs {
+        let names = directory_of(alloc, text, item.functions.items())?;
+        found.push(names)?;
+    }
+    Ok(found)
+}
+
+fn params(
+    alloc: Global,
+    text: &[u8],
+    functions: &[FunctionDecl],
+) -> Result<Vec<Directory>, AllocError>
+    ensures { IfOk result (λ found. found.items ≡ map (λ f. of_params text.now f.params) functions.now) }
+{
+    let mut found = Vec::new(alloc);
+    for function in functions {
+        let names = directory_of(alloc, text, function.params.items())?;
+        found.push(names)?;
+    }
+    Ok(found)
+}
+
+fn nested_params(
+    alloc: Global,
+    text: &[u8],
+    structs: &[StructDecl],
+) -> Result<Vec<Seq<Directory>>, AllocError>
+    ensures { IfOk result (λ found. found.items ≡ map (λ t. map (λ f. of_params text.now f.params) t.functions) structs.now) }
+{
+    let mut found = Vec::new(alloc);
+    for item in structs {
+        let names = params(alloc, text, item.functions.items())?;
+        found.push(Seq::new(names))?;
+    }
+    Ok(found)
+}

@@ -1,0 +1,156 @@
+// Which protocol inherits which, by places in written order.
+ghost use Rattle.std.specs.Prelude.{◌≡◌, ◌++◌, map, length, IfOk, OnOk, MatchOption};
+ghost use Rattle.std.specs.List.{flat_map};
+ghost use Rattle.std.specs.Option.{option_to_list};
+ghost use Rattle.swreq_closure.specs.Chains.{IsClosureOf};
+ghost use Rattle.swreq_names.specs.Inheritance.{named_by, in_bounds, in_requirement, in_clause, direct, HasNoLoop, IsFirstLoop};
+
+use crate::declared::Declared;
+use crate::words::word;
+use std::alloc::{AllocError, Global};
+use swreq_closure::Closure;
+use swreq_decl::{AssocDecl, Entity, ProtocolDecl, ReqDecl};
+use swreq_text::Seq;
+
+/// The protocol that is named, if one is.
+fn named_by(text: &[u8], d: &Declared, e: &Entity) -> Option<usize>
+    ensures { result ≡ named_by text.now d.now e.now }
+{
+    if e.layout {
+        None
+    } else {
+        d.protocol_of(word(text, e.span))
+    }
+}
+
+fn add_named(text: &[u8], d: &Declared, e: &Entity, into: &mut Vec<usize>) -> Result<(), AllocError>
+    ensures { OnOk result (into.new.items ≡ into.old.items ++ option_to_list (named_by text.now d.now e.now)) }
+{
+    match named_by(text, d, e) {
+        Some(place) => Ok(into.push(place)?),
+        None => Ok(()),
+    }
+}
+
+#[tactic(auto, using(crate::proofs::Pieces::pieces_more))]
+fn add_bounds(
+    text: &[u8],
+    d: &Declared,
+    entities: &[Entity],
+    into: &mut Vec<usize>,
+) -> Result<(), AllocError>
+    ensures { OnOk result (into.new.items ≡ into.old.items ++ in_bounds text.now d.now entities.now) }
+{
+    for e in entities {
+        add_named(text, d, e, into)?;
+    }
+    Ok(())
+}
+
+fn add_requirement(
+    text: &[u8],
+    d: &Declared,
+    r: &ReqDecl,
+    into: &mut Vec<usize>,
+) -> Result<(), AllocError>
+    ensures { OnOk result (into.new.items ≡ into.old.items ++ in_requirement text.now d.now r.now) }
+{
+    match r {
+        ReqDecl::Bound { subject, bounds } => {
+            if b"Self".as_slice() == word(text, subject.head) && subject.steps.items().is_empty() {
+                add_bounds(text, d, bounds.items(), into)
+            } else {
+                Ok(())
+            }
+        }
+        ReqDecl::Same { .. } => Ok(()),
+    }
+}
+
+#[tactic(auto, using(crate::proofs::Pieces::pieces_more))]
+fn add_clause(
+    text: &[u8],
+    d: &Declared,
+    clause: &[ReqDecl],
+    into: &mut Vec<usize>,
+) -> Result<(), AllocError>
+    ensures { OnOk result (into.new.items ≡ into.old.items ++ in_clause text.now d.now clause.now) }
+{
+    for r in clause {
+        add_requirement(text, d, r, into)?;
+    }
+    Ok(())
+}
+
+#[tactic(auto, using(crate::proofs::Pieces::pieces_more))]
+fn add_members(
+    text: &[u8],
+    d: &Declared,
+    members: &[AssocDecl],
+    into: &mut Vec<usize>,
+) -> Result<(), AllocError>
+    ensures { OnOk result (into.new.items ≡ into.old.items ++ flat_map (λ m. in_clause text.now d.now m.clause) members.now) }
+{
+    for m in members {
+        add_clause(text, d, m.clause.items(), into)?;
+    }
+    Ok(())
+}
+
+/// The protocols that the protocol inherits directly.
+fn direct(
+    alloc: Global,
+    text: &[u8],
+    d: &Declared,
+    p: &ProtocolDecl,
+) -> Result<Seq<usize>, AllocError>
+    ensures { IfOk result (λ places. places ≡ direct text.now d.now p.now) }
+{
+    let mut into = Vec::new(alloc);
+    add_bounds(text, d, p.inherits.items(), &mut into)?;
+    add_clause(text, d, p.clause.items(), &mut into)?;
+    add_members(text, d, p.members.items(), &mut into)?;
+    Ok(Seq::new(into))
+}
+
+/// For each protocol those that it inherits directly.
+fn all_direct(
+    alloc: Global,
+    text: &[u8],
+    d: &Declared,
+    protocols: &[ProtocolDecl],
+) -> Result<Vec<Seq<usize>>, AllocError>
+    ensures { IfOk result (λ all. all.items ≡ map (direct text.now d.now) protocols.now) }
+{
+    let mut all = Vec::new(alloc);
+    for p in protocols {
+        all.push(direct(alloc, text, d, p)?)?;
+    }
+    Ok(all)
+}
+
+/// Which protocol inherits which. `d` has the names of the skeleton.
+pub fn closure_of(
+    alloc: Global,
+    text: &[u8],
+    d: &Declared,
+    protocols: &[ProtocolDecl],
+) -> Result<Closure, AllocError>
+    requires { length d.now.protocols ≡ length protocols.now }
+    ensures { IfOk result (IsClosureOf (map (direct text.now d.now) protocols.now)) }
+{
+    let steps = all_direct(alloc, text, d, protocols)?;
+    Closure::of(alloc, &steps)
+}
+
+/// The first of the places below `count` that leads to itself.
+pub fn first_loop(inherits: &Closure, count: usize) -> Option<usize>
+    ensures { MatchOption result (HasNoLoop inherits.now count) (IsFirstLoop inherits.now count) }
+{
+    for i in 0..count {
+        if inherits.leads(i, i) {
+            return Some(i);
+        }
+    }
+    None
+}
