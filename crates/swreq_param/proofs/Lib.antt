@@ -1,1 +1,2 @@
 pub mod TotalOrder
+pub mod Founded

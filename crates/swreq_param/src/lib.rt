@@ -3,5 +3,6 @@
 
 mod ids;
 pub mod laws;
+pub mod worked;
 
 pub use ids::{AssocId, NameId, ParamId, ProtoId, Step};
