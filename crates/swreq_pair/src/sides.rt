@@ -1,127 +1,134 @@
 //! The two sides of the pair of two rules at a place.
 
-ghost use Rattle.std.specs.Prelude.{◌≡◌, ℕ, ◌≤◌, ◌++◌, length, IfOk};
+ghost use Rattle.std.specs.Prelude.{◌≡◌, ◌++◌, IfOk, OnOk};
 ghost use Rattle.std.specs.Bool.{Decides};
 ghost use Rattle.swreq_word.specs.Overlap.{Containment, Overlap};
-ghost use Rattle.swreq_pair.specs.Pairs.{AreSides, ContainmentPair, IsNumberOf, IsPair, LeftLength, OverlapPair};
+ghost use Rattle.swreq_pair.specs.Pairs.{AreSides, ContainmentPair, HasPair, IsNumberOf, IsPair, LeftLength, OverlapPair};
 
 use std::alloc::{AllocError, Global};
-use swreq_rule::{Rule, begins};
+use swreq_rule::{Place, Rule, contains, overlaps};
 use swreq_word::{Symbol, Word};
 
-// The two words, one after the other.
-fn joined(alloc: Global, a: &[Symbol], b: &[Symbol]) -> Result<Word, AllocError>
-    ensures { IfOk result (λ w. w ≡ a.now ++ b.now) }
+// Puts the two words into the buffer, one after the other, in place of what was there.
+fn write(buffer: &mut Vec<Symbol>, a: &[Symbol], b: &[Symbol]) -> Result<(), AllocError>
+    ensures { OnOk result (buffer.new.items ≡ a.now ++ b.now) }
 {
-    let mut symbols = Vec::from_slice(alloc, a)?;
-    symbols.extend_from_slice(b)?;
-    Ok(Word::new(symbols))
+    buffer.clear();
+    buffer.extend_from_slice(a)?;
+    buffer.extend_from_slice(b)?;
+    Ok(())
 }
 
-// The three words, one after the other.
-fn joined_three(alloc: Global, a: &[Symbol], b: &[Symbol], c: &[Symbol]) -> Result<Word, AllocError>
-    ensures { IfOk result (λ w. w ≡ a.now ++ (b.now ++ c.now)) }
+// Puts the three words into the buffer, one after the other, in place of what was there.
+fn write_three(
+    buffer: &mut Vec<Symbol>,
+    a: &[Symbol],
+    b: &[Symbol],
+    c: &[Symbol],
+) -> Result<(), AllocError>
+    ensures { OnOk result (buffer.new.items ≡ a.now ++ (b.now ++ c.now)) }
 {
-    let mut symbols = Vec::from_slice(alloc, a)?;
-    symbols.extend_from_slice(b)?;
-    symbols.extend_from_slice(c)?;
-    Ok(Word::new(symbols))
+    buffer.clear();
+    buffer.extend_from_slice(a)?;
+    buffer.extend_from_slice(b)?;
+    buffer.extend_from_slice(c)?;
+    Ok(())
 }
 
-// Whether the first word overlaps the second at the place.
-fn overlaps(l: &[Symbol], m: &[Symbol], at: usize) -> bool
-    requires { at ≤ length l.now }
-    ensures { Decides result (Overlap l.now m.now at) }
-{
-    let rest = &l[at..];
-    if at == 0 {
-        return false;
-    }
-    if rest.len() == 0 {
-        return false;
-    }
-    if m.len() <= rest.len() {
-        return false;
-    }
-    begins(m, rest)
-}
-
-// Whether the second word stands in the first at the place.
-fn contains(l: &[Symbol], m: &[Symbol], at: usize) -> bool
-    requires { at ≤ length l.now }
-    ensures { Decides result (Containment l.now m.now at) }
-{
-    begins(&l[at..], m)
-}
-
-// The two sides where the left sides overlap at the place.
-fn overlap(
-    alloc: Global,
+// Writes the two sides of an overlap.
+fn write_overlap(
     first: &Rule,
     second: &Rule,
     at: usize,
-) -> Result<Option<(Word, Word)>, AllocError>
-    requires { at ≤ length first.now.left }
-    ensures { IfOk result (AreSides (OverlapPair first.now second.now at)) }
+    left: &mut Vec<Symbol>,
+    right: &mut Vec<Symbol>,
+) -> Result<(), AllocError>
+    requires { Overlap first.now.left second.now.left at }
+    ensures { OnOk result (OverlapPair first.now second.now at left.new.items right.new.items) }
 {
     let l = first.left.symbols();
     let m = second.left.symbols();
-    if !overlaps(l, m, at) {
-        return Ok(None);
-    }
-    let left = joined(alloc, first.right.symbols(), &m[l.len() - at..])?;
-    let right = joined(alloc, &l[..at], second.right.symbols())?;
-    Ok(Some((left, right)))
+    write(left, first.right.symbols(), &m[l.len() - at..])?;
+    write(right, &l[..at], second.right.symbols())
 }
 
-// The two sides where the second left side stands in the first at the place.
-fn containment(
-    alloc: Global,
+// Writes the two sides of a containment.
+fn write_containment(
     first: &Rule,
     second: &Rule,
     at: usize,
-) -> Result<Option<(Word, Word)>, AllocError>
-    requires { at ≤ length first.now.left }
-    ensures { IfOk result (AreSides (ContainmentPair first.now second.now at)) }
+    left: &mut Vec<Symbol>,
+    right: &mut Vec<Symbol>,
+) -> Result<(), AllocError>
+    requires { Containment first.now.left second.now.left at }
+    ensures { OnOk result (ContainmentPair first.now second.now at left.new.items right.new.items) }
 {
     let l = first.left.symbols();
     let m = second.left.symbols();
-    if !contains(l, m, at) {
-        return Ok(None);
-    }
-    let left = joined(alloc, first.right.symbols(), &[])?;
-    let right = joined_three(alloc, &l[..at], second.right.symbols(), &l[at + m.len()..])?;
-    Ok(Some((left, right)))
+    write(left, first.right.symbols(), &[])?;
+    write_three(right, &l[..at], second.right.symbols(), &l[at + m.len()..])
 }
 
-/// The two sides of the pair of rule `i` with rule `j` at the place, or None where they have no pair there. Numbers count from 1.
+/// Writes the two sides of the pair of two rules at the place into the two buffers, in place of what was there. The caller knows that
+/// they have a pair there, so what overlaps is not compared again.
+pub fn write_sides(
+    rules: &[Rule],
+    place: Place,
+    left: &mut Vec<Symbol>,
+    right: &mut Vec<Symbol>,
+) -> Result<(), AllocError>
+    requires { HasPair rules.now place }
+    ensures { OnOk result (IsPair rules.now place left.new.items right.new.items) }
+{
+    let first = &rules[place.i as usize - 1];
+    let second = &rules[place.j as usize - 1];
+    if second.left.symbols().len() <= first.left.symbols().len() - place.at {
+        write_containment(first, second, place.at, left, right)
+    } else {
+        write_overlap(first, second, place.at, left, right)
+    }
+}
+
+/// Whether the two rules have a pair at the place.
+pub fn is_pair(rules: &[Rule], place: Place) -> bool
+    requires first { IsNumberOf rules.now place.i }
+    requires second { IsNumberOf rules.now place.j }
+    ensures { Decides result (HasPair rules.now place) }
+{
+    let first = &rules[place.i as usize - 1];
+    let second = &rules[place.j as usize - 1];
+    let l = first.left.symbols();
+    let m = second.left.symbols();
+    if overlaps(l, m, place.at) {
+        return true;
+    }
+    if place.i == place.j {
+        return false;
+    }
+    contains(l, m, place.at)
+}
+
+/// The two sides of the pair of two rules at the place, or None where they have no pair there.
 pub fn sides_at(
     alloc: Global,
     rules: &[Rule],
-    i: u32,
-    j: u32,
-    at: usize,
+    place: Place,
 ) -> Result<Option<(Word, Word)>, AllocError>
-    requires first { IsNumberOf rules.now i }
-    requires second { IsNumberOf rules.now j }
-    requires within { (n : ℕ) → LeftLength rules.now i n → at ≤ n }
-    ensures { IfOk result (AreSides (IsPair rules.now (record { i = i; j = j; at = at }))) }
+    requires first { IsNumberOf rules.now place.i }
+    requires second { IsNumberOf rules.now place.j }
+    ensures { IfOk result (AreSides (IsPair rules.now place)) }
 {
-    let first = &rules[i as usize - 1];
-    let second = &rules[j as usize - 1];
-    match overlap(alloc, first, second, at)? {
-        Some(sides) => Ok(Some(sides)),
-        None => {
-            if i == j {
-                return Ok(None);
-            }
-            containment(alloc, first, second, at)
-        }
+    if !is_pair(rules, place) {
+        return Ok(None);
     }
+    let mut left: Vec<Symbol> = Vec::new(alloc);
+    let mut right: Vec<Symbol> = Vec::new(alloc);
+    write_sides(rules, place, &mut left, &mut right)?;
+    Ok(Some((Word::new(left), Word::new(right))))
 }
 
-/// The length of the left side of rule `i`. Numbers count from 1.
-pub fn left_length(rules: &[Rule], i: u32) -> usize
+// The length of the left side of rule `i`. Numbers count from 1.
+pub(crate) fn left_length(rules: &[Rule], i: u32) -> usize
     requires { IsNumberOf rules.now i }
     ensures { LeftLength rules.now i result }
 {

@@ -1,3 +1,5 @@
+pub mod Numbers
+pub mod Overlapping
 pub mod Context
 pub mod Search
 pub mod Downward

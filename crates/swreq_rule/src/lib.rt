@@ -1,13 +1,15 @@
-//! Rules that go down in the order of words, lists of rules, and reduction by them.
+//! Rules that go down in the order of words, lists of rules, reduction by them, and where two words overlap.
 #![tactic(auto)]
 
 pub mod laws;
 mod list;
+mod overlap;
 mod reduction;
 mod rules;
 
 pub use list::RuleList;
-pub use reduction::{begins, is_reducible, take_step};
+pub use overlap::{contains, overlaps};
+pub use reduction::{Redex, begins, first_redex, is_reducible, take_step};
 pub use rules::{Birth, Place, Rule};
 
 #[cfg(test)]

@@ -3,6 +3,7 @@
 
 mod counting;
 mod events;
+pub mod laws;
 mod recording;
 mod watching;
 

@@ -61,6 +61,9 @@ less_after z u v h = elim (less_cases u v h) [
   | inr l ↦ by_symbols (u ++ z) (v ++ z) (simp length-append (omega arith)) (symbols_after z u v l.0 l.1)
 ]
 
+pub less_in_context : (before u v after : List Symbol) → WordLess u v → WordLess (before ++ (u ++ after)) (before ++ (v ++ after))
+less_in_context before u v after h = less_before before (u ++ after) (v ++ after) (less_after after u v h)
+
 pub less_no_longer : (u v : List Symbol) → WordLess u v → length u ≤ length v
 less_no_longer u v h = elim (less_cases u v h) [ inl l ↦ omega arith | inr l ↦ omega arith ]
 
@@ -117,3 +120,15 @@ trichotomy u v = go (word_cmp u v) refl
     go Less e = inl e
     go Equal e = inr (inl (word_exact u v e))
     go Greater e = inr (inr (let a = word_total.antisymm v u in cc))
+
+-- a word that is greater than another is not empty
+pub greater_some : (u v : List Symbol) → WordLess u v → 0 < length v
+greater_some u [] h = elim (less_cases u [] h) [
+  | inl l ↦ absurd (omega (arith, l))
+  | inr l ↦ absurd (empty u l.0 l.1)
+]
+  where
+    empty : (u : List Symbol) → length u ≡ 0 → slice_cmp symbol_cmp u [] ≡ Less → ⊥
+    empty [] e f = cc
+    empty (x ∷ u) e f = omega (arith, e)
+greater_some u (x ∷ v) h = omega arith

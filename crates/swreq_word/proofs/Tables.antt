@@ -12,17 +12,7 @@ use Rattle.swreq_word.specs.declared.table.WordId.{WordId}
 use Rattle.swreq_word.specs.contracts.symbols.SymbolPartialEq.TheImpl as eq-impl
 use Rattle.swreq_word.specs.Interned.{StandsFor, AreDistinct, Interned}
 use Rattle.swreq_word.proofs.Comparing.{symbols_decide}
-
--- an element of a list that another follows
-pub get_left : {A : Type 0} (xs ys : List A) (k : ℕ) (x : A) → slice_get xs k ≡ Some x → slice_get (xs ++ ys) k ≡ Some x
-get_left [] ys k x e = cc
-get_left (y ∷ xs) ys zero x e = e
-get_left (y ∷ xs) ys (suc k) x e = get_left xs ys k x e
-
--- the element that is put last
-pub get_last : {A : Type 0} (xs : List A) (x : A) → slice_get (xs ++ x ∷ []) (length xs) ≡ Some x
-get_last [] x = refl
-get_last (y ∷ xs) x = get_last xs x
+use Rattle.swreq_word.proofs.Lists.{get_left, get_last}
 
 module _ {K : Type 0} (word_of : K → List Symbol) where
   key_at : (keys : List K) (i : ℕ) (w : List Symbol) → slice_get (map word_of keys) i ≡ Some w → (k : K) × (slice_get keys i ≡ Some k) × (word_of k ≡ w)

@@ -3,4 +3,5 @@ pub mod Order
 pub mod OrderLaws
 pub mod Replacement
 pub mod Overlap
+pub mod Least
 pub mod Interned

@@ -1,6 +1,6 @@
 //! The laws of the orders of symbols and words, over the definitions alone.
 
-ghost use Rattle.std.specs.Prelude.{◌≡◌, ℕ, ◌+◌, List};
+ghost use Rattle.std.specs.Prelude.{◌≡◌, ℕ, ◌+◌, ◌++◌, List};
 ghost use Rattle.std.specs.Cmp.{IsTotalOrder};
 ghost use Rattle.std.proofs.lemmas.Map.Lookups.{CmpEqualImpliesEq};
 ghost use Rattle.swreq_word.specs.declared.symbols.Symbol.{Symbol};
@@ -26,4 +26,9 @@ pub fn words_are_ordered()
 pub fn words_are_well_founded()
     ensures accessible { IsWellFounded WordLess }
     ensures no_descent { (words : ℕ → List Symbol) → ((n : ℕ) → WordLess (words (n + 1)) (words n)) → ⊥ }
+{}
+
+/// A word that is less than another stays less where both stand within one longer word.
+pub fn order_stays_in_context()
+    ensures { (before u v after : List Symbol) → WordLess u v → WordLess (before ++ (u ++ after)) (before ++ (v ++ after)) }
 {}

@@ -3,7 +3,7 @@
 ghost use Rattle.std.specs.Prelude.{◌≡◌, List, [], Contains, IfOk, OnErr, MatchOption};
 ghost use Rattle.swreq_word.specs.Interned.{AreDistinct, Interned, IsOf, StandsFor};
 
-use crate::{Symbol, Word};
+use crate::Symbol;
 use indexmap::IndexSet;
 use std::alloc::{AllocError, Global};
 use std::marker::Model;
@@ -70,10 +70,10 @@ impl WordTable {
     }
 
     /// The id of the word, or None where the table lacks it.
-    pub fn find(&self, w: &Word) -> Option<WordId>
+    pub fn find(&self, w: &[Symbol]) -> Option<WordId>
         ensures { MatchOption result (Contains self.now w.now → ⊥) (λ id. StandsFor self.now id w.now) }
     {
-        match self.words.get_index_of(w.symbols()) {
+        match self.words.get_index_of(w) {
             Some(place) => Some(WordId { place }),
             None => None,
         }

@@ -75,10 +75,10 @@ fn words_interned_twice_keep_their_ids(rt: HostRuntime) -> Result<(), Fail> {
         }
     }
     assert_eq!(rt;
-        table.find(&word(rt.alloc(), &[T, N])?).map(|id| id.place),
+        table.find(&[T, N]).map(|id| id.place),
         Some(5)
     );
-    assert_eq!(rt; table.find(&word(rt.alloc(), &[T])?), None);
+    assert_eq!(rt; table.find(&[T]), None);
     Ok(())
 }
 

@@ -3,8 +3,7 @@ use Rattle.swreq_word.proofs.Tables.{stands_at, lacks}
 use Rattle.swreq_word.proofs.table.WordTable.find.Goals as goal
 
 pub returns-in-Some : goal.returns-in-Some
-returns-in-Some c =
-    rw (← c.symbols.ensures) (stands_at c.self.inside.words.keys c.args.self.now c.self.view_is c.symbols.result.now c.in-Some.place (sym c.in-Some.ensures.index))
+returns-in-Some c = stands_at c.self.inside.words.keys c.args.self.now c.self.view_is c.args.w.now c.in-Some.place (sym c.in-Some.ensures.index)
 
 pub returns-in-None : goal.returns-in-None
-returns-in-None c = rw (← c.symbols.ensures) (lacks c.self.inside.words.keys c.args.self.now c.self.view_is c.symbols.result.now (sym c.in-None.ensures.found))
+returns-in-None c = lacks c.self.inside.words.keys c.args.self.now c.self.view_is c.args.w.now (sym c.in-None.ensures.found)

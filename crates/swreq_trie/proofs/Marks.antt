@@ -1,0 +1,54 @@
+-- What stands at nodes, as ends and spots are added.
+use Rattle.std.proofs.Common.{◌≡◌, ◌⊎◌, inl, inr, ℕ, ◌<◌, List, [], ◌∷◌, ◌++◌, length, refl, sym, ◌∙◌, ap, subst, arith, Option, Some, None, Result, Ok, Err, OnOk, Vec}
+use Rattle.std.specs.List.{slice_get}
+use Rattle.std.specs.declared.alloc.Global.{Global}
+use Rattle.std.proofs.Math.ListN.{set}
+use Rattle.swreq_trie.specs.declared.spots.Spot.{Spot}
+use Rattle.swreq_trie.specs.Marks.{EndsAt, SameEnds, Holds, IsListed, KeepsListed}
+use Rattle.swreq_word.proofs.Lists.{get_left, get_last, get_cases}
+use Rattle.swreq_trie.proofs.Changed.{set_here, set_kept}
+
+pub room_made : (old ends new : List (Option ℕ)) → SameEnds old ends → new ≡ ends ++ None ∷ [] → SameEnds old new
+room_made old ends new s e node place = (
+  (λ h. rw e (get_left ends (None ∷ []) node (Some place) ((s node place).0 h))),
+  (λ h. elim (get_cases ends None node (Some place) (subst (λ x. slice_get x node ≡ Some (Some place)) e h)) [ inl g ↦ (s node place).1 g | inr g ↦ cc (g.1) ]),
+)
+
+pub keeps_itself : (lists : List (Vec Spot Global)) → KeepsListed lists lists
+keeps_itself lists node spot h = h
+
+pub keeps_more : (old lists new : List (Vec Spot Global)) (list : Vec Spot Global) → KeepsListed old lists → new ≡ lists ++ list ∷ [] → KeepsListed old new
+keeps_more old lists new list k e node spot h =
+    let g = k node spot h in (g.0, rw e (get_left lists (list ∷ []) node g.0 g.1), g.2)
+
+pub holds_last : {X : Type 0} (xs : List X) (x : X) → Holds (xs ++ x ∷ []) x
+holds_last xs x = (length xs, get_last xs x)
+
+pub holds_more : {X : Type 0} (xs ys : List X) (x : X) → Holds xs x → Holds (xs ++ ys) x
+holds_more xs ys x h = (h.0, get_left xs ys h.0 x h.1)
+
+pub keeps_changed : (old new : List (Vec Spot Global)) (node : ℕ) (before after : Vec Spot Global) → slice_get old node ≡ Some before
+    → new ≡ set old node after → ((spot : Spot) → Holds before.items spot → Holds after.items spot) → KeepsListed old new
+keeps_changed old new node before after b e k n spot h = elim (set_kept old node after n h.0 h.1) [
+  | inl g ↦ (h.0, rw e g, h.2)
+  | inr g ↦ (
+    after,
+    rw e g.1,
+    k spot (let f : slice_get old node ≡ Some h.0 = subst (λ x. slice_get old x ≡ Some h.0) g.0 h.1 in
+        let same : h.0 ≡ before = cc in subst (λ (x : Vec Spot Global). Holds x.items spot) same h.2),
+  )
+]
+
+pub listed_changed : (old new : List (Vec Spot Global)) (node : ℕ) (after : Vec Spot Global) (spot : Spot) → node < length old
+    → new ≡ set old node after → Holds after.items spot → IsListed new node spot
+listed_changed old new node after spot l e h = (after, rw e (set_here old node after l), h)
+
+pub unmade : (old ends new : List (Option ℕ)) → SameEnds old ends → new ≡ ends → SameEnds old new
+unmade old ends new s e = subst (SameEnds old) (sym e) s
+
+pub on_ok : {A E P Q : Type 0} (r : Result A E) → (P → Q) → OnOk r P → OnOk r Q
+on_ok (Ok x) f h = f h
+on_ok (Err e) f h = h
+
+pub keeps_on : (a b c : List (Vec Spot Global)) → KeepsListed a b → KeepsListed b c → KeepsListed a c
+keeps_on a b c p q node spot h = q node spot (p node spot h)

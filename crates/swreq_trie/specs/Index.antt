@@ -1,0 +1,50 @@
+-- What the nodes of a trie say of the stored sides.
+use Rattle.std.specs.Prelude.{◌≡◌, ℕ, ◌<◌, ◌≤◌, List, ◌++◌, length, slice_get, Option, Some, Vec}
+use Rattle.std.specs.declared.alloc.Global.{Global}
+use Rattle.swreq_word.specs.declared.symbols.Symbol.{Symbol}
+use Rattle.swreq_trie.specs.declared.edges.Edge.{Edge}
+use Rattle.swreq_trie.specs.declared.spots.Spot.{Spot}
+use Rattle.swreq_trie.specs.declared.trie.Entry.{Entry}
+use Rattle.swreq_trie.specs.Paths.{IsChild, IsForked, Leads}
+use Rattle.swreq_trie.specs.Marks.{EndsAt, IsListed}
+use Rattle.swreq_trie.specs.Stored.{NoneLonger}
+
+-- Where a side ends at a node, edges lead to the node by its symbols.
+abbrev pub EndsRight : List Edge → List (Option ℕ) → List Entry → Type 0
+EndsRight edges ends stored = (node side : ℕ) → EndsAt ends node side
+    → (entry : Entry) × (slice_get stored side ≡ Some entry) × Leads edges 0 entry.left node
+
+-- Edges lead by its symbols to a node at which it ends, or an earlier one that is the same.
+abbrev pub HasEnd : List Edge → List (Option ℕ) → ℕ → List Symbol → Type 0
+HasEnd edges ends k left = (node : ℕ) × (side : ℕ) × Leads edges 0 left node × EndsAt ends node side × (side ≤ k)
+
+-- Its first symbols, up to so many, lead to nodes at which it is listed.
+abbrev pub IsPassingUpTo : List Edge → List (Vec Spot Global) → ℕ → List Symbol → ℕ → Type 0
+IsPassingUpTo edges passing k left count = (front rest : List Symbol) → left ≡ front ++ rest → 0 < length front → length front ≤ count
+    → (node : ℕ) × Leads edges 0 front node × IsListed passing node (record { side = k; at = 0 })
+
+-- it is listed at each node on its way
+abbrev pub IsPassing : List Edge → List (Vec Spot Global) → ℕ → List Symbol → Type 0
+IsPassing edges passing k left = IsPassingUpTo edges passing k left (length left)
+
+-- This place of it is listed at the node to which an edge leads from the root by the symbol.
+abbrev pub HasSpot : List Edge → List (Vec Spot Global) → ℕ → ℕ → Symbol → Type 0
+HasSpot edges inside k at symbol = (node : ℕ) × IsChild edges 0 symbol node × IsListed inside node (record { side = k; at = at })
+
+-- So is each place past the first, up to so many, by its symbol there.
+abbrev pub IsInsideBelow : List Edge → List (Vec Spot Global) → ℕ → List Symbol → ℕ → Type 0
+IsInsideBelow edges inside k left count =
+    (at : ℕ) (symbol : Symbol) → 0 < at → at < count → slice_get left at ≡ Some symbol → HasSpot edges inside k at symbol
+
+abbrev pub IsInside : List Edge → List (Vec Spot Global) → ℕ → List Symbol → Type 0
+IsInside edges inside k left = IsInsideBelow edges inside k left (length left)
+
+pub record IsIndex (edges : List Edge) (ends : List (Option ℕ)) (passing inside : List (Vec Spot Global)) (longest : ℕ) (stored : List Entry)
+    : Type 0 where
+  pub forked : IsForked edges
+  pub some : (k : ℕ) (entry : Entry) → slice_get stored k ≡ Some entry → 0 < length entry.left
+  pub none_longer : NoneLonger stored longest
+  pub ends_right : EndsRight edges ends stored
+  pub has_end : (k : ℕ) (entry : Entry) → slice_get stored k ≡ Some entry → HasEnd edges ends k entry.left
+  pub is_passing : (k : ℕ) (entry : Entry) → slice_get stored k ≡ Some entry → IsPassing edges passing k entry.left
+  pub is_inside : (k : ℕ) (entry : Entry) → slice_get stored k ≡ Some entry → IsInside edges inside k entry.left

@@ -1,0 +1,30 @@
+-- What stands at the nodes of a trie: which side ends there, and which sides are listed there.
+use Rattle.std.specs.Prelude.{◌≡◌, ◌≢◌, ◌⊎◌, ℕ, List, slice_get, Option, Some, Vec}
+use Rattle.std.specs.declared.alloc.Global.{Global}
+use Rattle.swreq_trie.specs.declared.spots.Spot.{Spot}
+
+-- the side with this index ends at the node
+abbrev pub EndsAt : List (Option ℕ) → ℕ → ℕ → Type 0
+EndsAt ends node side = slice_get ends node ≡ Some (Some side)
+
+-- the same ends at each node
+abbrev pub SameEnds : List (Option ℕ) → List (Option ℕ) → Type 0
+SameEnds old new = (node side : ℕ) → (EndsAt old node side → EndsAt new node side) × (EndsAt new node side → EndsAt old node side)
+
+-- the side ends at the node, or the one that ended there before, and the same as before at each other node
+pub record Marked (old new : List (Option ℕ)) (node side : ℕ) : Type 0 where
+  pub here : EndsAt new node side ⊎ ((earlier : ℕ) × EndsAt old node earlier)
+  pub kept : (n p : ℕ) → EndsAt old n p → EndsAt new n p
+  pub only : (n p : ℕ) → EndsAt new n p → EndsAt old n p ⊎ ((n ≡ node) × (p ≡ side))
+
+-- it stands in the list
+abbrev pub Holds : {X : Type 0} → List X → X → Type 0
+Holds xs x = (k : ℕ) × (slice_get xs k ≡ Some x)
+
+-- the spot stands in the list of the node
+abbrev pub IsListed : List (Vec Spot Global) → ℕ → Spot → Type 0
+IsListed lists node spot = (list : Vec Spot Global) × (slice_get lists node ≡ Some list) × Holds list.items spot
+
+-- what is listed stays listed
+abbrev pub KeepsListed : List (Vec Spot Global) → List (Vec Spot Global) → Type 0
+KeepsListed old new = (node : ℕ) (spot : Spot) → IsListed old node spot → IsListed new node spot

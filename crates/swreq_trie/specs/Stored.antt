@@ -1,0 +1,26 @@
+-- Stored sides, and which of them begins a word.
+use Rattle.std.specs.Prelude.{◌≡◌, ◌⊎◌, ℕ, ◌<◌, ◌≤◌, List, ◌++◌, length, slice_get, Some}
+use Rattle.swreq_word.specs.declared.symbols.Symbol.{Symbol}
+use Rattle.swreq_trie.specs.declared.trie.Entry.{Entry}
+
+-- the side begins the word
+abbrev pub Begins : Entry → List Symbol → Type 0
+Begins entry w = (after : List Symbol) × (w ≡ entry.left ++ after)
+
+-- no stored side begins the word
+abbrev pub NoneBegins : List Entry → List Symbol → Type 0
+NoneBegins stored w = (k : ℕ) (entry : Entry) → slice_get stored k ≡ Some entry → Begins entry w → ⊥
+
+-- Of the stored sides that begin the word, the shortest one, and of several that are the same the first, has this number.
+pub record Shortest (stored : List Entry) (w : List Symbol) (number : ℕ) : Type 0 where
+  pub side : ℕ
+  pub entry : Entry
+  pub is_entry : slice_get stored side ≡ Some entry
+  pub number_is : entry.number ≡ number
+  pub begins : Begins entry w
+  pub least : (k : ℕ) (other : Entry) → slice_get stored k ≡ Some other → Begins other w
+      → (length entry.left < length other.left) ⊎ ((length entry.left ≡ length other.left) × (side ≤ k))
+
+-- no stored side is longer than this
+abbrev pub NoneLonger : List Entry → ℕ → Type 0
+NoneLonger stored n = (k : ℕ) (entry : Entry) → slice_get stored k ≡ Some entry → length entry.left ≤ n

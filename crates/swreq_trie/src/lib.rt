@@ -1,0 +1,15 @@
+//! Left sides of rules by their symbols: the shortest one that begins at a place, and the places of two that overlap.
+#![tactic(auto)]
+
+mod edges;
+mod ends;
+mod ordered;
+mod overlaps;
+mod spots;
+mod trie;
+mod walk;
+
+pub use trie::{Entry, Trie};
+
+#[cfg(test)]
+mod tests;

@@ -1,0 +1,133 @@
+//! Stored left sides of rules by their symbols.
+
+ghost use Rattle.std.specs.Prelude.{◌≡◌, ◌<◌, ◌≤◌, [], ◌∷◌, ◌++◌, length, drop, MatchOption, IfOk, OnOk, OnErr};
+ghost use Rattle.swreq_trie.specs.Places.{ArePlaces};
+ghost use Rattle.swreq_trie.specs.Stored.{NoneBegins, NoneLonger, Shortest};
+
+use crate::edges::Edges;
+use crate::ends::mark;
+use crate::ordered::places_of;
+use crate::spots::Spot;
+use crate::walk::{find, make_way};
+use std::alloc::{AllocError, Global};
+use std::marker::Model;
+use swreq_rule::Place;
+use swreq_word::{Symbol, Word};
+
+/// A left side with the number of its rule.
+#[derive(Debug, Drop)]
+pub struct Entry {
+    pub left: Word,
+    pub number: u32,
+}
+
+/// Stored left sides with their numbers, in the order in which they came.
+#[derive(Drop)]
+pub struct Trie {
+    alloc: Global,
+    pub(crate) entries: Vec<Entry>,
+    // Lead along each side, and from the root by each symbol of one.
+    pub(crate) edges: Edges,
+    // The index of the first side that ends at each node.
+    pub(crate) ends: Vec<Option<usize>>,
+    // The sides on whose way each node lies.
+    pub(crate) passing: Vec<Vec<Spot>>,
+    // At each node to which one symbol leads from the root, the places past the begins of sides at which this symbol stands.
+    pub(crate) inside: Vec<Vec<Spot>>,
+    // No side is longer.
+    longest: usize,
+}
+
+impl Model for Trie {
+    ghost use Rattle.std.specs.Prelude.{List};
+    ghost use Rattle.swreq_trie.specs.declared.trie.Entry.{Entry};
+    ghost use Rattle.swreq_trie.specs.Index.{IsIndex};
+
+    ghost Value = { List Entry };
+
+    ghost view = { λ t. t.entries.items };
+
+    ghost invariant = { λ t. IsIndex t.edges t.ends.items t.passing.items t.inside.items t.longest t.entries.items };
+}
+
+impl Trie {
+    /// A trie that stores nothing, which takes no memory.
+    pub fn new(alloc: Global) -> Trie
+        ensures { result ≡ [] }
+    {
+        Trie {
+            alloc,
+            entries: Vec::new(alloc),
+            edges: Edges::new(alloc),
+            ends: Vec::new(alloc),
+            passing: Vec::new(alloc),
+            inside: Vec::new(alloc),
+            longest: 0,
+        }
+    }
+
+    /// The stored sides with their numbers, in the order in which they came.
+    pub fn entries(&self) -> &[Entry]
+        ensures { result.now ≡ self.now }
+    {
+        &self.entries
+    }
+
+    /// A length that no stored side passes.
+    pub fn longest(&self) -> usize
+        ensures { NoneLonger self.now result }
+    {
+        self.longest
+    }
+
+    /// Stores the side with the number, as the last one. For want of memory all is as before.
+    pub fn insert(&mut self, left: &[Symbol], number: u32) -> Result<(), AllocError>
+        requires { 0 < length left.now }
+        ensures ok { OnOk result (self.new ≡ self.old ++ (record { left = left.now; number = number }) ∷ []) }
+        ensures err { OnErr result (self.new ≡ self.old) }
+    {
+        let side = self.entries.len();
+        let word = Word::new(Vec::from_slice(self.alloc, left)?);
+        let node = make_way(
+            self.alloc,
+            &mut self.edges,
+            &mut self.ends,
+            &mut self.passing,
+            &mut self.inside,
+            side,
+            left,
+        )?;
+        self.entries.push(Entry { left: word, number })?;
+        mark(&mut self.ends, node, side);
+        self.longest = self.longest.max(left.len());
+        Ok(())
+    }
+
+    /// The number of the shortest stored side that begins at the place, of several that are the same the first, or None where none
+    /// begins there.
+    pub fn find_at(&self, w: &[Symbol], at: usize) -> Option<u32>
+        requires { at ≤ length w.now }
+        ensures { MatchOption result (NoneBegins self.now (drop at w.now)) (λ number. Shortest self.now (drop at w.now) number) }
+    {
+        match find(&self.edges, &self.ends, &w[at..]) {
+            Some(side) => Some(self.entries[side].number),
+            None => None,
+        }
+    }
+
+    /// All places of the pairs of the rule that has this side and number with the stored ones whose number is below it, and with itself,
+    /// in the order of places.
+    pub fn overlaps(
+        &self,
+        alloc: Global,
+        left: &[Symbol],
+        number: u32,
+    ) -> Result<Vec<Place>, AllocError>
+        requires { 0 < length left.now }
+        ensures { IfOk result (λ v. ArePlaces self.now left.now number v.items) }
+    {
+        let mut keys = self.collect(alloc, left, number)?;
+        keys.sort_unstable();
+        places_of(alloc, &keys)
+    }
+}
