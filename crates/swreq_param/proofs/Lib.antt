@@ -1,2 +1,9 @@
 pub mod TotalOrder
 pub mod Founded
+pub mod Comparing
+pub mod Steps
+pub mod SameEntries
+pub mod TermsOfEntries
+pub mod DistinctEntries
+pub mod Interning
+pub mod Growing

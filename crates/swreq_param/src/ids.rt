@@ -43,3 +43,9 @@ pub enum Step {
     Bound(AssocId),
     Name(NameId),
 }
+
+/// A type parameter of a table, by its place there, counted from 0.
+#[derive(Clone, Copy, Debug, PartialEq, Eq, PartialOrd, Ord, Hash)]
+pub struct TermId {
+    pub place: usize,
+}

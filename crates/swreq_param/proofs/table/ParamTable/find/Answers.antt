@@ -1,0 +1,13 @@
+use Rattle.std.proofs.Common.{sym}
+use Rattle.swreq_param.proofs.DistinctEntries.{each_once, found_at, stands_at, is_absent}
+use Rattle.swreq_param.specs.declared.table.Entry.TheVariants.{Member}
+use Rattle.swreq_param.proofs.table.ParamTable.find.Goals as goal
+
+pub returns-in-Some : goal.returns-in-Some
+returns-in-Some c =
+    stands_at c.self.inside.entries.keys c.args.self.now (Member c.args.base c.args.step) (record { place = c.in-Some.place }) c.self.invariant c.self.view_is
+    (found_at c.self.inside.entries.keys (Member c.args.base c.args.step) c.in-Some.place (sym c.in-Some.ensures.index))
+
+pub returns-in-None : goal.returns-in-None
+returns-in-None c =
+    is_absent c.self.inside.entries.keys c.args.self.now (Member c.args.base c.args.step) c.self.invariant (each_once c.self.inside.entries.keys c.len-count.ensures.unique) c.self.view_is c.requires (sym c.in-None.ensures.found)
