@@ -18,14 +18,16 @@ use Rattle.swreq_complete.specs.declared.limit.Which.{Which}
 use Rattle.swreq_complete.specs.declared.limit.Failed.{Failed}
 use Rattle.swreq_complete.specs.declared.limit.Failed.TheVariants.{Limit, Memory}
 use Rattle.swreq_complete.specs.Complete.{IsComplete, IsFresh}
-use Rattle.swreq_complete.specs.Reduced.{IsLeast, IsReducedSystem}
+use Rattle.swreq_word.specs.Least.{IsLeast}
+use Rattle.swreq_complete.specs.Reduced.{IsReducedSystem}
 use Rattle.swreq_complete.specs.Search.{Found}
 use Rattle.swreq_complete.specs.Limits.{AreInRange, IsWithin, Passes, EndsWithin}
 use Rattle.swreq_complete.specs.Reached.{BeginsWith}
 use Rattle.swreq_complete.specs.Answers.{IsAnswer}
 use Rattle.swreq_complete.specs.Events.{events, Tells}
 use Rattle.swreq_complete.specs.Settling.{Grown}
-use Rattle.swreq_complete.proofs.Ended.{pairs_meet, steps_of}
+use Rattle.swreq_complete.proofs.Ended.{pairs_meet}
+use Rattle.swreq_rule.proofs.Search.{all_steps}
 use Rattle.swreq_complete.proofs.Outcome.{fresh_of_reached}
 use Rattle.swreq_complete.proofs.Telling.{kept_length}
 use Rattle.swreq_complete.proofs.ReducedSystem.{irreducible_least, is_reduced}
@@ -90,7 +92,7 @@ module _ (limits : Limits) (given : List (List Symbol × List Symbol)) (base lis
 -- what reduction and the search for the reduced system give over complete rules
 pub reduces_least : (rules : List Rule) → IsComplete rules → (u v : List Symbol) → Reduces rules u v → Linked (Step rules) u v × IsLeast (Linked (Step rules)) v
 reduces_least rules c u v r =
-    (linked_chain (steps_of rules r.steps), irreducible_least rules (locally rules c.meet) v r.irreducible)
+    (linked_chain (all_steps rules r.steps), irreducible_least rules (locally rules c.meet) v r.irreducible)
 
-pub found_reduced : (rules found : List Rule) → IsComplete rules → Found rules (length rules) found → IsReducedSystem (Linked (Step rules)) found
+pub found_reduced : (rules found : List Rule) → IsComplete rules → Found rules found → IsReducedSystem (Linked (Step rules)) found
 found_reduced rules found c f = is_reduced rules (locally rules c.meet) found f

@@ -1,8 +1,8 @@
-pub mod Lists
 pub mod Moments
 pub mod Sides
 pub mod Ended
 pub mod Soundness
+pub mod Joining
 pub mod LeastWords
 pub mod Progress
 pub mod Equations
@@ -11,7 +11,9 @@ pub mod Closed
 pub mod Agreement
 pub mod Outcome
 pub mod Telling
-pub mod PlaceByPlace
+pub mod Listing
+pub mod Indexing
+pub mod AllPlaces
 pub mod Sorting
 pub mod ReducedSystem
 pub mod OneReduced

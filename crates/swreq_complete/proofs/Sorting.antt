@@ -1,74 +1,195 @@
--- A rule put in its place among sorted ones.
-use Rattle.std.proofs.Common.{◌≡◌, ℕ, zero, suc, ◌<◌, ◌≤◌, inl, inr, refl, sym, ap, subst, arith, List, [], ◌∷◌, ◌++◌, length, take, drop, Some}
-use Rattle.std.specs.List.{slice_get}
+-- Left sides, sorted, and the rules that are found by them.
+use Rattle.std.proofs.Common.{◌≡◌, ◌⊎◌, inl, inr, ℕ, suc, ◌+◌, ◌<◌, ◌≤◌, false, true, List, [], ◌∷◌, ◌++◌, length, get_or, refl, sym, ◌∙◌, ap, subst, arith, Some, Result, Ok, Err, OnOk, true≢false}
+use Rattle.std.specs.List.{slice_get, Contains}
+use Rattle.std.specs.List.Sorted as sorts
+use Rattle.std.specs.Ordering.{is_lt, nat_cmp, ordering_then}
+use Rattle.std.specs.declared.cmp.Ordering.TheVariants.{Less, Equal, Greater}
 use Rattle.std.proofs.lemmas.Bool.{cases_eq}
-use Rattle.std.proofs.lemmas.Option.{slice_get_within}
-use Rattle.swreq_word.specs.Order.{WordLess}
-use Rattle.swreq_word.proofs.Comparing.{trichotomy, less_trans}
+use Rattle.std.proofs.lemmas.List.Sorted.{Contains-permutation, IsPermutation-sym}
+use Rattle.std.proofs.lemmas.Option.{slice_get_within, slice_get-get_or, get_or_from_slice_get}
+use Rattle.swreq_word.specs.declared.symbols.Symbol.{Symbol}
+use Rattle.swreq_word.specs.Order.{word_cmp, WordLess}
+use Rattle.swreq_word.specs.Relations.{IsIrreducible}
+use Rattle.swreq_word.proofs.Comparing.{trichotomy, less_trans, not_below_itself}
+use Rattle.swreq_word.specs.OrderLaws.{word_exact, word_total}
+use Rattle.std.specs.Bool.{Decides}
+use Rattle.std.proofs.lemmas.Cmp.{tied_itself}
+use Rattle.swreq_word.proofs.Lists.{get_left, get_last, get_cases}
 use Rattle.swreq_rule.specs.declared.rules.Rule.{Rule}
-use Rattle.swreq_complete.specs.Reduced.{IsSorted}
-use Rattle.swreq_complete.specs.Search.{BelongsAt}
-use Rattle.swreq_complete.proofs.Lists.{there_is}
+use Rattle.swreq_rule.specs.Steps.{Step}
+use Rattle.swreq_rule.specs.Reduction.{Reduces}
+use Rattle.swreq_word.specs.Least.{EachFactor}
+use Rattle.swreq_complete.specs.Search.{AreKeys, AreKeysBelow, IsKey, IsReducedRule, Found, FoundBelow, key_cmp}
 
--- an element of a list with one more put in
-pub data Inserted {X : Type 0} (xs : List X) (at : ℕ) (x : X) (k : ℕ) (r : X) : Type 0 where
-  before : k < at → slice_get xs k ≡ Some r → Inserted xs at x k r
-  here : k ≡ at → r ≡ x → Inserted xs at x k r
-  after : (j : ℕ) → k ≡ suc j → at ≤ j → slice_get xs j ≡ Some r → Inserted xs at x k r
+pub no_keys : (rules : List Rule) → AreKeysBelow rules 0 []
+no_keys rules = record { each = λ n key e. cc; all = λ j rule l e f. absurd (omega (arith, l)) }
 
-pub get_inserted : {X : Type 0} (xs : List X) (at : ℕ) (x : X) (k : ℕ) (r : X) → at ≤ length xs → slice_get (take at xs ++ x ∷ drop at xs) k ≡ Some r
-    → Inserted xs at x k r
-get_inserted [] zero x zero r l e = here refl (cc)
-get_inserted [] zero x (suc k) r l e = after k refl (omega arith) e
-get_inserted [] (suc at) x k r l e = absurd (omega (arith, l))
-get_inserted (y ∷ xs) zero x zero r l e = here refl (cc)
-get_inserted (y ∷ xs) zero x (suc k) r l e = after k refl (omega arith) e
-get_inserted (y ∷ xs) (suc at) x zero r l e = before (omega arith) e
-get_inserted (y ∷ xs) (suc at) x (suc k) r l e = elim (get_inserted xs at x k r (omega (arith, l)) e)
-    [ before h f ↦ before (omega (arith, h)) f | here h f ↦ here (ap suc h) f | after j h g f ↦ after (suc j) (ap suc h) (omega (arith, g)) f ]
+-- one rule more
+pub key_skipped : (rules : List Rule) (k : ℕ) (keys : List (List Symbol × ℕ)) (rule : Rule) → slice_get rules k ≡ Some rule
+    → (EachFactor rule.left (IsIrreducible (Step rules)) → ⊥) → AreKeysBelow rules k keys → AreKeysBelow rules (k + 1) keys
+key_skipped rules k keys rule e not p = record {
+  each = p.each;
+  all = λ j other l f g. elim (cases_eq j k) [
+    | inl i ↦ absurd (not (let h : slice_get rules k ≡ Some other = subst (λ x. slice_get rules x ≡ Some other) i f in let same : other ≡ rule = cc in subst
+        (λ (x : Rule). EachFactor x.left (IsIrreducible (Step rules))) same g))
+    | inr i ↦ p.all j other (omega (arith, l, i)) f g
+  ];
+}
 
-pub get_new : {X : Type 0} (xs : List X) (at : ℕ) (x : X) → at ≤ length xs → slice_get (take at xs ++ x ∷ drop at xs) at ≡ Some x
-get_new [] zero x l = refl
-get_new [] (suc at) x l = absurd (omega (arith, l))
-get_new (y ∷ xs) zero x l = refl
-get_new (y ∷ xs) (suc at) x l = get_new xs at x (omega (arith, l))
+pub key_added : (rules : List Rule) (k : ℕ) (keys new : List (List Symbol × ℕ)) (rule : Rule) (left : List Symbol) → slice_get rules k ≡ Some rule
+    → left ≡ rule.left → EachFactor rule.left (IsIrreducible (Step rules)) → AreKeysBelow rules k keys → new ≡ keys ++ (left, k) ∷ []
+    → AreKeysBelow rules (k + 1) new
+key_added rules k keys new rule left e s minimal p n = subst (AreKeysBelow rules (k + 1)) (sym n) (record {
+  each = λ m key g. elim (get_cases keys (left, k) m key g) [
+    | inl h ↦ p.each m key h
+    | inr h ↦ subst (IsKey rules) (sym h.1) (rule, e, sym s, minimal)
+  ];
+  all = λ j other l f g. elim (cases_eq j k) [
+    | inl i ↦ (let h : slice_get rules k ≡ Some other = subst (λ x. slice_get rules x ≡ Some other) i f in
+        let same : rule ≡ other = cc in
+        let w : left ≡ other.left = s ∙ ap (λ (x : Rule). x.left) same in
+        let back = sym i in
+        (length keys, get_last keys (left, k) ∙ ap Some (λ x. (w x, back x))))
+    | inr i ↦ (let r = p.all j other (omega (arith, l, i)) f g in (r.0, get_left keys ((left, k) ∷ []) r.0 (other.left, j) r.1))
+  ];
+})
 
-pub get_moved : {X : Type 0} (xs : List X) (at : ℕ) (x : X) (k : ℕ) (r : X) → slice_get xs k ≡ Some r
-    → (n : ℕ) × (slice_get (take at xs ++ x ∷ drop at xs) n ≡ Some r)
-get_moved [] at x k r e = cc
-get_moved (y ∷ xs) zero x k r e = (suc k, e)
-get_moved (y ∷ xs) (suc at) x zero r e = (zero, e)
-get_moved (y ∷ xs) (suc at) x (suc k) r e = let m = get_moved xs at x k r e in (suc m.0, m.1)
+moved : {X : Type 0} (xs ys : List X) (k : ℕ) (x : X) → sorts.IsPermutation xs ys → slice_get xs k ≡ Some x → (n : ℕ) × (slice_get ys n ≡ Some x)
+moved xs ys k x p e =
+    let c : Contains ys x = Contains-permutation xs ys x p (k, slice_get_within xs k x e, get_or_from_slice_get xs k x x e) in
+    (c.0, slice_get-get_or ys c.0 x c.1 ∙ ap Some c.2)
 
-module _ (xs : List Rule) (x : Rule) (at : ℕ) (sorted : IsSorted xs) (belongs : BelongsAt xs x.left at)
-    (new : (k : ℕ) (r : Rule) → slice_get xs k ≡ Some r → r.left ≡ x.left → ⊥) where
-  next_above : (r : Rule) → slice_get xs at ≡ Some r → WordLess x.left r.left
-  next_above r e = elim (trichotomy x.left r.left) [ inl h ↦ h | inr o ↦ elim o [ inl h ↦ absurd (new at r e (sym h)) | inr h ↦ absurd (belongs.here r e h) ] ]
+-- in another order
+pub keys_moved : (rules : List Rule) (count : ℕ) (keys sorted : List (List Symbol × ℕ)) → sorts.IsPermutation keys sorted → AreKeysBelow rules count keys
+    → AreKeysBelow rules count sorted
+keys_moved rules count keys sorted move p = record {
+  each = λ n key e. (let r = moved sorted keys n key (IsPermutation-sym keys sorted move) e in p.each r.0 key r.1);
+  all = λ j rule l e f. (let r = p.all j rule l e f in moved keys sorted r.0 (rule.left, j) move r.1);
+}
 
-  above : (k : ℕ) (r : Rule) → at ≤ k → slice_get xs k ≡ Some r → WordLess x.left r.left
-  above k r l e = elim (cases_eq k at) [
-    | inl h ↦ next_above r (subst (λ n. slice_get xs n ≡ Some r) h e)
-    | inr h ↦ (let w = slice_get_within xs k r e in
-        let y = there_is xs at (omega (arith, l, w)) in
-        less_trans x.left y.0.left r.left (next_above y.0 y.1) (sorted at k y.0 r (omega (arith, l, h)) y.1 e))
-  ]
-
-  pub insert_sorted : IsSorted (take at xs ++ x ∷ drop at xs)
-  insert_sorted j k r s l e f =
-      elim (get_inserted xs at x j r belongs.within e) [
-        | before a g ↦ elim (get_inserted xs at x k s belongs.within f) [
-          | before b h ↦ sorted j k r s l g h
-          | here b h ↦ subst (λ (z : Rule). WordLess r.left z.left) (sym h) (belongs.before j r a g)
-          | after n b c h ↦ sorted j n r s (omega (arith, a, b, c)) g h
-        ]
-        | here a g ↦ elim (get_inserted xs at x k s belongs.within f) [
-          | before b h ↦ absurd (omega (arith, a, b, l))
-          | here b h ↦ absurd (omega (arith, a, b, l))
-          | after n b c h ↦ subst (λ (z : Rule). WordLess z.left s.left) (sym g) (above n s c h)
-        ]
-        | after m a c g ↦ elim (get_inserted xs at x k s belongs.within f) [
-          | before b h ↦ absurd (omega (arith, a, b, c, l))
-          | here b h ↦ absurd (omega (arith, a, b, c, l))
-          | after n b d h ↦ sorted m n r s (omega (arith, a, b, l)) g h
-        ]
+-- a key's left side is not below that of the key before it
+next_key : (keys : List (List Symbol × ℕ)) → sorts.IsSorted key_cmp keys → (n : ℕ) (a b : List Symbol × ℕ) → slice_get keys n ≡ Some a
+    → slice_get keys (suc n) ≡ Some b → WordLess a.0 b.0 ⊎ (a.0 ≡ b.0)
+next_key keys sorted n a b e f =
+    let l = slice_get_within keys (suc n) b f in
+    let g : get_or keys n a ≡ a = get_or_from_slice_get keys n a a e in
+    let h : get_or keys (n + 1) a ≡ b = get_or_from_slice_get keys (n + 1) b a (subst (λ m. slice_get keys m ≡ Some b) (omega arith) f) in
+    let s : is_lt (key_cmp b a) ≡ false = subst (λ x. is_lt (key_cmp b x) ≡ false) g (subst (λ x. is_lt (key_cmp x (get_or keys n a)) ≡ false) h
+    (sorted n a (omega arith) (omega (arith, l)))) in
+    elim (trichotomy a.0 b.0) [
+      | inl x ↦ inl x
+      | inr x ↦ elim x [
+        | inl y ↦ inr y
+        | inr y ↦ absurd (true≢false (sym (ap (λ o. is_lt (ordering_then o (nat_cmp b.1 a.1))) y) ∙ s))
       ]
+    ]
+
+pub none_found : (rules : List Rule) (keys : List (List Symbol × ℕ)) → FoundBelow rules keys 0 []
+none_found rules keys = record {
+  each = λ n r e. cc;
+  all = λ n key l e. absurd (omega (arith, l));
+  sorted = λ j k r s l e f. cc;
+  last = λ k r e. cc;
+}
+
+module _ (rules : List Rule) (keys : List (List Symbol × ℕ)) (n : ℕ) (found : List Rule) (p : FoundBelow rules keys n found) where
+  -- a left side that is the same as the one before it
+  pub found_already : (m : ℕ) (a b : List Symbol × ℕ) → suc m ≡ n → slice_get keys m ≡ Some a → slice_get keys n ≡ Some b → a.0 ≡ b.0
+      → FoundBelow rules keys (n + 1) found
+  found_already m a b next e f same = record {
+    each = p.each;
+    all = λ k key l g. elim (cases_eq k n) [
+      | inl i ↦ (let h : slice_get keys n ≡ Some key = subst (λ x. slice_get keys x ≡ Some key) i g in
+          let it : b ≡ key = cc in
+          let r = p.all m a (omega (arith, next)) e in
+          (r.0, r.1, r.2, r.3 ∙ same ∙ ap (λ (x : List Symbol × ℕ). x.0) it))
+      | inr i ↦ p.all k key (omega (arith, l, i)) g
+    ];
+    sorted = p.sorted;
+    last = λ k r g. (let q = p.last k r g in
+        let i : q.0 ≡ m = (let z = q.2 in omega (arith, z, next)) in
+        let h = subst (λ x. slice_get keys x ≡ Some q.1) i q.3 in
+        let it : q.1 ≡ a = cc in
+        (n, b, omega arith, f, subst (λ w. WordLess r.left w ⊎ (r.left ≡ w)) (ap (λ (x : List Symbol × ℕ). x.0) it ∙ same) q.4));
+  }
+
+  module _ (sorted : sorts.IsSorted key_cmp keys) (key : List Symbol × ℕ) (is : slice_get keys n ≡ Some key)
+      (new : (m : ℕ) (a b : List Symbol × ℕ) → suc m ≡ n → slice_get keys m ≡ Some a → slice_get keys n ≡ Some b → a.0 ≡ b.0 → ⊥) where
+    above : (k : ℕ) (r : Rule) → slice_get found k ≡ Some r → WordLess r.left key.0
+    above k r g =
+        let q = p.last k r g in
+        elim (next_key keys sorted q.0 q.1 key q.3 (subst (λ x. slice_get keys x ≡ Some key) (sym q.2) is)) [
+          | inl l ↦ elim q.4 [ inl m ↦ less_trans r.left q.1.0 key.0 m l | inr m ↦ subst (λ x. WordLess x key.0) (sym m) l ]
+          | inr e ↦ absurd (new q.0 q.1 key q.2 q.3 is e)
+        ]
+
+    pub found_more : (rule : Rule) → rule.left ≡ key.0 → IsReducedRule rules rule → (more : List Rule) → more ≡ found ++ rule ∷ []
+        → FoundBelow rules keys (n + 1) more
+    found_more rule left good more e = subst (FoundBelow rules keys (n + 1)) (sym e) (record {
+      each = λ k r g. elim (get_cases found rule k r g) [ inl h ↦ p.each k r h | inr h ↦ subst (IsReducedRule rules) (sym h.1) good ];
+      all = λ k other l g. elim (cases_eq k n) [
+        | inl i ↦ (let h : slice_get keys n ≡ Some other = subst (λ x. slice_get keys x ≡ Some other) i g in
+            let it : key ≡ other = cc in
+            (length found, rule, get_last found rule, left ∙ ap (λ (x : List Symbol × ℕ). x.0) it))
+        | inr i ↦ (let r = p.all k other (omega (arith, l, i)) g in (r.0, r.1, get_left found (rule ∷ []) r.0 r.1 r.2, r.3))
+      ];
+      sorted = λ j k a b l g h. elim (get_cases found rule k b h) [
+        | inl y ↦ elim (get_cases found rule j a g) [
+          | inl x ↦ p.sorted j k a b l x y
+          | inr x ↦ absurd (let w = slice_get_within found k b y in omega (arith, w, l, x.0))
+        ]
+        | inr y ↦ elim (get_cases found rule j a g) [
+          | inl x ↦ subst (λ (z : Rule). WordLess a.left z.left) (sym y.1) (subst (WordLess a.left) (sym left) (above j a x))
+          | inr x ↦ absurd (omega (arith, l, x.0, y.0))
+        ]
+      ];
+      last = λ k r g. elim (get_cases found rule k r g) [
+        | inl h ↦ (n, key, omega arith, is, inl (above k r h))
+        | inr h ↦ (n, key, omega arith, is, inr (ap (λ (x : Rule). x.left) h.1 ∙ left))
+      ];
+    })
+
+  pub all_found : AreKeys rules keys → length keys ≤ n → Found rules found
+  all_found of le = record {
+    each = p.each;
+    all = λ j rule e f. (let k = of.all j rule (slice_get_within rules j rule e) e f in
+        let w = slice_get_within keys k.0 (rule.left, j) k.1 in p.all k.0 (rule.left, j) (omega (arith, w, le)) k.1);
+    sorted = p.sorted;
+  }
+
+-- the rule of a key, reduced
+pub reduced_rule : (rules : List Rule) (keys : List (List Symbol × ℕ)) → AreKeys rules keys → (n : ℕ) (key : List Symbol × ℕ) → slice_get keys n ≡ Some key
+    → (rule new : Rule) → slice_get rules key.1 ≡ Some rule → new.left ≡ rule.left → Reduces rules rule.right new.right → new.birth ≡ rule.birth
+    → (new.left ≡ key.0) × IsReducedRule rules new
+reduced_rule rules keys of n key e rule new f left right birth =
+    let r = of.each n key e in
+    let g = r.1 in
+    let same : r.0 ≡ rule = cc in
+    let minimal = subst (λ (x : Rule). EachFactor x.left (IsIrreducible (Step rules))) same r.3 in (
+      left ∙ sym (ap (λ (x : Rule). x.left) same) ∙ r.2,
+      (key.1, rule, f, sym left, sym birth, subst (λ x. EachFactor x (IsIrreducible (Step rules))) (sym left) minimal, right),
+    )
+
+pub key_within : (rules : List Rule) (keys : List (List Symbol × ℕ)) → AreKeys rules keys → (n : ℕ) (key : List Symbol × ℕ) → slice_get keys n ≡ Some key
+    → key.1 < length rules
+key_within rules keys of n key e = let r = of.each n key e in slice_get_within rules key.1 r.0 r.1
+
+-- what the comparison of two left sides tells
+pub equal_sides : (u v a b : List Symbol) → Equal ≡ word_cmp u v → u ≡ a → v ≡ b → Decides true (a ≡ b)
+equal_sides u v a b h e f = ((λ t. sym e ∙ word_exact u v (sym h) ∙ f), (λ t. refl))
+
+pub less_sides : (u v a b : List Symbol) → Less ≡ word_cmp u v → u ≡ a → v ≡ b → Decides false (a ≡ b)
+less_sides u v a b h e f = (
+  (λ t. absurd (true≢false (sym t))),
+  (λ s. absurd (not_below_itself v (subst (λ x. WordLess x v) (e ∙ s ∙ sym f) (sym h)))),
+)
+
+pub greater_sides : (u v a b : List Symbol) → Greater ≡ word_cmp u v → u ≡ a → v ≡ b → Decides false (a ≡ b)
+greater_sides u v a b h e f = (
+  (λ t. absurd (true≢false (sym t))),
+  (λ s. (let t = tied_itself word_total v in let g : word_cmp v v ≡ Greater = subst (λ x. word_cmp x v ≡ Greater) (e ∙ s ∙ sym f) (sym h) in cc)),
+)
+
+pub on_ok : {A E P Q : Type 0} (r : Result A E) → (P → Q) → OnOk r P → OnOk r Q
+on_ok (Ok x) f h = f h
+on_ok (Err e) f h = h

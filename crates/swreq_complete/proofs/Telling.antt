@@ -6,7 +6,9 @@ use Rattle.std.proofs.lemmas.Bool.{cases_lt}
 use Rattle.std.proofs.lemmas.Option.{slice_get_within}
 use Rattle.swreq_word.specs.declared.symbols.Symbol.{Symbol}
 use Rattle.swreq_rule.specs.declared.rules.Rule.{Rule}
+use Rattle.swreq_rule.specs.declared.rules.Place.{Place}
 use Rattle.swreq_rule.specs.declared.rules.Birth.{Birth}
+use Rattle.swreq_rule.specs.declared.rules.Birth.TheVariants.{Pair}
 use Rattle.swreq_watch.specs.declared.events.Event.{Event}
 use Rattle.swreq_watch.specs.declared.events.Event.TheVariants.{Born}
 use Rattle.swreq_watch.specs.Told.{GrewBy}
@@ -18,7 +20,7 @@ use Rattle.swreq_complete.specs.Limits.{Keeps, KeepsAll, KeepsButLast, IsWithin}
 use Rattle.swreq_complete.specs.Moments.{Before, HasSides}
 use Rattle.swreq_complete.specs.Progress.{Settles, SettlesPlace, Progress}
 use Rattle.swreq_complete.specs.Settling.{Grown, DoneWithin, StoppedAt, HasCome, HasStopped}
-use Rattle.swreq_complete.proofs.Lists.{get_cases, there_is}
+use Rattle.swreq_word.proofs.Lists.{get_cases, there_is}
 use Rattle.swreq_complete.proofs.Closed.{reached}
 
 pub grown_none : (rules : List Rule) (told : Option (List Event)) → Grown rules rules told told
@@ -45,9 +47,8 @@ Adds old new = (new ≡ old) ⊎ ((rule : Rule) × (new ≡ old ++ rule ∷ []))
 pub settles_adds : (old new : List Rule) (m : Birth) (l r : List Symbol) → Settles old new m l r → Adds old new
 settles_adds old new m l r s = elim s.outcome [ inl o ↦ inl o.1 | inr o ↦ inr (o.0, o.1) ]
 
-pub place_adds : (old new : List Rule) (i j at : ℕ) → SettlesPlace old new i j at → Adds old new
-place_adds old new i j at (inl s) = inl s.0
-place_adds old new i j at (inr s) = settles_adds old new _ _ _ s.3
+pub place_adds : (old new : List Rule) (place : Place) → SettlesPlace old new place → Adds old new
+place_adds old new place s = settles_adds old new (Pair place.i place.j place.at) s.0 s.1 s.3
 
 module _ (limits : Limits) (base : ℕ) (old new : List Rule) (kept : KeepsAll limits base old) (adds : Adds old new) where
   pub all_kept : ((rule : Rule) → slice_get new (length old) ≡ Some rule → Keeps limits (length old) rule) → KeepsAll limits base new
@@ -79,13 +80,13 @@ module _ (limits : Limits) (base : ℕ) (given : List (List Symbol × List Symbo
     (old new : List Rule) (told told' : Option (List Event))
     (progress : Progress base given old Visited) (kept : KeepsAll limits base old)
     (closed : (n m : Birth) (l r : List Symbol) → HasSides base given old n l r → Before n m → Visited m → Visited n)
-    (closed' : (t : List Rule) (n m : Birth) (l r : List Symbol) → HasSides base given t n l r → Before n m → Next m → Next n)
+    (closed' : (t : List Rule) → Done t → (n m : Birth) (l r : List Symbol) → HasSides base given t n l r → Before n m → Next m → Next n)
     (adds : (t : List Rule) → Done t → Adds old t) (takes_on : (t : List Rule) → Done t → Progress base given t Next) where
   pub goes_on : DoneWithin limits Done old new told told' → HasCome limits base given Next old new told told'
   goes_on d = record { progress = takes_on new d.done; kept = all_kept limits base old new kept (adds new d.done) d.kept; grown = d.grown }
 
   within : (t : List Rule) → Done t → IsWithin limits base given t
-  within t d = record { reached = reached base given t Next (takes_on t d) (closed' t); kept = but_last_kept limits base old t kept (adds t d) }
+  within t d = record { reached = reached base given t Next (takes_on t d) (closed' t d); kept = but_last_kept limits base old t kept (adds t d) }
 
   pub stops : (s : Stop) → StoppedAt limits Done old new told told' s → HasStopped limits base given old new told told' s
   stops (Limit which) d = (

@@ -1,11 +1,14 @@
 -- How far a completion has come, for its loops alone.
 use Rattle.std.specs.Prelude.{◌≡◌, ◌⊎◌, ℕ, ◌<◌, ◌≤◌, List, [], ◌∷◌, ◌++◌, length, slice_get, Some, max}
 use Rattle.swreq_word.specs.declared.symbols.Symbol.{Symbol}
+use Rattle.std.specs.declared.cmp.Ordering.TheVariants.{Less}
 use Rattle.swreq_rule.specs.declared.rules.Rule.{Rule}
+use Rattle.swreq_rule.specs.declared.rules.Place.{Place}
+use Rattle.swreq_rule.specs.Places.{place_cmp}
 use Rattle.swreq_rule.specs.declared.rules.Birth.{Birth}
 use Rattle.swreq_rule.specs.declared.rules.Birth.TheVariants.{Given, Pair}
 use Rattle.swreq_rule.specs.Reduction.{Reduces}
-use Rattle.swreq_pair.specs.Pairs.{IsPair}
+use Rattle.swreq_pair.specs.Pairs.{HasPair, IsPair}
 use Rattle.swreq_complete.specs.Moments.{HasSides, greater_number}
 use Rattle.swreq_complete.specs.Settled.{IsOriented, Settled}
 use Rattle.swreq_complete.specs.Reached.{IsBorn}
@@ -19,11 +22,10 @@ pub record Settles (old new : List Rule) (moment : Birth) (left right : List Sym
   pub outcome : ((left_end ≡ right_end) × (new ≡ old))
       ⊎ ((rule : Rule) × (new ≡ old ++ rule ∷ []) × (rule.birth ≡ moment) × IsOriented rule left_end right_end)
 
--- what settling the pair of two rules at a place does, where there is one
-abbrev pub SettlesPlace : List Rule → List Rule → ℕ → ℕ → ℕ → Type 0
-SettlesPlace old new i j at =
-    ((new ≡ old) × ((l r : List Symbol) → IsPair old (record { i = i; j = j; at = at }) l r → ⊥))
-    ⊎ ((l : List Symbol) × (r : List Symbol) × IsPair old (record { i = i; j = j; at = at }) l r × Settles old new (Pair i j at) l r)
+-- what settling the pair of two rules at a place does
+abbrev pub SettlesPlace : List Rule → List Rule → Place → Type 0
+SettlesPlace old new place =
+    (l : List Symbol) × (r : List Symbol) × IsPair old place l r × Settles old new (Pair place.i place.j place.at) l r
 
 -- The moments that were visited are settled, and each rule past the base is born of one of them.
 pub record Progress (base : ℕ) (given : List (List Symbol × List Symbol)) (trace : List Rule) (Visited : Birth → Type 0) : Type 0 where
@@ -39,8 +41,21 @@ abbrev pub GivenBelow : ℕ → Birth → Type 0
 GivenBelow count (Given n) = (0 < n) × (n ≤ count)
 GivenBelow count (Pair i j at) = ⊥
 
--- all equations, all pairs whose greater number is less, and of those with this greater number the ones before the place
-abbrev pub Earlier : ℕ → ℕ → ℕ → ℕ → Birth → Type 0
-Earlier greater i j at (Given n) = Unit {0}
-Earlier greater i j at (Pair k l to) =
-    (max k l < greater) ⊎ ((max k l ≡ greater) × ((k < i) ⊎ ((k ≡ i) × ((l < j) ⊎ ((l ≡ j) × (to < at))))))
+-- all equations, and all pairs whose greater number is less
+abbrev pub UpTo : ℕ → Birth → Type 0
+UpTo greater (Given n) = Unit {0}
+UpTo greater (Pair i j at) = max i j < greater
+
+-- those, and the pairs at the first of the places, so many
+abbrev pub Listed : ℕ → List Place → ℕ → Birth → Type 0
+Listed greater places count (Given n) = Unit {0}
+Listed greater places count (Pair i j at) =
+    (max i j < greater) ⊎ ((n : ℕ) × (n < count) × (slice_get places n ≡ Some (record { i = i; j = j; at = at })))
+
+-- all places of pairs with this greater number, in order
+pub record AreAllPlaces (rules : List Rule) (greater : ℕ) (places : List Place) : Type 0 where
+  pub each : (n : ℕ) (place : Place) → slice_get places n ≡ Some place
+      → (max place.i place.j ≡ greater) × HasPair rules place
+  pub all : (place : Place) (left right : List Symbol) → IsPair rules place left right → max place.i place.j ≡ greater
+      → (n : ℕ) × (slice_get places n ≡ Some place)
+  pub ordered : (j k : ℕ) (p q : Place) → j < k → slice_get places j ≡ Some p → slice_get places k ≡ Some q → place_cmp p q ≡ Less

@@ -1,30 +1,35 @@
 //! Complete lists of rules, and the completion that makes them.
 
-ghost use Rattle.std.specs.Prelude.{◌≡◌, ◌⊎◌, ◌≤◌, [], IfOk, vec_len, vec_capacity};
+ghost use Rattle.std.specs.Prelude.{◌≡◌, ◌⊎◌, ◌-◌, ◌<◌, ◌≤◌, ◌^◌, [], length, IfOk, vec_len, vec_capacity};
 ghost use Rattle.swreq_word.specs.Relations.{Linked};
 ghost use Rattle.swreq_rule.specs.Steps.{Step};
 ghost use Rattle.swreq_complete.specs.declared.limit.Failed.TheVariants.{Limit, Memory};
 ghost use Rattle.swreq_complete.specs.Answers.{IsAnswer, IsOnlyAnswer};
 ghost use Rattle.swreq_complete.specs.Complete.{IsComplete};
 ghost use Rattle.swreq_complete.specs.Events.{Tells};
+ghost use Rattle.swreq_complete.specs.Index.{IsIndexOf};
 ghost use Rattle.swreq_complete.specs.Limits.{AreInRange};
-ghost use Rattle.swreq_complete.specs.Reduced.{HasBirths, IsLeast, IsReducedSystem};
+ghost use Rattle.swreq_word.specs.Least.{IsLeast};
+ghost use Rattle.swreq_complete.specs.Reduced.{HasBirths, IsReducedSystem};
 
 use crate::completion::complete;
+use crate::indexed::Indexed;
 use crate::limit::{Failed, Limits, Stop, Which};
 use crate::reduced::find;
 use crate::settling::tell;
+use crate::task::Task;
 use std::alloc::{AllocError, Global};
 use std::marker::Model;
 use swreq_rule::{Rule, RuleList};
 use swreq_text::Seq;
+use swreq_trie::Trie;
 use swreq_watch::{Event, Watch};
 use swreq_word::{Symbol, Word};
 
 /// A list of rules that is complete: reduction leads congruent words to one word. It is empty, or what a completion ended with.
 #[derive(Drop)]
 pub struct CompleteRules {
-    list: RuleList,
+    list: Indexed,
 }
 
 impl Model for CompleteRules {
@@ -40,14 +45,13 @@ impl Model for CompleteRules {
 }
 
 // The same rules once more.
-fn copied(alloc: Global, list: &RuleList) -> Result<RuleList, AllocError>
-    ensures { IfOk result (λ c. c ≡ list.now) }
+fn copied(alloc: Global, rules: &[Rule]) -> Result<Indexed, AllocError>
+    requires { length rules.now < 2 ^ 32 - 1 }
+    ensures { IfOk result (λ c. c ≡ rules.now) }
 {
-    let mut new = RuleList::new(alloc);
-    for rule in list.rules() {
-        if let Err(_) = new.push(rule.clone()?) {
-            return Err(AllocError);
-        }
+    let mut new = Indexed::new(alloc);
+    for rule in rules {
+        new.push(rule.clone()?)?;
     }
     Ok(new)
 }
@@ -58,7 +62,7 @@ impl CompleteRules {
         ensures { result ≡ [] }
     {
         CompleteRules {
-            list: RuleList::new(alloc),
+            list: Indexed::new(alloc),
         }
     }
 
@@ -68,6 +72,13 @@ impl CompleteRules {
         ensures complete { IsComplete self.now }
     {
         self.list.rules()
+    }
+
+    /// The trie of the left sides of the rules, each with the number of its rule.
+    pub fn index(&self) -> &Trie
+        ensures { IsIndexOf result.now self.now }
+    {
+        self.list.index()
     }
 
     /// Reduces the word, which leaves the least of all words congruent to it. The word never grows, and keeps its capacity.
@@ -84,7 +95,7 @@ impl CompleteRules {
     pub fn copy(&self, alloc: Global) -> Result<CompleteRules, AllocError>
         ensures { IfOk result (λ c. c ≡ self.now) }
     {
-        let list = copied(alloc, &self.list)?;
+        let list = copied(alloc, self.list.rules())?;
         Ok(CompleteRules { list })
     }
 
@@ -114,10 +125,10 @@ fn into_seq(alloc: Global, list: RuleList) -> Result<Seq<Rule>, AllocError>
 }
 
 // The answer that the completion passed the limit with these rules.
-fn passed_limit(alloc: Global, which: Which, list: RuleList) -> Failed
+fn passed_limit(alloc: Global, which: Which, list: Indexed) -> Failed
     ensures { (result ≡ Limit which list) ⊎ (result ≡ Memory) }
 {
-    match into_seq(alloc, list) {
+    match into_seq(alloc, list.into_list()) {
         Ok(trace) => Failed::Limit { which, trace },
         Err(_) => Failed::Memory,
     }
@@ -149,7 +160,12 @@ pub fn extend<W: Watch>(
     if let Err(_) = tell(watch, &start) {
         return Err(Failed::Memory);
     }
-    match complete(alloc, &mut list, count, given, limits, watch) {
+    let task = Task {
+        base: count,
+        given,
+        limits,
+    };
+    match complete(alloc, &task, &mut list, watch) {
         Ok(()) => Ok(CompleteRules { list }),
         Err(Stop::Limit(which)) => Err(passed_limit(alloc, which, list)),
         Err(Stop::Memory) => Err(Failed::Memory),

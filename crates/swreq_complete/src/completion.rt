@@ -1,78 +1,90 @@
 //! A completion from its first equation to its last pair.
 
-ghost use Rattle.std.specs.Prelude.{◌≡◌, ℕ, ◌+◌, ◌-◌, ◌<◌, ◌≤◌, ◌^◌, max, length, MatchResult};
-ghost use Rattle.swreq_pair.specs.Pairs.{IsNumberOf, LeftLength};
-ghost use Rattle.swreq_complete.specs.Limits.{AreInRange, EndsWithin, KeepsAll};
-ghost use Rattle.swreq_complete.specs.Progress.{Earlier, Progress, SettlesPlace};
-ghost use Rattle.swreq_complete.specs.Settling.{DoneWithin, Grown, HasCome, HasStopped, StoppedAt};
+ghost use Rattle.std.specs.Prelude.{◌≡◌, ◌+◌, ◌-◌, ◌<◌, ◌≤◌, ◌^◌, length, slice_get, Some, MatchResult};
+ghost use Rattle.swreq_pair.specs.Pairs.{HasPair, IsNumberOf};
+ghost use Rattle.swreq_complete.specs.Limits.{AreInRange, EndsWithin};
+ghost use Rattle.swreq_complete.specs.Progress.{AreAllPlaces, SettlesPlace, UpTo};
+ghost use Rattle.swreq_complete.specs.declared.limit.Stop.TheVariants.{Memory};
+ghost use Rattle.swreq_complete.specs.Settling.{DoneWithin, Grown, HasCome, HasStopped, IsUnderway, StoppedAt};
 
+use crate::indexed::Indexed;
 use crate::limit::{Limits, Stop};
 use crate::settling::{settle_given, settle_sides};
+use crate::task::{Sides, Task};
 use std::alloc::Global;
-use swreq_pair::{left_length, sides_at};
-use swreq_rule::{Birth, RuleList};
+use swreq_pair::write_sides;
+use swreq_rule::{Birth, Place};
 use swreq_watch::Watch;
-use swreq_word::Word;
 
-// Settles the pair of two rules at the place, if there is one.
+// Settles the pair of two rules at the place.
 fn settle_place<W: Watch>(
-    alloc: Global,
-    rules: &mut RuleList,
+    rules: &mut Indexed,
     limits: Limits,
     watch: &mut W,
-    i: u32,
-    j: u32,
-    at: usize,
+    place: Place,
+    sides: &mut Sides,
 ) -> Result<(), Stop>
     requires few { length rules.old < 2 ^ 32 - 1 }
-    requires first { IsNumberOf rules.old i }
-    requires second { IsNumberOf rules.old j }
-    requires within { (n : ℕ) → LeftLength rules.old i n → at ≤ n }
+    requires pair { HasPair rules.old place }
     ensures { MatchResult result
-        (λ _. DoneWithin limits (λ t. SettlesPlace rules.old t i j at) rules.old rules.new (W.told watch.old) (W.told watch.new))
-        (λ s. StoppedAt limits (λ t. SettlesPlace rules.old t i j at) rules.old rules.new (W.told watch.old) (W.told watch.new) s) }
+        (λ _. DoneWithin limits (λ t. SettlesPlace rules.old t place) rules.old rules.new (W.told watch.old) (W.told watch.new))
+        (λ s. StoppedAt limits (λ t. SettlesPlace rules.old t place) rules.old rules.new (W.told watch.old) (W.told watch.new) s) }
 {
-    match sides_at(alloc, rules.rules(), i, j, at) {
+    match write_sides(
+        rules.rules(),
+        place,
+        &mut sides.left,
+        &mut sides.right,
+    ) {
         Err(_) => Err(Stop::Memory),
-        Ok(None) => Ok(()),
-        Ok(Some((left, right))) => settle_sides(
-            alloc,
-            rules,
-            limits,
-            watch,
-            Birth::Pair(i, j, at),
-            left.symbols(),
-            right.symbols(),
-        ),
+        Ok(()) => {
+            let birth = Birth::Pair(place.i, place.j, place.at);
+            settle_sides(rules, limits, watch, birth, sides)
+        }
     }
 }
 
-// Settles the pairs of two rules in order.
-fn settle_pairs_of<W: Watch>(
-    alloc: Global,
-    rules: &mut RuleList,
-    base: usize,
-    given: &[(Word, Word)],
-    limits: Limits,
-    watch: &mut W,
-    i: u32,
-    j: u32,
-) -> Result<(), Stop>
-    requires i_some { 0 < i }
-    requires j_some { 0 < j }
-    requires new { base < max i j }
-    requires in_range { max i j ≤ length rules.old }
-    requires so_far { Progress base given.now rules.old (Earlier (max i j) i j 0) }
-    requires kept { KeepsAll limits base rules.old }
-    requires base_fits { base < 2 ^ 32 - 1 }
-    requires limits { AreInRange limits }
-    ensures { MatchResult result
-        (λ _. HasCome limits base given.now (Earlier (max i j) i (j + 1) 0) rules.old rules.new (W.told watch.old) (W.told watch.new))
-        (λ s. HasStopped limits base given.now rules.old rules.new (W.told watch.old) (W.told watch.new) s) }
+// All places of pairs with this greater number, in order.
+fn places_of(alloc: Global, rules: &Indexed, greater: u32) -> Result<Vec<Place>, Stop>
+    requires { IsNumberOf rules.now greater }
+    ensures { MatchResult result (λ v. AreAllPlaces rules.now greater v.items) (λ s. s ≡ Memory) }
 {
-    let length = left_length(rules.rules(), i);
-    for at in 0..length {
-        settle_place(alloc, rules, limits, watch, i, j, at)?;
+    let all = rules.rules();
+    let rule = &all[greater as usize - 1];
+    match rules.index().overlaps(alloc, rule.left.symbols(), greater) {
+        Ok(places) => Ok(places),
+        Err(_) => Err(Stop::Memory),
+    }
+}
+
+// The place that stands there.
+fn place_at(places: &[Place], n: usize) -> Place
+    requires { n < length places.now }
+    ensures { slice_get places.now n ≡ Some result }
+{
+    places[n]
+}
+
+// Settles the pairs at these places, which are all with this greater number, in order.
+fn settle_places<W: Watch>(
+    task: &Task,
+    rules: &mut Indexed,
+    watch: &mut W,
+    sides: &mut Sides,
+    greater: u32,
+    places: &[Place],
+) -> Result<(), Stop>
+    requires new { task.now.base < greater }
+    requires in_range { greater ≤ length rules.old }
+    requires all_places { AreAllPlaces rules.old greater places.now }
+    requires so_far { IsUnderway task.now.limits task.now.base task.now.given.now rules.old (UpTo greater) }
+    ensures { MatchResult result
+        (λ _. HasCome task.now.limits task.now.base task.now.given.now (UpTo (greater + 1)) rules.old rules.new (W.told watch.old) (W.told watch.new))
+        (λ s. HasStopped task.now.limits task.now.base task.now.given.now rules.old rules.new (W.told watch.old) (W.told watch.new) s) }
+{
+    for n in 0..places.len() {
+        let place = place_at(places, n);
+        settle_place(rules, task.limits, watch, place, sides)?;
     }
     Ok(())
 }
@@ -80,53 +92,42 @@ fn settle_pairs_of<W: Watch>(
 // Settles the pairs with this greater number in order.
 fn settle_greater<W: Watch>(
     alloc: Global,
-    rules: &mut RuleList,
-    base: usize,
-    given: &[(Word, Word)],
-    limits: Limits,
+    task: &Task,
+    rules: &mut Indexed,
     watch: &mut W,
+    sides: &mut Sides,
     greater: u32,
 ) -> Result<(), Stop>
-    requires new { base < greater }
+    requires new { task.now.base < greater }
     requires in_range { greater ≤ length rules.old }
-    requires fits { greater + 1 < 2 ^ 32 }
-    requires so_far { Progress base given.now rules.old (Earlier greater 0 0 0) }
-    requires kept { KeepsAll limits base rules.old }
-    requires base_fits { base < 2 ^ 32 - 1 }
-    requires limits { AreInRange limits }
+    requires so_far { IsUnderway task.now.limits task.now.base task.now.given.now rules.old (UpTo greater) }
     ensures { MatchResult result
-        (λ _. HasCome limits base given.now (Earlier (greater + 1) 0 0 0) rules.old rules.new (W.told watch.old) (W.told watch.new))
-        (λ s. HasStopped limits base given.now rules.old rules.new (W.told watch.old) (W.told watch.new) s) }
+        (λ _. HasCome task.now.limits task.now.base task.now.given.now (UpTo (greater + 1)) rules.old rules.new (W.told watch.old) (W.told watch.new))
+        (λ s. HasStopped task.now.limits task.now.base task.now.given.now rules.old rules.new (W.told watch.old) (W.told watch.new) s) }
 {
-    for i in 1..greater {
-        settle_pairs_of(alloc, rules, base, given, limits, watch, i, greater)?;
-    }
-    for j in 1..greater + 1 {
-        settle_pairs_of(alloc, rules, base, given, limits, watch, greater, j)?;
-    }
-    Ok(())
+    let places = places_of(alloc, rules, greater)?;
+    settle_places(task, rules, watch, sides, greater, &places)
 }
 
 // Completes the rules, which are those of the base, by the equations.
 pub(crate) fn complete<W: Watch>(
     alloc: Global,
-    rules: &mut RuleList,
-    base: usize,
-    given: &[(Word, Word)],
-    limits: Limits,
+    task: &Task,
+    rules: &mut Indexed,
     watch: &mut W,
 ) -> Result<(), Stop>
-    requires base_is { base ≡ length rules.old }
-    requires base_fits { base < 2 ^ 32 - 1 }
-    requires limits { AreInRange limits }
+    requires base_is { task.now.base ≡ length rules.old }
+    requires base_fits { task.now.base < 2 ^ 32 - 1 }
+    requires limits { AreInRange task.now.limits }
     ensures { MatchResult result
-        (λ _. EndsWithin limits base given.now rules.new × Grown rules.old rules.new (W.told watch.old) (W.told watch.new))
-        (λ s. HasStopped limits base given.now rules.old rules.new (W.told watch.old) (W.told watch.new) s) }
+        (λ _. EndsWithin task.now.limits task.now.base task.now.given.now rules.new × Grown rules.old rules.new (W.told watch.old) (W.told watch.new))
+        (λ s. HasStopped task.now.limits task.now.base task.now.given.now rules.old rules.new (W.told watch.old) (W.told watch.new) s) }
 {
-    settle_given(alloc, rules, given, limits, watch)?;
-    let mut greater: u32 = base as u32 + 1;
+    let mut sides = Sides::new(alloc);
+    settle_given(task, rules, watch, &mut sides)?;
+    let mut greater: u32 = task.base as u32 + 1;
     'greater: while greater as usize <= rules.rules().len() {
-        settle_greater(alloc, rules, base, given, limits, watch, greater)?;
+        settle_greater(alloc, task, rules, watch, &mut sides, greater)?;
         greater += 1;
     }
     Ok(())

@@ -3,10 +3,12 @@
 
 mod complete_rules;
 mod completion;
+mod indexed;
 pub mod laws;
 mod limit;
 mod reduced;
 mod settling;
+mod task;
 
 pub use complete_rules::{CompleteRules, extend};
 pub use limit::{Failed, Limits, Which};

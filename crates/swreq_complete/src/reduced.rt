@@ -1,44 +1,110 @@
 //! The search for the reduced system of some rules.
 
-ghost use Rattle.std.specs.Prelude.{◌≡◌, ◌+◌, ◌≤◌, ◌<◌, ◌++◌, ◌∷◌, length, IfOk, OnOk, take, drop};
-ghost use Rattle.std.specs.Bool.{Decides};
+ghost use Rattle.std.specs.Prelude.{◌≡◌, ℕ, suc, ◌+◌, ◌<◌, List, [], ◌∷◌, ◌++◌, length, slice_get, Some, IfOk, OnOk};
+ghost use Rattle.std.specs.Bool.{Decides, OnFalse, OnTrue};
+ghost use Rattle.std.specs.List.Sorted.{IsSorted};
+ghost use Rattle.swreq_word.specs.declared.symbols.Symbol.{Symbol};
 ghost use Rattle.swreq_word.specs.Relations.{IsIrreducible};
 ghost use Rattle.swreq_rule.specs.Reduction.{Reduces};
 ghost use Rattle.swreq_rule.specs.Steps.{Step};
-ghost use Rattle.swreq_complete.specs.Complete.{IsFresh};
-ghost use Rattle.swreq_complete.specs.Reduced.{EachFactor};
-ghost use Rattle.swreq_complete.specs.Search.{BelongsAt, Found};
+ghost use Rattle.swreq_word.specs.Least.{EachFactor};
+ghost use Rattle.swreq_complete.specs.Search.{AreKeys, AreKeysBelow, Found, FoundBelow, key_cmp};
 
+use crate::indexed::Indexed;
 use std::alloc::{AllocError, Global};
 use std::cmp::Ordering;
-use swreq_rule::{Rule, RuleList, is_reducible};
+use swreq_rule::Rule;
 use swreq_word::{Symbol, Word, compare};
 
+// A left side, with the place of its rule.
+type Key = (Word, usize);
+
 // Whether no rule's left side stands in a proper factor of the word.
-fn is_minimal(rules: &[Rule], w: &[Symbol]) -> bool
+fn is_minimal(rules: &Indexed, w: &[Symbol]) -> bool
     requires { 0 < length w.now }
     ensures { Decides result (EachFactor w.now (IsIrreducible (Step rules.now))) }
 {
-    if is_reducible(rules, &w[1..]) {
+    if rules.is_reducible(&w[1..]) {
         return false;
     }
-    !is_reducible(rules, &w[..w.len() - 1])
+    !rules.is_reducible(&w[..w.len() - 1])
 }
 
-// The place among sorted rules at which the left side belongs.
-fn place_of(found: &[Rule], left: &[Symbol]) -> usize
-    ensures { BelongsAt found.now left.now result }
+// Puts the key last.
+fn push(keys: &mut Vec<Key>, key: Key) -> Result<(), AllocError>
+    ensures { OnOk result (keys.new.items ≡ keys.old.items ++ key ∷ []) }
 {
-    for (k, rule) in found.iter().enumerate() {
-        if compare(rule.left.symbols(), left) != Ordering::Less {
-            return k;
-        }
+    keys.push(key)?;
+    Ok(())
+}
+
+// Adds the left side of one rule more, if none of its proper factors can be reduced.
+fn add_key(rules: &Indexed, k: usize, keys: &mut Vec<Key>) -> Result<(), AllocError>
+    requires in_range { k < length rules.now }
+    requires so_far { AreKeysBelow rules.now k keys.old.items }
+    ensures { OnOk result (AreKeysBelow rules.now (k + 1) keys.new.items) }
+{
+    let rule = rule_at(rules, k);
+    if !is_minimal(rules, rule.left.symbols()) {
+        return Ok(());
     }
-    found.len()
+    let left = rule.left.clone()?;
+    push(keys, (left, k))
+}
+
+// The left sides whose proper factors can't be reduced.
+fn keys_of(alloc: Global, rules: &Indexed) -> Result<Vec<Key>, AllocError>
+    ensures { IfOk result (λ v. AreKeysBelow rules.now (length rules.now) v.items) }
+{
+    let mut keys: Vec<Key> = Vec::new(alloc);
+    for k in 0..rules.rules().len() {
+        add_key(rules, k, &mut keys)?;
+    }
+    Ok(keys)
+}
+
+// The key that stands there.
+fn key_at(keys: &[Key], n: usize) -> &Key
+    requires { n < length keys.now }
+    ensures { slice_get keys.now n ≡ Some result.now }
+{
+    &keys[n]
+}
+
+// Whether two keys have one left side.
+fn is_same(a: &Key, b: &Key) -> bool
+    ensures { Decides result (a.now.0 ≡ b.now.0) }
+{
+    match compare(a.0.symbols(), b.0.symbols()) {
+        Ordering::Less => false,
+        Ordering::Equal => true,
+        Ordering::Greater => false,
+    }
+}
+
+// Whether the left side differs from the one before it.
+fn is_new(keys: &[Key], n: usize) -> bool
+    requires { n < length keys.now }
+    ensures yes { OnTrue result ((m : ℕ) (a b : List Symbol × ℕ) → suc m ≡ n → slice_get keys.now m ≡ Some a → slice_get keys.now n ≡ Some b → a.0 ≡ b.0 → ⊥) }
+    ensures no { OnFalse result ((m : ℕ) × (a : List Symbol × ℕ) × (b : List Symbol × ℕ) × (suc m ≡ n) × (slice_get keys.now m ≡ Some a) × (slice_get keys.now n ≡ Some b) × (a.0 ≡ b.0)) }
+{
+    if n == 0 {
+        return true;
+    }
+    !is_same(key_at(keys, n - 1), key_at(keys, n))
+}
+
+// The rule that stands there.
+fn rule_at(rules: &Indexed, k: usize) -> &Rule
+    requires { k < length rules.now }
+    ensures { slice_get rules.now k ≡ Some result.now }
+{
+    let all = rules.rules();
+    &all[k]
 }
 
 // The rule with its right side reduced.
-fn reduced(alloc: Global, rules: &RuleList, rule: &Rule) -> Result<Rule, AllocError>
+fn reduced(alloc: Global, rules: &Indexed, rule: &Rule) -> Result<Rule, AllocError>
     ensures left { IfOk result (λ r. r.left ≡ rule.now.left) }
     ensures right { IfOk result (λ r. Reduces rules.now rule.now.right r.right) }
     ensures birth { IfOk result (λ r. r.birth ≡ rule.now.birth) }
@@ -49,42 +115,57 @@ fn reduced(alloc: Global, rules: &RuleList, rule: &Rule) -> Result<Rule, AllocEr
     Ok(Rule::new(left, Word::new(right), rule.birth))
 }
 
-// Puts the rule in at the place.
-fn put(found: &mut Vec<Rule>, at: usize, rule: Rule) -> Result<(), AllocError>
-    requires { at ≤ length found.old.items }
-    ensures { OnOk result (found.new.items ≡ take at found.old.items ++ rule ∷ drop at found.old.items) }
+// Puts the rule last.
+fn put(found: &mut Vec<Rule>, rule: Rule) -> Result<(), AllocError>
+    ensures { OnOk result (found.new.items ≡ found.old.items ++ rule ∷ []) }
 {
-    match found.insert(at, rule) {
+    match found.push(rule) {
         Ok(()) => Ok(()),
         Err(_) => Err(AllocError),
     }
 }
 
-// Takes one rule more, if none of its proper factors can be reduced.
-fn add(alloc: Global, rules: &RuleList, k: usize, found: &mut Vec<Rule>) -> Result<(), AllocError>
-    requires in_range { k < length rules.now }
-    requires fresh { IsFresh rules.now }
-    requires so_far { Found rules.now k found.old.items }
-    ensures { OnOk result (Found rules.now (k + 1) found.new.items) }
+// Adds the rule of one key more, if its left side differs from the one before it.
+fn add(
+    alloc: Global,
+    rules: &Indexed,
+    keys: &[Key],
+    n: usize,
+    found: &mut Vec<Rule>,
+) -> Result<(), AllocError>
+    requires in_range { n < length keys.now }
+    requires keys { AreKeys rules.now keys.now }
+    requires sorted { IsSorted key_cmp keys.now }
+    requires so_far { FoundBelow rules.now keys.now n found.old.items }
+    ensures { OnOk result (FoundBelow rules.now keys.now (n + 1) found.new.items) }
 {
-    let all = rules.rules();
-    let rule = &all[k];
-    if !is_minimal(all, rule.left.symbols()) {
+    if !is_new(keys, n) {
         return Ok(());
     }
+    let key = key_at(keys, n);
+    let rule = rule_at(rules, key.1);
     let new = reduced(alloc, rules, rule)?;
-    let at = place_of(found, new.left.symbols());
-    put(found, at, new)
+    put(found, new)
+}
+
+// The rules of sorted keys, each left side once.
+fn rules_of(alloc: Global, rules: &Indexed, keys: &[Key]) -> Result<Vec<Rule>, AllocError>
+    requires keys { AreKeys rules.now keys.now }
+    requires sorted { IsSorted key_cmp keys.now }
+    ensures { IfOk result (λ v. Found rules.now v.items) }
+{
+    let mut found: Vec<Rule> = Vec::with_capacity(alloc, keys.len())?;
+    for n in 0..keys.len() {
+        add(alloc, rules, keys, n, &mut found)?;
+    }
+    Ok(found)
 }
 
 // The reduced system that the rules give.
-pub(crate) fn find(alloc: Global, rules: &RuleList) -> Result<Vec<Rule>, AllocError>
-    requires { IsFresh rules.now }
-    ensures { IfOk result (λ v. Found rules.now (length rules.now) v.items) }
+pub(crate) fn find(alloc: Global, rules: &Indexed) -> Result<Vec<Rule>, AllocError>
+    ensures { IfOk result (λ v. Found rules.now v.items) }
 {
-    let mut found: Vec<Rule> = Vec::new(alloc);
-    for k in 0..rules.rules().len() {
-        add(alloc, rules, k, &mut found)?;
-    }
-    Ok(found)
+    let mut keys = keys_of(alloc, rules)?;
+    keys.sort_unstable();
+    rules_of(alloc, rules, &keys)
 }

@@ -1,6 +1,8 @@
 //! The moments of a completion, settled one by one: first the equations.
 
-ghost use Rattle.std.specs.Prelude.{◌≡◌, ◌-◌, ◌<◌, ◌^◌, ◌++◌, ◌∷◌, [], length, MatchResult, MatchOption};
+ghost use Rattle.std.specs.Prelude.{◌≡◌, ◌-◌, ◌<◌, ◌^◌, ◌++◌, ◌∷◌, [], length, IfOk, OnOk, MatchResult, MatchOption};
+ghost use Rattle.swreq_word.specs.Order.{WordLess};
+ghost use Rattle.swreq_rule.specs.declared.rules.Birth.TheVariants.{Given};
 ghost use Rattle.swreq_rule.specs.declared.rules.Rule.{Rule};
 ghost use Rattle.swreq_watch.specs.declared.events.Event.TheVariants.{Born};
 ghost use Rattle.swreq_watch.specs.Told.{GrewBy};
@@ -10,33 +12,41 @@ ghost use Rattle.swreq_complete.specs.Limits.{AreInRange};
 ghost use Rattle.swreq_complete.specs.Progress.{GivenBelow, Settles};
 ghost use Rattle.swreq_complete.specs.Settling.{DoneWithin, HasCome, HasStopped, StoppedAt};
 
+use crate::indexed::Indexed;
 use crate::limit::{Limits, Stop, passed};
-use std::alloc::Global;
+use crate::task::{Sides, Task};
+use std::alloc::AllocError;
 use std::cmp::Ordering;
-use swreq_rule::{Birth, Rule, RuleList};
+use swreq_rule::{Birth, Rule};
 use swreq_watch::{Event, Watch};
 use swreq_word::{Symbol, Word, compare};
 
-// The rule whose left side is the greater of the two words, or none where they are equal.
-fn rule_of(left: Vec<Symbol>, right: Vec<Symbol>, birth: Birth) -> Option<Rule>
-    ensures { MatchOption result
-        (left.items ≡ right.items)
-        (λ rule. (rule.birth ≡ birth) × IsOriented rule left.items right.items) }
+// The rule with these sides and this birth.
+fn made(left: &Vec<Symbol>, right: &Vec<Symbol>, birth: Birth) -> Result<Rule, AllocError>
+    requires { WordLess right.now.items left.now.items }
+    ensures { IfOk result (λ rule. (rule.left ≡ left.now.items) × (rule.right ≡ right.now.items) × (rule.birth ≡ birth)) }
 {
-    match compare(&left, &right) {
-        Ordering::Equal => None,
-        Ordering::Less => Some(Rule::new(Word::new(right), Word::new(left), birth)),
-        Ordering::Greater => Some(Rule::new(Word::new(left), Word::new(right), birth)),
-    }
+    let left = left.clone()?;
+    let right = right.clone()?;
+    Ok(Rule::new(Word::new(left), Word::new(right), birth))
 }
 
-// The symbols once more.
-fn copied(alloc: Global, symbols: &[Symbol]) -> Result<Vec<Symbol>, Stop>
-    ensures { MatchResult result (λ v. v.items ≡ symbols.now) (λ s. s ≡ Memory) }
+// The rule whose left side is the greater of the two sides, or none where they are equal.
+fn rule_of(sides: &Sides, birth: Birth) -> Result<Option<Rule>, AllocError>
+    ensures { IfOk result (λ found. MatchOption found
+        (sides.now.left.items ≡ sides.now.right.items)
+        (λ rule. (rule.birth ≡ birth) × IsOriented rule sides.now.left.items sides.now.right.items)) }
 {
-    match Vec::from_slice(alloc, symbols) {
-        Ok(v) => Ok(v),
-        Err(_) => Err(Stop::Memory),
+    match compare(&sides.left, &sides.right) {
+        Ordering::Equal => Ok(None),
+        Ordering::Less => {
+            let rule = made(&sides.right, &sides.left, birth)?;
+            Ok(Some(rule))
+        }
+        Ordering::Greater => {
+            let rule = made(&sides.left, &sides.right, birth)?;
+            Ok(Some(rule))
+        }
     }
 }
 
@@ -53,7 +63,8 @@ pub(crate) fn tell<W: Watch>(watch: &mut W, event: &Event) -> Result<(), Stop>
 }
 
 // Puts the rule of the event last.
-fn keep(rules: &mut RuleList, event: Event) -> Result<(), Stop>
+fn keep(rules: &mut Indexed, event: Event) -> Result<(), Stop>
+    requires { length rules.old < 2 ^ 32 - 1 }
     ensures { MatchResult result
         (λ _. (rule : Rule) → event ≡ Born rule → rules.new ≡ rules.old ++ rule ∷ [])
         (λ s. s ≡ Memory) }
@@ -69,7 +80,7 @@ fn keep(rules: &mut RuleList, event: Event) -> Result<(), Stop>
 
 // Tells the rule and puts it last, and stops where it passes a limit.
 fn bear<W: Watch>(
-    rules: &mut RuleList,
+    rules: &mut Indexed,
     limits: Limits,
     watch: &mut W,
     rule: Rule,
@@ -91,53 +102,63 @@ fn bear<W: Watch>(
 
 // Reduces both sides by the rules so far, and where they differ bears a rule.
 pub(crate) fn settle_sides<W: Watch>(
-    alloc: Global,
-    rules: &mut RuleList,
+    rules: &mut Indexed,
     limits: Limits,
     watch: &mut W,
     birth: Birth,
-    left: &[Symbol],
-    right: &[Symbol],
+    sides: &mut Sides,
 ) -> Result<(), Stop>
     requires { length rules.old < 2 ^ 32 - 1 }
     ensures { MatchResult result
-        (λ _. DoneWithin limits (λ t. Settles rules.old t birth left.now right.now) rules.old rules.new (W.told watch.old) (W.told watch.new))
-        (λ s. StoppedAt limits (λ t. Settles rules.old t birth left.now right.now) rules.old rules.new (W.told watch.old) (W.told watch.new) s) }
+        (λ _. DoneWithin limits (λ t. Settles rules.old t birth sides.old.left.items sides.old.right.items) rules.old rules.new (W.told watch.old) (W.told watch.new))
+        (λ s. StoppedAt limits (λ t. Settles rules.old t birth sides.old.left.items sides.old.right.items) rules.old rules.new (W.told watch.old) (W.told watch.new) s) }
 {
-    let mut l = copied(alloc, left)?;
-    let mut r = copied(alloc, right)?;
-    rules.reduce(&mut l);
-    rules.reduce(&mut r);
-    match rule_of(l, r, birth) {
-        None => Ok(()),
-        Some(rule) => bear(rules, limits, watch, rule),
+    rules.reduce(&mut sides.left);
+    rules.reduce(&mut sides.right);
+    match rule_of(sides, birth) {
+        Err(_) => Err(Stop::Memory),
+        Ok(None) => Ok(()),
+        Ok(Some(rule)) => bear(rules, limits, watch, rule),
+    }
+}
+
+// Settles the equation with this number, counted from 1.
+fn settle_equation<W: Watch>(
+    rules: &mut Indexed,
+    limits: Limits,
+    watch: &mut W,
+    number: usize,
+    equation: &(Word, Word),
+    sides: &mut Sides,
+) -> Result<(), Stop>
+    requires { length rules.old < 2 ^ 32 - 1 }
+    ensures { MatchResult result
+        (λ _. DoneWithin limits (λ t. Settles rules.old t (Given number) equation.now.0 equation.now.1) rules.old rules.new (W.told watch.old) (W.told watch.new))
+        (λ s. StoppedAt limits (λ t. Settles rules.old t (Given number) equation.now.0 equation.now.1) rules.old rules.new (W.told watch.old) (W.told watch.new) s) }
+{
+    match sides.set(equation.0.symbols(), equation.1.symbols()) {
+        Ok(()) => settle_sides(rules, limits, watch, Birth::Given(number), sides),
+        Err(_) => Err(Stop::Memory),
     }
 }
 
 // Settles the equations in order.
 pub(crate) fn settle_given<W: Watch>(
-    alloc: Global,
-    rules: &mut RuleList,
-    given: &[(Word, Word)],
-    limits: Limits,
+    task: &Task,
+    rules: &mut Indexed,
     watch: &mut W,
+    sides: &mut Sides,
 ) -> Result<(), Stop>
     requires base_fits { length rules.old < 2 ^ 32 - 1 }
-    requires limits { AreInRange limits }
+    requires limits { AreInRange task.now.limits }
     ensures { MatchResult result
-        (λ _. HasCome limits (length rules.old) given.now (GivenBelow (length given.now)) rules.old rules.new (W.told watch.old) (W.told watch.new))
-        (λ s. HasStopped limits (length rules.old) given.now rules.old rules.new (W.told watch.old) (W.told watch.new) s) }
+        (λ _. HasCome task.now.limits (length rules.old) task.now.given.now (GivenBelow (length task.now.given.now)) rules.old rules.new (W.told watch.old) (W.told watch.new))
+        (λ s. HasStopped task.now.limits (length rules.old) task.now.given.now rules.old rules.new (W.told watch.old) (W.told watch.new) s) }
 {
-    for (n, equation) in given.iter().enumerate() {
-        settle_sides(
-            alloc,
-            rules,
-            limits,
-            watch,
-            Birth::Given(n + 1),
-            equation.0.symbols(),
-            equation.1.symbols(),
-        )?;
+    let given = task.given;
+    for n in 0..given.len() {
+        let equation = &given[n];
+        settle_equation(rules, task.limits, watch, n + 1, equation, sides)?;
     }
     Ok(())
 }
