@@ -1,19 +1,18 @@
 -- What is told until memory runs out is a front of what is told in all.
-use Rattle.std.proofs.Common.{◌≡◌, ◌⊎◌, inl, inr, refl, sym, ap, subst, ◌∙◌, ℕ, zero, suc, List, [], ◌∷◌, ◌++◌, length, take, drop, map, append_assoc, take-append-drop, Result, Ok, Err}
+use Rattle.std.proofs.Common.{◌≡◌, ◌⊎◌, inl, inr, refl, sym, ap, subst, ◌∙◌, ℕ, zero, suc, List, [], ◌∷◌, ◌++◌, length, take, drop, map, append_assoc, take-append-drop, Result}
 use Rattle.std.proofs.lemmas.List.{map-append}
 use Rattle.swreq_rule.specs.declared.rules.Rule.{Rule}
 use Rattle.swreq_watch.specs.declared.events.Event.{Event}
 use Rattle.swreq_watch.specs.declared.events.Event.TheVariants.{Start, Born}
 use Rattle.swreq_complete.specs.declared.limit.Limits.{Limits}
 use Rattle.swreq_complete.specs.declared.limit.Failed.{Failed}
-use Rattle.swreq_complete.specs.Answers.{IsMemory}
 use Rattle.swreq_complete.specs.Events.{events}
 use Rattle.swreq_complete.specs.declared.limit.Which.{Which}
 use Rattle.swreq_complete.specs.Limits.{EndsWithin, IsWithin, Passes}
 use Rattle.swreq_complete.specs.Reached.{BeginsWith}
 use Rattle.swreq_complete.proofs.Outcome.{within_is_prefix}
 use Rattle.swreq_rounds.specs.Plan.{Item, Plan, given}
-use Rattle.swreq_rounds.specs.Rounds.{ComesTo, Ends, IsOutcome, IsRound, LeavesUsable}
+use Rattle.swreq_rounds.specs.Rounds.{Ends, IsRound, LeavesUsable}
 use Rattle.swreq_rounds.specs.Rounds.IsRound.{first, next}
 use Rattle.swreq_rounds.specs.Laws.{PartsAreFronts}
 use Rattle.swreq_rounds.proofs.OneOutcome.{Onward, not_both, one_end, onward, usable_one}
@@ -71,7 +70,7 @@ module _ (limits : Limits) (plan : Plan) where
 
   by_part : (used : List Item) (before part told more : List Event) (a : Result (List Rule) Failed) → Onward limits plan used more a → told ≡ before ++ more
       → (part ≡ before) ⊎ ((trace : List Rule) × BeginsWith plan.base trace × IsWithin limits (length plan.base) (given plan used) trace
-        × (part ≡ before ++ events (length plan.base) trace))
+      × (part ≡ before ++ events (length plan.base) trace))
       → Begins told part
   by_part used before part told more a o i (inl e) = (more, i ∙ ap (λ l. l ++ more) (sym e))
   by_part used before part told more a o i (inr (trace, begins, within, e)) =

@@ -1,11 +1,10 @@
 -- The last round uses just the usable requirements, and its rules stand for their equations.
-use Rattle.std.proofs.Common.{◌≡◌, ◌⊎◌, inl, inr, refl, sym, ap, subst, subst₂, ℕ, List, [], ◌∷◌, ◌++◌, length, map, ◌↔◌, Contains}
+use Rattle.std.proofs.Common.{◌≡◌, ◌⊎◌, inl, inr, sym, ap, subst, subst₂, List, [], map, ◌↔◌, Contains}
 use Rattle.std.proofs.lemmas.List.Elements.{Contains-append_cases, Contains-append_left, Contains-append_right}
 use Rattle.swreq_param.specs.declared.ids.ParamId.{ParamId}
 use Rattle.swreq_param.specs.declared.ids.ProtoId.{ProtoId}
 use Rattle.swreq_derive.specs.Derivation.{TermRequirement, TermFacts, Source}
 use Rattle.swreq_derive.specs.Derivation.Source.{Written, SelfOf}
-use Rattle.swreq_derive.specs.WellFormed.{HasValidSides}
 use Rattle.swreq_derive.proofs.Members.{no_member}
 use Rattle.swreq_word.specs.Relations.{Linked}
 use Rattle.swreq_rule.specs.declared.rules.Rule.{Rule}
@@ -13,15 +12,15 @@ use Rattle.swreq_rule.specs.Steps.{Step}
 use Rattle.swreq_watch.specs.declared.events.Event.{Event}
 use Rattle.swreq_complete.specs.declared.limit.Limits.{Limits}
 use Rattle.swreq_reading.specs.Symbols.{Word, Symbols, IsOfText, AreSymbolsOf, AreOfText, IsInText, left_side, right_side}
-use Rattle.swreq_reading.specs.Equations.{Gives, Equation, Linking, UsableOf, UsableIn, UsableEquation}
+use Rattle.swreq_reading.specs.Equations.{Equation, Linking, UsableOf, UsableIn, UsableEquation}
 use Rattle.swreq_reading.specs.Equations.Equation.{twice, member, of_protocol, of_source}
 use Rattle.swreq_reading.specs.Shown.{ShowsUsable}
 use Rattle.swreq_reading.proofs.Chained.{self_in_range}
-use Rattle.swreq_reading.proofs.Shown.{linking_to, more_equations, usable_by_more, shown_usable, usable_shown}
-use Rattle.swreq_rounds.specs.Plan.{Item, Plan, given, equation_of, AreShown}
-use Rattle.swreq_rounds.specs.Rounds.{Selects, Ends, LeavesUsable, IsRound, IsLastRound}
+use Rattle.swreq_reading.proofs.Shown.{more_equations, usable_by_more, shown_usable, usable_shown}
+use Rattle.swreq_rounds.specs.Plan.{Item, Plan, given, equation_of}
+use Rattle.swreq_rounds.specs.Rounds.{Ends, LeavesUsable, IsRound, IsLastRound}
 use Rattle.swreq_rounds.specs.Rounds.IsRound.{first, next}
-use Rattle.swreq_rounds.specs.Given.{basic_equations, of_self, items_of, protocols_plan, of_list, list_plan}
+use Rattle.swreq_rounds.specs.Given.{basic_equations, of_self, protocols_plan, of_list, list_plan}
 use Rattle.swreq_rounds.specs.Presents.{Presents, ProtocolEquation, AreProtocolRules, AreListRules}
 use Rattle.swreq_rounds.proofs.Members.{contains_map, contains_of_map, selected, selects, basic_is, has_doubled, has_named, items_are, has_item}
 use Rattle.swreq_rounds.proofs.Presented.{ended_presents, presents_to, none_presents}
@@ -105,9 +104,11 @@ module _ (m : Symbols) (f : TermFacts) (fit : AreSymbolsOf m f) (ranges : AreOfT
   usable_next used usable rules within sound e s p r h =
       let q = selected s (of_self p r) h in
       let k = of_all p r q.0 in
-      let o = ranges.owners p r k in
-      (k, shown_usable m f fit ranges (SelfOf p) (self_in_range m p o) (Used used) (λ x. ⊥) sound (λ x z. z) r
-        ((shown_over_self used rules (round_presents used within rules e) p o r).0 q.1))
+      let o = ranges.owners p r k in (
+        k,
+        shown_usable m f fit ranges (SelfOf p) (self_in_range m p o) (Used used) (λ x. ⊥) sound (λ x z. z) r
+            ((shown_over_self used rules (round_presents used within rules e) p o r).0 q.1),
+      )
 
   pub round_within : {used : List Item} {told : List Event} → IsRound limits plan used told → (x : Item) → Contains used x → Contains plan.all x
   round_within first x h = no_member x h
@@ -193,9 +194,11 @@ module _ (m : Symbols) (f : TermFacts) (fit : AreSymbolsOf m f) (ranges : AreOfT
   list_next : (used usable : List Item) (rules : List Rule) → ((x : Item) → Contains used x → Contains listed.all x) → ((r : TermRequirement) → Own used r → UsableIn f (Written gs rs) r)
       → Ends limits listed used rules → LeavesUsable listed rules usable → (r : TermRequirement) → Own usable r → UsableIn f (Written gs rs) r
   list_next used usable rules within sound e s r h =
-      let q = selected s (of_list gs rs r) h in
-      (of_listed r q.0, shown_usable m f fit ranges (Written gs rs) n (UsableOf f) (Own used) (λ p x z. z) sound r
-        ((shown_both m f (Written gs rs) rules (ByList used) (list_presents used within rules e) r).0 q.1))
+      let q = selected s (of_list gs rs r) h in (
+        of_listed r q.0,
+        shown_usable m f fit ranges (Written gs rs) n (UsableOf f) (Own used) (λ p x z. z) sound r
+            ((shown_both m f (Written gs rs) rules (ByList used) (list_presents used within rules e) r).0 q.1),
+      )
 
   list_usable : {used : List Item} {told : List Event} → IsRound limits listed used told → (r : TermRequirement) → Own used r → UsableIn f (Written gs rs) r
   list_usable first = λ r h. no_member (of_list gs rs r) h

@@ -9,8 +9,8 @@ use Rattle.swreq_complete.specs.declared.limit.Failed.TheVariants.{Limit, Memory
 use Rattle.swreq_complete.specs.Answers.{IsAnswer, IsMemory}
 use Rattle.swreq_complete.specs.Events.{events}
 use Rattle.swreq_complete.proofs.Outcome.{answers_are_one}
-use Rattle.swreq_rounds.specs.Plan.{Item, Plan, given, AreShown}
-use Rattle.swreq_rounds.specs.Rounds.{Selects, Ends, Stops, LeavesUsable, IsRound, IsLastRound, IsStoppedRound, IsOutcome}
+use Rattle.swreq_rounds.specs.Plan.{Item, Plan, given}
+use Rattle.swreq_rounds.specs.Rounds.{Selects, Ends, Stops, LeavesUsable, IsRound, IsOutcome}
 use Rattle.swreq_rounds.specs.Rounds.Selects.{none, takes, leaves}
 use Rattle.swreq_rounds.specs.Rounds.IsRound.{first, next}
 use Rattle.swreq_rounds.specs.Laws.{OutcomesAreOne}

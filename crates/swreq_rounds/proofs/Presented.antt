@@ -1,14 +1,14 @@
 -- An ended completion stands for the equations that its base stands for and the given ones.
-use Rattle.std.proofs.Common.{◌≡◌, ◌⊎◌, inl, inr, refl, sym, ap, subst, subst₂, ℕ, List, [], ◌∷◌, ◌++◌, length, take, map, append_assoc, Some, ◌↔◌, Contains}
+use Rattle.std.proofs.Common.{◌≡◌, ◌⊎◌, inl, inr, refl, sym, ap, subst, subst₂, ℕ, List, [], ◌∷◌, ◌++◌, length, take, map, append_assoc, Some, Contains}
 use Rattle.std.specs.List.{slice_get}
 use Rattle.std.proofs.lemmas.List.{append-nil}
 use Rattle.std.proofs.lemmas.List.Elements.{Contains-append_cases, Contains-append_right}
 use Rattle.std.proofs.lemmas.Option.{slice_get_within, get_or_from_slice_get, slice_get_read}
 use Rattle.swreq_word.specs.Relations.{Linked}
 use Rattle.swreq_word.specs.Relations.Chain.{done, more}
-use Rattle.swreq_word.specs.Relations.Linked.{here} 
+use Rattle.swreq_word.specs.Relations.Linked.{here}
 use Rattle.swreq_word.specs.Relations.Linked.{forth as on_forth, back as on_back}
-use Rattle.swreq_word.specs.Replacement.{Replaced, Replaces, Congruent}
+use Rattle.swreq_word.specs.Replacement.{Replaced}
 use Rattle.swreq_word.proofs.Chains.{joined, at_once, linked_on, linked_back, linked_by}
 use Rattle.swreq_rule.specs.declared.rules.Rule.{Rule}
 use Rattle.swreq_rule.specs.Steps.{Step}
@@ -21,7 +21,7 @@ use Rattle.swreq_complete.proofs.Soundness.{sound, complete}
 use Rattle.swreq_reading.specs.Symbols.{Word}
 use Rattle.swreq_reading.specs.Equations.{Link, Linking}
 use Rattle.swreq_reading.specs.Equations.Link.{forth, back, there}
-use Rattle.swreq_reading.proofs.Chained.{turn, turn_all}
+use Rattle.swreq_reading.proofs.Chained.{turn_all}
 use Rattle.swreq_reading.proofs.Shown.{linking_to}
 use Rattle.swreq_rounds.specs.Presents.{Presents}
 
@@ -106,10 +106,10 @@ module _ (base : List Rule) (given : List (Word × Word)) (trace : List Rule) (E
   each_equation : (l r : Word) (k : ℕ) → slice_get {X = Word × Word} (all_equations (length base) given trace) k ≡ Some (l, r) → Linking E l r
   each_equation l r k e =
       elim (Contains-append_cases (map (λ (x : Rule). (x.left, x.right)) (take (length base) trace)) given (l, r) (get_contains {X = Word × Word} (all_equations (length base) given trace) k (l, r) e)) [
-    | inl h ↦ (let g = contains_get {X = Word × Word} (map (λ (x : Rule). (x.left, x.right)) (take (length base) trace)) (l, r) h in
-        linking_to old ((before l r).0 (base_equation g.0 l r (subst (λ b. slice_get {X = Word × Word} (map (λ (x : Rule). (x.left, x.right)) b) g.0 ≡ Some (l, r)) over g.1))))
-    | inr h ↦ one_equation l r (new l r h)
-  ]
+        | inl h ↦ (let g = contains_get {X = Word × Word} (map (λ (x : Rule). (x.left, x.right)) (take (length base) trace)) (l, r) h in
+            linking_to old ((before l r).0 (base_equation g.0 l r (subst (λ b. slice_get {X = Word × Word} (map (λ (x : Rule). (x.left, x.right)) b) g.0 ≡ Some (l, r)) over g.1))))
+        | inr h ↦ one_equation l r (new l r h)
+      ]
 
   down : (u v : Word) → Linked (Step trace) u v → Linking E u v
   down u v l = linked_linking (λ a b s. at_place s.at (each_equation s.left s.right s.number s.is_equation)) (sound (length base) given trace ended.reached u v l)
