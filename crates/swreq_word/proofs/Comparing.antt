@@ -23,10 +23,10 @@ nat_cmp_less m n h = go (nat_cmp m n) refl
     go Equal e = absurd (let k = nat_equal m n e in omega (arith, k))
     go Greater e = absurd (let k = subst (λ o. MatchOrdering o (m < n) (m ≡ n) (n < m)) e (ranked m n (nat_cmp m n) refl) in omega (arith, k))
 
-by_length : (u v : List Symbol) → length u < length v → WordLess u v
+pub by_length : (u v : List Symbol) → length u < length v → WordLess u v
 by_length u v h = rw (nat_cmp_less (length u) (length v) h) refl
 
-by_symbols : (u v : List Symbol) → length u ≡ length v → slice_cmp symbol_cmp u v ≡ Less → WordLess u v
+pub by_symbols : (u v : List Symbol) → length u ≡ length v → slice_cmp symbol_cmp u v ≡ Less → WordLess u v
 by_symbols u v e h = rw (e, tied_itself nat_cmp_total (length v)) h
 
 -- what makes a word less

@@ -1,0 +1,25 @@
+-- What the rounds of a plan come to.
+use Rattle.std.specs.Prelude.{◌≡◌, ◌⊎◌, List, ◌++◌, Result}
+use Rattle.swreq_rule.specs.declared.rules.Rule.{Rule}
+use Rattle.swreq_watch.specs.declared.events.Event.{Event}
+use Rattle.swreq_complete.specs.declared.limit.Limits.{Limits}
+use Rattle.swreq_complete.specs.declared.limit.Failed.{Failed}
+use Rattle.swreq_complete.specs.Answers.{IsMemory}
+use Rattle.swreq_rounds.specs.Plan.{Plan}
+use Rattle.swreq_rounds.specs.Rounds.{IsOutcome, ComesTo}
+
+-- But for want of memory there is no other outcome, and what is told in all is one.
+abbrev pub IsOnlyOutcome : Limits → Plan → Result (List Rule) Failed → Type 0
+IsOnlyOutcome limits plan answer =
+    (other : Result (List Rule) Failed) (told : List Event) → IsOutcome limits plan other told → (answer ≡ other) ⊎ (IsMemory answer ⊎ IsMemory other)
+
+abbrev pub OutcomesAreOne : Limits → Plan → Type 0
+OutcomesAreOne limits plan =
+    (a b : Result (List Rule) Failed) (told also : List Event) → IsOutcome limits plan a told → IsOutcome limits plan b also
+    → ((a ≡ b) × (told ≡ also)) ⊎ (IsMemory a ⊎ IsMemory b)
+
+-- What is told until memory runs out is a front of what is told in all.
+abbrev pub PartsAreFronts : Limits → Plan → Type 0
+PartsAreFronts limits plan =
+    (part told : List Event) (answer : Result (List Rule) Failed) → ComesTo limits plan part → IsOutcome limits plan answer told
+    → IsMemory answer ⊎ ((rest : List Event) × (told ≡ part ++ rest))
