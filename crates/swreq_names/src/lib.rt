@@ -20,6 +20,7 @@ pub use refusal::NameErr;
 pub use resolve::{Names, resolve_names};
 pub use signature::{Param, Signature};
 pub use sorted::Ranks;
+pub use words::word;
 
 
 #[cfg(test)]

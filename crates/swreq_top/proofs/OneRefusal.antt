@@ -12,10 +12,14 @@ use Rattle.swreq_decl.specs.declared.skeleton.Skeleton.{Skeleton}
 use Rattle.swreq_decl.specs.declared.refusal.ParseErr.{ParseErr}
 use Rattle.swreq_decl.specs.declared.refusal.ParseErr.TheVariants as grammar
 use Rattle.swreq_decl.specs.Skeletons.{StandsFor, RefusedFor, Exactly, refused}
+use Rattle.swreq_names.specs.declared.refusal.NameErr.{NameErr}
+use Rattle.swreq_names.specs.declared.refusal.NameErr.TheVariants as names
+use Rattle.swreq_names.specs.Names.{Refuses, Resolve}
+use Rattle.swreq_names.proofs.Answers.{not_refused, one_refusal as one_name}
 use Rattle.swreq_top.specs.declared.refusal.RefusalKind.{RefusalKind}
 use Rattle.swreq_top.specs.declared.refusal.RefusalKind.TheVariants as refusals
-use Rattle.swreq_top.specs.Reports.{refusal_of}
-use Rattle.swreq_top.specs.Verdict.{IsRefused}
+use Rattle.swreq_top.specs.Reports.{name_refusal, refusal_of}
+use Rattle.swreq_top.specs.Verdict.{IsRefused, RefusesNames}
 use Rattle.swreq_top.proofs.Verdicts.{IsExact}
 
 -- what the crates below say of every text
@@ -122,31 +126,44 @@ module _ (text : List ℕ) (one : AreOne text) (within : length text ≤ TEXT_LI
 
 -- ---- one refusal
 
--- the refusal that a reading has
-abbrev refusal_in : Result Skeleton ParseErr → RefusalKind
-refusal_in (Ok s) = refusals.NotBuilt
-refusal_in (Err e) = refusal_of e
+-- A text with this reading is refused for what was read, or for its names.
+abbrev IsReadAs : List ℕ → Result Skeleton ParseErr → RefusalKind → Type 0
+IsReadAs text (Ok s) refusal = (e : NameErr) × Refuses text s e × (refusal ≡ name_refusal e)
+IsReadAs text (Err e) refusal = refusal ≡ refusal_of e
 
-abbrev IsTooLarge : List ℕ → RefusalKind → Type 0
-IsTooLarge text refusal = (refusal ≡ refusals.TooLarge) × (TEXT_LIMIT < length text)
+-- an answer that the text has is its reading's
+told : (text : List ℕ) (r : Reading text) (answer : Result Skeleton ParseErr) (refusal : RefusalKind) → (r.parsed ≡ answer) ⊎ (r.parsed ≡ Err grammar.Memory)
+    → IsReadAs text answer refusal → IsReadAs text r.parsed refusal
+told text r answer refusal (inl is) read = subst (λ p. IsReadAs text p refusal) (sym is) read
+told text r answer refusal (inr none) read = absurd (r.real none)
 
--- an error that the text has is its reading's
-told : (text : List ℕ) (r : Reading text) (e : ParseErr) → (r.parsed ≡ Err e) ⊎ (r.parsed ≡ Err grammar.Memory) → refusal_of e ≡ refusal_in r.parsed
-told text r e (inl is) = sym (ap refusal_in is)
-told text r e (inr none) = absurd (r.real none)
+by_names : (text : List ℕ) (r : Reading text) (e : NameErr) → RefusesNames text e → IsReadAs text r.parsed (name_refusal e)
+by_names text r e (within, (s, stands, refuses)) = told text r (Ok s) _ ((r.exact.ok s).1 stands) (e, refuses, refl)
 
 -- the refusal of a text that is not too long is its reading's
-is_read : (text : List ℕ) (r : Reading text) (refusal : RefusalKind) → IsRefused text refusal → refusal ≡ refusal_in r.parsed
+is_read : (text : List ℕ) (r : Reading text) (refusal : RefusalKind) → IsRefused text refusal → IsReadAs text r.parsed refusal
 is_read text r refusals.TooLarge long = absurd (omega (arith, long, r.exact.within))
-is_read text r (refusals.NotUtf8 at) has = told text r _ ((r.exact.lex (lexical.NotUtf8 at)).1 has.1)
-is_read text r (refusals.BadCharacter at) has = told text r _ ((r.exact.lex (lexical.BadCharacter at)).1 has.1)
-is_read text r (refusals.OpenComment at) has = told text r _ ((r.exact.lex (lexical.OpenComment at)).1 has.1)
-is_read text r (refusals.Syntax at) has = told text r _ ((r.exact.syntax at).1 has.1)
-is_read text r (refusals.Unsupported at kind) has = told text r _ ((r.exact.unsupported at kind).1 has.1)
+is_read text r (refusals.NotUtf8 at) has = told text r _ _ ((r.exact.lex (lexical.NotUtf8 at)).1 has.1) refl
+is_read text r (refusals.BadCharacter at) has = told text r _ _ ((r.exact.lex (lexical.BadCharacter at)).1 has.1) refl
+is_read text r (refusals.OpenComment at) has = told text r _ _ ((r.exact.lex (lexical.OpenComment at)).1 has.1) refl
+is_read text r (refusals.Syntax at) has = told text r _ _ ((r.exact.syntax at).1 has.1) refl
+is_read text r (refusals.Unsupported at kind) has = told text r _ _ ((r.exact.unsupported at kind).1 has.1) refl
+is_read text r (refusals.Duplicate at) has = by_names text r (names.Duplicate at) has
+is_read text r (refusals.NotAProtocol at) has = by_names text r (names.NotAProtocol at) has
+is_read text r (refusals.ConcreteType at) has = by_names text r (names.ConcreteType at) has
+is_read text r (refusals.NoSuchMember at) has = by_names text r (names.NoSuchMember at) has
+is_read text r (refusals.UnknownSignature at) has = by_names text r (names.UnknownSignature at) has
+is_read text r (refusals.WrongArity at) has = by_names text r (names.WrongArity at) has
+is_read text r (refusals.Cycle at) has = by_names text r (names.Cycle at) has
 is_read text r refusals.NotBuilt has = absurd has
 is_read text r refusals.ReadFault has = absurd has
 is_read text r refusals.OutOfMemory has = absurd has
 is_read text r refusals.Usage has = absurd has
+
+-- a reading has one refusal at most
+one_read : (text : List ℕ) (parsed : Result Skeleton ParseErr) (refusal other : RefusalKind) → IsReadAs text parsed refusal → IsReadAs text parsed other → refusal ≡ other
+one_read text (Ok s) refusal other (e, refuses, is) (f, too, same) = is ∙ ap name_refusal (one_name text s e f refuses too) ∙ sym same
+one_read text (Err e) refusal other is same = is ∙ sym same
 
 -- a text that is too long is refused for that alone
 is_too_large : (text : List ℕ) → TEXT_LIMIT < length text → (refusal : RefusalKind) → IsRefused text refusal → refusal ≡ refusals.TooLarge
@@ -156,6 +173,13 @@ is_too_large text long (refusals.BadCharacter at) has = absurd (omega (arith, lo
 is_too_large text long (refusals.OpenComment at) has = absurd (omega (arith, long, has.0))
 is_too_large text long (refusals.Syntax at) has = absurd (omega (arith, long, has.0))
 is_too_large text long (refusals.Unsupported at kind) has = absurd (omega (arith, long, has.0))
+is_too_large text long (refusals.Duplicate at) has = absurd (omega (arith, long, has.0))
+is_too_large text long (refusals.NotAProtocol at) has = absurd (omega (arith, long, has.0))
+is_too_large text long (refusals.ConcreteType at) has = absurd (omega (arith, long, has.0))
+is_too_large text long (refusals.NoSuchMember at) has = absurd (omega (arith, long, has.0))
+is_too_large text long (refusals.UnknownSignature at) has = absurd (omega (arith, long, has.0))
+is_too_large text long (refusals.WrongArity at) has = absurd (omega (arith, long, has.0))
+is_too_large text long (refusals.Cycle at) has = absurd (omega (arith, long, has.0))
 is_too_large text long refusals.NotBuilt has = absurd has
 is_too_large text long refusals.ReadFault has = absurd has
 is_too_large text long refusals.OutOfMemory has = absurd has
@@ -169,7 +193,7 @@ module _ (text : List ℕ) (all : AreOne text) where
       by (inl long) = is_too_large text long refusal has ∙ sym (is_too_large text long other too)
       by (inr within) =
           let r = reading_of text all within in
-          is_read text r refusal has ∙ sym (is_read text r other too)
+          one_read text r.parsed refusal other (is_read text r refusal has) (is_read text r other too)
 
   -- the text is refused, or it is not too long and has a skeleton
   abbrev pub HasAnswer : Type 0
@@ -197,11 +221,13 @@ module _ (text : List ℕ) (all : AreOne text) where
       by (inl long) = inl (refusals.TooLarge, long)
       by (inr within) = by_reading within all.reading
 
-  pub never_refused : (refusal : RefusalKind) (skeleton : Skeleton) → length text ≤ TEXT_LIMIT → StandsFor text skeleton → ¬ (IsRefused text refusal)
-  never_refused refusal skeleton within stands has =
+  pub never_refused : (refusal : RefusalKind) (skeleton : Skeleton) → length text ≤ TEXT_LIMIT → StandsFor text skeleton → Resolve text skeleton → ¬ (IsRefused text refusal)
+  never_refused refusal skeleton within stands resolve has =
       let r = reading_of text all within in
-      subst (IsRefused text) (is_read text r refusal has ∙ read_in r ((r.exact.ok skeleton).1 stands)) has
+      resolved (r.parsed) (is_read text r refusal has) r.real ((r.exact.ok skeleton).1 stands)
     where
-      read_in : (r : Reading text) → (r.parsed ≡ Ok skeleton) ⊎ (r.parsed ≡ Err grammar.Memory) → refusal_in r.parsed ≡ refusals.NotBuilt
-      read_in r (inl is) = ap refusal_in is
-      read_in r (inr none) = absurd (r.real none)
+      resolved : (parsed : Result Skeleton ParseErr) → IsReadAs text parsed refusal → parsed ≢ Err grammar.Memory → (parsed ≡ Ok skeleton) ⊎ (parsed ≡ Err grammar.Memory) → ⊥
+      resolved parsed read real (inr none) = real none
+      resolved parsed read real (inl is) =
+          let found = let P : Result Skeleton ParseErr → Type 0 = λ p. IsReadAs text p refusal in subst P is read in
+          not_refused text skeleton found.0 resolve found.1

@@ -1,11 +1,12 @@
 // Why nothing is answered, and the line that says so.
 ghost use Rattle.std.specs.Prelude.{◌≡◌, ◌++◌, codes, decimal, IfOk};
 ghost use Rattle.swreq_top.specs.Lines.{kind_text, placed_line, refusal_line};
-ghost use Rattle.swreq_top.specs.Reports.{lexical_refusal, refusal_of};
+ghost use Rattle.swreq_top.specs.Reports.{lexical_refusal, name_refusal, refusal_of};
 
 use std::alloc::{AllocError, Global};
 use swreq_decl::{Kind, ParseErr};
 use swreq_lex::LexErr;
+use swreq_names::NameErr;
 
 /// The line of a text that is too long.
 pub const TOO_LARGE: &[u8] = b"error: text longer than 1048576 bytes\n";
@@ -31,6 +32,13 @@ pub enum RefusalKind {
     OpenComment { at: u32 },
     Syntax { at: u32 },
     Unsupported { at: u32, kind: Kind },
+    Duplicate { at: u32 },
+    NotAProtocol { at: u32 },
+    ConcreteType { at: u32 },
+    NoSuchMember { at: u32 },
+    UnknownSignature { at: u32 },
+    WrongArity { at: u32 },
+    Cycle { at: u32 },
     /// The text is in the language, and cannot be answered yet.
     NotBuilt,
     ReadFault,
@@ -61,6 +69,22 @@ fn lexical_refusal(fault: LexErr) -> RefusalKind
     }
 }
 
+/// The refusal of a text whose names do not resolve, or in which a protocol inherits itself.
+pub(crate) fn name_refusal(e: NameErr) -> RefusalKind
+    ensures { result ≡ name_refusal e }
+{
+    match e {
+        NameErr::Duplicate { at } => RefusalKind::Duplicate { at },
+        NameErr::NotAProtocol { at } => RefusalKind::NotAProtocol { at },
+        NameErr::ConcreteType { at } => RefusalKind::ConcreteType { at },
+        NameErr::NoSuchMember { at } => RefusalKind::NoSuchMember { at },
+        NameErr::UnknownSignature { at } => RefusalKind::UnknownSignature { at },
+        NameErr::WrongArity { at } => RefusalKind::WrongArity { at },
+        NameErr::Cycle { at } => RefusalKind::Cycle { at },
+        NameErr::Memory => RefusalKind::OutOfMemory,
+    }
+}
+
 /// The line that is printed for a refusal, with its line feed.
 pub(crate) fn refusal_text(alloc: Global, refusal: &RefusalKind) -> Result<Vec<u8>, AllocError>
     ensures { IfOk result (λ line. line.items ≡ refusal_line refusal.now) }
@@ -72,6 +96,13 @@ pub(crate) fn refusal_text(alloc: Global, refusal: &RefusalKind) -> Result<Vec<u
         RefusalKind::OpenComment { at } => placed(alloc, "open comment", *at),
         RefusalKind::Syntax { at } => placed(alloc, "syntax", *at),
         RefusalKind::Unsupported { at, kind } => unsupported(alloc, *kind, *at),
+        RefusalKind::Duplicate { at } => placed(alloc, "duplicate name", *at),
+        RefusalKind::NotAProtocol { at } => placed(alloc, "not a protocol", *at),
+        RefusalKind::ConcreteType { at } => placed(alloc, "concrete type", *at),
+        RefusalKind::NoSuchMember { at } => placed(alloc, "no such member", *at),
+        RefusalKind::UnknownSignature { at } => placed(alloc, "unknown signature", *at),
+        RefusalKind::WrongArity { at } => placed(alloc, "wrong number of arguments", *at),
+        RefusalKind::Cycle { at } => placed(alloc, "circular inheritance", *at),
         RefusalKind::NotBuilt => NOT_BUILT.to_vec(alloc),
         RefusalKind::ReadFault => READ_FAULT.to_vec(alloc),
         RefusalKind::OutOfMemory => OUT_OF_MEMORY.to_vec(alloc),

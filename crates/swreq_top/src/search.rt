@@ -1,87 +1,69 @@
-// Conformances found by walking along inheritance, for plain texts.
+// The answers of plain texts, along inheritance.
 use std::alloc::{AllocError, Global};
-use swreq_param::{ParamId, ProtoId};
-use swreq_world::{Conformance, FuncId, Query, World};
+use swreq_decl::{Ask, Entity, QueryDecl, Skeleton, Span};
+use swreq_names::{Names, Param, Signature, word};
 
-/// The answers of the queries, a line each, in written order.
-pub fn answers(alloc: Global, world: &World) -> Result<Vec<u8>, AllocError> {
-    let mut reached = Reached::new(alloc, world.protocols())?;
+/// The answers of the queries of a plain text whose names resolve, a line each, in written order.
+pub fn answers(
+    alloc: Global,
+    text: &[u8],
+    skeleton: &Skeleton,
+    names: &Names,
+) -> Result<Vec<u8>, AllocError> {
     let mut output = Vec::new(alloc);
-    for query in world.queries() {
-        let Query::Conf { f, t, p } = query;
-        reached.walk(world, *f, *t)?;
-        output.extend_from_slice(if reached.contains(*p) {
+    for query in skeleton.queries.items() {
+        let line: &[u8] = if conforms(text, skeleton, names, query) {
             b"yes\n"
         } else {
             b"no\n"
-        })?;
+        };
+        output.extend_from_slice(line)?;
     }
     Ok(output)
 }
 
-/// The protocols that a walk has reached, each once, in the order in which it came to them.
-#[derive(Drop)]
-struct Reached {
-    is_reached: Vec<bool>,
-    protocols: Vec<ProtoId>,
+/// Whether the generic parameter that is asked conforms to the protocol.
+fn conforms(text: &[u8], skeleton: &Skeleton, names: &Names, query: &QueryDecl) -> bool {
+    match &query.ask {
+        Ask::Is { t, bound } => match bounds_of(text, skeleton, names, query, t.head) {
+            Some(bounds) => leads_from_one(text, names, bounds, bound),
+            None => false,
+        },
+        Ask::Signature | Ask::Reduced { .. } | Ask::Same { .. } => false,
+    }
 }
 
-impl Reached {
-    /// None of `count` protocols.
-    fn new(alloc: Global, count: usize) -> Result<Self, AllocError> {
-        Ok(Reached {
-            is_reached: vec![in alloc; false; count]?,
-            protocols: Vec::with_capacity(alloc, count)?,
-        })
-    }
-
-    /// Walks from what is written for a generic parameter of a function to all that is inherited from there.
-    fn walk(&mut self, world: &World, f: FuncId, t: ParamId) -> Result<(), AllocError> {
-        self.forget();
-        for written in world.signature(f) {
-            if written.subject == t {
-                self.add(written.proto)?;
-            }
+/// The bounds of the generic parameter with this name of the function that is asked.
+fn bounds_of<'a>(
+    text: &[u8],
+    skeleton: &'a Skeleton,
+    names: &Names,
+    query: &QueryDecl,
+    name: Span,
+) -> Option<&'a [Entity]> {
+    let signature = names.find_signature(word(text, query.function))?;
+    let param = names.find_param(signature, word(text, name))?;
+    match (signature, param) {
+        (Signature::Function(i), Param::Own(k)) => {
+            let function = skeleton.functions.items().get(i)?;
+            Some(function.params.items().get(k)?.bounds.items())
         }
-        for step in 0..world.protocols() {
-            match self.protocols.get(step).copied() {
-                Some(p) => self.add_all(world.requirements(p))?,
-                None => return Ok(()),
-            }
-        }
-        Ok(())
+        _ => None,
     }
+}
 
-    fn contains(&self, p: ProtoId) -> bool {
-        self.is_reached
-            .get(p.rank as usize)
-            .copied()
-            .unwrap_or(false)
+/// Whether one of the bounds is the protocol, or inherits it.
+fn leads_from_one(text: &[u8], names: &Names, bounds: &[Entity], protocol: &Entity) -> bool {
+    match names.find_protocol(word(text, protocol.span)) {
+        Some(p) => bounds.iter().any(|bound| leads(text, names, bound, p)),
+        None => false,
     }
+}
 
-    fn add_all(&mut self, inherited: &[Conformance]) -> Result<(), AllocError> {
-        for step in inherited {
-            self.add(step.proto)?;
-        }
-        Ok(())
-    }
-
-    fn add(&mut self, p: ProtoId) -> Result<(), AllocError> {
-        if let Some(is_reached) = self.is_reached.get_mut(p.rank as usize) {
-            if !*is_reached {
-                *is_reached = true;
-                self.protocols.push(p)?;
-            }
-        }
-        Ok(())
-    }
-
-    fn forget(&mut self) {
-        for p in &self.protocols {
-            if let Some(is_reached) = self.is_reached.get_mut(p.rank as usize) {
-                *is_reached = false;
-            }
-        }
-        self.protocols.clear();
+/// Whether the bound is the protocol, or inherits it.
+fn leads(text: &[u8], names: &Names, bound: &Entity, protocol: usize) -> bool {
+    match names.find_protocol(word(text, bound.span)) {
+        Some(p) => p == protocol || names.inherits(p, protocol),
+        None => false,
     }
 }

@@ -64,7 +64,7 @@ fn a_run_prints_its_answers_or_one_line(rt: HostRuntime) -> Result<(), Fail> {
         alloc,
         undisturbed(b"protocol P: P { }\n"),
         1,
-        "error: not built\n",
+        "error: circular inheritance at 9\n",
     )?;
     let fly = Setting {
         word: "fly",
@@ -151,6 +151,48 @@ fn a_text_outside_the_language_is_refused_with_its_reason_and_place(
 }
 
 #[test]
+fn a_text_whose_names_do_not_resolve_is_refused_with_its_reason_and_place(
+    rt: HostRuntime,
+) -> Result<(), Fail> {
+    let cases = [
+        (
+            "protocol P { } protocol P { }",
+            "error: duplicate name at 24\n",
+        ),
+        ("func f<T: P>()", "error: not a protocol at 10\n"),
+        (
+            "protocol P { } func f<T>() query f(U : P)",
+            "error: concrete type at 35\n",
+        ),
+        (
+            "protocol P { } func f<T: P>() query f(T.[P]A : P)",
+            "error: no such member at 43\n",
+        ),
+        (
+            "protocol P { } func f<T>() query g(T : P)",
+            "error: unknown signature at 33\n",
+        ),
+        (
+            "protocol A: B { } protocol B: C { } protocol C: B { }",
+            "error: circular inheritance at 27\n",
+        ),
+        (
+            "protocol P { } func f<T: P<T>>()",
+            "error: wrong number of arguments at 25\n",
+        ),
+        (
+            "func f<T, T>() where T == T",
+            "error: duplicate name at 10\n",
+        ),
+    ];
+    for (text, line) in cases {
+        assert!(rt; text.len() <= 100);
+        replies(&rt, rt.alloc(), text, 1, line)?;
+    }
+    Ok(())
+}
+
+#[test]
 fn a_plain_text_is_answered_along_inheritance(rt: HostRuntime) -> Result<(), Fail> {
     let cases = [
         ("/* a /* b */ c */", ""),
@@ -186,7 +228,7 @@ fn a_plain_text_is_answered_along_inheritance(rt: HostRuntime) -> Result<(), Fai
 fn a_text_that_cannot_be_answered_yet_is_refused(rt: HostRuntime) -> Result<(), Fail> {
     let cases = [
         "func f<T>() where T == T",
-        "protocol P where Self: P { }",
+        "protocol Q { } protocol P where Self: Q { }",
         "protocol P { associatedtype A }",
         "protocol P: AnyObject { }",
         "func f<T: AnyObject>()",
@@ -197,18 +239,8 @@ fn a_text_that_cannot_be_answered_yet_is_refused(rt: HostRuntime) -> Result<(), 
         "func f<T>() query f()",
         "struct S { }",
         "struct S { func f<T>() } query S.f()",
-        "protocol P<A> { }",
-        "protocol P { } protocol Q: P<Q> { }",
-        "protocol P { } func f<T: P<T>>()",
-        "protocol P { } protocol P { }",
-        "func f<T>() func f<U>()",
-        "func f<T, T>()",
-        "func f<T: P>()",
-        "protocol P: Q { }",
-        "protocol P { } func f<T>() query f(U : P)",
-        "protocol P { } func f<T>() query g(T : P)",
-        "func f<T>() query f(T : P)",
-        "protocol A: B { } protocol B: C { } protocol C: B { }",
+        "protocol P<A> { associatedtype A }",
+        "protocol P<A> { associatedtype A } func f<T: P<T>>()",
     ];
     for text in cases {
         assert!(rt; text.len() <= 100);

@@ -20,5 +20,5 @@ returns-clause-refused c refusal has =
     IfOk-weaker c.report.result _ _ (λ o reports. reported_refusal c.args.text.now c.parse-parsed.result o (exact c) reports refusal has) c.report.ensures
 
 pub returns-clause-answered : goal.returns-clause-answered
-returns-clause-answered c skeleton stands =
-    IfOk-weaker c.report.result _ _ (λ o reports. reported_answer c.args.text.now c.parse-parsed.result o (exact c) reports skeleton stands) c.report.ensures
+returns-clause-answered c skeleton stands resolve =
+    IfOk-weaker c.report.result _ _ (λ o reports. reported_answer c.args.text.now c.parse-parsed.result o (exact c) reports skeleton stands resolve) c.report.ensures
