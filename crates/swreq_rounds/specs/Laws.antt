@@ -8,11 +8,7 @@ use Rattle.swreq_complete.specs.Answers.{IsMemory}
 use Rattle.swreq_rounds.specs.Plan.{Plan}
 use Rattle.swreq_rounds.specs.Rounds.{IsOutcome, ComesTo}
 
--- But for want of memory there is no other outcome, and what is told in all is one.
-abbrev pub IsOnlyOutcome : Limits → Plan → Result (List Rule) Failed → Type 0
-IsOnlyOutcome limits plan answer =
-    (other : Result (List Rule) Failed) (told : List Event) → IsOutcome limits plan other told → (answer ≡ other) ⊎ (IsMemory answer ⊎ IsMemory other)
-
+-- But for want of memory rounds have one outcome, and what is told in all is one.
 abbrev pub OutcomesAreOne : Limits → Plan → Type 0
 OutcomesAreOne limits plan =
     (a b : Result (List Rule) Failed) (told also : List Event) → IsOutcome limits plan a told → IsOutcome limits plan b also
