@@ -1,5 +1,4 @@
 pub mod Chains
-pub mod WellFounded
 pub mod Newman
 pub mod SymbolsFounded
 pub mod WordsFounded

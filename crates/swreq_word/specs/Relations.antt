@@ -1,4 +1,4 @@
--- Relations on a type: chains of steps, links both ways, where two chains meet, and orders in which nothing goes down for ever.
+-- Relations on a type: chains of steps, links both ways, and where two chains meet.
 
 -- steps, none or more, lead from a to b
 pub data Chain {A : Type 0} (R : A → A → Type 0) : A → A → Type 0 where
@@ -22,10 +22,3 @@ IsLocallyConfluent {A} R = (a b c : A) → R a b → R a c → Meet R b c
 -- no step leads on from a
 abbrev pub IsIrreducible : {A : Type 0} (R : A → A → Type 0) → A → Type 0
 IsIrreducible {A} R a = (b : A) → R a b → ⊥
-
--- each that is below a is accessible, so nothing goes down from a for ever
-pub data IsAccessible {A : Type 0} (R : A → A → Type 0) : A → Type 0 where
-  reached : {a : A} → ((b : A) → R b a → IsAccessible R b) → IsAccessible R a
-
-abbrev pub IsWellFounded : {A : Type 0} (R : A → A → Type 0) → Type 0
-IsWellFounded {A} R = (a : A) → IsAccessible R a
