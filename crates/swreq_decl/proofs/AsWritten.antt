@@ -1,6 +1,6 @@
 -- The source by its lines and by its lines as they are written.
 use Rattle.std.specs.Prelude.{[], ◌∷◌}
-use Rattle.swreq_grammar.specs.Grammar.{unlimited, at_most, mapped, sequence, alternative, repetition, labelled}
+use Rattle.swreq_grammar.specs.Grammar.{unlimited, at_most, mapped, labelled}
 use Rattle.swreq_decl.specs.declared.terminal.Terminal.TheVariants.{Query, Protocol, AssociatedType, Func, Struct, Where, OpenBrace, CloseBrace, OpenParenthesis, CloseParenthesis, Comma, Colon, Dot, EqualEqual}
 use Rattle.swreq_decl.specs.declared.kind.Kind.TheVariants.{Parameters, LongType}
 use Rattle.swreq_decl.specs.declared.skeleton.ReqDecl.TheVariants as requirements

@@ -1,7 +1,6 @@
 -- Parts between two separators, in one list, are lists between the one of parts between the other.
 use Rattle.std.proofs.Common.{◌≡◌, Bool, true, false, List, [], ◌∷◌, ◌++◌, refl, sym, ap, subst, ◌∙◌, append_assoc}
 use Rattle.std.specs.Prelude.{◌||◌, nat_eq}
-use Rattle.swreq_grammar.specs.declared.token.Token.{Token}
 use Rattle.swreq_grammar.specs.Grammar.{has, mapped, terminal, Matches, Parts}
 use Rattle.swreq_grammar.proofs.Sets.{or_left, or_right}
 use Rattle.swreq_decl.specs.declared.terminal.Terminal.{Terminal}

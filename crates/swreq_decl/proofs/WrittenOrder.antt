@@ -1,11 +1,10 @@
 -- The signatures of a skeleton are those of the parts of the text, in their order.
-use Rattle.std.proofs.Common.{◌≡◌, ℕ, suc, ◌≤◌, ◌<◌, ◌⊎◌, inl, inr, Bool, true, false, not, List, [], ◌∷◌, ◌++◌, map, filter, refl, sym, ap, subst, ◌∙◌, arith, nat_lt}
+use Rattle.std.proofs.Common.{◌≡◌, ℕ, suc, ◌≤◌, ◌<◌, ◌⊎◌, inl, inr, true, false, not, List, [], ◌∷◌, ◌++◌, filter, refl, sym, ap, subst, ◌∙◌, arith, nat_lt}
 use Rattle.std.proofs.lemmas.Bool.Decides.{nat_tests}
 use Rattle.std.proofs.lemmas.List.Concat.{flat_map-cons}
 use Rattle.std.specs.List.{filter_map, flat_map}
 use Rattle.swreq_lex.specs.declared.token.Token as lexed
-use Rattle.swreq_lex.specs.Slices.{AreSlices, last, next}
-use Rattle.swreq_grammar.specs.declared.token.Token.{Token}
+use Rattle.swreq_lex.specs.Slices.{AreSlices, next}
 use Rattle.swreq_grammar.specs.Grammar.{Matches, Parts, mapped, sequence, repetition, unlimited, labelled}
 use Rattle.swreq_decl.specs.declared.terminal.Terminal.{Terminal}
 use Rattle.swreq_decl.specs.declared.terminal.Terminal.TheVariants.{Func, Struct, OpenBrace, CloseBrace, OpenParenthesis, CloseParenthesis}

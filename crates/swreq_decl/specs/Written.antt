@@ -21,7 +21,6 @@ use Rattle.swreq_decl.specs.declared.skeleton.QueryDecl.{QueryDecl}
 use Rattle.swreq_decl.specs.declared.skeleton.Item.{Item}
 use Rattle.swreq_decl.specs.declared.skeleton.Item.TheVariants as items
 use Rattle.swreq_decl.specs.Terminals.{number}
-use Rattle.swreq_decl.specs.Source as lines
 use Rattle.swreq_decl.specs.Source.{Line, mark, after, before, or_else, separated, skipped, name, semicolon, access, written_type, qentity, bounds, primary_names, params, no_body, bound_step, plain_step, sname}
 
 -- The lines have the same texts, with the same values.

@@ -1,7 +1,7 @@
 -- The reader's first sets tell which tokens begin a text.
 use Rattle.swreq_grammar.specs.declared.token.Token.{Token}
 use Rattle.std.proofs.Common.{◌≡◌, ℕ, Bool, true, false, List, [], ◌∷◌, refl}
-use Rattle.swreq_grammar.specs.Grammar.{Grammar, has}
+use Rattle.swreq_grammar.specs.Grammar.{Grammar}
 use Rattle.swreq_grammar.specs.Reader.{begins, first_set, is_predictive}
 use Rattle.swreq_grammar.specs.Refusal.{BeginsText, begins_labelled}
 use Rattle.swreq_grammar.proofs.Sets.{first_of, first_begins}

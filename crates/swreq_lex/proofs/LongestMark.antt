@@ -1,12 +1,12 @@
 -- The first mark of the table that a text begins with is the longest one, since none begins with one before it.
-use Rattle.std.proofs.Common.{◌≡◌, ℕ, zero, suc, ◌+◌, ◌≤◌, ◌<◌, ◌⊎◌, inl, inr, Bool, true, false, not, ◌&&◌, List, [], ◌∷◌, ◌++◌, length, drop, get_or, Option, Some, None, refl, sym, ap, subst, ◌∙◌, arith, nat_eq, nat_lt, cond, slice_get, position, eq-eqb}
+use Rattle.std.proofs.Common.{◌≡◌, ℕ, zero, suc, ◌+◌, ◌≤◌, ◌<◌, ◌⊎◌, inl, inr, Bool, true, false, not, ◌&&◌, List, [], ◌∷◌, ◌++◌, length, drop, get_or, Some, refl, sym, ap, subst, ◌∙◌, arith, nat_eq, nat_lt, cond, slice_get, position, eq-eqb}
 use Rattle.std.proofs.lemmas.Bool.{eqb-true}
 use Rattle.std.proofs.lemmas.List.Quantifiers.{position-Some}
 use Rattle.std.proofs.lemmas.Bool.Decides.{nat_tests}
 use Rattle.std.proofs.lemmas.Option.{slice_get-get_or}
 use Rattle.std.specs.List.{starts_with, list_all, position_or_len}
 use Rattle.swreq_lex.specs.Marks.{IsMark, spellings}
-use Rattle.swreq_lex.specs.Reader.{first_at, mark_at}
+use Rattle.swreq_lex.specs.Reader.{mark_at}
 use Rattle.swreq_lex.proofs.MarkLemmas.{both, starts-split}
 
 abbrev Begins : List ℕ → List ℕ → Type 0
