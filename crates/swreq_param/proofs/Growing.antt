@@ -1,9 +1,8 @@
 -- Tables that begin with others.
-use Rattle.std.proofs.Common.{◌≡◌, zero, suc, ◌+◌, ◌<◌, ◌≤◌, List, [], ◌∷◌, ◌++◌, length, refl, sym, ap, ◌∙◌, arith, length-append}
+use Rattle.std.proofs.Common.{◌≡◌, suc, List, [], ◌∷◌, ◌++◌, length, refl, ap, ◌∙◌, arith, length-append}
 use Rattle.std.proofs.lemmas.List.{get_or_append_left}
-use Rattle.swreq_param.specs.declared.ids.TermId.{TermId}
 use Rattle.swreq_param.specs.Terms.{Term, self}
-use Rattle.swreq_param.specs.Tables.{IsOf, term_at, Extends}
+use Rattle.swreq_param.specs.Tables.{term_at, Extends}
 
 pub unchanged : (terms : List Term) → Extends terms terms
 unchanged terms = record { longer = omega arith; stands = λ t h. refl }

@@ -1,5 +1,5 @@
 -- What a call that interns an entry leaves.
-use Rattle.std.proofs.Common.{◌≡◌, ℕ, zero, suc, ◌+◌, ◌<◌, inl, inr, Bool, true, false, ◌||◌, List, [], ◌∷◌, ◌++◌, length, slice_get, Some, Contains, refl, sym, ap, subst, ◌∙◌, arith, length-append, append-nil, if◌then◌else◌, cond, not, true≢false}
+use Rattle.std.proofs.Common.{◌≡◌, ℕ, zero, suc, ◌+◌, inl, inr, Bool, true, false, ◌||◌, List, [], ◌∷◌, ◌++◌, length, slice_get, Some, refl, sym, ap, subst, ◌∙◌, arith, length-append, append-nil, if◌then◌else◌, cond, not, true≢false}
 use Rattle.std.proofs.Math.Numerals.{one-add}
 use Rattle.std.proofs.lemmas.List.{get_or_push}
 use Rattle.std.specs.List.{IsDistinct, list_any, position_or_len}
@@ -8,7 +8,7 @@ use Rattle.swreq_param.specs.declared.ids.TermId.{TermId}
 use Rattle.swreq_param.specs.declared.table.Entry.{Entry}
 use Rattle.swreq_param.specs.Entries.{term_of, terms_of, IsBelow, AreGrounded}
 use Rattle.swreq_param.specs.Terms.{Term, self}
-use Rattle.swreq_param.specs.Tables.{IsOf, term_at, Extends, Interned}
+use Rattle.swreq_param.specs.Tables.{Extends, Interned}
 use Rattle.swreq_param.proofs.SameEntries.{entry_same}
 use Rattle.swreq_param.proofs.Growing.{at_end}
 use Rattle.swreq_param.proofs.TermsOfEntries.{length_terms, terms_more, grounded_more}

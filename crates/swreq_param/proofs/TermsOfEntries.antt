@@ -2,14 +2,13 @@
 use Rattle.std.proofs.Common.{◌≡◌, ℕ, zero, suc, ◌+◌, ◌<◌, ◌⊎◌, inl, inr, List, [], ◌∷◌, ◌++◌, length, get_or, slice_get, Some, Contains, refl, sym, ap, subst, ◌∙◌, arith, length-append, ⊎_elim}
 use Rattle.std.proofs.lemmas.List.{get_or_append_left, get_or_at, get_or_default}
 use Rattle.std.proofs.lemmas.Option.{slice_get-get_or}
-use Rattle.swreq_param.specs.declared.ids.ParamId.{ParamId}
 use Rattle.swreq_param.specs.declared.ids.Step.{Step}
 use Rattle.swreq_param.specs.declared.ids.TermId.{TermId}
 use Rattle.swreq_param.specs.declared.table.Entry.{Entry}
 use Rattle.swreq_param.specs.declared.table.Entry.TheVariants.{Param, Member as Kept}
 use Rattle.swreq_param.specs.Entries.{term_of, terms_after, terms_of, IsBelow, AreGrounded, IsEntryOf}
 use Rattle.swreq_param.specs.Terms.{Term, self}
-use Rattle.swreq_param.specs.Terms.Term.{Generic, Member}
+use Rattle.swreq_param.specs.Terms.Term.{Member}
 use Rattle.swreq_param.specs.Tables.{term_at, IsOf, HasBases}
 
 length_after : (ts : List Term) (es : List Entry) → length (terms_after ts es) ≡ length ts + length es

@@ -1,4 +1,4 @@
-use Rattle.std.proofs.Common.{◌≡◌, true, ap, sym, ◌∙◌}
+use Rattle.std.proofs.Common.{ap, ◌∙◌}
 use Rattle.swreq_param.specs.Owned.{as_term, owned_cmp}
 use Rattle.std.specs.Ordering.{eq_by_cmp}
 use Rattle.swreq_param.specs.OwnedLaws.{same_as_term, owned_same, owned_equivalent}

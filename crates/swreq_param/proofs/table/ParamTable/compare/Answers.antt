@@ -1,9 +1,7 @@
-use Rattle.std.proofs.Common.{◌≡◌, sym, ap, subst, ◌∙◌}
+use Rattle.std.proofs.Common.{◌≡◌, sym, ap, ◌∙◌}
 use Rattle.std.specs.Ordering.{ordering_then}
-use Rattle.std.specs.declared.cmp.Ordering.{Ordering}
 use Rattle.std.specs.declared.cmp.Ordering.TheVariants.{Less, Greater}
 use Rattle.swreq_param.specs.Tables.{term_at}
-use Rattle.swreq_param.specs.Order.{Compares}
 use Rattle.swreq_param.specs.Comparison.{alike_cmp}
 use Rattle.swreq_param.proofs.Comparing.{walked_compares, equal_ids, same_id, alike_reflexive}
 use Rattle.swreq_param.proofs.table.ParamTable.compare.Goals as goal

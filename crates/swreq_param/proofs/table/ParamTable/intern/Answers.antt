@@ -1,8 +1,8 @@
-use Rattle.std.proofs.Common.{refl, sym, ap, ◌∙◌, subst}
+use Rattle.std.proofs.Common.{refl, sym, subst}
 use Rattle.std.specs.List.{IsDistinct, list_any}
 use Rattle.swreq_param.specs.contracts.table.EntryPartialEq.TheImpl.{eq-value}
 use Rattle.swreq_param.specs.Entries.{AreGrounded, term_of, terms_of}
-use Rattle.swreq_param.specs.Tables.{AreDistinct, Extends, Interned}
+use Rattle.swreq_param.specs.Tables.{Extends, Interned}
 use Rattle.swreq_param.proofs.DistinctEntries.{each_once, are_distinct, is_absent}
 use Rattle.swreq_param.proofs.Interning.{with_entry_grounded, with_entry_extends, with_entry_interned}
 use Rattle.swreq_param.proofs.table.ParamTable.intern.Goals as goal
