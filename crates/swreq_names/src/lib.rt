@@ -9,6 +9,7 @@ mod inheritance;
 mod items;
 pub mod laws;
 mod mentioned;
+mod queries;
 mod refusal;
 mod resolve;
 mod signature;
@@ -20,7 +21,6 @@ pub use refusal::NameErr;
 pub use resolve::{Names, resolve_names};
 pub use signature::{Param, Signature};
 pub use sorted::Ranks;
-
 
 #[cfg(test)]
 mod tests;
