@@ -9,6 +9,7 @@ mod inheritance;
 mod items;
 pub mod laws;
 mod mentioned;
+mod queries;
 mod refusal;
 mod resolve;
 mod signature;
@@ -21,7 +22,6 @@ pub use resolve::{Names, resolve_names};
 pub use signature::{Param, Signature};
 pub use sorted::Ranks;
 pub use words::word;
-
 
 #[cfg(test)]
 mod tests;

@@ -2,6 +2,7 @@
 ghost use Rattle.std.specs.Prelude.{◌≡◌};
 ghost use Rattle.swreq_names.specs.First.{precedes, rank, least, when};
 ghost use Rattle.swreq_names.specs.Errors.{error_of};
+ghost use Rattle.swreq_names.specs.declared.refusal.NameErr.TheVariants.{Memory};
 
 use std::alloc::{AllocError, AllocFailed};
 use thiserror::Error;
@@ -60,7 +61,17 @@ pub enum NameErr {
 }
 
 impl From<AllocError> for NameErr {
+    ghost from_gives = { λ _ e. e ≡ Memory };
+
     fn from(_: AllocError) -> Self {
+        NameErr::Memory
+    }
+}
+
+impl<T: Drop> From<AllocFailed<T>> for NameErr {
+    ghost from_gives = { λ _ e. e ≡ Memory };
+
+    fn from(_: AllocFailed<T>) -> Self {
         NameErr::Memory
     }
 }
