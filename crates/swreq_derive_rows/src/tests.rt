@@ -239,6 +239,25 @@ fn a_premise_too_few_is_bad(rt: HostRuntime) -> Result<(), Fail> {
     Ok(())
 }
 
+// The first line is `T.A` from the second, which states `[T : P]`.
+#[test]
+fn a_later_line_is_no_premise_whatever_it_states(rt: HostRuntime) -> Result<(), Fail> {
+    let alloc = rt.alloc();
+    let mut numbers = Vec::new(alloc);
+    numbers.push(2)?;
+    let line = Line {
+        rule: rule(5),
+        premises: Seq::new(numbers),
+        statement: statement(5),
+    };
+    let lines = with_line(alloc, 1, line)?;
+    assert_eq!(rt;
+        first_bad(&table(alloc)?, &text(alloc)?, lines.as_slice())?,
+        1
+    );
+    Ok(())
+}
+
 // In place of its last premise: 0, the line itself, the next line.
 #[test]
 fn a_premise_that_is_no_earlier_line_is_bad(rt: HostRuntime) -> Result<(), Fail> {
