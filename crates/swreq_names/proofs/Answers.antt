@@ -1,5 +1,5 @@
 -- What a refusal, or none, says of the names.
-use Rattle.std.proofs.Common.{◌≡◌, ℕ, ◌<◌, ◌≤◌, ◌⊎◌, inl, inr, ⊎_elim, Bool, true, false, List, [], length, slice_get, Option, None, Some, Contains, refl, sym, ap, subst, ◌∙◌, arith, true≢false}
+use Rattle.std.proofs.Common.{◌≡◌, ℕ, ◌<◌, ◌≤◌, ◌⊎◌, inl, inr, ⊎_elim, Bool, true, List, [], length, slice_get, Option, None, Some, Contains, sym, ap, subst, ◌∙◌, arith, true≢false}
 use Rattle.std.proofs.lemmas.Bool.{cases_lt, cases_eq}
 use Rattle.std.proofs.lemmas.List.{length-map, get_or_past}
 use Rattle.swreq_closure.specs.Chains.{Leads, leads}
@@ -15,7 +15,7 @@ use Rattle.swreq_names.specs.First.{least, IsFirst}
 use Rattle.swreq_names.specs.Refusals.{refusals, refusals_in}
 use Rattle.swreq_names.specs.Inheritance.{direct, inheritance, Tells, Inherits, HasNoLoop, IsLoopAt}
 use Rattle.swreq_names.specs.Names.{NamesView, HasDeclared, HasNames, Resolve, Refuses, RefusesName, RefusesCycle, IsFirstCycle}
-use Rattle.swreq_names.proofs.Tests.{same_bool}
+use Rattle.swreq_names.proofs.Booleans.{same_bool}
 use Rattle.swreq_names.proofs.Order.{none_refused, least_is_first, one_first}
 
 no_element : {A : Type 0} (x : A) → Contains [] x → ⊥

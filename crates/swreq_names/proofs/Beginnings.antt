@@ -1,5 +1,5 @@
 -- What a type may begin with.
-use Rattle.std.proofs.Common.{◌≡◌, ℕ, zero, suc, ◌+◌, ◌<◌, ◌⊎◌, inl, inr, ⊎_elim, ◌↔◌, Bool, true, false, cond, ◌&&◌, ◌||◌, List, [], ◌∷◌, length, get_or, Contains, is_some, Some, refl, sym, ap, subst, ◌∙◌, arith, true≢false}
+use Rattle.std.proofs.Common.{◌≡◌, ℕ, zero, suc, ◌+◌, ◌<◌, ◌⊎◌, ⊎_elim, ◌↔◌, Bool, true, false, cond, ◌&&◌, ◌||◌, List, [], ◌∷◌, length, get_or, Contains, is_some, Some, refl, sym, ap, subst, ◌∙◌, arith, true≢false}
 use Rattle.std.specs.List.{list_any, position_from}
 use Rattle.std.specs.Str.{bytes_eq}
 use Rattle.std.proofs.lemmas.Bool.{cases_eq, cases_lt}
@@ -9,7 +9,7 @@ use Rattle.std.proofs.lemmas.Slice.Eq.{bytes_eq-Decides}
 use Rattle.swreq_names.specs.declared.directory.Declaration.{Declaration}
 use Rattle.swreq_names.specs.Spaces.{is_declared, any_below}
 use Rattle.swreq_names.specs.Directories.{names_of}
-use Rattle.swreq_names.proofs.Tests.{same_bool, or_cases, or_left, or_right, and_both, and_first, and_second}
+use Rattle.swreq_names.proofs.Booleans.{same_bool, or_cases, or_left, or_right, and_both, and_first, and_second}
 use Rattle.swreq_names.proofs.Firsts.{same_true}
 use Rattle.swreq_names.proofs.Declaring.{no_element}
 

@@ -1,4 +1,4 @@
-pub mod Tests
+pub mod Booleans
 pub mod Search
 pub mod Made
 pub mod Firsts

@@ -1,5 +1,5 @@
 -- The order of refusals, and the first of several.
-use Rattle.std.proofs.Common.{◌≡◌, ℕ, zero, suc, ◌+◌, ◌*◌, ◌<◌, ◌≤◌, ◌⊎◌, inl, inr, ⊎_elim, Bool, true, false, cond, ◌&&◌, ◌||◌, List, [], ◌∷◌, length, get_or, Option, None, Some, Contains, refl, sym, ap, subst, ◌∙◌, arith, true≢false}
+use Rattle.std.proofs.Common.{◌≡◌, ℕ, zero, suc, ◌+◌, ◌*◌, ◌<◌, ◌≤◌, ◌⊎◌, inl, inr, ⊎_elim, Bool, true, false, cond, ◌&&◌, ◌||◌, List, [], ◌∷◌, length, get_or, None, Some, Contains, refl, sym, ap, subst, ◌∙◌, arith, true≢false}
 use Rattle.std.specs.Prelude.{nat_lt, nat_eq}
 use Rattle.std.proofs.lemmas.Bool.{ltb-true, lt-ltb, eqb-true, eq-eqb, cases_lt}
 use Rattle.std.proofs.lemmas.List.Elements.{Contains-append_right, Contains-get_or}
@@ -7,7 +7,7 @@ use Rattle.swreq_names.specs.declared.refusal.Fault.{Fault}
 use Rattle.swreq_names.specs.declared.refusal.Fault.TheVariants.{Duplicate, NotAProtocol, ConcreteType, NoSuchMember, UnknownSignature, WrongArity}
 use Rattle.swreq_names.specs.declared.refusal.Refusal.{Refusal}
 use Rattle.swreq_names.specs.First.{rank, precedes, earlier, least, IsFirst}
-use Rattle.swreq_names.proofs.Tests.{or_cases, or_left, or_right, and_both, and_first, and_second}
+use Rattle.swreq_names.proofs.Booleans.{or_cases, or_left, or_right, and_both, and_first, and_second}
 
 -- ---- a number for each refusal
 

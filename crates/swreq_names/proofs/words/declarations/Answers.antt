@@ -1,6 +1,6 @@
 use Rattle.std.proofs.Common.{◌∙◌, ap, map}
 use Rattle.std.proofs.lemmas.List.{take_all}
-use Rattle.swreq_names.specs.Spaces.{declaration, declarations}
+use Rattle.swreq_names.specs.Spaces.{declaration}
 use Rattle.swreq_names.proofs.Pieces.{mapped_twice}
 use Rattle.swreq_names.proofs.words.declarations.Goals as goal
 

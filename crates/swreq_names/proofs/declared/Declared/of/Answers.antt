@@ -1,4 +1,4 @@
-use Rattle.std.proofs.Common.{◌∙◌, ◌↔◌, ℕ, List, map, get_or, [], Contains, subst, sym}
+use Rattle.std.proofs.Common.{◌∙◌, ◌↔◌, List, map, get_or, [], Contains, subst, sym}
 use Rattle.swreq_names.specs.declared.directory.Declaration.{Declaration}
 use Rattle.swreq_names.specs.Spaces.{declarations, of_params}
 use Rattle.swreq_names.specs.Directories.{names_of}
