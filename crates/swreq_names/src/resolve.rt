@@ -107,7 +107,7 @@ fn cycle_of(s: &Skeleton, inherits: &Closure) -> Option<u32>
 }
 
 /// The refusal of a skeleton with these names, if there is one.
-fn refusal_of(text: &[u8], s: &Skeleton, names: &Names) -> Option<NameErr>
+fn first_error(text: &[u8], s: &Skeleton, names: &Names) -> Option<NameErr>
     requires { HasDeclared text.now s.now names.now }
     ensures { MatchOption result (Resolve text.now s.now) (Refuses text.now s.now) }
 {
@@ -132,7 +132,7 @@ pub fn resolve_names(alloc: Global, text: &[u8], s: &Skeleton) -> Result<Names, 
     ensures refuses { (e : NameErr) → Refuses text.now s.now e → (result ≡ Err e) ⊎ (result ≡ Err Memory) }
 {
     match names_of(alloc, text, s) {
-        Ok(names) => match refusal_of(text, s, &names) {
+        Ok(names) => match first_error(text, s, &names) {
             Some(refusal) => Err(refusal),
             None => Ok(names),
         },

@@ -1,7 +1,7 @@
 use Rattle.std.proofs.Common.{inr, sym, subst, refl}
 use Rattle.swreq_names.specs.Names.{NamesView, HasDeclared}
 use Rattle.swreq_names.proofs.Answers.{refused_name, refused_cycle, resolved}
-use Rattle.swreq_names.proofs.resolve.refusal_of.Goals as goal
+use Rattle.swreq_names.proofs.resolve.first_error.Goals as goal
 
 pub returns-in-Some-cycle_of : goal.returns-in-Some-cycle_of
 returns-in-Some-cycle_of c =
