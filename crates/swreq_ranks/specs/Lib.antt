@@ -1,0 +1,7 @@
+pub mod Ranks
+pub mod Lexicons
+pub mod Associated
+pub mod Keys
+pub mod Symbols
+pub mod Views
+pub mod Texts

@@ -1,0 +1,12 @@
+//! The protocols, names, associated types and member symbols of a text, by rank.
+#![tactic(auto)]
+
+mod associated;
+mod lexicon;
+mod pair;
+mod protocols;
+mod ranked;
+mod symbols;
+
+pub use lexicon::Lexicon;
+pub use pair::ProtocolName;
