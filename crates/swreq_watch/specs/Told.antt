@@ -1,5 +1,6 @@
 -- The list of the events that a watcher was told, which it tells or not.
-use Rattle.std.specs.Prelude.{◌≡◌, List, ◌++◌, Option, Some, None}
+use Rattle.std.specs.Prelude.{◌≡◌, ℕ, ◌<◌, List, ◌++◌, length, take, drop, Option, Some, None}
+use Rattle.std.specs.List.{AllZip}
 use Rattle.swreq_watch.specs.declared.events.Event.{Event}
 
 -- it does not tell its list
@@ -10,3 +11,18 @@ untold = None
 abbrev pub GrewBy : Option (List Event) → Option (List Event) → List Event → Type 0
 GrewBy (Some old) new more = new ≡ Some (old ++ more)
 GrewBy None new more = new ≡ None
+
+-- Each of these watchers was told these events, place by place.
+abbrev pub EachGrewBy : List (Option (List Event)) → List (Option (List Event)) → List Event → Type 0
+EachGrewBy old new more = AllZip (λ told told'. GrewBy told told' more) old new
+
+-- The first of these watchers, so many of them, were told these events, and the others were not.
+pub record FirstGrewBy (count : ℕ) (old new : List (Option (List Event))) (more : List Event) : Type 0 where
+  pub first : EachGrewBy (take count old) (take count new) more
+  pub others : drop count new ≡ drop count old
+
+-- The watchers before one of these were told these events, and that one and those after it were not.
+pub record GrewUpToOne (old new : List (Option (List Event))) (more : List Event) : Type 0 where
+  pub place : ℕ
+  pub within : place < length old
+  pub grew : FirstGrewBy place old new more

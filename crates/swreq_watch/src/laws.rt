@@ -5,7 +5,7 @@ ghost use Rattle.swreq_watch.specs.declared.events.Event.{Event};
 ghost use Rattle.swreq_watch.specs.declared.watching.Quiet.{Quiet};
 ghost use Rattle.swreq_watch.specs.Told.{untold};
 
-use crate::{Counter, Quiet, Recorder, Watch};
+use crate::{Counter, Fan, Quiet, Recorder, Watch};
 
 /// A recorder tells all events that it keeps. A counter and a quiet watcher do not tell their list.
 pub fn recorders_alone_tell()
@@ -13,3 +13,10 @@ pub fn recorders_alone_tell()
     ensures counter { (count : ℕ) → ⟦<Counter as Watch>⟧.told count ≡ untold }
     ensures quiet { (watcher : Quiet) → ⟦<Quiet as Watch>⟧.told watcher ≡ untold }
 {}
+
+/// A fan does not tell a list of its own.
+pub fn fans_do_not_tell(fan: &Fan)
+    ensures { ⟦<Fan as Watch>⟧.told fan.now ≡ untold }
+{
+    let _ = fan;
+}
