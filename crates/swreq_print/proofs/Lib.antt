@@ -1,0 +1,4 @@
+mod Cutting
+mod ReadSignatures
+mod ReadTypes
+mod Steps

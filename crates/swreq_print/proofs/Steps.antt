@@ -1,0 +1,17 @@
+-- A type parameter and its steps.
+use Rattle.std.proofs.Common.{◌≡◌, ◌∙◌, ◌++◌, [], ◌∷◌, List, sym}
+use Rattle.std.specs.List.{AllByRecursion}
+use Rattle.std.proofs.lemmas.List.{append_assoc, append-nil}
+use Rattle.swreq_param.specs.declared.ids.Step.{Step}
+use Rattle.swreq_param.specs.Terms.{Term, with_steps}
+use Rattle.swreq_param.specs.Terms.Term.{Member}
+use Rattle.swreq_ranks.specs.Views.{LexiconView}
+use Rattle.swreq_print.specs.Types.{step_text, steps_text, type_text, HasSteps, IsStep}
+
+pub type_by_steps : (x : LexiconView) (t : Term) (steps : List Step) → type_text x (with_steps t steps) ≡ type_text x t ++ steps_text x steps
+type_by_steps x t [] = sym (append-nil (type_text x t))
+type_by_steps x t (s ∷ steps) = type_by_steps x (Member t s) steps ∙ append_assoc (type_text x t) (step_text x s) (steps_text x steps)
+
+pub steps_of_text : (x : LexiconView) (t : Term) (steps : List Step) → HasSteps x (with_steps t steps) → HasSteps x t × AllByRecursion (IsStep x) steps
+steps_of_text x t [] h = (h, tt)
+steps_of_text x t (s ∷ steps) h = let more = steps_of_text x (Member t s) steps h in (more.0.0, (more.0.1, more.1))

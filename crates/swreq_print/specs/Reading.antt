@@ -1,0 +1,52 @@
+-- What a lexicon has to tell for printed texts to be read in one way.
+use Rattle.std.specs.Prelude.{◌≡◌, ◌≢◌, ◌<◌, ◌^◌, ◌||◌, ◌==◌, ℕ, Bool, true, not, List, [], ◌∷◌, codes}
+use Rattle.std.specs.List.{list_all, AllByRecursion}
+use Rattle.swreq_param.specs.declared.ids.AssocId.{AssocId}
+use Rattle.swreq_param.specs.declared.ids.NameId.{NameId}
+use Rattle.swreq_param.specs.declared.ids.ParamId.{ParamId}
+use Rattle.swreq_param.specs.declared.ids.ProtoId.{ProtoId}
+use Rattle.swreq_param.specs.Terms.{Term, head}
+use Rattle.swreq_derive.specs.Derivation.{TermRequirement}
+use Rattle.swreq_derive.specs.Derivation.TermRequirement.{Conforms, IsAnyObject, Equals}
+use Rattle.swreq_ranks.specs.Views.{LexiconView, IsProtocol, IsName}
+use Rattle.swreq_print.specs.Names.{Text, protocol_name, name_text, pair_at, IsAssociated, IsPair}
+use Rattle.swreq_print.specs.Types.{HasSteps}
+
+-- A byte of a name is none of ` `, `,`, `.`, `:`, `=`, `>`, `[` and `]`.
+abbrev pub in_name : ℕ → Bool
+in_name c = not (c == 32 || (c == 44 || (c == 46 || (c == 58 || (c == 61 || (c == 62 || (c == 91 || c == 93)))))))
+
+-- It is not empty, and has such bytes alone.
+pub record IsProper (t : Text) : Type 0 where
+  pub first : ℕ
+  pub rest : Text
+  pub is : t ≡ first ∷ rest
+  pub bytes : list_all in_name t ≡ true
+
+-- Names are proper and tell ids apart, and no protocol is named `AnyObject`.
+pub record TellsApart (x : LexiconView) : Type 0 where
+  pub protocols : (p : ProtoId) → IsProtocol x p → IsProper (protocol_name x p)
+  pub names : (a : NameId) → IsName x a → IsProper (name_text x a)
+  pub one_protocol : (p q : ProtoId) → IsProtocol x p → IsProtocol x q → protocol_name x p ≡ protocol_name x q → p ≡ q
+  pub one_name : (a b : NameId) → IsName x a → IsName x b → name_text x a ≡ name_text x b → a ≡ b
+  pub pairs : (d : AssocId) → IsAssociated x d → IsPair x (pair_at x d)
+  pub one_pair : (d e : AssocId) → IsAssociated x d → IsAssociated x e → pair_at x d ≡ pair_at x e → d ≡ e
+  pub no_any_object : (p : ProtoId) → IsProtocol x p → protocol_name x p ≢ codes "AnyObject"
+
+-- Its numbers have 32 bits.
+abbrev pub HasNumbers : ParamId → Type 0
+HasNumbers g = (g.depth < 2 ^ 32) × (g.index < 2 ^ 32)
+
+-- a type parameter of the text
+abbrev pub IsTypeOf : LexiconView → Term → Type 0
+IsTypeOf x t = HasNumbers (head t) × HasSteps x t
+
+abbrev pub IsRequirementOf : LexiconView → TermRequirement → Type 0
+IsRequirementOf x (Conforms t p) = IsTypeOf x t × IsProtocol x p
+IsRequirementOf x (IsAnyObject t) = IsTypeOf x t
+IsRequirementOf x (Equals t u) = IsTypeOf x t × IsTypeOf x u
+
+-- a signature of the text
+pub record IsSignatureOf (x : LexiconView) (params : List ParamId) (rs : List TermRequirement) : Type 0 where
+  pub numbers : AllByRecursion HasNumbers params
+  pub requirements : AllByRecursion (IsRequirementOf x) rs

@@ -1,0 +1,55 @@
+-- The texts of requirements and of signatures.
+use Rattle.std.specs.Prelude.{ℕ, List, [], ◌∷◌, ◌++◌, map, codes}
+use Rattle.std.specs.List.{flat_map}
+use Rattle.swreq_param.specs.declared.ids.ParamId.{ParamId}
+use Rattle.swreq_param.specs.Terms.{Term}
+use Rattle.swreq_param.specs.Tables.{IsOf, term_at}
+use Rattle.swreq_param.specs.declared.ids.TermId.{TermId}
+use Rattle.swreq_derive.specs.declared.requirements.Requirement.{Requirement}
+use Rattle.swreq_derive.specs.declared.requirements.Requirement.TheVariants.{Conf, Layout, Same}
+use Rattle.swreq_derive.specs.Derivation.{TermRequirement}
+use Rattle.swreq_derive.specs.Derivation.TermRequirement.{Conforms, IsAnyObject, Equals}
+use Rattle.swreq_ranks.specs.Views.{LexiconView, IsProtocol}
+use Rattle.swreq_print.specs.Names.{Text, protocol_name}
+use Rattle.swreq_print.specs.Types.{param_text, type_text, HasSteps}
+
+-- `T : P`, `T : AnyObject` or `T == U`
+abbrev pub requirement_text : LexiconView → TermRequirement → Text
+requirement_text x (Conforms t p) = type_text x t ++ (codes " : " ++ protocol_name x p)
+requirement_text x (IsAnyObject t) = type_text x t ++ codes " : AnyObject"
+requirement_text x (Equals t u) = type_text x t ++ (codes " == " ++ type_text x u)
+
+-- the texts, each behind the separator
+abbrev pub followed : Text → List Text → Text
+followed separator ts = flat_map (λ t. separator ++ t) ts
+
+-- the texts, with the separator between each two
+abbrev pub joined : Text → List Text → Text
+joined separator [] = []
+joined separator (t ∷ ts) = t ++ followed separator ts
+
+-- ` where ` and the requirements, where there are any
+abbrev pub where_text : LexiconView → List TermRequirement → Text
+where_text x [] = []
+where_text x (r ∷ rs) = codes " where " ++ joined (codes ", ") (map (requirement_text x) (r ∷ rs))
+
+-- `<`, the generic parameters, the requirements, and `>`
+abbrev pub signature_text : LexiconView → List ParamId → List TermRequirement → Text
+signature_text x params rs = codes "<" ++ (joined (codes ", ") (map param_text params) ++ (where_text x rs ++ codes ">"))
+
+-- ---- ids of the text
+
+abbrev pub IsRequirement : LexiconView → TermRequirement → Type 0
+IsRequirement x (Conforms t p) = HasSteps x t × IsProtocol x p
+IsRequirement x (IsAnyObject t) = HasSteps x t
+IsRequirement x (Equals t u) = HasSteps x t × HasSteps x u
+
+-- The id is of the table, and the steps of its type parameter are of the text.
+abbrev pub IsType : LexiconView → List Term → TermId → Type 0
+IsType x terms t = IsOf terms t × HasSteps x (term_at terms t)
+
+-- Its ids are of the table and of the text.
+abbrev pub IsPrintable : LexiconView → List Term → Requirement → Type 0
+IsPrintable x terms (Conf t p) = IsType x terms t × IsProtocol x p
+IsPrintable x terms (Layout t) = IsType x terms t
+IsPrintable x terms (Same t u) = IsType x terms t × IsType x terms u

@@ -1,0 +1,47 @@
+-- The texts of type parameters.
+use Rattle.std.specs.Prelude.{◌<◌, ◌^◌, ℕ, List, [], ◌∷◌, ◌++◌, codes, decimal}
+use Rattle.std.specs.List.{flat_map}
+use Rattle.swreq_param.specs.declared.ids.ParamId.{ParamId}
+use Rattle.swreq_param.specs.declared.ids.Step.{Step}
+use Rattle.swreq_param.specs.declared.ids.Step.TheVariants.{Bound, Name}
+use Rattle.swreq_param.specs.Terms.{Term}
+use Rattle.swreq_param.specs.Terms.Term.{Generic, Member}
+use Rattle.swreq_ranks.specs.declared.pair.ProtocolName.{ProtocolName}
+use Rattle.swreq_ranks.specs.Views.{LexiconView, IsName}
+use Rattle.swreq_print.specs.Names.{Text, protocol_name, name_text, pair_at, IsAssociated}
+
+-- `τ` in UTF-8
+abbrev pub tau : Text
+tau = 207 ∷ 132 ∷ []
+
+-- `τ_d_i`
+abbrev pub param_text : ParamId → Text
+param_text g = tau ++ (codes "_" ++ (decimal g.depth ++ (codes "_" ++ decimal g.index)))
+
+-- `[P]A`
+abbrev pub bound_text : LexiconView → ProtocolName → Text
+bound_text x d = codes "[" ++ (protocol_name x d.proto ++ (codes "]" ++ name_text x d.name))
+
+-- `.A`, or `.[P]A`
+abbrev pub step_text : LexiconView → Step → Text
+step_text x (Name a) = codes "." ++ name_text x a
+step_text x (Bound d) = codes "." ++ bound_text x (pair_at x d)
+
+abbrev pub steps_text : LexiconView → List Step → Text
+steps_text x steps = flat_map (step_text x) steps
+
+-- A generic parameter, or the base and the last step.
+abbrev pub type_text : LexiconView → Term → Text
+type_text x (Generic g) = param_text g
+type_text x (Member t step) = type_text x t ++ step_text x step
+
+-- ---- ids of the text
+
+abbrev pub IsStep : LexiconView → Step → Type 0
+IsStep x (Name a) = IsName x a
+IsStep x (Bound d) = IsAssociated x d
+
+-- Each step is of the text.
+abbrev pub HasSteps : LexiconView → Term → Type 0
+HasSteps x (Generic g) = Unit {0}
+HasSteps x (Member t step) = HasSteps x t × IsStep x step

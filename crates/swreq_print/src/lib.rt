@@ -1,0 +1,15 @@
+//! The texts that are printed, as bytes: type parameters, requirements, signatures, rules and traces.
+//!
+//! Names come from the lexicon of the text. Each public call appends its text to `out`, and leaves `out` as it was for want of memory.
+#![tactic(auto)]
+
+mod appending;
+pub mod laws;
+mod names;
+mod rules;
+mod signatures;
+mod types;
+
+pub use rules::{rule_text, trace_text};
+pub use signatures::{requirement_text, signature_text};
+pub use types::{steps_text, type_text};

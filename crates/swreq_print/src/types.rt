@@ -1,0 +1,124 @@
+//! Type parameters.
+
+ghost use Rattle.std.specs.Prelude.{◌≡◌, ◌++◌, OnErr, OnOk};
+ghost use Rattle.std.specs.List.{All};
+ghost use Rattle.swreq_param.specs.Owned.{as_term};
+ghost use Rattle.swreq_param.specs.Tables.{IsOf, term_at};
+ghost use Rattle.swreq_print.specs.Names.{HasPairs, IsPair};
+ghost use Rattle.swreq_print.specs.Types.{HasSteps, IsStep, bound_text, param_text, step_text, steps_text, type_text};
+
+use crate::appending::{put, put_number};
+use crate::names::{name_text, pair_at, protocol_name};
+use std::alloc::{AllocError, Global};
+use swreq_param::{ParamId, ParamTable, Step, TermId, TypeParam};
+use swreq_ranks::{Lexicon, ProtocolName};
+
+/// `τ_` in UTF-8.
+const TAU: &str = "τ_";
+
+pub(crate) fn put_param(param: ParamId, out: &mut Vec<u8>) -> Result<(), AllocError>
+    ensures { OnOk result (out.new.items ≡ out.old.items ++ param_text param) }
+{
+    put(TAU.as_bytes(), out)?;
+    put_number(param.depth as usize, out)?;
+    put(b"_", out)?;
+    put_number(param.index as usize, out)
+}
+
+// `[P]A`
+fn put_bound(names: &Lexicon, pair: ProtocolName, out: &mut Vec<u8>) -> Result<(), AllocError>
+    requires { IsPair names.now pair }
+    ensures { OnOk result (out.new.items ≡ out.old.items ++ bound_text names.now pair) }
+{
+    put(b"[", out)?;
+    put(protocol_name(names, pair.proto), out)?;
+    put(b"]", out)?;
+    put(name_text(names, pair.name), out)
+}
+
+fn put_step(names: &Lexicon, step: Step, out: &mut Vec<u8>) -> Result<(), AllocError>
+    requires pairs { HasPairs names.now }
+    requires step { IsStep names.now step }
+    ensures { OnOk result (out.new.items ≡ out.old.items ++ step_text names.now step) }
+{
+    put(b".", out)?;
+    match step {
+        Step::Bound(assoc) => put_bound(names, pair_at(names, assoc), out),
+        Step::Name(name) => put(name_text(names, name), out),
+    }
+}
+
+fn put_steps(names: &Lexicon, steps: &[Step], out: &mut Vec<u8>) -> Result<(), AllocError>
+    requires pairs { HasPairs names.now }
+    requires steps { All (IsStep names.now) steps.now }
+    ensures { OnOk result (out.new.items ≡ out.old.items ++ steps_text names.now steps.now) }
+{
+    for step in steps {
+        put_step(names, *step, out)?;
+    }
+    Ok(())
+}
+
+fn put_owned(names: &Lexicon, t: &TypeParam, out: &mut Vec<u8>) -> Result<(), AllocError>
+    requires pairs { HasPairs names.now }
+    requires steps { HasSteps names.now (as_term t.now) }
+    ensures { OnOk result (out.new.items ≡ out.old.items ++ type_text names.now (as_term t.now)) }
+{
+    put_param(t.head, out)?;
+    put_steps(names, t.steps.items(), out)
+}
+
+pub(crate) fn put_type(
+    alloc: Global,
+    names: &Lexicon,
+    table: &ParamTable,
+    t: TermId,
+    out: &mut Vec<u8>,
+) -> Result<(), AllocError>
+    requires pairs { HasPairs names.now }
+    requires of { IsOf table.now t }
+    requires steps { HasSteps names.now (term_at table.now t) }
+    ensures { OnOk result (out.new.items ≡ out.old.items ++ type_text names.now (term_at table.now t)) }
+{
+    let owned = table.owned(alloc, t)?;
+    put_owned(names, &owned, out)
+}
+
+/// Appends the type parameter with this generic parameter and these steps, as `τ_0_0.[P]A.B`.
+pub fn steps_text(
+    alloc: Global,
+    names: &Lexicon,
+    head: ParamId,
+    steps: &[Step],
+    out: &mut Vec<u8>,
+) -> Result<(), AllocError>
+    requires pairs { HasPairs names.now }
+    requires steps { All (IsStep names.now) steps.now }
+    ensures ok { OnOk result (out.new.items ≡ out.old.items ++ param_text head ++ steps_text names.now steps.now) }
+    ensures err { OnErr result (out.new.items ≡ out.old.items) }
+{
+    let mut text = Vec::new(alloc);
+    put_param(head, &mut text)?;
+    put_steps(names, steps, &mut text)?;
+    put(&text, out)
+}
+
+/// Appends a type parameter of the table, as `τ_0_0.[P]A.B`: its generic parameter `τ_d_i` of depth d and index i, and for
+/// each member a dot and its name, behind the protocol in brackets where it is bound.
+pub fn type_text(
+    alloc: Global,
+    names: &Lexicon,
+    table: &ParamTable,
+    t: TermId,
+    out: &mut Vec<u8>,
+) -> Result<(), AllocError>
+    requires pairs { HasPairs names.now }
+    requires of { IsOf table.now t }
+    requires steps { HasSteps names.now (term_at table.now t) }
+    ensures ok { OnOk result (out.new.items ≡ out.old.items ++ type_text names.now (term_at table.now t)) }
+    ensures err { OnErr result (out.new.items ≡ out.old.items) }
+{
+    let mut text = Vec::new(alloc);
+    put_type(alloc, names, table, t, &mut text)?;
+    put(&text, out)
+}
