@@ -15,8 +15,6 @@ pub fn recorders_alone_tell()
 {}
 
 /// A fan does not tell a list of its own.
-pub fn fans_do_not_tell(fan: &Fan)
-    ensures { ⟦<Fan as Watch>⟧.told fan.now ≡ untold }
-{
-    let _ = fan;
-}
+pub fn fans_do_not_tell(_fan: &Fan)
+    ensures { ⟦<Fan as Watch>⟧.told _fan.now ≡ untold }
+{}
