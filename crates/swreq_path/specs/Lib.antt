@@ -1,0 +1,4 @@
+pub mod Paths
+pub mod Inverse
+pub mod Reductions
+pub mod Laws

@@ -1,0 +1,72 @@
+//! The path of the reduction of a word.
+
+ghost use Rattle.std.specs.Prelude.{◌≡◌, ◌-◌, ◌<◌, ◌≤◌, ◌^◌, List, length, IfOk, OnOk, vec_len};
+ghost use Rattle.swreq_word.specs.declared.symbols.Symbol.{Symbol};
+ghost use Rattle.swreq_rule.specs.Reduction.{FirstRedex, Reduces};
+ghost use Rattle.swreq_path.specs.Paths.{HasTarget};
+ghost use Rattle.swreq_path.specs.Reductions.{AddsReductionStep, IsRedex, IsReductionPath, StepsAt};
+
+use crate::{Path, RewriteStep};
+use std::alloc::{AllocError, Global};
+use swreq_rule::{Redex, Rule, first_redex, take_step};
+use swreq_text::Seq;
+use swreq_word::{Symbol, Word};
+
+/// The step that puts the right side of the rule of the redex in place of its left side there.
+pub fn step_at(
+    alloc: Global,
+    rules: &[Rule],
+    w: &[Symbol],
+    redex: Redex,
+) -> Result<RewriteStep, AllocError>
+    requires few { length rules.now < 2 ^ 32 - 1 }
+    requires redex { IsRedex rules.now w.now redex.at redex.number }
+    ensures { IfOk result (λ step. (v : List Symbol) × StepsAt rules.now step redex.at redex.number w.now v) }
+{
+    let rule = &rules[redex.number - 1];
+    let end = redex.at + rule.left.symbols().len();
+    let before = Word::new(Vec::from_slice(alloc, &w[..redex.at])?);
+    let after = Word::new(Vec::from_slice(alloc, &w[end..])?);
+    Ok(RewriteStep {
+        before,
+        rule: redex.number as u32,
+        forward: true,
+        after,
+    })
+}
+
+/// Takes the step of reduction at the first redex of the word, and puts it last.
+pub fn take_redex(
+    alloc: Global,
+    rules: &[Rule],
+    word: &mut Vec<Symbol>,
+    redex: Redex,
+    steps: &mut Vec<RewriteStep>,
+) -> Result<(), AllocError>
+    requires few { length rules.now < 2 ^ 32 - 1 }
+    requires redex { FirstRedex rules.now word.old.items redex.at redex.number }
+    ensures { OnOk result (AddsReductionStep rules.now steps.old.items steps.new.items word.old.items word.new.items) }
+{
+    let step = step_at(alloc, rules, word, redex)?;
+    steps.push(step)?;
+    take_step(rules, word, redex);
+    Ok(())
+}
+
+/// The path of the reduction of the word, from the word to that to which it reduces.
+pub fn path_of(alloc: Global, rules: &[Rule], w: &[Symbol]) -> Result<Path, AllocError>
+    requires { length rules.now < 2 ^ 32 - 1 }
+    ensures reduction { IfOk result (λ path. (v : List Symbol) × IsReductionPath rules.now path w.now v) }
+    ensures target { IfOk result (λ path. (v : List Symbol) × HasTarget rules.now path v × Reduces rules.now w.now v) }
+{
+    let start = Word::new(Vec::from_slice(alloc, w)?);
+    let mut word = Vec::from_slice(alloc, w)?;
+    let mut steps = Vec::new(alloc);
+    'steps: while let Some(redex) = first_redex(rules, &word) {
+        take_redex(alloc, rules, &mut word, redex, &mut steps)?;
+    }
+    Ok(Path {
+        start,
+        steps: Seq::new(steps),
+    })
+}
