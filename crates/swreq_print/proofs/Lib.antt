@@ -2,3 +2,4 @@ mod Cutting
 mod ReadSignatures
 mod ReadTypes
 mod Steps
+mod Where

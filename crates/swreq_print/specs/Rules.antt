@@ -1,6 +1,7 @@
 -- The texts of rules, and of the trace of a completion.
 use Rattle.std.specs.Prelude.{◌<◌, ℕ, ◌+◌, List, [], ◌∷◌, ◌++◌, map, length, codes, decimal}
 use Rattle.std.specs.List.{All}
+use Rattle.swreq_bytes.specs.Joined.{joined}
 use Rattle.swreq_ranks.specs.declared.pair.ProtocolName.{ProtocolName}
 use Rattle.swreq_ranks.specs.Views.{LexiconView, IsProtocol, IsName}
 use Rattle.swreq_rule.specs.declared.rules.Birth.{Birth}
@@ -10,7 +11,6 @@ use Rattle.swreq_word.specs.declared.symbols.Symbol.{Symbol}
 use Rattle.swreq_word.specs.declared.symbols.Symbol.TheVariants.{Proto, Member, Param, Name, Layout}
 use Rattle.swreq_print.specs.Names.{Text, protocol_name, name_text, symbol_at}
 use Rattle.swreq_print.specs.Types.{param_text}
-use Rattle.swreq_print.specs.Signatures.{joined}
 
 -- `[P:A]`
 abbrev pub member_text : LexiconView → ProtocolName → Text

@@ -1,6 +1,6 @@
 -- The texts of requirements and of signatures.
 use Rattle.std.specs.Prelude.{ℕ, List, [], ◌∷◌, ◌++◌, map, codes}
-use Rattle.std.specs.List.{flat_map}
+use Rattle.swreq_bytes.specs.Joined.{joined}
 use Rattle.swreq_param.specs.declared.ids.ParamId.{ParamId}
 use Rattle.swreq_param.specs.Terms.{Term}
 use Rattle.swreq_param.specs.Tables.{IsOf, term_at}
@@ -18,15 +18,6 @@ abbrev pub requirement_text : LexiconView → TermRequirement → Text
 requirement_text x (Conforms t p) = type_text x t ++ (codes " : " ++ protocol_name x p)
 requirement_text x (IsAnyObject t) = type_text x t ++ codes " : AnyObject"
 requirement_text x (Equals t u) = type_text x t ++ (codes " == " ++ type_text x u)
-
--- the texts, each behind the separator
-abbrev pub followed : Text → List Text → Text
-followed separator ts = flat_map (λ t. separator ++ t) ts
-
--- the texts, with the separator between each two
-abbrev pub joined : Text → List Text → Text
-joined separator [] = []
-joined separator (t ∷ ts) = t ++ followed separator ts
 
 -- ` where ` and the requirements, where there are any
 abbrev pub where_text : LexiconView → List TermRequirement → Text

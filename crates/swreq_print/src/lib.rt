@@ -3,13 +3,14 @@
 //! Names come from the lexicon of the text. Each public call appends its text to `out`, and leaves `out` as it was for want of memory.
 #![tactic(auto)]
 
-mod appending;
 pub mod laws;
 mod names;
+mod refusal;
 mod rules;
 mod signatures;
 mod types;
 
+pub use refusal::{NOT_BUILT, OUT_OF_MEMORY, READ_FAULT, RefusalKind, TOO_LARGE, USAGE, refusal_text};
 pub use rules::{rule_text, trace_text};
 pub use signatures::{requirement_text, signature_text};
 pub use types::{steps_text, type_text};

@@ -3,14 +3,13 @@
 ghost use Rattle.std.specs.Prelude.{◌≡◌, ◌++◌, ◌+◌, ◌<◌, ◌^◌, length, map, codes, OnErr, OnOk};
 ghost use Rattle.std.specs.List.{All};
 ghost use Rattle.swreq_print.specs.Names.{HasPairs, IsPair};
-ghost use Rattle.swreq_print.specs.Signatures.{followed};
 ghost use Rattle.swreq_word.specs.declared.symbols.Symbol.TheVariants.{Proto};
 ghost use Rattle.swreq_print.specs.Rules.{IsRule, IsSymbol, HasSymbols, birth_text, member_text, rule_text, symbol_text, trace_from, trace_line, trace_text, word_text};
 
-use crate::appending::{put, put_number};
 use crate::names::{name_text, protocol_name, symbol_at};
 use crate::types::put_param;
 use std::alloc::{AllocError, Global};
+use swreq_bytes::{Print, append_bytes, append_number, put_joined};
 use swreq_param::{NameId, ParamId, ProtoId};
 use swreq_ranks::{Lexicon, ProtocolName};
 use swreq_rule::{Birth, Rule};
@@ -21,9 +20,9 @@ fn put_protocol(names: &Lexicon, proto: ProtoId, out: &mut Vec<u8>) -> Result<()
     requires { proto.rank < length names.now.protocols }
     ensures { OnOk result (out.new.items ≡ out.old.items ++ symbol_text names.now (Proto proto.rank)) }
 {
-    put(b"[", out)?;
-    put(protocol_name(names, proto), out)?;
-    put(b"]", out)
+    append_bytes(out, b"[")?;
+    append_bytes(out, protocol_name(names, proto))?;
+    append_bytes(out, b"]")
 }
 
 // `[P:A]`
@@ -31,11 +30,11 @@ fn put_member(names: &Lexicon, pair: ProtocolName, out: &mut Vec<u8>) -> Result<
     requires { IsPair names.now pair }
     ensures { OnOk result (out.new.items ≡ out.old.items ++ member_text names.now pair) }
 {
-    put(b"[", out)?;
-    put(protocol_name(names, pair.proto), out)?;
-    put(b":", out)?;
-    put(name_text(names, pair.name), out)?;
-    put(b"]", out)
+    append_bytes(out, b"[")?;
+    append_bytes(out, protocol_name(names, pair.proto))?;
+    append_bytes(out, b":")?;
+    append_bytes(out, name_text(names, pair.name))?;
+    append_bytes(out, b"]")
 }
 
 fn put_symbol(names: &Lexicon, symbol: Symbol, out: &mut Vec<u8>) -> Result<(), AllocError>
@@ -47,22 +46,25 @@ fn put_symbol(names: &Lexicon, symbol: Symbol, out: &mut Vec<u8>) -> Result<(), 
         Symbol::Proto(rank) => put_protocol(names, ProtoId { rank }, out),
         Symbol::Member(m) => put_member(names, symbol_at(names, m), out),
         Symbol::Param(depth, index) => put_param(ParamId { depth, index }, out),
-        Symbol::Name(rank) => put(name_text(names, NameId { rank }), out),
-        Symbol::Layout => put(b"[layout: AnyObject]", out),
+        Symbol::Name(rank) => append_bytes(out, name_text(names, NameId { rank })),
+        Symbol::Layout => append_bytes(out, b"[layout: AnyObject]"),
     }
 }
 
-// The symbols, each behind a dot.
-fn put_more(names: &Lexicon, rest: &[Symbol], out: &mut Vec<u8>) -> Result<(), AllocError>
-    requires pairs { HasPairs names.now }
-    requires symbols { All (IsSymbol names.now) rest.now }
-    ensures { OnOk result (out.new.items ≡ out.old.items ++ followed (codes ".") (map (symbol_text names.now) rest.now)) }
-{
-    for symbol in rest {
-        put(b".", out)?;
-        put_symbol(names, *symbol, out)?;
+/// What prints symbols with these names.
+#[derive(Drop)]
+struct Symbols<'a> {
+    names: &'a Lexicon,
+}
+
+impl Print<Symbol> for Symbols<'_> {
+    ghost text = { λ s symbol. symbol_text s.names.now symbol };
+
+    ghost fits = { λ s symbol. HasPairs s.names.now × IsSymbol s.names.now symbol };
+
+    fn put(&self, out: &mut Vec<u8>, item: &Symbol) -> Result<(), AllocError> {
+        put_symbol(self.names, *item, out)
     }
-    Ok(())
 }
 
 fn put_word(names: &Lexicon, w: &[Symbol], out: &mut Vec<u8>) -> Result<(), AllocError>
@@ -70,13 +72,7 @@ fn put_word(names: &Lexicon, w: &[Symbol], out: &mut Vec<u8>) -> Result<(), Allo
     requires symbols { All (IsSymbol names.now) w.now }
     ensures { OnOk result (out.new.items ≡ out.old.items ++ word_text names.now w.now) }
 {
-    match w {
-        [] => Ok(()),
-        [first, rest @ ..] => {
-            put_symbol(names, *first, out)?;
-            put_more(names, rest, out)
-        }
-    }
+    put_joined(out, &Symbols { names }, b".", w)
 }
 
 fn put_rule(names: &Lexicon, r: &Rule, out: &mut Vec<u8>) -> Result<(), AllocError>
@@ -85,7 +81,7 @@ fn put_rule(names: &Lexicon, r: &Rule, out: &mut Vec<u8>) -> Result<(), AllocErr
     ensures { OnOk result (out.new.items ≡ out.old.items ++ rule_text names.now r.now) }
 {
     put_word(names, r.left.symbols(), out)?;
-    put(b" => ", out)?;
+    append_bytes(out, b" => ")?;
     put_word(names, r.right.symbols(), out)
 }
 
@@ -94,16 +90,16 @@ fn put_birth(birth: Birth, out: &mut Vec<u8>) -> Result<(), AllocError>
 {
     match birth {
         Birth::Given(n) => {
-            put(b"given ", out)?;
-            put_number(n, out)
+            append_bytes(out, b"given ")?;
+            append_number(out, n as u64)
         }
         Birth::Pair(i, j, at) => {
-            put(b"pair ", out)?;
-            put_number(i as usize, out)?;
-            put(b" ", out)?;
-            put_number(j as usize, out)?;
-            put(b" ", out)?;
-            put_number(at, out)
+            append_bytes(out, b"pair ")?;
+            append_number(out, i as u64)?;
+            append_bytes(out, b" ")?;
+            append_number(out, j as u64)?;
+            append_bytes(out, b" ")?;
+            append_number(out, at as u64)
         }
     }
 }
@@ -119,13 +115,13 @@ fn put_trace_line(
     requires rule { IsRule names.now r.now }
     ensures { OnOk result (out.new.items ≡ out.old.items ++ trace_line names.now number r.now) }
 {
-    put(b"  ", out)?;
-    put_number(number, out)?;
-    put(b": ", out)?;
+    append_bytes(out, b"  ")?;
+    append_number(out, number as u64)?;
+    append_bytes(out, b": ")?;
     put_rule(names, r, out)?;
-    put(b" (", out)?;
+    append_bytes(out, b" (")?;
     put_birth(r.birth, out)?;
-    put(b")\n", out)
+    append_bytes(out, b")\n")
 }
 
 fn put_trace(names: &Lexicon, trace: &[Rule], out: &mut Vec<u8>) -> Result<(), AllocError>
@@ -155,7 +151,7 @@ pub fn rule_text(
 {
     let mut text = Vec::new(alloc);
     put_rule(names, r, &mut text)?;
-    put(&text, out)
+    append_bytes(out, &text)
 }
 
 /// Appends a line for each rule of a trace, with its number, counted from 1, and its birth, as `  4: [N].[N:Next] => [N:Next] (pair 1 2 1)`.
@@ -172,5 +168,5 @@ pub fn trace_text(
 {
     let mut text = Vec::new(alloc);
     put_trace(names, trace, &mut text)?;
-    put(&text, out)
+    append_bytes(out, &text)
 }

@@ -1,16 +1,17 @@
 //! Requirements and signatures.
 
-ghost use Rattle.std.specs.Prelude.{◌≡◌, ◌++◌, map, codes, IfOk, OnErr, OnOk};
+ghost use Rattle.std.specs.Prelude.{◌≡◌, ◌++◌, ⊤, codes, map, IfOk, OnErr, OnOk};
 ghost use Rattle.std.specs.List.{All};
 ghost use Rattle.swreq_derive.specs.Facts.{generic_params, params_of_depth, requirement_of};
+ghost use Rattle.swreq_bytes.specs.Joined.{joined};
 ghost use Rattle.swreq_print.specs.Names.{HasPairs};
 ghost use Rattle.swreq_print.specs.Types.{param_text};
-ghost use Rattle.swreq_print.specs.Signatures.{IsPrintable, followed, joined, requirement_text, signature_text, where_text};
+ghost use Rattle.swreq_print.specs.Signatures.{IsPrintable, requirement_text, signature_text, where_text};
 
-use crate::appending::put;
 use crate::names::protocol_name;
 use crate::types::{put_param, put_type};
 use std::alloc::{AllocError, Global};
+use swreq_bytes::{Print, append_bytes, put_joined};
 use swreq_derive::{Params, Requirement};
 use swreq_param::{ParamId, ParamTable};
 use swreq_ranks::Lexicon;
@@ -29,39 +30,37 @@ fn put_requirement(
     match *r {
         Requirement::Conf { subject, proto } => {
             put_type(alloc, names, table, subject, out)?;
-            put(b" : ", out)?;
-            put(protocol_name(names, proto), out)
+            append_bytes(out, b" : ")?;
+            append_bytes(out, protocol_name(names, proto))
         }
         Requirement::Layout { subject } => {
             put_type(alloc, names, table, subject, out)?;
-            put(b" : AnyObject", out)
+            append_bytes(out, b" : AnyObject")
         }
         Requirement::Same { left, right } => {
             put_type(alloc, names, table, left, out)?;
-            put(b" == ", out)?;
+            append_bytes(out, b" == ")?;
             put_type(alloc, names, table, right, out)
         }
     }
 }
 
-// The requirements, each behind a comma and a space.
-fn put_more(
+/// What prints requirements over a table, with these names.
+#[derive(Drop)]
+struct Requirements<'a> {
     alloc: Global,
-    names: &Lexicon,
-    table: &ParamTable,
-    rest: &[Requirement],
-    out: &mut Vec<u8>,
-) -> Result<(), AllocError>
-    requires pairs { HasPairs names.now }
-    requires ids { All (IsPrintable names.now table.now) rest.now }
-    ensures { OnOk result (out.new.items ≡ out.old.items
-        ++ followed (codes ", ") (map (requirement_text names.now) (map (requirement_of table.now) rest.now))) }
-{
-    for r in rest {
-        put(b", ", out)?;
-        put_requirement(alloc, names, table, r, out)?;
+    names: &'a Lexicon,
+    table: &'a ParamTable,
+}
+
+impl Print<Requirement> for Requirements<'_> {
+    ghost text = { λ s r. requirement_text s.names.now (requirement_of s.table.now r) };
+
+    ghost fits = { λ s r. HasPairs s.names.now × IsPrintable s.names.now s.table.now r };
+
+    fn put(&self, out: &mut Vec<u8>, item: &Requirement) -> Result<(), AllocError> {
+        put_requirement(self.alloc, self.names, self.table, item, out)
     }
-    Ok(())
 }
 
 // ` where ` and the requirements, where there are any.
@@ -78,10 +77,9 @@ fn put_where(
 {
     match list {
         [] => Ok(()),
-        [first, rest @ ..] => {
-            put(b" where ", out)?;
-            put_requirement(alloc, names, table, first, out)?;
-            put_more(alloc, names, table, rest, out)
+        [_, ..] => {
+            append_bytes(out, b" where ")?;
+            put_joined(out, &Requirements { alloc, names, table }, b", ", list)
         }
     }
 }
@@ -105,27 +103,17 @@ fn listed(alloc: Global, params: Params) -> Result<Vec<ParamId>, AllocError>
     Ok(all)
 }
 
-// The generic parameters, each behind a comma and a space.
-fn put_more_params(rest: &[ParamId], out: &mut Vec<u8>) -> Result<(), AllocError>
-    ensures { OnOk result (out.new.items ≡ out.old.items ++ followed (codes ", ") (map param_text rest.now)) }
-{
-    for param in rest {
-        put(b", ", out)?;
-        put_param(*param, out)?;
-    }
-    Ok(())
-}
+/// What prints generic parameters.
+#[derive(Drop)]
+struct Generics;
 
-// The generic parameters, with a comma and a space between each two.
-fn put_params(params: &[ParamId], out: &mut Vec<u8>) -> Result<(), AllocError>
-    ensures { OnOk result (out.new.items ≡ out.old.items ++ joined (codes ", ") (map param_text params.now)) }
-{
-    match params {
-        [] => Ok(()),
-        [first, rest @ ..] => {
-            put_param(*first, out)?;
-            put_more_params(rest, out)
-        }
+impl Print<ParamId> for Generics {
+    ghost text = { λ _ g. param_text g };
+
+    ghost fits = { λ _ _. ⊤ };
+
+    fn put(&self, out: &mut Vec<u8>, item: &ParamId) -> Result<(), AllocError> {
+        put_param(*item, out)
     }
 }
 
@@ -144,7 +132,7 @@ pub fn requirement_text(
 {
     let mut text = Vec::new(alloc);
     put_requirement(alloc, names, table, r, &mut text)?;
-    put(&text, out)
+    append_bytes(out, &text)
 }
 
 /// Appends the signature with these generic parameters and requirements, as `<τ_0_0, τ_1_0 where τ_0_0 : P, τ_0_0 == τ_1_0>`.
@@ -163,9 +151,9 @@ pub fn signature_text(
     ensures err { OnErr result (out.new.items ≡ out.old.items) }
 {
     let mut text = Vec::new(alloc);
-    put(b"<", &mut text)?;
-    put_params(&listed(alloc, params)?, &mut text)?;
+    append_bytes(&mut text, b"<")?;
+    put_joined(&mut text, &Generics, b", ", &listed(alloc, params)?)?;
     put_where(alloc, names, table, list, &mut text)?;
-    put(b">", &mut text)?;
-    put(&text, out)
+    append_bytes(&mut text, b">")?;
+    append_bytes(out, &text)
 }

@@ -7,9 +7,9 @@ ghost use Rattle.swreq_param.specs.Tables.{IsOf, term_at};
 ghost use Rattle.swreq_print.specs.Names.{HasPairs, IsPair};
 ghost use Rattle.swreq_print.specs.Types.{HasSteps, IsStep, bound_text, param_text, step_text, steps_text, type_text};
 
-use crate::appending::{put, put_number};
 use crate::names::{name_text, pair_at, protocol_name};
 use std::alloc::{AllocError, Global};
+use swreq_bytes::{append_bytes, append_number};
 use swreq_param::{ParamId, ParamTable, Step, TermId, TypeParam};
 use swreq_ranks::{Lexicon, ProtocolName};
 
@@ -19,10 +19,10 @@ const TAU: &str = "τ_";
 pub(crate) fn put_param(param: ParamId, out: &mut Vec<u8>) -> Result<(), AllocError>
     ensures { OnOk result (out.new.items ≡ out.old.items ++ param_text param) }
 {
-    put(TAU.as_bytes(), out)?;
-    put_number(param.depth as usize, out)?;
-    put(b"_", out)?;
-    put_number(param.index as usize, out)
+    append_bytes(out, TAU.as_bytes())?;
+    append_number(out, param.depth as u64)?;
+    append_bytes(out, b"_")?;
+    append_number(out, param.index as u64)
 }
 
 // `[P]A`
@@ -30,10 +30,10 @@ fn put_bound(names: &Lexicon, pair: ProtocolName, out: &mut Vec<u8>) -> Result<(
     requires { IsPair names.now pair }
     ensures { OnOk result (out.new.items ≡ out.old.items ++ bound_text names.now pair) }
 {
-    put(b"[", out)?;
-    put(protocol_name(names, pair.proto), out)?;
-    put(b"]", out)?;
-    put(name_text(names, pair.name), out)
+    append_bytes(out, b"[")?;
+    append_bytes(out, protocol_name(names, pair.proto))?;
+    append_bytes(out, b"]")?;
+    append_bytes(out, name_text(names, pair.name))
 }
 
 fn put_step(names: &Lexicon, step: Step, out: &mut Vec<u8>) -> Result<(), AllocError>
@@ -41,10 +41,10 @@ fn put_step(names: &Lexicon, step: Step, out: &mut Vec<u8>) -> Result<(), AllocE
     requires step { IsStep names.now step }
     ensures { OnOk result (out.new.items ≡ out.old.items ++ step_text names.now step) }
 {
-    put(b".", out)?;
+    append_bytes(out, b".")?;
     match step {
         Step::Bound(assoc) => put_bound(names, pair_at(names, assoc), out),
-        Step::Name(name) => put(name_text(names, name), out),
+        Step::Name(name) => append_bytes(out, name_text(names, name)),
     }
 }
 
@@ -100,7 +100,7 @@ pub fn steps_text(
     let mut text = Vec::new(alloc);
     put_param(head, &mut text)?;
     put_steps(names, steps, &mut text)?;
-    put(&text, out)
+    append_bytes(out, &text)
 }
 
 /// Appends a type parameter of the table, as `τ_0_0.[P]A.B`: its generic parameter `τ_d_i` of depth d and index i, and for
@@ -120,5 +120,5 @@ pub fn type_text(
 {
     let mut text = Vec::new(alloc);
     put_type(alloc, names, table, t, &mut text)?;
-    put(&text, out)
+    append_bytes(out, &text)
 }
