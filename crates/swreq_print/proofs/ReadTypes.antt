@@ -15,6 +15,7 @@ use Rattle.swreq_param.specs.Terms.{Term, head, with_steps}
 use Rattle.swreq_param.specs.Terms.Term.{Generic, Member}
 use Rattle.swreq_ranks.specs.declared.pair.ProtocolName.{ProtocolName}
 use Rattle.swreq_ranks.specs.Views.{LexiconView, IsName, IsProtocol}
+use Rattle.swreq_print.specs.declared.types.Scope.TheVariants.{Signature}
 use Rattle.swreq_print.specs.Names.{Text, protocol_name, name_text, pair_at, IsPair}
 use Rattle.swreq_print.specs.Types.{param_text, bound_text, step_text, steps_text, type_text, HasSteps, IsStep}
 use Rattle.swreq_print.specs.Reading.{in_name, TellsApart, HasNumbers, IsTypeOf}
@@ -162,7 +163,7 @@ module _ (x : LexiconView) (names : TellsApart x) where
   -- ---- the whole text
 
   by_steps : (t : Term) → type_text x t ≡ param_text (head t) ++ steps_text x (steps_of t)
-  by_steps t = ap (type_text x) (sym (as_steps t)) ∙ type_by_steps x (Generic (head t)) (steps_of t)
+  by_steps t = ap (type_text x) (sym (as_steps t)) ∙ type_by_steps x Signature (Generic (head t)) (steps_of t)
 
   each_step : (t : Term) → HasSteps x t → AllByRecursion (IsStep x) (steps_of t)
   each_step t h = (steps_of_text x (Generic (head t)) (steps_of t) (rw (as_steps t) h)).1

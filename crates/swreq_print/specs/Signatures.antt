@@ -1,8 +1,8 @@
 -- The texts of requirements and of signatures.
-use Rattle.std.specs.Prelude.{ℕ, List, [], ◌∷◌, ◌++◌, map, codes}
+use Rattle.std.specs.Prelude.{◌≡◌, ℕ, List, [], ◌∷◌, ◌++◌, map, codes}
 use Rattle.swreq_bytes.specs.Joined.{joined}
 use Rattle.swreq_param.specs.declared.ids.ParamId.{ParamId}
-use Rattle.swreq_param.specs.Terms.{Term}
+use Rattle.swreq_param.specs.Terms.{Term, head, self_param}
 use Rattle.swreq_param.specs.Tables.{IsOf, term_at}
 use Rattle.swreq_param.specs.declared.ids.TermId.{TermId}
 use Rattle.swreq_derive.specs.declared.requirements.Requirement.{Requirement}
@@ -10,14 +10,23 @@ use Rattle.swreq_derive.specs.declared.requirements.Requirement.TheVariants.{Con
 use Rattle.swreq_derive.specs.Derivation.{TermRequirement}
 use Rattle.swreq_derive.specs.Derivation.TermRequirement.{Conforms, IsAnyObject, Equals}
 use Rattle.swreq_ranks.specs.Views.{LexiconView, IsProtocol}
+use Rattle.swreq_print.specs.declared.types.Scope.{Scope}
+use Rattle.swreq_print.specs.declared.types.Scope.TheVariants.{Protocol, Signature}
 use Rattle.swreq_print.specs.Names.{Text, protocol_name}
-use Rattle.swreq_print.specs.Types.{param_text, type_text, HasSteps}
+use Rattle.swreq_print.specs.Types.{param_text, type_in, HasSteps}
 
 -- `T : P`, `T : AnyObject` or `T == U`
+abbrev pub requirement_in : LexiconView → Scope → TermRequirement → Text
+requirement_in x scope (Conforms t p) = type_in x scope t ++ (codes " : " ++ protocol_name x p)
+requirement_in x scope (IsAnyObject t) = type_in x scope t ++ codes " : AnyObject"
+requirement_in x scope (Equals t u) = type_in x scope t ++ (codes " == " ++ type_in x scope u)
+
 abbrev pub requirement_text : LexiconView → TermRequirement → Text
-requirement_text x (Conforms t p) = type_text x t ++ (codes " : " ++ protocol_name x p)
-requirement_text x (IsAnyObject t) = type_text x t ++ codes " : AnyObject"
-requirement_text x (Equals t u) = type_text x t ++ (codes " == " ++ type_text x u)
+requirement_text x r = requirement_in x Signature r
+
+-- with `Self` for the generic parameter
+abbrev pub self_text : LexiconView → TermRequirement → Text
+self_text x r = requirement_in x Protocol r
 
 -- ` where ` and the requirements, where there are any
 abbrev pub where_text : LexiconView → List TermRequirement → Text
@@ -27,6 +36,12 @@ where_text x (r ∷ rs) = codes " where " ++ joined (codes ", ") (map (requireme
 -- `<`, the generic parameters, the requirements, and `>`
 abbrev pub signature_text : LexiconView → List ParamId → List TermRequirement → Text
 signature_text x params rs = codes "<" ++ (joined (codes ", ") (map param_text params) ++ (where_text x rs ++ codes ">"))
+
+-- Its type parameters begin with `τ_0_0`.
+abbrev pub IsOverSelf : TermRequirement → Type 0
+IsOverSelf (Conforms t p) = head t ≡ self_param
+IsOverSelf (IsAnyObject t) = head t ≡ self_param
+IsOverSelf (Equals t u) = (head t ≡ self_param) × (head u ≡ self_param)
 
 -- ---- ids of the text
 

@@ -8,6 +8,8 @@ use Rattle.swreq_param.specs.Terms.{Term}
 use Rattle.swreq_param.specs.Terms.Term.{Generic, Member}
 use Rattle.swreq_ranks.specs.declared.pair.ProtocolName.{ProtocolName}
 use Rattle.swreq_ranks.specs.Views.{LexiconView, IsName}
+use Rattle.swreq_print.specs.declared.types.Scope.{Scope}
+use Rattle.swreq_print.specs.declared.types.Scope.TheVariants.{Protocol, Signature}
 use Rattle.swreq_print.specs.Names.{Text, protocol_name, name_text, pair_at, IsAssociated}
 
 -- `τ` in UTF-8
@@ -30,10 +32,18 @@ step_text x (Bound d) = codes "." ++ bound_text x (pair_at x d)
 abbrev pub steps_text : LexiconView → List Step → Text
 steps_text x steps = flat_map (step_text x) steps
 
+-- In a signature a generic parameter is `τ_d_i`, and in a protocol `Self`.
+abbrev pub head_text : Scope → ParamId → Text
+head_text Signature g = param_text g
+head_text Protocol g = codes "Self"
+
 -- A generic parameter, or the base and the last step.
+abbrev pub type_in : LexiconView → Scope → Term → Text
+type_in x scope (Generic g) = head_text scope g
+type_in x scope (Member t step) = type_in x scope t ++ step_text x step
+
 abbrev pub type_text : LexiconView → Term → Text
-type_text x (Generic g) = param_text g
-type_text x (Member t step) = type_text x t ++ step_text x step
+type_text x t = type_in x Signature t
 
 -- ---- ids of the text
 

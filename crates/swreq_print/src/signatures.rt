@@ -6,10 +6,10 @@ ghost use Rattle.swreq_derive.specs.Facts.{generic_params, params_of_depth, requ
 ghost use Rattle.swreq_bytes.specs.Joined.{joined};
 ghost use Rattle.swreq_print.specs.Names.{HasPairs};
 ghost use Rattle.swreq_print.specs.Types.{param_text};
-ghost use Rattle.swreq_print.specs.Signatures.{IsPrintable, requirement_text, signature_text, where_text};
+ghost use Rattle.swreq_print.specs.Signatures.{IsOverSelf, IsPrintable, requirement_in, requirement_text, self_text, signature_text, where_text};
 
 use crate::names::protocol_name;
-use crate::types::{put_param, put_type};
+use crate::types::{Scope, put_param, put_type};
 use std::alloc::{AllocError, Global};
 use swreq_bytes::{Print, append_bytes, put_joined};
 use swreq_derive::{Params, Requirement};
@@ -20,27 +20,28 @@ fn put_requirement(
     alloc: Global,
     names: &Lexicon,
     table: &ParamTable,
+    scope: Scope,
     r: &Requirement,
     out: &mut Vec<u8>,
 ) -> Result<(), AllocError>
     requires pairs { HasPairs names.now }
     requires ids { IsPrintable names.now table.now r.now }
-    ensures { OnOk result (out.new.items ≡ out.old.items ++ requirement_text names.now (requirement_of table.now r.now)) }
+    ensures { OnOk result (out.new.items ≡ out.old.items ++ requirement_in names.now scope (requirement_of table.now r.now)) }
 {
     match *r {
         Requirement::Conf { subject, proto } => {
-            put_type(alloc, names, table, subject, out)?;
+            put_type(alloc, names, table, scope, subject, out)?;
             append_bytes(out, b" : ")?;
             append_bytes(out, protocol_name(names, proto))
         }
         Requirement::Layout { subject } => {
-            put_type(alloc, names, table, subject, out)?;
+            put_type(alloc, names, table, scope, subject, out)?;
             append_bytes(out, b" : AnyObject")
         }
         Requirement::Same { left, right } => {
-            put_type(alloc, names, table, left, out)?;
+            put_type(alloc, names, table, scope, left, out)?;
             append_bytes(out, b" == ")?;
-            put_type(alloc, names, table, right, out)
+            put_type(alloc, names, table, scope, right, out)
         }
     }
 }
@@ -59,7 +60,14 @@ impl Print<Requirement> for Requirements<'_> {
     ghost fits = { λ s r. HasPairs s.names.now × IsPrintable s.names.now s.table.now r };
 
     fn put(&self, out: &mut Vec<u8>, item: &Requirement) -> Result<(), AllocError> {
-        put_requirement(self.alloc, self.names, self.table, item, out)
+        put_requirement(
+            self.alloc,
+            self.names,
+            self.table,
+            Scope::Signature,
+            item,
+            out,
+        )
     }
 }
 
@@ -131,7 +139,26 @@ pub fn requirement_text(
     ensures err { OnErr result (out.new.items ≡ out.old.items) }
 {
     let mut text = Vec::new(alloc);
-    put_requirement(alloc, names, table, r, &mut text)?;
+    put_requirement(alloc, names, table, Scope::Signature, r, &mut text)?;
+    append_bytes(out, &text)
+}
+
+/// Appends a requirement of a protocol, over `τ_0_0` alone, with `Self` in its place, as `Self.[P]A : Q`.
+pub fn self_text(
+    alloc: Global,
+    names: &Lexicon,
+    table: &ParamTable,
+    r: &Requirement,
+    out: &mut Vec<u8>,
+) -> Result<(), AllocError>
+    requires pairs { HasPairs names.now }
+    requires ids { IsPrintable names.now table.now r.now }
+    requires own { IsOverSelf (requirement_of table.now r.now) }
+    ensures ok { OnOk result (out.new.items ≡ out.old.items ++ self_text names.now (requirement_of table.now r.now)) }
+    ensures err { OnErr result (out.new.items ≡ out.old.items) }
+{
+    let mut text = Vec::new(alloc);
+    put_requirement(alloc, names, table, Scope::Protocol, r, &mut text)?;
     append_bytes(out, &text)
 }
 

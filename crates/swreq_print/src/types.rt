@@ -5,13 +5,22 @@ ghost use Rattle.std.specs.List.{All};
 ghost use Rattle.swreq_param.specs.Owned.{as_term};
 ghost use Rattle.swreq_param.specs.Tables.{IsOf, term_at};
 ghost use Rattle.swreq_print.specs.Names.{HasPairs, IsPair};
-ghost use Rattle.swreq_print.specs.Types.{HasSteps, IsStep, bound_text, param_text, step_text, steps_text, type_text};
+ghost use Rattle.swreq_print.specs.Types.{HasSteps, IsStep, bound_text, head_text, param_text, step_text, steps_text, type_in, type_text};
 
 use crate::names::{name_text, pair_at, protocol_name};
 use std::alloc::{AllocError, Global};
 use swreq_bytes::{append_bytes, append_number};
 use swreq_param::{ParamId, ParamTable, Step, TermId, TypeParam};
 use swreq_ranks::{Lexicon, ProtocolName};
+
+/// Where a type parameter stands, and so how its generic parameter is printed.
+#[derive(Clone, Copy)]
+pub(crate) enum Scope {
+    /// In a signature: `τ_d_i`.
+    Signature,
+    /// In a protocol: `Self`.
+    Protocol,
+}
 
 /// `τ_` in UTF-8.
 const TAU: &str = "τ_";
@@ -59,12 +68,26 @@ fn put_steps(names: &Lexicon, steps: &[Step], out: &mut Vec<u8>) -> Result<(), A
     Ok(())
 }
 
-fn put_owned(names: &Lexicon, t: &TypeParam, out: &mut Vec<u8>) -> Result<(), AllocError>
+fn put_head(scope: Scope, param: ParamId, out: &mut Vec<u8>) -> Result<(), AllocError>
+    ensures { OnOk result (out.new.items ≡ out.old.items ++ head_text scope param) }
+{
+    match scope {
+        Scope::Signature => put_param(param, out),
+        Scope::Protocol => append_bytes(out, b"Self"),
+    }
+}
+
+fn put_owned(
+    names: &Lexicon,
+    scope: Scope,
+    t: &TypeParam,
+    out: &mut Vec<u8>,
+) -> Result<(), AllocError>
     requires pairs { HasPairs names.now }
     requires steps { HasSteps names.now (as_term t.now) }
-    ensures { OnOk result (out.new.items ≡ out.old.items ++ type_text names.now (as_term t.now)) }
+    ensures { OnOk result (out.new.items ≡ out.old.items ++ type_in names.now scope (as_term t.now)) }
 {
-    put_param(t.head, out)?;
+    put_head(scope, t.head, out)?;
     put_steps(names, t.steps.items(), out)
 }
 
@@ -72,16 +95,17 @@ pub(crate) fn put_type(
     alloc: Global,
     names: &Lexicon,
     table: &ParamTable,
+    scope: Scope,
     t: TermId,
     out: &mut Vec<u8>,
 ) -> Result<(), AllocError>
     requires pairs { HasPairs names.now }
     requires of { IsOf table.now t }
     requires steps { HasSteps names.now (term_at table.now t) }
-    ensures { OnOk result (out.new.items ≡ out.old.items ++ type_text names.now (term_at table.now t)) }
+    ensures { OnOk result (out.new.items ≡ out.old.items ++ type_in names.now scope (term_at table.now t)) }
 {
     let owned = table.owned(alloc, t)?;
-    put_owned(names, &owned, out)
+    put_owned(names, scope, &owned, out)
 }
 
 /// Appends the type parameter with this generic parameter and these steps, as `τ_0_0.[P]A.B`.
@@ -119,6 +143,6 @@ pub fn type_text(
     ensures err { OnErr result (out.new.items ≡ out.old.items) }
 {
     let mut text = Vec::new(alloc);
-    put_type(alloc, names, table, t, &mut text)?;
+    put_type(alloc, names, table, Scope::Signature, t, &mut text)?;
     append_bytes(out, &text)
 }
