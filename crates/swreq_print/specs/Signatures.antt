@@ -1,8 +1,8 @@
 -- The texts of requirements and of signatures.
-use Rattle.std.specs.Prelude.{◌≡◌, ℕ, List, [], ◌∷◌, ◌++◌, map, codes}
+use Rattle.std.specs.Prelude.{ℕ, List, [], ◌∷◌, ◌++◌, map, codes}
 use Rattle.swreq_bytes.specs.Joined.{joined}
 use Rattle.swreq_param.specs.declared.ids.ParamId.{ParamId}
-use Rattle.swreq_param.specs.Terms.{Term, head, self_param}
+use Rattle.swreq_param.specs.Terms.{Term}
 use Rattle.swreq_param.specs.Tables.{IsOf, term_at}
 use Rattle.swreq_param.specs.declared.ids.TermId.{TermId}
 use Rattle.swreq_derive.specs.declared.requirements.Requirement.{Requirement}
@@ -36,12 +36,6 @@ where_text x (r ∷ rs) = codes " where " ++ joined (codes ", ") (map (requireme
 -- `<`, the generic parameters, the requirements, and `>`
 abbrev pub signature_text : LexiconView → List ParamId → List TermRequirement → Text
 signature_text x params rs = codes "<" ++ (joined (codes ", ") (map param_text params) ++ (where_text x rs ++ codes ">"))
-
--- Its type parameters begin with `τ_0_0`.
-abbrev pub IsOverSelf : TermRequirement → Type 0
-IsOverSelf (Conforms t p) = head t ≡ self_param
-IsOverSelf (IsAnyObject t) = head t ≡ self_param
-IsOverSelf (Equals t u) = (head t ≡ self_param) × (head u ≡ self_param)
 
 -- ---- ids of the text
 

@@ -6,7 +6,7 @@ ghost use Rattle.swreq_derive.specs.Facts.{generic_params, params_of_depth, requ
 ghost use Rattle.swreq_bytes.specs.Joined.{joined};
 ghost use Rattle.swreq_print.specs.Names.{HasPairs};
 ghost use Rattle.swreq_print.specs.Types.{param_text};
-ghost use Rattle.swreq_print.specs.Signatures.{IsOverSelf, IsPrintable, requirement_in, requirement_text, self_text, signature_text, where_text};
+ghost use Rattle.swreq_print.specs.Signatures.{IsPrintable, requirement_in, requirement_text, self_text, signature_text, where_text};
 
 use crate::names::protocol_name;
 use crate::types::{Scope, put_param, put_type};
@@ -143,7 +143,7 @@ pub fn requirement_text(
     append_bytes(out, &text)
 }
 
-/// Appends a requirement of a protocol, over `τ_0_0` alone, with `Self` in its place, as `Self.[P]A : Q`.
+/// Appends a requirement of a protocol, whose generic parameter is printed as `Self`: `Self.[P]A : Q`.
 pub fn self_text(
     alloc: Global,
     names: &Lexicon,
@@ -153,7 +153,6 @@ pub fn self_text(
 ) -> Result<(), AllocError>
     requires pairs { HasPairs names.now }
     requires ids { IsPrintable names.now table.now r.now }
-    requires own { IsOverSelf (requirement_of table.now r.now) }
     ensures ok { OnOk result (out.new.items ≡ out.old.items ++ self_text names.now (requirement_of table.now r.now)) }
     ensures err { OnErr result (out.new.items ≡ out.old.items) }
 {
