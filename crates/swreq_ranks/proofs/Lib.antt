@@ -1,0 +1,14 @@
+pub mod Rising
+pub mod Counting
+pub mod Names
+pub mod Places
+pub mod Tests
+pub mod Declarers
+pub mod KeyOrders
+pub mod Made
+pub mod Search
+pub mod Positions
+pub mod Mapped
+pub mod Keyed
+pub mod PairKeys
+pub mod PairPlaces
