@@ -5,6 +5,12 @@ pub mod Places
 pub mod Tests
 pub mod Declarers
 pub mod KeyOrders
+pub mod SymbolPlaces
+pub mod SymbolMembers
+pub mod OrderKeys
+pub mod SymbolRanks
+pub mod Declared
+pub mod Whole
 pub mod Made
 pub mod Search
 pub mod Positions

@@ -8,6 +8,7 @@ use Rattle.std.specs.List.Sorted.{IsStrictlySortedBy}
 use Rattle.std.proofs.lemmas.Bool.{cases_lt, cases_eq}
 use Rattle.std.proofs.lemmas.Cmp.{tied_itself}
 use Rattle.std.proofs.lemmas.Map.Keys.{sorted_head, sorted_tail, Less-from_sorted}
+use Rattle.std.proofs.lemmas.List.Elements.{Contains-get_or}
 use Rattle.std.proofs.lemmas.Option.{slice_get_within, get_or_from_slice_get}
 use Rattle.std.proofs.Common.{⊎_elim}
 
@@ -21,6 +22,13 @@ rising_from_sorted cmp xs s i j d h l = Less-from_sorted cmp xs i j d s h l
 all_from : {K : Type 0} (P : K → Type 0) (xs : List K) → ((k : ℕ) (d : K) → k < length xs → P (get_or xs k d)) → AllByRecursion P xs
 all_from P [] h = tt
 all_from P (x ∷ xs) h = (h 0 x (omega arith), all_from P xs (λ k d l. h (suc k) d (omega arith)))
+
+pub sorted_nil : {K : Type 0} (cmp : K → K → Ordering) → IsStrictlySortedBy cmp []
+unfolding IsStrictlySortedBy
+sorted_nil cmp = tt
+
+pub all_contained : {K : Type 0} (P : K → Type 0) (xs : List K) → ((x : K) → Contains xs x → P x) → AllByRecursion P xs
+all_contained P xs h = all_from P xs (λ k d l. h (get_or xs k d) (Contains-get_or xs k d l))
 
 pub sorted_from_rising : {K : Type 0} (cmp : K → K → Ordering) (xs : List K) → IsRising cmp xs → IsStrictlySortedBy cmp xs
 unfolding IsStrictlySortedBy

@@ -5,6 +5,13 @@ use Rattle.std.proofs.lemmas.List.Folds.{list_any_at}
 use Rattle.std.proofs.lemmas.List.Elements.{Contains-append_right}
 use Rattle.swreq_names.proofs.Booleans.{same_bool, or_cases}
 
+pub one_of : {A : Type 0} (x : A) (xs : List A) (q : A) → Contains (x ∷ xs) q → (x ≡ q) ⊎ Contains xs q
+one_of x xs q h = by h.0 h.1 h.2
+  where
+    by : (k : ℕ) → k < length (x ∷ xs) → get_or (x ∷ xs) k q ≡ q → (x ≡ q) ⊎ Contains xs q
+    by zero l e = inl e
+    by (suc k) l e = let m : k < length xs = omega arith in inr (k, m, e)
+
 module _ {A : Type 0} (f : A → Bool) where
   -- some item that is there passes the test
   pub some_passes : (xs : List A) → list_any f xs ≡ true → (x : A) × Contains xs x × (f x ≡ true)

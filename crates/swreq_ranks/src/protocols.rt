@@ -64,7 +64,8 @@ impl Protocols {
 
     /// How many there are.
     pub fn len(&self) -> u32
-        ensures { result ≡ length self.now.protocols }
+        ensures is { result ≡ length self.now.protocols }
+        ensures small { result ≤ 1048576 }
     {
         self.ranks.len() as u32
     }
