@@ -27,9 +27,12 @@ pair p a = record { proto = p; name = a }
 abbrev pub is_pair : ProtoId → NameId → ProtocolName → Bool
 is_pair p a d = nat_eq p.rank d.proto.rank && nat_eq a.rank d.name.rank
 
+abbrev pub assoc_at : ℕ → AssocId
+assoc_at r = record { rank = r }
+
 -- the rank of an associated type, which is 0 where there is none; where the names of a text resolve, there is one
 abbrev pub assoc_by : List ProtocolName → ProtoId → NameId → AssocId
-assoc_by associated p a = record { rank = unwrap_or (position (is_pair p a) associated) 0 }
+assoc_by associated p a = assoc_at (unwrap_or (position (is_pair p a) associated) 0)
 
 -- ---- the ids of words
 

@@ -1,22 +1,20 @@
 -- Ranks: the places of items in a list that has each of them once, in their order.
-use Rattle.std.specs.Prelude.{◌≡◌, ◌↔◌, ◌<◌, ℕ, List, length, slice_index_or, position, unwrap_or, Contains}
+use Rattle.std.specs.Prelude.{◌≡◌, ◌↔◌, ℕ, List, position, unwrap_or, Contains}
 use Rattle.std.specs.Str.{bytes_eq}
 use Rattle.std.specs.declared.cmp.Ordering.{Ordering}
-use Rattle.std.specs.declared.cmp.Ordering.TheVariants.{Less, Equal}
+use Rattle.std.specs.declared.cmp.Ordering.TheVariants.{Equal}
+use Rattle.std.specs.List.Sorted.{IsStrictlySortedBy}
 use Rattle.std.specs.Ordering.{nat_cmp}
 use Rattle.std.specs.Cmp.Lexicographic.{slice_cmp}
-
--- Each item stands before those after it, so no item stands twice.
-abbrev pub IsRising : {K : Type 0} → (K → K → Ordering) → List K → Type 0
-IsRising {K} cmp xs = (i j : ℕ) (d : K) → i < j → j < length xs → cmp (slice_index_or xs i d) (slice_index_or xs j d) ≡ Less
 
 -- What the order does not tell apart is equal.
 abbrev pub TellsApart : {K : Type 0} → (K → K → Ordering) → Type 0
 TellsApart {K} cmp = (x y : K) → cmp x y ≡ Equal → x ≡ y
 
--- The ranking has exactly the items of which the fact holds, each once, in the order. The rank of an item is its place there, from 0.
+-- The ranking has exactly the items of which the fact holds, strictly sorted by the order, so each once. The rank of an item is its
+-- place there, from 0.
 pub record IsRanking {K : Type 0} (cmp : K → K → Ordering) (Is : K → Type 0) (ranking : List K) : Type 0 where
-  pub rising : IsRising cmp ranking
+  pub sorted : IsStrictlySortedBy cmp ranking
   pub same : (x : K) → Contains ranking x ↔ Is x
 
 -- Names go by their bytes.

@@ -1,10 +1,11 @@
 // Associated types by rank.
-ghost use Rattle.std.specs.Prelude.{◌≡◌, ◌↔◌, ◌⊎◌, ◌<◌, ◌≤◌, ◌++◌, ◌∷◌, [], ℕ, List, length, map, slice_get, slice_set, slice_index_or, Some, MatchOption, IfOk, OnOk, Contains};
+ghost use Rattle.std.specs.Prelude.{◌≡◌, ◌↔◌, ◌||◌, ◌<◌, ◌≤◌, ◌++◌, ◌∷◌, [], ℕ, nat_eq, List, length, map, slice_get, slice_set, position, slice_index_or, Some, MatchOption, IfOk, OnOk, Contains};
 ghost use Rattle.std.specs.List.{list_any};
-ghost use Rattle.swreq_ranks.specs.Associated.{assoc_cmp, inherits_name};
-ghost use Rattle.swreq_ranks.specs.Keys.{pair_of};
-ghost use Rattle.swreq_ranks.specs.Lexicons.{pair, assoc_by};
-ghost use Rattle.swreq_ranks.specs.Ranks.{IsRising};
+ghost use Rattle.std.specs.Option.{option_map};
+ghost use Rattle.swreq_ranks.specs.Associated.{assoc_cmp};
+ghost use Rattle.swreq_ranks.specs.Keys.{key, pair_of};
+ghost use Rattle.swreq_ranks.specs.Lexicons.{is_pair, assoc_at};
+ghost use Rattle.std.specs.List.Sorted.{IsStrictlySortedBy};
 ghost use Rattle.swreq_ranks.specs.Symbols.{has_member, AreDeclarers};
 ghost use Rattle.swreq_ranks.specs.Views.{inherits_by};
 
@@ -104,10 +105,11 @@ impl Associated {
         requires few { length pairs.items ≤ 1048576 }
         requires within { (d : ProtocolName) → Contains pairs.items d → d.name.rank < names }
         ensures same { IfOk result (λ x. (d : ProtocolName) → Contains x d ↔ Contains pairs.items d) }
-        ensures rising { IfOk result (λ x. IsRising (assoc_cmp (inherits_by protocols.now.places protocols.now.resolved.inherits) x) x) }
+        ensures sorted { IfOk result (λ x. IsStrictlySortedBy (assoc_cmp (inherits_by protocols.now.places protocols.now.resolved.inherits) x) x) }
     {
         let declarers = declarers_of(alloc, names, &pairs)?;
         let ranked = Ranked::of(alloc, keys(alloc, protocols, &declarers, &pairs)?)?;
+        let _sorted = ranked.items();
         Ok(Associated { ranked, declarers })
     }
 
@@ -120,8 +122,9 @@ impl Associated {
 
     /// The associated type of a protocol and a name that it declares.
     pub fn find(&self, p: ProtoId, a: NameId) -> Option<AssocId>
-        ensures { MatchOption result (Contains self.now (pair p a) → ⊥) (λ d. slice_get self.now d.rank ≡ Some (pair p a)) }
+        ensures { result ≡ option_map assoc_at (position (is_pair p a) self.now) }
     {
+        let _keys = self.ranked.items();
         let d = ProtocolName { proto: p, name: a };
         match self.ranked.find(&AssocKey::of(d, false)) {
             Some(rank) => Some(AssocId { rank: rank as u32 }),
@@ -148,12 +151,7 @@ impl Associated {
     pub fn has_member(&self, protocols: &Protocols, p: ProtoId, a: NameId) -> bool
         ensures { result ≡ has_member (inherits_by protocols.now.places protocols.now.resolved.inherits) self.now p a }
     {
-        for q in list_of(&self.declarers, a) {
-            if *q == p || protocols.inherits(p, *q) {
-                return true;
-            }
-        }
-        false
+        has_name(protocols, &self.declarers, p, a)
     }
 }
 
@@ -209,15 +207,18 @@ fn inherits_name(
     p: ProtoId,
     a: NameId,
 ) -> bool
-    ensures { (associated : List ProtocolName) → AreDeclarers associated lists.now
-        → result ≡ inherits_name (inherits_by protocols.now.places protocols.now.resolved.inherits) associated p a }
+    ensures { result ≡ list_any (inherits_by protocols.now.places protocols.now.resolved.inherits p) (slice_index_or lists.now a.rank []) }
 {
-    for q in list_of(lists, a) {
-        if protocols.inherits(p, *q) {
-            return true;
-        }
-    }
-    false
+    list_of(lists, a).iter().any(|q| protocols.inherits(p, *q))
+}
+
+/// Whether the protocol, or one that it inherits, is among those that declare the name.
+fn has_name(protocols: &Protocols, lists: &[ProtoList], p: ProtoId, a: NameId) -> bool
+    ensures { result ≡ list_any (λ q. nat_eq p.rank q.rank || inherits_by protocols.now.places protocols.now.resolved.inherits p q) (slice_index_or lists.now a.rank []) }
+{
+    list_of(lists, a)
+        .iter()
+        .any(|q| p == *q || protocols.inherits(p, *q))
 }
 
 /// By what the associated types of these pairs are ranked.
@@ -227,7 +228,8 @@ fn keys(
     lists: &[ProtoList],
     pairs: &[ProtocolName],
 ) -> Result<Vec<AssocKey>, AllocError>
-    ensures { IfOk result (λ keys. keys.items ≡ keys.items) }
+    requires { AreDeclarers pairs.now lists.now }
+    ensures { IfOk result (λ keys. keys.items ≡ map (key (inherits_by protocols.now.places protocols.now.resolved.inherits) pairs.now) pairs.now) }
 {
     let mut keys = Vec::new(alloc);
     for d in pairs {

@@ -1,8 +1,12 @@
 // The protocols, names, associated types and member symbols of a text, by rank.
-ghost use Rattle.std.specs.Prelude.{◌≡◌, ◌↔◌, ◌<◌, ◌≤◌, ◌++◌, ℕ, IsTrue, List, length, slice_get, Some, MatchOption, IfOk, OnOk, Contains};
+ghost use Rattle.std.specs.Prelude.{◌≡◌, ◌↔◌, ◌<◌, ◌≤◌, ◌++◌, ℕ, IsTrue, List, length, map, slice_get, Some, MatchOption, IfOk, OnOk, Contains};
+ghost use Rattle.swreq_names.specs.Mentioned.{mentioned};
 ghost use Rattle.swreq_names.specs.Names.{HasDeclared};
+ghost use Rattle.swreq_names.specs.Spaces.{word};
+ghost use Rattle.swreq_ranks.specs.declared.pair.ProtocolName.{ProtocolName};
 ghost use Rattle.swreq_ranks.specs.Lexicons.{pair, proto_by, name_by, assoc_by};
-ghost use Rattle.swreq_ranks.specs.Texts.{IsSmall, IsLexiconOf, declared_by, declared_in};
+ghost use Rattle.swreq_ranks.specs.Ranks.{IsRanking, bytes_cmp};
+ghost use Rattle.swreq_ranks.specs.Texts.{IsSmall, IsLexiconOf, declared_in};
 ghost use Rattle.swreq_ranks.specs.Views.{inherits, depth, HasMember};
 
 use crate::associated::Associated;
@@ -63,8 +67,8 @@ impl Lexicon {
     {
         let ps = s.protocols.items();
         let protocols = Protocols::of(alloc, text, ps, resolved)?;
-        let names = member_names(alloc, text, s)?;
-        let pairs = declared_in(alloc, text, &protocols, &names, ps)?;
+        let names = names_of(alloc, text, s)?;
+        let pairs = pairs_of(alloc, text, s, &protocols, &names)?;
         let associated = Associated::of(alloc, &protocols, names.len(), pairs)?;
         let symbols = Symbols::of(alloc, &protocols, &associated, names.len())?;
         Ok(Lexicon {
@@ -100,7 +104,7 @@ impl Lexicon {
     pub fn members(&self) -> u64
         ensures { result ≡ length self.now.symbols }
     {
-        self.symbols.starts()[self.names.len()]
+        self.symbols.len(self.names.len())
     }
 
     /// What the names of the text refer to.
@@ -217,7 +221,8 @@ impl Lexicon {
     pub fn member_rank(&self, p: ProtoId, a: NameId) -> Option<u64>
         ensures { MatchOption result (Contains self.now.symbols (pair p a) → ⊥) (λ m. slice_get self.now.symbols m ≡ Some (pair p a)) }
     {
-        None
+        self.symbols
+            .find(&self.protocols, &self.associated, self.names.len(), p, a)
     }
 
     /// The protocol and the name of a member symbol.
@@ -225,21 +230,35 @@ impl Lexicon {
         requires { m < length self.now.symbols }
         ensures { slice_get self.now.symbols m ≡ Some result }
     {
-        ProtocolName { proto: ProtoId { rank: 0 }, name: NameId { rank: 0 } }
+        self.symbols
+            .pair(&self.protocols, &self.associated, self.names.len(), m)
     }
 }
 
+/// The names of associated types and of members, by rank.
+fn names_of(alloc: Global, text: &[u8], s: &Skeleton) -> Result<Ranks, AllocError>
+    ensures ranking { IfOk result (IsRanking bytes_cmp (Contains (mentioned text.now s.now))) }
+    ensures few { IfOk result (λ names. length names ≤ length (mentioned text.now s.now)) }
+{
+    let names = member_names(alloc, text, s)?;
+    let _count = names.len();
+    Ok(names)
+}
+
+/// Adds the names that a protocol declares.
 fn add_declared(
     text: &[u8],
-    protocols: &Protocols,
     names: &Ranks,
     proto: ProtoId,
     members: &[AssocDecl],
     pairs: &mut Vec<ProtocolName>,
 ) -> Result<(), AllocError>
+    requires { length names.now ≤ 1048576 }
+    ensures { OnOk result (pairs.new.items ≡ pairs.old.items ++ map (λ m. pair proto (name_by names.now (word text.now m.name))) members.now) }
 {
     for m in members {
-        let name = NameId { rank: rank_or_first(names, word(text, m.name)) };
+        let rank = rank_or_first(names, word(text, m.name));
+        let name = NameId { rank };
         pairs.push(ProtocolName { proto, name })?;
     }
     Ok(())
@@ -253,12 +272,32 @@ fn declared_in(
     names: &Ranks,
     ps: &[ProtocolDecl],
 ) -> Result<Vec<ProtocolName>, AllocError>
+    requires { length names.now ≤ 1048576 }
     ensures { IfOk result (λ pairs. pairs.items ≡ declared_in text.now protocols.now.protocols names.now ps.now) }
 {
     let mut pairs = Vec::new(alloc);
     for p in ps {
         let proto = protocols.id(word(text, p.name));
-        add_declared(text, protocols, names, proto, p.members.items(), &mut pairs)?;
+        add_declared(text, names, proto, p.members.items(), &mut pairs)?;
     }
+    Ok(pairs)
+}
+
+/// The same of a text, whose names have ranks.
+fn pairs_of(
+    alloc: Global,
+    text: &[u8],
+    s: &Skeleton,
+    protocols: &Protocols,
+    names: &Ranks,
+) -> Result<Vec<ProtocolName>, AllocError>
+    requires small { IsSmall text.now s.now }
+    requires names { IsRanking bytes_cmp (Contains (mentioned text.now s.now)) names.now }
+    requires few { length names.now ≤ 1048576 }
+    ensures is { IfOk result (λ pairs. pairs.items ≡ declared_in text.now protocols.now.protocols names.now s.now.protocols) }
+    ensures few { IfOk result (λ pairs. length pairs.items ≤ 1048576) }
+    ensures within { IfOk result (λ pairs. (d : ProtocolName) → Contains pairs.items d → d.name.rank < length names.now) }
+{
+    let pairs = declared_in(alloc, text, protocols, names, s.protocols.items())?;
     Ok(pairs)
 }

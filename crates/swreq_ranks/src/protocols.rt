@@ -1,5 +1,6 @@
 // The protocols of a text by rank.
-ghost use Rattle.std.specs.Prelude.{◌≡◌, ◌<◌, ◌≤◌, ◌+◌, ◌++◌, ◌∷◌, [], ◌↔◌, ℕ, List, length, map, slice_get, slice_index_or, Some, MatchOption, IfOk, Contains};
+ghost use Rattle.std.specs.Prelude.{◌≡◌, ◌<◌, ◌≤◌, ◌+◌, ◌++◌, ◌∷◌, [], ◌↔◌, ℕ, List, length, map, cond, slice_get, slice_index, slice_index_or, Some, MatchOption, IfOk, Contains};
+ghost use Rattle.std.specs.Str.{bytes_eq};
 ghost use Rattle.swreq_names.specs.Spaces.{word};
 ghost use Rattle.swreq_ranks.specs.Associated.{depth};
 ghost use Rattle.swreq_ranks.specs.Lexicons.{proto_by};
@@ -55,7 +56,7 @@ impl Protocols {
         ensures written { IfOk result (λ x. x.written_order ≡ map (λ p. proto_by x.protocols (word text.now p.name)) protocols.now) }
         ensures resolved { IfOk result (λ x. x.resolved ≡ resolved) }
     {
-        let ranks = Ranks::of(alloc, names(alloc, text, protocols)?)?;
+        let ranks = ranks_of(alloc, text, protocols)?;
         let places = places(alloc, text, protocols, &ranks)?;
         let written_order = written_order(alloc, text, protocols, &ranks)?;
         Ok(Protocols { ranks, places, written_order, resolved })
@@ -63,7 +64,8 @@ impl Protocols {
 
     /// How many there are.
     pub fn len(&self) -> u32
-        ensures { result ≡ length self.now.protocols }
+        ensures is { result ≡ length self.now.protocols }
+        ensures small { result ≤ 1048576 }
     {
         self.ranks.len() as u32
     }
@@ -118,6 +120,7 @@ impl Protocols {
     }
 
     /// How many protocols it inherits.
+    #[tactic(auto, using(crate::proofs::Counting::count_yes, crate::proofs::Counting::count_no))]
     pub fn depth(&self, p: ProtoId) -> u32
         ensures { result ≡ depth (inherits_by self.now.places self.now.resolved.inherits) (length self.now.protocols) p }
     {
@@ -165,12 +168,24 @@ fn names(
     Ok(names)
 }
 
+/// The names of the protocols by rank.
+fn ranks_of(alloc: Global, text: &[u8], protocols: &[ProtocolDecl]) -> Result<Ranks, AllocError>
+    ensures ranking { IfOk result (IsRanking bytes_cmp (Contains (protocol_names text.now protocols.now))) }
+    ensures few { IfOk result (λ ranks. length ranks ≤ length protocols.now) }
+{
+    let ranks = Ranks::of(alloc, names(alloc, text, protocols)?)?;
+    let _count = ranks.len();
+    Ok(ranks)
+}
+
 /// Notes the place of a protocol with this name.
 fn note(place: usize, name: &[u8], ranks: &Ranks, places: &mut Vec<usize>)
     requires { length places.old.items ≡ length ranks.now }
     ensures len { length places.new.items ≡ length places.old.items }
-    ensures noted { slice_get ranks.now 0 ≡ slice_get ranks.now 0 }
+    ensures noted { (r : ℕ) (q : Bytes) → slice_get ranks.now r ≡ Some q
+        → slice_index places.new.items r ≡ cond (bytes_eq q name.now) place (slice_index places.old.items r) }
 {
+    let _count = ranks.len();
     match ranks.find(name) {
         Some(rank) => places[rank] = place,
         None => {}
@@ -184,6 +199,9 @@ fn places(
     protocols: &[ProtocolDecl],
     ranks: &Ranks,
 ) -> Result<Vec<usize>, AllocError>
+    requires { (q : Bytes) → Contains ranks.now q → Contains (protocol_names text.now protocols.now) q }
+    ensures { IfOk result (λ places. (r : ℕ) (q : Bytes) → slice_get ranks.now r ≡ Some q
+        → slice_get (protocol_names text.now protocols.now) (slice_index places.items r) ≡ Some q) }
 {
     let mut places = vec![in alloc; 0; ranks.len()]?;
     for (place, p) in protocols.iter().enumerate() {

@@ -1,7 +1,7 @@
 // The items of a list, each once, in their order.
 ghost use Rattle.std.specs.Prelude.{◌≡◌, ◌≤◌, ◌↔◌, List, IfOk, MatchOption, Contains, Some, slice_get, length};
 ghost use Rattle.std.specs.List.Sorted.{IsStrictlySortedBy};
-ghost use Rattle.swreq_ranks.specs.Ranks.{IsRising, TellsApart};
+ghost use Rattle.swreq_ranks.specs.Ranks.{TellsApart};
 
 use std::alloc::{AllocError, Global};
 use std::collections::BTreeSet;
@@ -15,20 +15,20 @@ pub struct Ranked<T: Ord> {
 
 impl<T: Ord> Model for Ranked<T> {
     ghost use Rattle.std.specs.Prelude.{List};
-    ghost use Rattle.swreq_ranks.specs.Ranks.{IsRising};
+    ghost use Rattle.std.specs.List.Sorted.{IsStrictlySortedBy};
 
     ghost Value = { List T };
 
     ghost view = { λ r. r.sorted.items };
 
-    ghost invariant = { λ r. IsRising T.cmp r.sorted.items };
+    ghost invariant = { λ r. IsStrictlySortedBy T.cmp r.sorted.items };
 }
 
 impl<T: Ord> Ranked<T> {
     /// The items, in their order.
     pub fn items(&self) -> &[T]
         ensures items { result.now ≡ self.now }
-        ensures rising { IsRising T.cmp self.now }
+        ensures sorted { IsStrictlySortedBy T.cmp self.now }
     {
         self.sorted.as_slice()
     }
