@@ -1,0 +1,7 @@
+pub mod Growing
+pub mod Pieces
+pub mod Places
+pub mod Referring
+pub mod Over
+pub mod Sizes
+pub mod Shorter

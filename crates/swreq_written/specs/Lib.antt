@@ -1,0 +1,10 @@
+pub mod Small
+pub mod Words
+pub mod Signatures
+pub mod Short
+pub mod Types
+pub mod Requirements
+pub mod Heads
+pub mod Queries
+pub mod ByTable
+pub mod Adding

@@ -1,0 +1,9 @@
+-- Numbers that fit 32 bits.
+use Rattle.std.specs.Prelude.{ℕ, ◌<◌, ◌^◌, length}
+use Rattle.swreq_names.specs.declared.signature.Signature.{Signature}
+use Rattle.swreq_names.specs.Spaces.{Spaces, outer_params, own_params}
+
+-- The generic parameters of each signature are fewer than 2^32.
+pub record HasFewParams (d : Spaces) : Type 0 where
+  pub outer : (g : Signature) → length (outer_params d g) < 2 ^ 32
+  pub own : (g : Signature) → length (own_params d g) < 2 ^ 32

@@ -1,0 +1,30 @@
+//! What is written: the type parameters that written types stand for, the requirements of protocols and signatures, their
+//! generic parameters, and the queries.
+#![tactic(auto)]
+
+mod ids;
+pub mod laws;
+mod lookups;
+mod params;
+mod protocols;
+mod queries;
+mod requirements;
+mod scope;
+mod signatures;
+mod spelling;
+mod words;
+
+pub use ids::{FuncId, Query, Written};
+pub use lookups::words_of;
+pub use params::params_of;
+pub use protocols::of_protocol;
+pub use queries::{asked_signature, query};
+pub use scope::Scope;
+pub use signatures::{of_function, of_nested, of_struct};
+pub use spelling::spell;
+pub use words::Words;
+
+#[cfg(test)]
+mod shown;
+#[cfg(test)]
+mod tests;
