@@ -16,9 +16,9 @@ use Rattle.swreq_param.specs.Terms.Term.{Generic, Member}
 use Rattle.swreq_ranks.specs.declared.pair.ProtocolName.{ProtocolName}
 use Rattle.swreq_ranks.specs.Views.{LexiconView, IsName, IsProtocol}
 use Rattle.swreq_print.specs.declared.types.Scope.TheVariants.{Signature}
-use Rattle.swreq_print.specs.Names.{Text, protocol_name, name_text, pair_at, IsPair}
-use Rattle.swreq_print.specs.Types.{param_text, bound_text, step_text, steps_text, type_text, HasSteps, IsStep}
-use Rattle.swreq_print.specs.Reading.{in_name, TellsApart, HasNumbers, IsTypeOf}
+use Rattle.swreq_print.specs.Names.{Text, protocol_name, name_text, pair_at}
+use Rattle.swreq_print.specs.Types.{param_text, bound_text, step_text, steps_text, type_text}
+use Rattle.swreq_print.specs.Reading.{in_name, IsPair, IsStep, HasSteps, TellsApart, HasNumbers, IsTypeOf}
 use Rattle.swreq_print.proofs.Cutting.{Stops, cut, both, rest_of, first_of, empty_not, numbers_apart}
 use Rattle.swreq_print.proofs.Steps.{steps_of_text, type_by_steps}
 

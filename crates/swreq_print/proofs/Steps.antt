@@ -7,7 +7,8 @@ use Rattle.swreq_param.specs.Terms.{Term, with_steps}
 use Rattle.swreq_param.specs.Terms.Term.{Member}
 use Rattle.swreq_ranks.specs.Views.{LexiconView}
 use Rattle.swreq_print.specs.declared.types.Scope.{Scope}
-use Rattle.swreq_print.specs.Types.{step_text, steps_text, type_in, HasSteps, IsStep}
+use Rattle.swreq_print.specs.Types.{step_text, steps_text, type_in}
+use Rattle.swreq_print.specs.Reading.{HasSteps, IsStep}
 
 pub type_by_steps : (x : LexiconView) (scope : Scope) (t : Term) (steps : List Step) → type_in x scope (with_steps t steps) ≡ type_in x scope t ++ steps_text x steps
 type_by_steps x scope t [] = sym (append-nil (type_in x scope t))

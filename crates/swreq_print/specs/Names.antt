@@ -1,10 +1,10 @@
--- The names of ids, and which ids have one.
-use Rattle.std.specs.Prelude.{◌<◌, ℕ, List, [], length, slice_index_or, Contains}
+-- The names of ids. An id that is not of the text has the empty name.
+use Rattle.std.specs.Prelude.{ℕ, List, [], slice_index_or}
 use Rattle.swreq_param.specs.declared.ids.AssocId.{AssocId}
 use Rattle.swreq_param.specs.declared.ids.NameId.{NameId}
 use Rattle.swreq_param.specs.declared.ids.ProtoId.{ProtoId}
 use Rattle.swreq_ranks.specs.declared.pair.ProtocolName.{ProtocolName}
-use Rattle.swreq_ranks.specs.Views.{LexiconView, IsProtocol, IsName}
+use Rattle.swreq_ranks.specs.Views.{LexiconView}
 
 -- bytes
 abbrev pub Text : Type 0
@@ -16,7 +16,7 @@ protocol_name x p = slice_index_or x.protocols p.rank []
 abbrev pub name_text : LexiconView → NameId → Text
 name_text x a = slice_index_or x.names a.rank []
 
--- the first protocol with the first name
+-- the first protocol with the first name, for a rank that is not of the text
 abbrev pub first_pair : ProtocolName
 first_pair = record { proto = record { rank = 0 }; name = record { rank = 0 } }
 
@@ -27,17 +27,3 @@ pair_at x d = slice_index_or x.associated d.rank first_pair
 -- the protocol and the name of the member symbol with this rank
 abbrev pub symbol_at : LexiconView → ℕ → ProtocolName
 symbol_at x m = slice_index_or x.symbols m first_pair
-
--- ---- ids of the text
-
-abbrev pub IsAssociated : LexiconView → AssocId → Type 0
-IsAssociated x d = d.rank < length x.associated
-
--- Its protocol and its name are of the text.
-abbrev pub IsPair : LexiconView → ProtocolName → Type 0
-IsPair x d = IsProtocol x d.proto × IsName x d.name
-
--- Associated types and member symbols are pairs of a protocol and a name of the text.
-pub record HasPairs (x : LexiconView) : Type 0 where
-  pub associated : (d : ProtocolName) → Contains x.associated d → IsPair x d
-  pub symbols : (d : ProtocolName) → Contains x.symbols d → IsPair x d

@@ -1,16 +1,39 @@
 -- What a lexicon has to tell for printed texts to be read in one way.
-use Rattle.std.specs.Prelude.{◌≡◌, ◌≢◌, ◌<◌, ◌^◌, ◌||◌, ◌==◌, ℕ, Bool, true, not, List, [], ◌∷◌, codes}
+use Rattle.std.specs.Prelude.{◌≡◌, ◌≢◌, ◌<◌, ◌^◌, ◌||◌, ◌==◌, ℕ, Bool, true, not, List, [], ◌∷◌, length, codes}
 use Rattle.std.specs.List.{list_all, AllByRecursion}
 use Rattle.swreq_param.specs.declared.ids.AssocId.{AssocId}
 use Rattle.swreq_param.specs.declared.ids.NameId.{NameId}
 use Rattle.swreq_param.specs.declared.ids.ParamId.{ParamId}
 use Rattle.swreq_param.specs.declared.ids.ProtoId.{ProtoId}
+use Rattle.swreq_param.specs.declared.ids.Step.{Step}
+use Rattle.swreq_param.specs.declared.ids.Step.TheVariants.{Bound, Name}
 use Rattle.swreq_param.specs.Terms.{Term, head}
+use Rattle.swreq_param.specs.Terms.Term.{Generic, Member}
 use Rattle.swreq_derive.specs.Derivation.{TermRequirement}
 use Rattle.swreq_derive.specs.Derivation.TermRequirement.{Conforms, IsAnyObject, Equals}
+use Rattle.swreq_ranks.specs.declared.pair.ProtocolName.{ProtocolName}
 use Rattle.swreq_ranks.specs.Views.{LexiconView, IsProtocol, IsName}
-use Rattle.swreq_print.specs.Names.{Text, protocol_name, name_text, pair_at, IsAssociated, IsPair}
-use Rattle.swreq_print.specs.Types.{HasSteps}
+use Rattle.swreq_print.specs.Names.{Text, protocol_name, name_text, pair_at}
+
+-- ---- ids of the text
+
+abbrev pub IsAssociated : LexiconView → AssocId → Type 0
+IsAssociated x d = d.rank < length x.associated
+
+-- Its protocol and its name are of the text.
+abbrev pub IsPair : LexiconView → ProtocolName → Type 0
+IsPair x d = IsProtocol x d.proto × IsName x d.name
+
+abbrev pub IsStep : LexiconView → Step → Type 0
+IsStep x (Name a) = IsName x a
+IsStep x (Bound d) = IsAssociated x d
+
+-- Each step is of the text.
+abbrev pub HasSteps : LexiconView → Term → Type 0
+HasSteps x (Generic g) = Unit {0}
+HasSteps x (Member t step) = HasSteps x t × IsStep x step
+
+-- ---- names
 
 -- A byte of a name is none of ` `, `,`, `.`, `:`, `=`, `>`, `[` and `]`.
 abbrev pub in_name : ℕ → Bool
@@ -32,6 +55,8 @@ pub record TellsApart (x : LexiconView) : Type 0 where
   pub pairs : (d : AssocId) → IsAssociated x d → IsPair x (pair_at x d)
   pub one_pair : (d e : AssocId) → IsAssociated x d → IsAssociated x e → pair_at x d ≡ pair_at x e → d ≡ e
   pub no_any_object : (p : ProtoId) → IsProtocol x p → protocol_name x p ≢ codes "AnyObject"
+
+-- ---- signatures
 
 -- Its numbers have 32 bits.
 abbrev pub HasNumbers : ParamId → Type 0

@@ -1,9 +1,8 @@
 -- The texts of rules, and of the trace of a completion.
-use Rattle.std.specs.Prelude.{◌<◌, ℕ, ◌+◌, List, [], ◌∷◌, ◌++◌, map, length, codes, decimal}
-use Rattle.std.specs.List.{All}
+use Rattle.std.specs.Prelude.{ℕ, ◌+◌, List, [], ◌∷◌, ◌++◌, map, codes, decimal}
 use Rattle.swreq_bytes.specs.Joined.{joined}
 use Rattle.swreq_ranks.specs.declared.pair.ProtocolName.{ProtocolName}
-use Rattle.swreq_ranks.specs.Views.{LexiconView, IsProtocol, IsName}
+use Rattle.swreq_ranks.specs.Views.{LexiconView}
 use Rattle.swreq_rule.specs.declared.rules.Birth.{Birth}
 use Rattle.swreq_rule.specs.declared.rules.Birth.TheVariants.{Given, Pair}
 use Rattle.swreq_rule.specs.declared.rules.Rule.{Rule}
@@ -49,20 +48,3 @@ trace_from x n (r ∷ rs) = trace_line x n r ++ trace_from x (n + 1) rs
 
 abbrev pub trace_text : LexiconView → List Rule → Text
 trace_text x rules = trace_from x 1 rules
-
--- ---- symbols of the text
-
-abbrev pub IsSymbol : LexiconView → Symbol → Type 0
-IsSymbol x (Proto p) = IsProtocol x (record { rank = p })
-IsSymbol x (Member m) = m < length x.symbols
-IsSymbol x (Param d i) = Unit {0}
-IsSymbol x (Name a) = IsName x (record { rank = a })
-IsSymbol x Layout = Unit {0}
-
-abbrev pub HasSymbols : LexiconView → List Symbol → Type 0
-HasSymbols x w = All (IsSymbol x) w
-
--- The symbols of both sides are of the text.
-pub record IsRule (x : LexiconView) (r : Rule) : Type 0 where
-  pub left : HasSymbols x r.left
-  pub right : HasSymbols x r.right

@@ -3,17 +3,16 @@ use Rattle.std.specs.Prelude.{ℕ, List, [], ◌∷◌, ◌++◌, map, codes}
 use Rattle.swreq_bytes.specs.Joined.{joined}
 use Rattle.swreq_param.specs.declared.ids.ParamId.{ParamId}
 use Rattle.swreq_param.specs.Terms.{Term}
-use Rattle.swreq_param.specs.Tables.{IsOf, term_at}
-use Rattle.swreq_param.specs.declared.ids.TermId.{TermId}
+use Rattle.swreq_param.specs.Tables.{IsOf}
 use Rattle.swreq_derive.specs.declared.requirements.Requirement.{Requirement}
 use Rattle.swreq_derive.specs.declared.requirements.Requirement.TheVariants.{Conf, Layout, Same}
 use Rattle.swreq_derive.specs.Derivation.{TermRequirement}
 use Rattle.swreq_derive.specs.Derivation.TermRequirement.{Conforms, IsAnyObject, Equals}
-use Rattle.swreq_ranks.specs.Views.{LexiconView, IsProtocol}
+use Rattle.swreq_ranks.specs.Views.{LexiconView}
 use Rattle.swreq_print.specs.declared.types.Scope.{Scope}
 use Rattle.swreq_print.specs.declared.types.Scope.TheVariants.{Protocol, Signature}
 use Rattle.swreq_print.specs.Names.{Text, protocol_name}
-use Rattle.swreq_print.specs.Types.{param_text, type_in, HasSteps}
+use Rattle.swreq_print.specs.Types.{param_text, type_in}
 
 -- `T : P`, `T : AnyObject` or `T == U`
 abbrev pub requirement_in : LexiconView → Scope → TermRequirement → Text
@@ -37,19 +36,9 @@ where_text x (r ∷ rs) = codes " where " ++ joined (codes ", ") (map (requireme
 abbrev pub signature_text : LexiconView → List ParamId → List TermRequirement → Text
 signature_text x params rs = codes "<" ++ (joined (codes ", ") (map param_text params) ++ (where_text x rs ++ codes ">"))
 
--- ---- ids of the text
+-- ---- ids of a table
 
-abbrev pub IsRequirement : LexiconView → TermRequirement → Type 0
-IsRequirement x (Conforms t p) = HasSteps x t × IsProtocol x p
-IsRequirement x (IsAnyObject t) = HasSteps x t
-IsRequirement x (Equals t u) = HasSteps x t × HasSteps x u
-
--- The id is of the table, and the steps of its type parameter are of the text.
-abbrev pub IsType : LexiconView → List Term → TermId → Type 0
-IsType x terms t = IsOf terms t × HasSteps x (term_at terms t)
-
--- Its ids are of the table and of the text.
-abbrev pub IsPrintable : LexiconView → List Term → Requirement → Type 0
-IsPrintable x terms (Conf t p) = IsType x terms t × IsProtocol x p
-IsPrintable x terms (Layout t) = IsType x terms t
-IsPrintable x terms (Same t u) = IsType x terms t × IsType x terms u
+abbrev pub HasIdsOf : List Term → Requirement → Type 0
+HasIdsOf terms (Conf t p) = IsOf terms t
+HasIdsOf terms (Layout t) = IsOf terms t
+HasIdsOf terms (Same t u) = IsOf terms t × IsOf terms u

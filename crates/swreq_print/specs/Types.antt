@@ -1,5 +1,5 @@
 -- The texts of type parameters.
-use Rattle.std.specs.Prelude.{◌<◌, ◌^◌, ℕ, List, [], ◌∷◌, ◌++◌, codes, decimal}
+use Rattle.std.specs.Prelude.{ℕ, List, [], ◌∷◌, ◌++◌, codes, decimal}
 use Rattle.std.specs.List.{flat_map}
 use Rattle.swreq_param.specs.declared.ids.ParamId.{ParamId}
 use Rattle.swreq_param.specs.declared.ids.Step.{Step}
@@ -7,10 +7,10 @@ use Rattle.swreq_param.specs.declared.ids.Step.TheVariants.{Bound, Name}
 use Rattle.swreq_param.specs.Terms.{Term}
 use Rattle.swreq_param.specs.Terms.Term.{Generic, Member}
 use Rattle.swreq_ranks.specs.declared.pair.ProtocolName.{ProtocolName}
-use Rattle.swreq_ranks.specs.Views.{LexiconView, IsName}
+use Rattle.swreq_ranks.specs.Views.{LexiconView}
 use Rattle.swreq_print.specs.declared.types.Scope.{Scope}
 use Rattle.swreq_print.specs.declared.types.Scope.TheVariants.{Protocol, Signature}
-use Rattle.swreq_print.specs.Names.{Text, protocol_name, name_text, pair_at, IsAssociated}
+use Rattle.swreq_print.specs.Names.{Text, protocol_name, name_text, pair_at}
 
 -- `τ` in UTF-8
 abbrev pub tau : Text
@@ -44,14 +44,3 @@ type_in x scope (Member t step) = type_in x scope t ++ step_text x step
 
 abbrev pub type_text : LexiconView → Term → Text
 type_text x t = type_in x Signature t
-
--- ---- ids of the text
-
-abbrev pub IsStep : LexiconView → Step → Type 0
-IsStep x (Name a) = IsName x a
-IsStep x (Bound d) = IsAssociated x d
-
--- Each step is of the text.
-abbrev pub HasSteps : LexiconView → Term → Type 0
-HasSteps x (Generic g) = Unit {0}
-HasSteps x (Member t step) = HasSteps x t × IsStep x step

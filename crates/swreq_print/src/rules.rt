@@ -1,10 +1,8 @@
 //! Rules, and the traces of completions.
 
-ghost use Rattle.std.specs.Prelude.{◌≡◌, ◌++◌, ◌+◌, ◌<◌, ◌^◌, length, map, codes, OnErr, OnOk};
-ghost use Rattle.std.specs.List.{All};
-ghost use Rattle.swreq_print.specs.Names.{HasPairs, IsPair};
+ghost use Rattle.std.specs.Prelude.{◌≡◌, ◌++◌, ⊤, OnErr, OnOk};
 ghost use Rattle.swreq_word.specs.declared.symbols.Symbol.TheVariants.{Proto};
-ghost use Rattle.swreq_print.specs.Rules.{IsRule, IsSymbol, HasSymbols, birth_text, member_text, rule_text, symbol_text, trace_from, trace_line, trace_text, word_text};
+ghost use Rattle.swreq_print.specs.Rules.{birth_text, member_text, rule_text, symbol_text, trace_from, trace_line, trace_text, word_text};
 
 use crate::names::{name_text, protocol_name, symbol_at};
 use crate::types::put_param;
@@ -17,7 +15,6 @@ use swreq_word::Symbol;
 
 // `[P]`
 fn put_protocol(names: &Lexicon, proto: ProtoId, out: &mut Vec<u8>) -> Result<(), AllocError>
-    requires { proto.rank < length names.now.protocols }
     ensures { OnOk result (out.new.items ≡ out.old.items ++ symbol_text names.now (Proto proto.rank)) }
 {
     append_bytes(out, b"[")?;
@@ -27,7 +24,6 @@ fn put_protocol(names: &Lexicon, proto: ProtoId, out: &mut Vec<u8>) -> Result<()
 
 // `[P:A]`
 fn put_member(names: &Lexicon, pair: ProtocolName, out: &mut Vec<u8>) -> Result<(), AllocError>
-    requires { IsPair names.now pair }
     ensures { OnOk result (out.new.items ≡ out.old.items ++ member_text names.now pair) }
 {
     append_bytes(out, b"[")?;
@@ -38,8 +34,6 @@ fn put_member(names: &Lexicon, pair: ProtocolName, out: &mut Vec<u8>) -> Result<
 }
 
 fn put_symbol(names: &Lexicon, symbol: Symbol, out: &mut Vec<u8>) -> Result<(), AllocError>
-    requires pairs { HasPairs names.now }
-    requires symbol { IsSymbol names.now symbol }
     ensures { OnOk result (out.new.items ≡ out.old.items ++ symbol_text names.now symbol) }
 {
     match symbol {
@@ -60,7 +54,7 @@ struct Symbols<'a> {
 impl Print<Symbol> for Symbols<'_> {
     ghost text = { λ s symbol. symbol_text s.names.now symbol };
 
-    ghost fits = { λ s symbol. HasPairs s.names.now × IsSymbol s.names.now symbol };
+    ghost fits = { λ _ _. ⊤ };
 
     fn put(&self, out: &mut Vec<u8>, item: &Symbol) -> Result<(), AllocError> {
         put_symbol(self.names, *item, out)
@@ -68,16 +62,12 @@ impl Print<Symbol> for Symbols<'_> {
 }
 
 fn put_word(names: &Lexicon, w: &[Symbol], out: &mut Vec<u8>) -> Result<(), AllocError>
-    requires pairs { HasPairs names.now }
-    requires symbols { All (IsSymbol names.now) w.now }
     ensures { OnOk result (out.new.items ≡ out.old.items ++ word_text names.now w.now) }
 {
     put_joined(out, &Symbols { names }, b".", w)
 }
 
 fn put_rule(names: &Lexicon, r: &Rule, out: &mut Vec<u8>) -> Result<(), AllocError>
-    requires pairs { HasPairs names.now }
-    requires rule { IsRule names.now r.now }
     ensures { OnOk result (out.new.items ≡ out.old.items ++ rule_text names.now r.now) }
 {
     put_word(names, r.left.symbols(), out)?;
@@ -111,8 +101,6 @@ fn put_trace_line(
     r: &Rule,
     out: &mut Vec<u8>,
 ) -> Result<(), AllocError>
-    requires pairs { HasPairs names.now }
-    requires rule { IsRule names.now r.now }
     ensures { OnOk result (out.new.items ≡ out.old.items ++ trace_line names.now number r.now) }
 {
     append_bytes(out, b"  ")?;
@@ -125,8 +113,6 @@ fn put_trace_line(
 }
 
 fn put_trace(names: &Lexicon, trace: &[Rule], out: &mut Vec<u8>) -> Result<(), AllocError>
-    requires pairs { HasPairs names.now }
-    requires rules { All (IsRule names.now) trace.now }
     ensures { OnOk result (out.new.items ≡ out.old.items ++ trace_text names.now trace.now) }
 {
     for k in 0..trace.len() {
@@ -144,8 +130,6 @@ pub fn rule_text(
     r: &Rule,
     out: &mut Vec<u8>,
 ) -> Result<(), AllocError>
-    requires pairs { HasPairs names.now }
-    requires rule { IsRule names.now r.now }
     ensures ok { OnOk result (out.new.items ≡ out.old.items ++ rule_text names.now r.now) }
     ensures err { OnErr result (out.new.items ≡ out.old.items) }
 {
@@ -161,8 +145,6 @@ pub fn trace_text(
     trace: &[Rule],
     out: &mut Vec<u8>,
 ) -> Result<(), AllocError>
-    requires pairs { HasPairs names.now }
-    requires rules { All (IsRule names.now) trace.now }
     ensures ok { OnOk result (out.new.items ≡ out.old.items ++ trace_text names.now trace.now) }
     ensures err { OnErr result (out.new.items ≡ out.old.items) }
 {

@@ -4,9 +4,8 @@ ghost use Rattle.std.specs.Prelude.{◌≡◌, ◌++◌, ⊤, codes, map, IfOk, 
 ghost use Rattle.std.specs.List.{All};
 ghost use Rattle.swreq_derive.specs.Facts.{generic_params, params_of_depth, requirement_of};
 ghost use Rattle.swreq_bytes.specs.Joined.{joined};
-ghost use Rattle.swreq_print.specs.Names.{HasPairs};
 ghost use Rattle.swreq_print.specs.Types.{param_text};
-ghost use Rattle.swreq_print.specs.Signatures.{IsPrintable, requirement_in, requirement_text, self_text, signature_text, where_text};
+ghost use Rattle.swreq_print.specs.Signatures.{HasIdsOf, requirement_in, requirement_text, self_text, signature_text, where_text};
 
 use crate::names::protocol_name;
 use crate::types::{Scope, put_param, put_type};
@@ -24,8 +23,7 @@ fn put_requirement(
     r: &Requirement,
     out: &mut Vec<u8>,
 ) -> Result<(), AllocError>
-    requires pairs { HasPairs names.now }
-    requires ids { IsPrintable names.now table.now r.now }
+    requires { HasIdsOf table.now r.now }
     ensures { OnOk result (out.new.items ≡ out.old.items ++ requirement_in names.now scope (requirement_of table.now r.now)) }
 {
     match *r {
@@ -57,7 +55,7 @@ struct Requirements<'a> {
 impl Print<Requirement> for Requirements<'_> {
     ghost text = { λ s r. requirement_text s.names.now (requirement_of s.table.now r) };
 
-    ghost fits = { λ s r. HasPairs s.names.now × IsPrintable s.names.now s.table.now r };
+    ghost fits = { λ s r. HasIdsOf s.table.now r };
 
     fn put(&self, out: &mut Vec<u8>, item: &Requirement) -> Result<(), AllocError> {
         put_requirement(
@@ -79,8 +77,7 @@ fn put_where(
     list: &[Requirement],
     out: &mut Vec<u8>,
 ) -> Result<(), AllocError>
-    requires pairs { HasPairs names.now }
-    requires ids { All (IsPrintable names.now table.now) list.now }
+    requires { All (HasIdsOf table.now) list.now }
     ensures { OnOk result (out.new.items ≡ out.old.items ++ where_text names.now (map (requirement_of table.now) list.now)) }
 {
     match list {
@@ -133,8 +130,7 @@ pub fn requirement_text(
     r: &Requirement,
     out: &mut Vec<u8>,
 ) -> Result<(), AllocError>
-    requires pairs { HasPairs names.now }
-    requires ids { IsPrintable names.now table.now r.now }
+    requires { HasIdsOf table.now r.now }
     ensures ok { OnOk result (out.new.items ≡ out.old.items ++ requirement_text names.now (requirement_of table.now r.now)) }
     ensures err { OnErr result (out.new.items ≡ out.old.items) }
 {
@@ -151,8 +147,7 @@ pub fn self_text(
     r: &Requirement,
     out: &mut Vec<u8>,
 ) -> Result<(), AllocError>
-    requires pairs { HasPairs names.now }
-    requires ids { IsPrintable names.now table.now r.now }
+    requires { HasIdsOf table.now r.now }
     ensures ok { OnOk result (out.new.items ≡ out.old.items ++ self_text names.now (requirement_of table.now r.now)) }
     ensures err { OnErr result (out.new.items ≡ out.old.items) }
 {
@@ -170,8 +165,7 @@ pub fn signature_text(
     list: &[Requirement],
     out: &mut Vec<u8>,
 ) -> Result<(), AllocError>
-    requires pairs { HasPairs names.now }
-    requires ids { All (IsPrintable names.now table.now) list.now }
+    requires { All (HasIdsOf table.now) list.now }
     ensures ok { OnOk result (out.new.items ≡ out.old.items
         ++ signature_text names.now (generic_params params) (map (requirement_of table.now) list.now)) }
     ensures err { OnErr result (out.new.items ≡ out.old.items) }

@@ -1,11 +1,9 @@
 //! Type parameters.
 
-ghost use Rattle.std.specs.Prelude.{◌≡◌, ◌++◌, OnErr, OnOk};
-ghost use Rattle.std.specs.List.{All};
+ghost use Rattle.std.specs.Prelude.{◌≡◌, ◌++◌, codes, OnErr, OnOk};
 ghost use Rattle.swreq_param.specs.Owned.{as_term};
 ghost use Rattle.swreq_param.specs.Tables.{IsOf, term_at};
-ghost use Rattle.swreq_print.specs.Names.{HasPairs, IsPair};
-ghost use Rattle.swreq_print.specs.Types.{HasSteps, IsStep, bound_text, head_text, param_text, step_text, steps_text, type_in, type_text};
+ghost use Rattle.swreq_print.specs.Types.{bound_text, head_text, param_text, step_text, steps_text, type_in, type_text};
 
 use crate::names::{name_text, pair_at, protocol_name};
 use std::alloc::{AllocError, Global};
@@ -34,32 +32,29 @@ pub(crate) fn put_param(param: ParamId, out: &mut Vec<u8>) -> Result<(), AllocEr
     append_number(out, param.index as u64)
 }
 
-// `[P]A`
+// `.[P]A`
 fn put_bound(names: &Lexicon, pair: ProtocolName, out: &mut Vec<u8>) -> Result<(), AllocError>
-    requires { IsPair names.now pair }
-    ensures { OnOk result (out.new.items ≡ out.old.items ++ bound_text names.now pair) }
+    ensures { OnOk result (out.new.items ≡ out.old.items ++ (codes "." ++ bound_text names.now pair)) }
 {
-    append_bytes(out, b"[")?;
+    append_bytes(out, b".[")?;
     append_bytes(out, protocol_name(names, pair.proto))?;
     append_bytes(out, b"]")?;
     append_bytes(out, name_text(names, pair.name))
 }
 
 fn put_step(names: &Lexicon, step: Step, out: &mut Vec<u8>) -> Result<(), AllocError>
-    requires pairs { HasPairs names.now }
-    requires step { IsStep names.now step }
     ensures { OnOk result (out.new.items ≡ out.old.items ++ step_text names.now step) }
 {
-    append_bytes(out, b".")?;
     match step {
         Step::Bound(assoc) => put_bound(names, pair_at(names, assoc), out),
-        Step::Name(name) => append_bytes(out, name_text(names, name)),
+        Step::Name(name) => {
+            append_bytes(out, b".")?;
+            append_bytes(out, name_text(names, name))
+        }
     }
 }
 
 fn put_steps(names: &Lexicon, steps: &[Step], out: &mut Vec<u8>) -> Result<(), AllocError>
-    requires pairs { HasPairs names.now }
-    requires steps { All (IsStep names.now) steps.now }
     ensures { OnOk result (out.new.items ≡ out.old.items ++ steps_text names.now steps.now) }
 {
     for step in steps {
@@ -83,8 +78,6 @@ fn put_owned(
     t: &TypeParam,
     out: &mut Vec<u8>,
 ) -> Result<(), AllocError>
-    requires pairs { HasPairs names.now }
-    requires steps { HasSteps names.now (as_term t.now) }
     ensures { OnOk result (out.new.items ≡ out.old.items ++ type_in names.now scope (as_term t.now)) }
 {
     put_head(scope, t.head, out)?;
@@ -99,9 +92,7 @@ pub(crate) fn put_type(
     t: TermId,
     out: &mut Vec<u8>,
 ) -> Result<(), AllocError>
-    requires pairs { HasPairs names.now }
-    requires of { IsOf table.now t }
-    requires steps { HasSteps names.now (term_at table.now t) }
+    requires { IsOf table.now t }
     ensures { OnOk result (out.new.items ≡ out.old.items ++ type_in names.now scope (term_at table.now t)) }
 {
     let owned = table.owned(alloc, t)?;
@@ -116,8 +107,6 @@ pub fn steps_text(
     steps: &[Step],
     out: &mut Vec<u8>,
 ) -> Result<(), AllocError>
-    requires pairs { HasPairs names.now }
-    requires steps { All (IsStep names.now) steps.now }
     ensures ok { OnOk result (out.new.items ≡ out.old.items ++ param_text head ++ steps_text names.now steps.now) }
     ensures err { OnErr result (out.new.items ≡ out.old.items) }
 {
@@ -136,9 +125,7 @@ pub fn type_text(
     t: TermId,
     out: &mut Vec<u8>,
 ) -> Result<(), AllocError>
-    requires pairs { HasPairs names.now }
-    requires of { IsOf table.now t }
-    requires steps { HasSteps names.now (term_at table.now t) }
+    requires { IsOf table.now t }
     ensures ok { OnOk result (out.new.items ≡ out.old.items ++ type_text names.now (term_at table.now t)) }
     ensures err { OnErr result (out.new.items ≡ out.old.items) }
 {
