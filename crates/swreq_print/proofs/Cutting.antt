@@ -66,7 +66,7 @@ abbrev pub IsRead : {A : Type 0} → (A → Text) → (A → Type 0) → (Text �
 IsRead {A} text IsOf Ends = (a b : A) (x y : Text) → IsOf a → IsOf b → Ends x → Ends y → text a ++ x ≡ text b ++ y → (a ≡ b) × (x ≡ y)
 
 module _ {A : Type 0} (text : A → Text) (IsOf : A → Type 0) (Ends : Text → Type 0) (read : IsRead text IsOf Ends)
-  (comma : (t : Text) → Ends (44 ∷ t)) where
+    (comma : (t : Text) → Ends (44 ∷ t)) where
   -- the texts behind the first one
   abbrev more_texts : List A → Text
   more_texts xs = followed (codes ", ") (map text xs)
@@ -84,7 +84,7 @@ module _ {A : Type 0} (text : A → Text) (IsOf : A → Type 0) (Ends : Text →
   more_read (a ∷ xs) (b ∷ ys) x y ox oy ex ey nx ny e =
       let tails : (text a ++ more_texts xs) ++ x ≡ (text b ++ more_texts ys) ++ y = ap (λ t. rest_of (rest_of t)) e in
       let one = read a b _ _ ox.0 oy.0 (go_on xs x ex) (go_on ys y ey)
-          (sym (append_assoc (text a) (more_texts xs) x) ∙ tails ∙ append_assoc (text b) (more_texts ys) y) in
+      (sym (append_assoc (text a) (more_texts xs) x) ∙ tails ∙ append_assoc (text b) (more_texts ys) y) in
       let more = more_read xs ys x y ox.1 oy.1 ex ey nx ny one.1 in
       (ap₂ (λ h t. h ∷ t) one.0 more.0, more.1)
 
@@ -93,6 +93,6 @@ module _ {A : Type 0} (text : A → Text) (IsOf : A → Type 0) (Ends : Text →
       → NoComma x → NoComma y → (text a ++ more_texts xs) ++ x ≡ (text b ++ more_texts ys) ++ y → ((a ∷ xs) ≡ (b ∷ ys)) × (x ≡ y)
   some_read a b xs ys x y ox oy ex ey nx ny e =
       let one = read a b _ _ ox.0 oy.0 (go_on xs x ex) (go_on ys y ey)
-          (sym (append_assoc (text a) (more_texts xs) x) ∙ e ∙ append_assoc (text b) (more_texts ys) y) in
+      (sym (append_assoc (text a) (more_texts xs) x) ∙ e ∙ append_assoc (text b) (more_texts ys) y) in
       let more = more_read xs ys x y ox.1 oy.1 ex ey nx ny one.1 in
       (ap₂ (λ h t. h ∷ t) one.0 more.0, more.1)

@@ -22,7 +22,7 @@ module _ (x : LexiconView) (names : TellsApart x) where
   unfolding rest_of
   subject t u a b v w ot ou e =
       let k = type_read x names t u (32 ∷ (a ++ v)) (32 ∷ (b ++ w)) ot ou (refl, refl) (refl, refl)
-          (sym (append_assoc (type_text x t) (32 ∷ a) v) ∙ (e ∙ append_assoc (type_text x u) (32 ∷ b) w)) in
+      (sym (append_assoc (type_text x t) (32 ∷ a) v) ∙ (e ∙ append_assoc (type_text x u) (32 ∷ b) w)) in
       (k.0, ap rest_of k.1)
 
   colon_not_equals : (v w : Text) → 58 ∷ v ≡ 61 ∷ w → ⊥
@@ -49,9 +49,11 @@ module _ (x : LexiconView) (names : TellsApart x) where
       let k = subject t u (58 ∷ 32 ∷ codes "AnyObject") (58 ∷ 32 ∷ protocol_name x q) v w ot ou e in
       absurd (not_any_object q w v oq sw sv (sym (ap (λ z. rest_of (rest_of z)) k.1)))
   requirement_read (IsAnyObject t) (IsAnyObject u) v w ot ou sv sw e =
-      let k = subject t u (58 ∷ 32 ∷ codes "AnyObject") (58 ∷ 32 ∷ codes "AnyObject") v w ot ou e in
-      (ap IsAnyObject k.0, (cut in_name (codes "AnyObject") (codes "AnyObject") v w refl refl (stops_name v sv.0) (stops_name w sw.0)
-      (ap (λ z. rest_of (rest_of z)) k.1)).1)
+      let k = subject t u (58 ∷ 32 ∷ codes "AnyObject") (58 ∷ 32 ∷ codes "AnyObject") v w ot ou e in (
+        ap IsAnyObject k.0,
+        (cut in_name (codes "AnyObject") (codes "AnyObject") v w refl refl (stops_name v sv.0) (stops_name w sw.0)
+            (ap (λ z. rest_of (rest_of z)) k.1)).1,
+      )
   requirement_read (IsAnyObject t) (Equals u q) v w ot (ou, oq) sv sw e =
       absurd (colon_not_equals _ _ (subject t u (58 ∷ 32 ∷ codes "AnyObject") (61 ∷ 61 ∷ 32 ∷ type_text x q) v w ot ou e).1)
   requirement_read (Equals t p) (Conforms u q) v w (ot, op) (ou, oq) sv sw e =
@@ -94,5 +96,5 @@ module _ (x : LexiconView) (names : TellsApart x) where
   signature_read (g ∷ params) [] rs qs o k e = absurd (no_param qs g _ _ (sym (ap rest_of e)))
   signature_read (g ∷ params) (h ∷ others) rs qs o k e =
       let m = some_read param_text HasNumbers (Stops in_number) (λ a b v w oa ob sv sw i. param_read a b v w oa ob sv sw i) (λ t. refl) g h params others
-          (where_text x rs ++ (62 ∷ [])) (where_text x qs ++ (62 ∷ [])) o.numbers k.numbers (ends rs) (ends qs) (no_comma rs) (no_comma qs) (ap rest_of e) in
+      (where_text x rs ++ (62 ∷ [])) (where_text x qs ++ (62 ∷ [])) o.numbers k.numbers (ends rs) (ends qs) (no_comma rs) (no_comma qs) (ap rest_of e) in
       (m.0, where_read rs qs o.requirements k.requirements m.1)

@@ -116,7 +116,7 @@ module _ (x : LexiconView) (names : TellsApart x) where
       let tails : (protocol_name x d.proto ++ (93 ∷ name_text x d.name)) ++ v ≡ (protocol_name x e.proto ++ (93 ∷ name_text x e.name)) ++ w
       = ap rest_of eq in
       let inner = sym (append_assoc (protocol_name x d.proto) (93 ∷ name_text x d.name) v)
-          ∙ (tails ∙ append_assoc (protocol_name x e.proto) (93 ∷ name_text x e.name) w) in
+      ∙ (tails ∙ append_assoc (protocol_name x e.proto) (93 ∷ name_text x e.name) w) in
       let k = protocol_read d.proto e.proto (93 ∷ (name_text x d.name ++ v)) (93 ∷ (name_text x e.name ++ w)) od.0 oe.0 refl refl inner in
       let j = name_read d.name e.name v w od.1 oe.1 sv sw (ap rest_of k.1) in
       ((λ i. record { proto = k.0 i; name = j.0 i }), j.1)
@@ -156,7 +156,7 @@ module _ (x : LexiconView) (names : TellsApart x) where
   steps_read (s ∷ xs) [] v w ox oy sv sw e = absurd (no_dot s w (steps_text x xs ++ v) sw (sym e ∙ append_assoc (step_text x s) (steps_text x xs) v))
   steps_read (s ∷ xs) (t ∷ ys) v w ox oy sv sw e =
       let k = step_read s t (steps_text x xs ++ v) (steps_text x ys ++ w) ox.0 oy.0 (steps_stop xs v (stops_name v sv)) (steps_stop ys w (stops_name w sw))
-          (sym (append_assoc (step_text x s) (steps_text x xs) v) ∙ e ∙ append_assoc (step_text x t) (steps_text x ys) w) in
+      (sym (append_assoc (step_text x s) (steps_text x xs) v) ∙ e ∙ append_assoc (step_text x t) (steps_text x ys) w) in
       let j = steps_read xs ys v w ox.1 oy.1 sv sw k.1 in
       (ap₂ (λ h r. h ∷ r) k.0 j.0, j.1)
 
@@ -175,6 +175,6 @@ module _ (x : LexiconView) (names : TellsApart x) where
       = sym (append_assoc (param_text (head t)) (steps_text x (steps_of t)) v) ∙ (ap (λ z. z ++ v) (sym (by_steps t)) ∙ (e
       ∙ (ap (λ z. z ++ w) (by_steps u) ∙ append_assoc (param_text (head u)) (steps_text x (steps_of u)) w))) in
       let k = param_read (head t) (head u) (steps_text x (steps_of t) ++ v) (steps_text x (steps_of u) ++ w) ot.0 ou.0
-          (steps_end (steps_of t) v sv.1) (steps_end (steps_of u) w sw.1) inner in
+      (steps_end (steps_of t) v sv.1) (steps_end (steps_of u) w sw.1) inner in
       let j = steps_read (steps_of t) (steps_of u) v w (each_step t ot.1) (each_step u ou.1) sv.0 sw.0 k.1 in
       (sym (as_steps t) ∙ (ap₂ (λ g xs. with_steps (Generic g) xs) k.0 j.0 ∙ as_steps u), j.1)

@@ -84,7 +84,16 @@ fn put_where(
         [] => Ok(()),
         [_, ..] => {
             append_bytes(out, b" where ")?;
-            put_joined(out, &Requirements { alloc, names, table }, b", ", list)
+            put_joined(
+                out,
+                &Requirements {
+                    alloc,
+                    names,
+                    table,
+                },
+                b", ",
+                list,
+            )
         }
     }
 }
