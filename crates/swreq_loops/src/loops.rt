@@ -64,11 +64,7 @@ fn is_same(a: &Word, b: &Word) -> bool
 
 /// The loop of the pair of two rules at the place: from the word of the pair by the one rule through the one side to the word to which
 /// both sides reduce, and through the other side back. None where the two sides reduce to two words.
-pub fn loop_of_pair(
-    alloc: Global,
-    rules: &[Rule],
-    place: Place,
-) -> Result<Option<Loop>, AllocError>
+pub fn loop_of_pair(alloc: Global, rules: &[Rule], place: Place) -> Result<Option<Loop>, AllocError>
     requires few { length rules.now < 2 ^ 32 - 1 }
     requires pair { HasPair rules.now place }
     ensures of_pair { IfOk result (λ found. MatchOption found (SidesReduceToOne rules.now place → ⊥) (IsLoopOfPair rules.now place)) }
