@@ -1,16 +1,15 @@
 -- Steps of kept rules other than one.
-use Rattle.std.proofs.Common.{◌≡◌, ◌≢◌, ℕ, zero, suc, ◌+◌, ◌-◌, ◌<◌, ◌≤◌, inl, inr, refl, sym, ◌∙◌, ap, subst, arith, Bool, true, false, not, List, [], ◌∷◌, ◌++◌, length, length-drop, take, drop, Some}
+use Rattle.std.proofs.Common.{◌≡◌, ◌≢◌, ℕ, zero, suc, ◌+◌, ◌-◌, inl, inr, refl, sym, ap, subst, arith, Bool, true, false, List, [], ◌∷◌, ◌++◌, length, length-drop, take, drop, Some}
 use Rattle.std.specs.List.{slice_get}
 use Rattle.std.proofs.Math.Seq.{take-append_seam, take-length}
-use Rattle.std.proofs.lemmas.Option.{slice_get_within}
 use Rattle.swreq_word.specs.declared.symbols.Symbol.{Symbol}
-use Rattle.swreq_word.proofs.Lists.{get_either, get_cases}
+use Rattle.swreq_word.proofs.Lists.{get_either}
 use Rattle.swreq_path.specs.declared.steps.RewriteStep.{RewriteStep}
 use Rattle.swreq_path.specs.declared.paths.Loop.{Loop}
 use Rattle.swreq_path.specs.Inverse.{inverse_step, inverse}
 use Rattle.swreq_path.proofs.Leading.{inverse_more}
 use Rattle.swreq_homotopy.specs.Evidence.{IsMarked, AreOfOthers, Shows}
-use Rattle.swreq_homotopy.specs.Search.{AreOfOthersBelow, ShowsAt, rest_of, way_round}
+use Rattle.swreq_homotopy.specs.Search.{ShowsAt, rest_of, way_round}
 
 module _ (keep : List Bool) (n : ℕ) where
   pub others_join : (xs ys : List RewriteStep) → AreOfOthers keep n xs → AreOfOthers keep n ys → AreOfOthers keep n (xs ++ ys)

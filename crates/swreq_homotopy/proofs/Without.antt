@@ -9,7 +9,6 @@ use Rattle.swreq_rule.specs.declared.rules.Rule.{Rule}
 use Rattle.swreq_rule.specs.Steps.{RuleAt}
 use Rattle.swreq_rule.proofs.Context.{Linked-in-place}
 use Rattle.swreq_rule.proofs.Numbers.{one_rule, rule_at}
-use Rattle.swreq_path.specs.declared.steps.RewriteStep.{RewriteStep}
 use Rattle.swreq_path.proofs.Links.{steps_link}
 use Rattle.swreq_homotopy.specs.declared.around.Evidence.{Evidence}
 use Rattle.swreq_homotopy.specs.Evidence.{IsMarked, DoesWithout}

@@ -14,6 +14,7 @@ use swreq_text::Seq;
 pub struct Evidence {
     /// The number of the rule, counted from 1.
     pub rule: u32,
+    /// From the left side of the rule to its right side.
     pub path: Path,
 }
 
@@ -28,7 +29,7 @@ fn rest(alloc: Global, steps: &[RewriteStep], at: usize) -> Result<Vec<RewriteSt
     Ok(rest)
 }
 
-// The path from the left side of the rule of the bare step at the place round the loop to its right side.
+// Evidence of the rule of the step at the place, which has nothing before and nothing after its side: the way round the loop without it.
 pub(crate) fn round_from(
     alloc: Global,
     rules: &[Rule],

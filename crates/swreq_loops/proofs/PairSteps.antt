@@ -1,16 +1,15 @@
 -- The word of a pair, with the left sides of both its rules at their places.
-use Rattle.std.proofs.Common.{◌≡◌, ℕ, ◌-◌, ◌<◌, ◌≤◌, inl, inr, refl, sym, ◌∙◌, ap, subst, arith, true, not, List, [], ◌∷◌, ◌++◌, append_assoc, append-nil, length, length-drop, drop, min}
+use Rattle.std.proofs.Common.{◌≡◌, ℕ, ◌-◌, ◌≤◌, inl, inr, refl, sym, ◌∙◌, ap, subst, arith, not, List, [], ◌∷◌, ◌++◌, append_assoc, append-nil, length, length-drop, drop, min}
 use Rattle.std.proofs.lemmas.Bool.{cases_lt}
 use Rattle.std.proofs.lemmas.List.{append_cancel_left}
 use Rattle.swreq_word.specs.declared.symbols.Symbol.{Symbol}
-use Rattle.swreq_word.specs.Overlap.{Containment}
 use Rattle.swreq_word.proofs.Cuts.{same_cut}
 use Rattle.swreq_rule.specs.declared.rules.Rule.{Rule}
 use Rattle.swreq_rule.specs.declared.rules.Place.{Place}
 use Rattle.swreq_rule.specs.Steps.{RuleAt}
 use Rattle.swreq_rule.proofs.Numbers.{one_rule}
 use Rattle.swreq_rule.proofs.Overlapping.{overlap_within, containment_within}
-use Rattle.swreq_pair.specs.Pairs.{OverlapPair, ContainmentPair, IsPair, HasPair}
+use Rattle.swreq_pair.specs.Pairs.{OverlapPair, ContainmentPair, IsPair}
 use Rattle.swreq_pair.specs.PairWords.{IsPairWord}
 use Rattle.swreq_pair.proofs.Parts.{after_is}
 use Rattle.swreq_path.specs.declared.steps.RewriteStep.{RewriteStep}
@@ -97,7 +96,7 @@ place_within rules place left right p = elim p.kind [
 pub drop_min : {A : Type 0} (xs : List A) (n : ℕ) → drop (min n (length xs)) xs ≡ drop n xs
 drop_min xs n = elim (cases_lt (length xs) n) [
   | inl l ↦ (
-    let e : min n (length xs) ≡ length xs = omega arith in
-    rw e (empty_by_length _ (rw length-drop (omega arith)) ∙ sym (empty_by_length _ (rw length-drop (omega (arith, l))))))
+      let e : min n (length xs) ≡ length xs = omega arith in
+      rw e (empty_by_length _ (rw length-drop (omega arith)) ∙ sym (empty_by_length _ (rw length-drop (omega (arith, l))))))
   | inr l ↦ (let e : min n (length xs) ≡ n = omega (arith, l) in rw e refl)
 ]

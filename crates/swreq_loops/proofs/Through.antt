@@ -1,5 +1,5 @@
 -- Paths through a side of a pair, and the loop that two of them make.
-use Rattle.std.proofs.Common.{◌≡◌, ℕ, refl, sym, ◌∙◌, subst, subst₂, List, [], ◌∷◌, ◌++◌}
+use Rattle.std.proofs.Common.{◌≡◌, ℕ, sym, ◌∙◌, subst, subst₂, List, ◌++◌}
 use Rattle.swreq_word.specs.declared.symbols.Symbol.{Symbol}
 use Rattle.swreq_rule.specs.declared.rules.Rule.{Rule}
 use Rattle.swreq_rule.specs.declared.rules.Place.{Place}

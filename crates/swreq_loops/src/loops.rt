@@ -40,7 +40,8 @@ fn path_through(
     requires few { length rules.now < 2 ^ 32 - 1 }
     requires redex { IsRedex rules.now w.now redex.at redex.number }
     ensures start { IfOk result (λ path. path.start ≡ w.now) }
-    ensures through { IfOk result (λ path. (side : List Symbol) × (end : List Symbol) × ReducesThrough rules.now path.steps redex.at redex.number w.now side end) }
+    ensures through { IfOk result (λ path. (side : List Symbol) × (end : List Symbol)
+        × ReducesThrough rules.now path.steps redex.at redex.number w.now side end) }
 {
     let step = step_at(alloc, rules, w, redex)?;
     let side = step.target(alloc, rules)?;
@@ -64,14 +65,12 @@ fn is_same(a: &Word, b: &Word) -> bool
 
 /// The loop of the pair of two rules at the place: from the word of the pair by the one rule through the one side to the word to which
 /// both sides reduce, and through the other side back. None where the two sides reduce to two words.
-pub fn loop_of_pair(
-    alloc: Global,
-    rules: &[Rule],
-    place: Place,
-) -> Result<Option<Loop>, AllocError>
+pub fn loop_of_pair(alloc: Global, rules: &[Rule], place: Place) -> Result<Option<Loop>, AllocError>
     requires few { length rules.now < 2 ^ 32 - 1 }
     requires pair { HasPair rules.now place }
-    ensures of_pair { IfOk result (λ found. MatchOption found (SidesReduceToOne rules.now place → ⊥) (IsLoopOfPair rules.now place)) }
+    ensures of_pair { IfOk result (λ found. MatchOption found
+        (SidesReduceToOne rules.now place → ⊥)
+        (IsLoopOfPair rules.now place)) }
     ensures round { IfOk result (λ found. MatchOption found ⊤ (IsLoop rules.now)) }
 {
     let word = pair_word(alloc, rules, place)?;

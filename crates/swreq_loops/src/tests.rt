@@ -52,7 +52,12 @@ fn list(alloc: Global, all: &[Sides]) -> Result<RuleList, Fail> {
 }
 
 // The loop of the pair of the first two rules at the place.
-fn loop_at(rt: &impl Abort, alloc: Global, rules: &[Rule], at: usize) -> Result<Option<Loop>, Fail> {
+fn loop_at(
+    rt: &impl Abort,
+    alloc: Global,
+    rules: &[Rule],
+    at: usize,
+) -> Result<Option<Loop>, Fail> {
     let place = Place { i: 1, j: 2, at };
     assert!(rt; 2 <= rules.len());
     assert!(rt; rules.len() < 100);
@@ -71,18 +76,29 @@ fn assert_steps(rt: &impl Abort, path: &Path, expected: &[Expected]) {
 }
 
 #[test]
-fn loops_go_out_through_the_one_side_and_back_through_the_other(rt: HostRuntime) -> Result<(), Fail> {
+fn loops_go_out_through_the_one_side_and_back_through_the_other(
+    rt: HostRuntime,
+) -> Result<(), Fail> {
     let cases: [(&[Sides], usize, &[Symbol], &[Expected]); 3] = [
         // Two rules with one left side, one right side of which reduces to the other.
         (
             &[(&[C], &[B]), (&[C], &[A]), (&[B], &[A])],
             0,
             &[C],
-            &[(&[], 1, true, &[]), (&[], 3, true, &[]), (&[], 2, false, &[])],
+            &[
+                (&[], 1, true, &[]),
+                (&[], 3, true, &[]),
+                (&[], 2, false, &[]),
+            ],
         ),
         // An overlap, both sides of which are reduced.
         (
-            &[(&[A, B], &[C]), (&[B, C], &[D]), (&[C, C], &[A]), (&[A, D], &[A])],
+            &[
+                (&[A, B], &[C]),
+                (&[B, C], &[D]),
+                (&[C, C], &[A]),
+                (&[A, D], &[A]),
+            ],
             1,
             &[A, B, C],
             &[
@@ -97,7 +113,11 @@ fn loops_go_out_through_the_one_side_and_back_through_the_other(rt: HostRuntime)
             &[(&[A, B, C], &[A, A]), (&[B], &[]), (&[A, C], &[A, A])],
             1,
             &[A, B, C],
-            &[(&[], 1, true, &[]), (&[], 3, false, &[]), (&[A], 2, false, &[C])],
+            &[
+                (&[], 1, true, &[]),
+                (&[], 3, false, &[]),
+                (&[A], 2, false, &[C]),
+            ],
         ),
     ];
     for (sides, at, source, expected) in cases.iter() {

@@ -1,6 +1,6 @@
 //! The path of the reduction of a word.
 
-ghost use Rattle.std.specs.Prelude.{◌≡◌, ◌-◌, ◌<◌, ◌≤◌, ◌^◌, List, length, IfOk, OnOk, vec_len};
+ghost use Rattle.std.specs.Prelude.{◌≡◌, ◌-◌, ◌<◌, ◌^◌, List, length, IfOk, OnOk, OnErr};
 ghost use Rattle.swreq_word.specs.declared.symbols.Symbol.{Symbol};
 ghost use Rattle.swreq_rule.specs.Reduction.{FirstRedex, Reduces};
 ghost use Rattle.swreq_path.specs.Paths.{HasTarget};
@@ -35,7 +35,7 @@ pub fn step_at(
     })
 }
 
-/// Takes the step of reduction at the first redex of the word, and puts it last.
+/// Takes the step of reduction at the first redex of the word, and puts it last. For want of memory the word and the steps are as before.
 pub fn take_redex(
     alloc: Global,
     rules: &[Rule],
@@ -45,7 +45,8 @@ pub fn take_redex(
 ) -> Result<(), AllocError>
     requires few { length rules.now < 2 ^ 32 - 1 }
     requires redex { FirstRedex rules.now word.old.items redex.at redex.number }
-    ensures { OnOk result (AddsReductionStep rules.now steps.old.items steps.new.items word.old.items word.new.items) }
+    ensures ok { OnOk result (AddsReductionStep rules.now steps.old.items steps.new.items word.old.items word.new.items) }
+    ensures err { OnErr result ((word.new.items ≡ word.old.items) × (steps.new.items ≡ steps.old.items)) }
 {
     let step = step_at(alloc, rules, word, redex)?;
     steps.push(step)?;

@@ -1,13 +1,11 @@
-use Rattle.std.proofs.Common.{◌≡◌, ◌<◌, ◌≤◌, refl, sym, ◌∙◌, ap, subst, subst₂, arith, length, Some}
-use Rattle.std.specs.List.{slice_get}
-use Rattle.std.proofs.lemmas.Grind.{common_steps}
-use Rattle.std.proofs.lemmas.Option.{slice_get_within, slice_get_read}
-use Rattle.swreq_rule.proofs.Numbers.{one_rule, rule_read, number_some, number_within}
+use Rattle.std.proofs.Common.{◌≡◌, ◌<◌, refl, sym, ◌∙◌, ap, subst, subst₂, arith, length}
+use Rattle.std.proofs.lemmas.Option.{slice_get_within}
+use Rattle.swreq_rule.proofs.Numbers.{rule_read, number_some, number_within}
 use Rattle.swreq_path.specs.Paths.{StepsLead, HasTarget}
 use Rattle.swreq_path.specs.Inverse.{inverse}
 use Rattle.swreq_path.proofs.Leading.{one_end}
 use Rattle.swreq_homotopy.specs.Search.{rest_of, way_round}
-use Rattle.swreq_homotopy.proofs.RoundTrip.{LeadsRound, step_read, leads_round, forward_leads, backward_leads}
+use Rattle.swreq_homotopy.proofs.RoundTrip.{step_read, leads_round, forward_leads, backward_leads}
 use Rattle.swreq_homotopy.proofs.around.round_from.Goals as goal
 
 pub overflow_sub-rule : goal.overflow_sub-rule

@@ -1,4 +1,4 @@
-use Rattle.std.proofs.Common.{◌≡◌, ℕ, ◌<◌, inl, inr, refl, arith, subst, length, Some}
+use Rattle.std.proofs.Common.{◌≡◌, inl, inr, refl, arith, subst, length, Some}
 use Rattle.std.specs.List.{slice_get}
 use Rattle.std.proofs.lemmas.Bool.{cases_lt}
 use Rattle.std.proofs.lemmas.Option.{slice_get_within, slice_get_read}
@@ -14,10 +14,10 @@ loop-k-preserved c k n round l is s =
     elim (cases_lt k c.loop-k.k) [
       | inl h ↦ c.loop-k.invariant k n round h is s
       | inr h ↦ (
-        let e : c.loop-k.k ≡ k = omega (arith, l, h) in
-        let there : slice_get loops c.loop-k.k ≡ Some here = slice_get_read loops (length loops) c.loop-k.k here refl c.loop-k-test.true c.index-loops-k.is in
-        let none = rw c.in_default.is at c.in_ok-evidence.ensures in
-        none n (subst (λ (x : Loop). Shows c.args.keep.now c.args.may.now x n) (same_item loops k c.loop-k.k round here e is there) s))
+          let e : c.loop-k.k ≡ k = omega (arith, l, h) in
+          let there : slice_get loops c.loop-k.k ≡ Some here = slice_get_read loops (length loops) c.loop-k.k here refl c.loop-k-test.true c.index-loops-k.is in
+          let none = rw c.in_default.is at c.in_ok-evidence.ensures in
+          none n (subst (λ (x : Loop). Shows c.args.keep.now c.args.may.now x n) (same_item loops k c.loop-k.k round here e is there) s))
     ]
 
 pub returns : goal.returns

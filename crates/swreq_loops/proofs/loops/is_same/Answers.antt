@@ -6,6 +6,7 @@ use Rattle.swreq_loops.proofs.loops.is_same.Goals as goal
 
 pub returns : goal.returns
 returns c =
-    let a = c.args.a.now in
-    (λ h. word_equal a c.args.b.now (sym c.eq.ensures ∙ h),
-    λ e. c.eq.ensures ∙ subst (λ x. eq_by_cmp word_cmp a x ≡ true) e (word_equivalence.refl a))
+    let a = c.args.a.now in (
+      λ h. word_equal a c.args.b.now (sym c.eq.ensures ∙ h),
+      λ e. c.eq.ensures ∙ subst (λ x. eq_by_cmp word_cmp a x ≡ true) e (word_equivalence.refl a),
+    )

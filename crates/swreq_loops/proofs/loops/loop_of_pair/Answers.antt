@@ -1,7 +1,6 @@
-use Rattle.std.proofs.Common.{◌≡◌, sym, ◌∙◌, ap, subst, subst₂, ◌++◌}
+use Rattle.std.proofs.Common.{◌≡◌, sym, ◌∙◌, ap, subst, ◌++◌}
 use Rattle.swreq_path.specs.Reductions.{IsRedex}
-use Rattle.swreq_path.specs.Paths.{HasTarget, StepsLead}
-use Rattle.swreq_path.specs.Inverse.{inverse}
+use Rattle.swreq_path.specs.Paths.{HasTarget}
 use Rattle.swreq_path.proofs.Leading.{one_end}
 use Rattle.swreq_loops.specs.Loops.{ReducesThrough}
 use Rattle.swreq_loops.proofs.PairSteps.{redex_of, both_put}

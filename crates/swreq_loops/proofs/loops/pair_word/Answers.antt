@@ -1,5 +1,4 @@
-use Rattle.std.proofs.Common.{◌≡◌, ◌-◌, refl, ◌∙◌, ap, arith, ◌++◌, length, take, drop, min}
-use Rattle.std.proofs.lemmas.Grind.{common_steps}
+use Rattle.std.proofs.Common.{◌≡◌, ◌-◌, refl, ◌∙◌, ap, ◌++◌, length, take, drop, min}
 use Rattle.swreq_word.proofs.Cuts.{whole_rest}
 use Rattle.swreq_rule.proofs.Numbers.{rule_read, number_some, number_within}
 use Rattle.swreq_loops.proofs.PairSteps.{drop_min}

@@ -1,4 +1,4 @@
-use Rattle.std.proofs.Common.{arith, ◌≡◌, refl, sym, ◌∙◌, ap, subst, [], ◌∷◌, ◌++◌}
+use Rattle.std.proofs.Common.{◌≡◌, ◌∙◌, ap, subst, [], ◌∷◌, ◌++◌}
 use Rattle.swreq_path.specs.Reductions.{IsReductionPath}
 use Rattle.swreq_loops.proofs.loops.path_through.Goals as goal
 

@@ -1,5 +1,4 @@
-use Rattle.std.proofs.Common.{arith, ◌≡◌, sym, subst₂, ◌++◌}
-use Rattle.std.proofs.lemmas.Grind.{common_steps}
+use Rattle.std.proofs.Common.{◌≡◌, sym, ◌∙◌, ap, subst₂, ◌++◌}
 use Rattle.swreq_path.specs.Paths.{StepsLead}
 use Rattle.swreq_path.proofs.Leading.{lead_on}
 use Rattle.swreq_path.proofs.paths.compose.Goals as goal
@@ -8,6 +7,9 @@ pub returns-clause-target : goal.returns-clause-target
 returns-clause-target c v h =
     let a = c.args.a.now in
     let b = c.args.b.now in
-    let steps : c.new.result ≡ a.steps ++ b.steps = grind (arith, common_steps) in
-    let start : c.in_ok-start.start ≡ a.start = grind (arith, common_steps) in
-    subst₂ (λ xs u. StepsLead c.args.rules.now xs u v) (sym steps) (sym start) (lead_on c.args.rules.now a.steps b.steps a.start b.start v c.requires.first h)
+    let first : c.append_copies.new.out.items ≡ a.steps =
+    c.in_ok-append_copies.ensures ∙ ap (λ xs. xs ++ c.items.result.now) c.new-steps.ensures.items ∙ c.items.ensures in
+    let steps : c.new.result ≡ a.steps ++ b.steps =
+    c.new.ensures ∙ c.in_ok-append_copies-2.ensures ∙ ap (λ xs. xs ++ c.items-2.result.now) first ∙ ap (λ xs. a.steps ++ xs) c.items-2.ensures in
+    subst₂ (λ xs u. StepsLead c.args.rules.now xs u v) (sym steps) (sym c.in_ok-start.ensures.cases)
+    (lead_on c.args.rules.now a.steps b.steps a.start b.start v c.requires.first h)

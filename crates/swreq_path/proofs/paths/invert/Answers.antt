@@ -1,5 +1,4 @@
-use Rattle.std.proofs.Common.{arith, ◌≡◌, sym, subst}
-use Rattle.std.proofs.lemmas.Grind.{common_steps}
+use Rattle.std.proofs.Common.{◌≡◌, sym, ◌∙◌, ap, subst}
 use Rattle.swreq_path.specs.Paths.{StepsLead}
 use Rattle.swreq_path.specs.Inverse.{inverse}
 use Rattle.swreq_path.proofs.Leading.{lead_back}
@@ -8,5 +7,6 @@ use Rattle.swreq_path.proofs.paths.invert.Goals as goal
 pub returns-clause-target : goal.returns-clause-target
 returns-clause-target c =
     let a = c.args.a.now in
-    let steps : c.new.result ≡ inverse a.steps = grind (arith, common_steps) in
-    subst (λ xs. StepsLead c.args.rules.now xs c.in_ok-start.start a.start) (sym steps) (lead_back c.args.rules.now a.steps a.start c.in_ok-start.start c.in_ok-start.ensures)
+    let steps : c.new.result ≡ inverse a.steps = c.new.ensures ∙ c.in_ok-steps.ensures ∙ ap inverse c.items.ensures in
+    subst (λ xs. StepsLead c.args.rules.now xs c.in_ok-start.start a.start) (sym steps)
+    (lead_back c.args.rules.now a.steps a.start c.in_ok-start.start c.in_ok-start.ensures)

@@ -8,12 +8,12 @@ use Rattle.swreq_path.proofs.reduction.path_of.Goals as goal
 
 pub steps-smaller : goal.steps-smaller
 steps-smaller c =
-    let s = c.in_ok-take_redex.ensures in
+    let s = c.in_ok-take_redex.ensures.ok in
     remaining_falls c.args.rules.now c.steps.word.items c.take_redex.new.word.items (reduces_by c.args.rules.now s.0 c.steps.word.items c.take_redex.new.word.items s.2)
 
 pub steps-preserved : goal.steps-preserved
 steps-preserved c =
-    let s = c.in_ok-take_redex.ensures in
+    let s = c.in_ok-take_redex.ensures.ok in
     subst (λ xs. StepsReduce c.args.rules.now xs c.args.w.now c.take_redex.new.word.items) (sym s.1)
     (reduce_on c.args.rules.now c.steps.steps.items s.0 c.args.w.now c.steps.word.items c.take_redex.new.word.items c.steps.invariant s.2)
 

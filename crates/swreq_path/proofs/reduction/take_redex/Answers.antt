@@ -8,8 +8,8 @@ step_at-requires-clause-redex c =
     subst (λ w. IsRedex c.args.rules.now w c.args.redex.at c.args.redex.number) (sym c.deref.ensures.value)
     (first_is_redex c.args.rules.now c.args.word.now.items c.args.redex.at c.args.redex.number c.requires.redex)
 
-pub returns : goal.returns
-returns c =
+pub returns-clause-ok : goal.returns-clause-ok
+returns-clause-ok c =
     let rules = c.args.rules.now in
     let u = c.args.word.now.items in
     let redex = c.args.redex in
