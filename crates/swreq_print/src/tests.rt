@@ -2,6 +2,8 @@
 
 ghost use Rattle.std.specs.Prelude.{◌≡◌, ◌≤◌, length, IfOk};
 ghost use Rattle.swreq_decl.specs.Skeletons.{StandsFor};
+ghost use Rattle.swreq_param.specs.Tables.{IsOf};
+ghost use Rattle.swreq_print.specs.Signatures.{HasIdsOf};
 
 use crate::{
     RefusalKind, refusal_text, requirement_text, rule_text, self_text, signature_text, steps_text,
@@ -39,46 +41,60 @@ fn lexicon_of(rt: &impl Abort, alloc: Global, text: &[u8]) -> Result<Lexicon, Fa
     }
 }
 
-/// `T.[P]A` for the first protocol P and its one name A.
-fn first_member(table: &mut ParamTable, param: ParamId) -> Result<TermId, AllocError> {
-    let base = table.param(param)?;
-    table.member(base, Step::Bound(AssocId { rank: 0 }))
+/// `τ_1_20.[P]A.A` for the first protocol P and its first name A.
+fn member_of_member(table: &mut ParamTable) -> Result<TermId, AllocError>
+    ensures { IfOk result (λ t. IsOf table.new t) }
+{
+    let base = table.param(ParamId {
+        depth: 1,
+        index: 20,
+    })?;
+    let bound = table.member(base, Step::Bound(AssocId { rank: 0 }))?;
+    table.member(bound, Step::Name(NameId { rank: 0 }))
+}
+
+const LETTERS: &str = "protocol Größe { associatedtype Länge }";
+
+#[test]
+fn types_have_names_beyond_ascii(rt: HostRuntime) -> Result<(), Fail> {
+    let names = lexicon_of(&rt, rt.alloc(), LETTERS.as_bytes())?;
+    let mut table = ParamTable::new(rt.alloc());
+    let t = member_of_member(&mut table)?;
+    let mut out = Vec::new(rt.alloc());
+    type_text(rt.alloc(), &names, &table, t, &mut out)?;
+    assert_eq!(rt; out.as_slice(), "τ_1_20.[Größe]Länge.Länge".as_bytes());
+    Ok(())
 }
 
 #[test]
-fn types_and_requirements_have_names_beyond_ascii(rt: HostRuntime) -> Result<(), Fail> {
-    let names = lexicon_of(
-        &rt,
-        rt.alloc(),
-        "protocol Größe { associatedtype Länge }".as_bytes(),
-    )?;
-    let mut table = ParamTable::new(rt.alloc());
-    let bound = first_member(
-        &mut table,
-        ParamId {
-            depth: 1,
-            index: 20,
-        },
-    )?;
-    assert!(rt; bound.place < table.len());
-    let subject = table.member(bound, Step::Name(NameId { rank: 0 }))?;
-    assert!(rt; subject.place < table.len());
-    let proto = ProtoId { rank: 0 };
-    let r = Requirement::Conf { subject, proto };
-    let mut out = Vec::new(rt.alloc());
-    type_text(rt.alloc(), &names, &table, subject, &mut out)?;
-    out.push(b'\n')?;
-    requirement_text(rt.alloc(), &names, &table, &r, &mut out)?;
-    out.push(b'\n')?;
-    self_text(rt.alloc(), &names, &table, &r, &mut out)?;
-    out.push(b'\n')?;
+fn steps_follow_a_generic_parameter(rt: HostRuntime) -> Result<(), Fail> {
+    let names = lexicon_of(&rt, rt.alloc(), LETTERS.as_bytes())?;
     let steps = [Step::Name(NameId { rank: 0 })];
     let head = ParamId { depth: 0, index: 1 };
+    let mut out = Vec::new(rt.alloc());
     steps_text(rt.alloc(), &names, head, steps.as_slice(), &mut out)?;
-    let wanted = "τ_1_20.[Größe]Länge.Länge
-τ_1_20.[Größe]Länge.Länge : Größe
-Self.[Größe]Länge.Länge : Größe
-τ_0_1.Länge";
+    assert_eq!(rt; out.as_slice(), "τ_0_1.Länge".as_bytes());
+    Ok(())
+}
+
+/// `[T : P]` for the first protocol P.
+fn conformance(table: &mut ParamTable) -> Result<Requirement, AllocError>
+    ensures { IfOk result (λ r. HasIdsOf table.new r) }
+{
+    let subject = member_of_member(table)?;
+    let proto = ProtoId { rank: 0 };
+    Ok(Requirement::Conf { subject, proto })
+}
+
+#[test]
+fn requirements_stand_in_signatures_and_in_protocols(rt: HostRuntime) -> Result<(), Fail> {
+    let names = lexicon_of(&rt, rt.alloc(), LETTERS.as_bytes())?;
+    let mut table = ParamTable::new(rt.alloc());
+    let r = conformance(&mut table)?;
+    let mut out = Vec::new(rt.alloc());
+    requirement_text(rt.alloc(), &names, &table, &r, &mut out)?;
+    self_text(rt.alloc(), &names, &table, &r, &mut out)?;
+    let wanted = "τ_1_20.[Größe]Länge.Länge : GrößeSelf.[Größe]Länge.Länge : Größe";
     assert_eq!(rt; out.as_slice(), wanted.as_bytes());
     Ok(())
 }
@@ -87,38 +103,25 @@ Self.[Größe]Länge.Länge : Größe
 fn signatures_list_generic_parameters_and_requirements(rt: HostRuntime) -> Result<(), Fail> {
     let names = lexicon_of(&rt, rt.alloc(), b"protocol P { associatedtype A }")?;
     let mut table = ParamTable::new(rt.alloc());
-    let outer = ParamId { depth: 0, index: 0 };
-    let inner = ParamId { depth: 1, index: 0 };
-    let left = first_member(&mut table, outer)?;
-    let right = first_member(&mut table, inner)?;
-    let t = table.param(outer)?;
-    let u = table.param(inner)?;
-    let count = table.len();
-    assert!(rt; left.place < count && right.place < count);
-    assert!(rt; t.place < count && u.place < count);
-    let proto = ProtoId { rank: 0 };
-    let list = [
-        Requirement::Conf { subject: t, proto },
-        Requirement::Layout { subject: u },
-        Requirement::Same { left, right },
-    ];
-    let mut out = Vec::new(rt.alloc());
+    let r = conformance(&mut table)?;
     let params = Params { outer: 1, inner: 1 };
-    signature_text(
-        rt.alloc(),
-        &names,
-        &table,
-        params,
-        list.as_slice(),
-        &mut out,
-    )?;
-    let params = Params { outer: 2, inner: 0 };
-    signature_text(rt.alloc(), &names, &table, params, [].as_slice(), &mut out)?;
-    let params = Params { outer: 0, inner: 0 };
-    signature_text(rt.alloc(), &names, &table, params, [].as_slice(), &mut out)?;
-    let wanted = "<τ_0_0, τ_1_0 where τ_0_0 : P, τ_1_0 : AnyObject, \
-        τ_0_0.[P]A == τ_1_0.[P]A><τ_0_0, τ_0_1><>";
+    let mut out = Vec::new(rt.alloc());
+    signature_text(rt.alloc(), &names, &table, params, &[r, r], &mut out)?;
+    let wanted = "<τ_0_0, τ_1_0 where τ_1_20.[P]A.A : P, τ_1_20.[P]A.A : P>";
     assert_eq!(rt; out.as_slice(), wanted.as_bytes());
+    Ok(())
+}
+
+#[test]
+fn signatures_without_requirements_have_no_where(rt: HostRuntime) -> Result<(), Fail> {
+    let names = lexicon_of(&rt, rt.alloc(), b"")?;
+    let table = ParamTable::new(rt.alloc());
+    let mut out = Vec::new(rt.alloc());
+    let params = Params { outer: 2, inner: 0 };
+    signature_text(rt.alloc(), &names, &table, params, &[], &mut out)?;
+    let params = Params { outer: 0, inner: 0 };
+    signature_text(rt.alloc(), &names, &table, params, &[], &mut out)?;
+    assert_eq!(rt; out.as_slice(), "<τ_0_0, τ_0_1><>".as_bytes());
     Ok(())
 }
 
@@ -143,28 +146,41 @@ fn rule(alloc: Global, left: &[Symbol], right: &[Symbol], birth: Birth) -> Resul
     }
 }
 
+/// The first rules of the protocol N with a member Next.
+fn rules(alloc: Global) -> Result<[Rule; 4], Fail> {
+    Ok([
+        rule(alloc, &[N, N], &[N], Birth::Given(1))?,
+        rule(alloc, &[N, NEXT], &[N_NEXT], Birth::Given(2))?,
+        rule(alloc, &[N_NEXT, N], &[N_NEXT], Birth::Given(3))?,
+        rule(alloc, &[N, N_NEXT], &[N_NEXT], Birth::Pair(1, 2, 1))?,
+    ])
+}
+
+const NEXT_OF_N: &[u8] = b"protocol N { associatedtype Next: N }";
+
 #[test]
 fn a_trace_has_a_line_for_each_rule(rt: HostRuntime) -> Result<(), Fail> {
-    let names = lexicon_of(&rt, rt.alloc(), b"protocol N { associatedtype Next: N }")?;
-    let trace = [
-        rule(rt.alloc(), &[N, N], &[N], Birth::Given(1))?,
-        rule(rt.alloc(), &[N, NEXT], &[N_NEXT], Birth::Given(2))?,
-        rule(rt.alloc(), &[N_NEXT, N], &[N_NEXT], Birth::Given(3))?,
-        rule(rt.alloc(), &[N, N_NEXT], &[N_NEXT], Birth::Pair(1, 2, 1))?,
-    ];
+    let names = lexicon_of(&rt, rt.alloc(), NEXT_OF_N)?;
+    let trace = rules(rt.alloc())?;
     let mut out = Vec::new(rt.alloc());
     trace_text(rt.alloc(), &names, trace.as_slice(), &mut out)?;
-    let last = rule(rt.alloc(), &[T, NEXT], &[T, N_NEXT], Birth::Given(1))?;
-    rule_text(rt.alloc(), &names, &last, &mut out)?;
-    out.push(b'\n')?;
-    let layout = rule(rt.alloc(), &[T, Symbol::Layout], &[T], Birth::Given(1))?;
-    rule_text(rt.alloc(), &names, &layout, &mut out)?;
     let wanted = "  1: [N].[N] => [N] (given 1)
   2: [N].Next => [N:Next] (given 2)
   3: [N:Next].[N] => [N:Next] (given 3)
   4: [N].[N:Next] => [N:Next] (pair 1 2 1)
-τ_0_0.Next => τ_0_0.[N:Next]
-τ_0_0.[layout: AnyObject] => τ_0_0";
+";
+    assert_eq!(rt; out.as_slice(), wanted.as_bytes());
+    Ok(())
+}
+
+#[test]
+fn rules_have_all_kinds_of_symbols(rt: HostRuntime) -> Result<(), Fail> {
+    let names = lexicon_of(&rt, rt.alloc(), NEXT_OF_N)?;
+    let left = [T, NEXT, Symbol::Layout];
+    let r = rule(rt.alloc(), left.as_slice(), &[T, N_NEXT], Birth::Given(1))?;
+    let mut out = Vec::new(rt.alloc());
+    rule_text(rt.alloc(), &names, &r, &mut out)?;
+    let wanted = "τ_0_0.Next.[layout: AnyObject] => τ_0_0.[N:Next]";
     assert_eq!(rt; out.as_slice(), wanted.as_bytes());
     Ok(())
 }

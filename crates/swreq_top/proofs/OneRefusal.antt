@@ -16,8 +16,8 @@ use Rattle.swreq_names.specs.declared.refusal.NameErr.{NameErr}
 use Rattle.swreq_names.specs.declared.refusal.NameErr.TheVariants as names
 use Rattle.swreq_names.specs.Names.{Refuses, Resolve}
 use Rattle.swreq_names.proofs.Answers.{not_refused, one_refusal as one_name}
-use Rattle.swreq_top.specs.declared.refusal.RefusalKind.{RefusalKind}
-use Rattle.swreq_top.specs.declared.refusal.RefusalKind.TheVariants as refusals
+use Rattle.swreq_print.specs.declared.refusal.RefusalKind.{RefusalKind}
+use Rattle.swreq_print.specs.declared.refusal.RefusalKind.TheVariants as refusals
 use Rattle.swreq_top.specs.Reports.{name_refusal, refusal_of}
 use Rattle.swreq_top.specs.Verdict.{IsRefused, RefusesNames}
 use Rattle.swreq_top.proofs.Verdicts.{IsExact}
@@ -155,6 +155,9 @@ is_read text r (refusals.NoSuchMember at) has = by_names text r (names.NoSuchMem
 is_read text r (refusals.UnknownSignature at) has = by_names text r (names.UnknownSignature at) has
 is_read text r (refusals.WrongArity at) has = by_names text r (names.WrongArity at) has
 is_read text r (refusals.Cycle at) has = by_names text r (names.Cycle at) has
+is_read text r (refusals.NotATypeParameter at) has = absurd has
+is_read text r (refusals.LimitRules max) has = absurd has
+is_read text r (refusals.LimitLength max) has = absurd has
 is_read text r refusals.NotBuilt has = absurd has
 is_read text r refusals.ReadFault has = absurd has
 is_read text r refusals.OutOfMemory has = absurd has
@@ -180,6 +183,9 @@ is_too_large text long (refusals.NoSuchMember at) has = absurd (omega (arith, lo
 is_too_large text long (refusals.UnknownSignature at) has = absurd (omega (arith, long, has.0))
 is_too_large text long (refusals.WrongArity at) has = absurd (omega (arith, long, has.0))
 is_too_large text long (refusals.Cycle at) has = absurd (omega (arith, long, has.0))
+is_too_large text long (refusals.NotATypeParameter at) has = absurd has
+is_too_large text long (refusals.LimitRules max) has = absurd has
+is_too_large text long (refusals.LimitLength max) has = absurd has
 is_too_large text long refusals.NotBuilt has = absurd has
 is_too_large text long refusals.ReadFault has = absurd has
 is_too_large text long refusals.OutOfMemory has = absurd has

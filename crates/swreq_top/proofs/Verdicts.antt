@@ -20,8 +20,8 @@ use Rattle.swreq_names.specs.declared.refusal.NameErr.{NameErr}
 use Rattle.swreq_names.specs.declared.refusal.NameErr.TheVariants as names
 use Rattle.swreq_names.specs.Names.{Refuses, Resolve}
 use Rattle.swreq_top.specs.declared.outcome.Outcome.{Outcome}
-use Rattle.swreq_top.specs.declared.refusal.RefusalKind.{RefusalKind}
-use Rattle.swreq_top.specs.declared.refusal.RefusalKind.TheVariants as refusals
+use Rattle.swreq_print.specs.declared.refusal.RefusalKind.{RefusalKind}
+use Rattle.swreq_print.specs.declared.refusal.RefusalKind.TheVariants as refusals
 use Rattle.swreq_top.specs.Reports.{AnswersSkeleton, Reports, name_refusal}
 use Rattle.swreq_top.specs.Runs.{DeliversVerdict, IsOutput, IsRead}
 use Rattle.swreq_top.specs.Verdict.{IsAnswered, IsRefused, IsVerdict, RefusesNames, refused_with}

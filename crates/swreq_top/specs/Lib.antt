@@ -1,4 +1,3 @@
-pub mod Lines
 pub mod Plain
 pub mod Reports
 pub mod Runs

@@ -3,7 +3,7 @@ use Rattle.std.specs.Prelude.{◌≡◌, ◌⊎◌, ℕ, ◌+◌, ◌<◌, ◌�
 use Rattle.std.specs.Io.KnownBytes.{Appends, IsAtEnd}
 use Rattle.swreq_text.specs.Given.{GivesCount}
 use Rattle.swreq_lex.specs.declared.lexer.TheConstants.{TEXT_LIMIT}
-use Rattle.swreq_top.specs.declared.refusal.TheConstants.{OUT_OF_MEMORY, READ_FAULT, USAGE}
+use Rattle.swreq_print.specs.declared.refusal.TheConstants.{OUT_OF_MEMORY, READ_FAULT, USAGE}
 use Rattle.swreq_top.specs.Verdict.{IsVerdict}
 
 -- The words of the command line are the one word `answer`.

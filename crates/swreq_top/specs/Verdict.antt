@@ -9,9 +9,9 @@ use Rattle.swreq_names.specs.declared.refusal.NameErr.{NameErr}
 use Rattle.swreq_names.specs.declared.refusal.NameErr.TheVariants as names
 use Rattle.swreq_names.specs.Names.{Refuses, Resolve}
 use Rattle.swreq_top.specs.declared.outcome.Outcome.{Outcome}
-use Rattle.swreq_top.specs.declared.refusal.RefusalKind.{RefusalKind}
-use Rattle.swreq_top.specs.declared.refusal.RefusalKind.TheVariants as refusals
-use Rattle.swreq_top.specs.Lines.{refusal_line}
+use Rattle.swreq_print.specs.declared.refusal.RefusalKind.{RefusalKind}
+use Rattle.swreq_print.specs.declared.refusal.RefusalKind.TheVariants as refusals
+use Rattle.swreq_print.specs.Refusals.{refusal_line}
 use Rattle.swreq_top.specs.Plain.{is_plain}
 
 -- status 1, with the line of the refusal
@@ -37,6 +37,9 @@ IsRefused text (refusals.NoSuchMember at) = RefusesNames text (names.NoSuchMembe
 IsRefused text (refusals.UnknownSignature at) = RefusesNames text (names.UnknownSignature at)
 IsRefused text (refusals.WrongArity at) = RefusesNames text (names.WrongArity at)
 IsRefused text (refusals.Cycle at) = RefusesNames text (names.Cycle at)
+IsRefused text (refusals.NotATypeParameter at) = ⊥
+IsRefused text (refusals.LimitRules max) = ⊥
+IsRefused text (refusals.LimitLength max) = ⊥
 IsRefused text refusals.NotBuilt = ⊥
 IsRefused text refusals.ReadFault = ⊥
 IsRefused text refusals.OutOfMemory = ⊥

@@ -5,7 +5,7 @@ ghost use Rattle.swreq_lex.specs.declared.lexer.TheConstants.{TEXT_LIMIT};
 ghost use Rattle.swreq_decl.specs.declared.skeleton.Skeleton.{Skeleton};
 ghost use Rattle.swreq_decl.specs.Skeletons.{StandsFor};
 ghost use Rattle.swreq_names.specs.Names.{Resolve};
-ghost use Rattle.swreq_top.specs.declared.refusal.RefusalKind.{RefusalKind};
+ghost use Rattle.swreq_print.specs.declared.refusal.RefusalKind.{RefusalKind};
 ghost use Rattle.swreq_top.specs.Verdict.{IsRefused};
 
 /// A text is refused, or is not too long and a skeleton stands for it. At most one refusal is its, and none where the names resolve.

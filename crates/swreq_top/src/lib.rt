@@ -10,7 +10,6 @@ mod search;
 
 pub use outcome::{Outcome, reply};
 pub use program::run;
-pub use refusal::RefusalKind;
 
 #[cfg(test)]
 mod tests;

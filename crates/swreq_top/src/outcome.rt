@@ -5,17 +5,18 @@ ghost use Rattle.swreq_decl.specs.declared.skeleton.Skeleton.{Skeleton};
 ghost use Rattle.swreq_decl.specs.Skeletons.{StandsFor};
 ghost use Rattle.swreq_names.specs.declared.refusal.NameErr.TheVariants.{Memory};
 ghost use Rattle.swreq_names.specs.Names.{Resolve};
-ghost use Rattle.swreq_top.specs.declared.refusal.RefusalKind.{RefusalKind};
+ghost use Rattle.swreq_print.specs.declared.refusal.RefusalKind.{RefusalKind};
 ghost use Rattle.swreq_top.specs.Verdict.{IsAnswered, IsRefused, IsVerdict, refused_with};
 ghost use Rattle.swreq_top.specs.Reports.{AnswersSkeleton, Reports, name_refusal};
 
 use crate::plain::is_plain;
-use crate::refusal::{RefusalKind, name_refusal, refusal_of, refusal_text};
+use crate::refusal::{name_refusal, refusal_of};
 use crate::search::answers;
 use std::alloc::{AllocError, Global};
 use swreq_decl::{ParseErr, Skeleton, parse};
 use swreq_lex::TEXT_LIMIT;
 use swreq_names::{NameErr, Names, resolve_names};
+use swreq_print::{RefusalKind, refusal_text};
 use swreq_text::Seq;
 
 /// A status and what is printed with it.
@@ -98,7 +99,8 @@ fn answered(
 fn refused(alloc: Global, refusal: RefusalKind) -> Result<Outcome, AllocError>
     ensures { IfOk result (λ o. o ≡ refused_with refusal) }
 {
-    let line = refusal_text(alloc, &refusal)?;
+    let mut line = Vec::new(alloc);
+    refusal_text(alloc, &refusal, &mut line)?;
     Ok(Outcome {
         status: 1,
         output: Seq::new(line),

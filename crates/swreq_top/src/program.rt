@@ -6,8 +6,8 @@ ghost use Rattle.swreq_text.specs.Given.{AppendsPart, GivesCount};
 ghost use Rattle.swreq_top.specs.Runs.{AreRight, AreWrong, DeliversVerdict, IsPrinted, IsRead};
 
 use crate::outcome::reply;
-use crate::refusal::{OUT_OF_MEMORY, READ_FAULT, TOO_LARGE, USAGE};
 use std::alloc::Global;
+use swreq_print::{OUT_OF_MEMORY, READ_FAULT, TOO_LARGE, USAGE};
 use swreq_text::{ReadErr, Sink, Source, read_all, write_all};
 
 /// The most bytes that a text may have.
