@@ -35,7 +35,7 @@ impl Model for Indexed {
 }
 
 // The first redex, where no left side begins before this place.
-fn first_redex(rules: &[Rule], trie: &Trie, w: &[Symbol], from: usize) -> Option<Redex>
+pub(crate) fn first_redex(rules: &[Rule], trie: &Trie, w: &[Symbol], from: usize) -> Option<Redex>
     requires index { IsIndexOf trie.now rules.now }
     requires earlier { NoneEarlier rules.now w.now from }
     ensures { MatchOption result

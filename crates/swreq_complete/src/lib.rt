@@ -6,6 +6,7 @@ mod completion;
 mod indexed;
 pub mod laws;
 mod limit;
+mod paths;
 mod reduced;
 mod settling;
 mod task;
