@@ -1,13 +1,15 @@
 -- Words of the form, and the command line in what the command finds.
-use Rattle.std.proofs.Common.{ap, ap₂, refl, sym, subst, codes, true, false, Bool, map, not, ◌&&◌, ◌||◌, ◌⊎◌, if◌then◌else◌, option_map, option_and_then, true≢false, is_some, List, Option, Some, None, [], ◌∷◌, ◌++◌, ◌≡◌, ◌∙◌, ℕ}
+use Rattle.std.proofs.Common.{ap, ap₂, refl, sym, subst, codes, true, false, Bool, map, not, ◌&&◌, ◌||◌, ◌⊎◌, if◌then◌else◌, option_map, option_and_then, true≢false, is_some, Result, Ok, Err, IfOk, List, Option, Some, None, [], ◌∷◌, ◌++◌, ◌≡◌, ◌∙◌, ℕ}
 use Rattle.std.specs.Str.{bytes_eq}
-use Rattle.std.specs.Option.{option_map_or}
+use Rattle.std.specs.Option.{option_map_or, ok_or}
 use Rattle.std.specs.List.{list_all, list_any, flat_map}
 use Rattle.std.proofs.lemmas.Slice.Eq.{bytes_eq-Decides}
-use Rattle.clap.specs.Words.{takes, subcommand_of, first_of, one_of}
+use Rattle.clap.specs.Words.{takes, subcommand_of, first_of}
 use Rattle.clap.specs.Takes.{is_given}
 use Rattle.swreq_words.specs.declared.command.Command.{Command}
 use Rattle.swreq_words.specs.declared.command.CommandLine.{CommandLine}
+use Rattle.swreq_words.specs.declared.reading.UsageErr.{UsageErr}
+use Rattle.swreq_words.specs.declared.reading.UsageErr.TheVariants.{Usage, Memory}
 use Rattle.swreq_words.specs.declared.names.CommandName.{CommandName}
 use Rattle.swreq_words.specs.declared.names.CommandName.TheVariants.{Answer, Signatures, Rules, Gen}
 use Rattle.swreq_words.specs.declared.names.Follows.{Follows}
@@ -193,6 +195,7 @@ pub found_says : (words : List Text) (line : CommandLine) → has_form words ≡
 found_says words line e is = let f = formed words e in line_says words f line (sym (found_of words f) ∙ is)
 
 pub says_found : (words : List Text) (line : CommandLine) → Says words line → line_found (subcommand_of genreq words) ≡ Some line
+unfolding formed_of
 says_found words line says = found_of words (formed_of words line says) ∙ says_line words line says
 
 pub one_line : (words : List Text) (a b : CommandLine) → Says words a → Says words b → a ≡ b
@@ -210,3 +213,48 @@ line_there words e =
     let f = formed words e in
     let c = command_there f.name f.parts f.counts in
     (line_in f.parts c.0, found_of words f ∙ ap (option_map (line_in f.parts)) c.1)
+
+-- ---- what is answered
+
+pub says_form : (words : List Text) (line : CommandLine) → Says words line → has_form words ≡ true
+says_form words line says = has_form_of words (formed_of words line says)
+
+-- the words are refused exactly where they say no line
+abbrev pub IsUsage : List Text → Result CommandLine UsageErr → Type 0
+IsUsage words answer = (answer ≡ Err Usage → (line : CommandLine) → Says words line → ⊥) × (((line : CommandLine) → Says words line → ⊥) → answer ≡ Err Usage)
+
+pub usage_without : (words : List Text) → has_form words ≡ false → IsUsage words (Err Usage)
+usage_without words e = (λ same line says. true≢false (sym (says_form words line says) ∙ e), λ none. refl)
+
+pub usage_with : (words : List Text) (answer : Result CommandLine UsageErr) → has_form words ≡ true → (answer ≡ Err Usage → ⊥) → IsUsage words answer
+usage_with words answer e other =
+    let there = line_there words e in
+    (λ same line says. other same, λ none. absurd (none there.0 (found_says words there.0 e there.1)))
+
+is_usage : Result CommandLine UsageErr → Bool
+is_usage (Ok line) = false
+is_usage (Err Usage) = true
+is_usage (Err Memory) = false
+
+no_usage : (answer : Result CommandLine UsageErr) → is_usage answer ≡ false → answer ≡ Err Usage → ⊥
+unfolding is_usage
+no_usage answer is same = true≢false (sym (ap is_usage same) ∙ is)
+
+pub usage_memory : (words : List Text) → has_form words ≡ true → IsUsage words (Err Memory)
+unfolding is_usage
+usage_memory words e = usage_with words (Err Memory) e (no_usage (Err Memory) refl)
+
+-- what was found is answered
+found_is : (words : List Text) (answer : Result CommandLine UsageErr) (o : Option CommandLine) → (e : has_form words ≡ true) → answer ≡ ok_or o Usage → o ≡ line_found (subcommand_of genreq words)
+    → answer ≡ Ok (line_there words e).0
+found_is words answer o e is there = is ∙ ap (λ x. ok_or x Usage) (there ∙ (line_there words e).1)
+
+pub ok_found : (words : List Text) (answer : Result CommandLine UsageErr) (o : Option CommandLine) → has_form words ≡ true → answer ≡ ok_or o Usage → o ≡ line_found (subcommand_of genreq words)
+    → IfOk answer (λ line. Says words line)
+ok_found words answer o e is there =
+    subst (λ r. IfOk r (λ line. Says words line)) (sym (found_is words answer o e is there)) (found_says words (line_there words e).0 e (line_there words e).1)
+
+pub usage_found : (words : List Text) (answer : Result CommandLine UsageErr) (o : Option CommandLine) → has_form words ≡ true → answer ≡ ok_or o Usage → o ≡ line_found (subcommand_of genreq words)
+    → IsUsage words answer
+unfolding is_usage
+usage_found words answer o e is there = usage_with words answer e (no_usage answer (ap is_usage (found_is words answer o e is there)))

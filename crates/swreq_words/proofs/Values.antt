@@ -3,7 +3,7 @@ use Rattle.std.proofs.Common.{ap, ap₂, refl, sym, subst, codes, true, false, B
 use Rattle.std.specs.Str.{bytes_eq}
 use Rattle.std.specs.Option.{option_map_or}
 use Rattle.std.specs.List.{list_any}
-use Rattle.clap.specs.Words.{Row, first_of, one_of}
+use Rattle.clap.specs.Words.{Row, first_of}
 use Rattle.clap.specs.Facts.{explicit_source}
 use Rattle.clap.specs.Walk.{has_row, row_text}
 use Rattle.clap.specs.Takes.{is_given}
@@ -114,7 +114,7 @@ has_row_is : (what : Text) (ps : List Part) → has_row what (map row_of ps) ≡
 has_row_is what [] = refl
 has_row_is what (p ∷ ps) = ap (λ b. bytes_eq (sets p) what || b) (has_row_is what ps)
 
-trace_there : (ps : List Part) (last : List Row) → is_set (codes "trace") ps ≡ true → is_true (one_of (codes "trace") (map row_of ps ++ last)) ≡ true
+trace_there : (ps : List Part) (last : List Row) → is_set (codes "trace") ps ≡ true → is_true (first_of (codes "trace") (map row_of ps ++ last)) ≡ true
 trace_there [] last e = absurd (true≢false (sym e))
 trace_there (trace ∷ ps) last e = refl
 trace_there (apart MaxRules t ∷ ps) last e = trace_there ps last e
@@ -123,7 +123,7 @@ trace_there (joined MaxRules t ∷ ps) last e = trace_there ps last e
 trace_there (joined MaxLength t ∷ ps) last e = trace_there ps last e
 trace_there (number t ∷ ps) last e = trace_there ps last e
 
-trace_away : (ps : List Part) (last : List Row) → is_set (codes "trace") ps ≡ false → is_true (one_of (codes "trace") last) ≡ false → is_true (one_of (codes "trace") (map row_of ps ++ last)) ≡ false
+trace_away : (ps : List Part) (last : List Row) → is_set (codes "trace") ps ≡ false → is_true (first_of (codes "trace") last) ≡ false → is_true (first_of (codes "trace") (map row_of ps ++ last)) ≡ false
 trace_away [] last e none = none
 trace_away (trace ∷ ps) last e none = absurd (true≢false e)
 trace_away (apart MaxRules t ∷ ps) last e none = trace_away ps last e none
@@ -132,18 +132,18 @@ trace_away (joined MaxRules t ∷ ps) last e none = trace_away ps last e none
 trace_away (joined MaxLength t ∷ ps) last e none = trace_away ps last e none
 trace_away (number t ∷ ps) last e none = trace_away ps last e none
 
-last_trace_if : (b : Bool) → is_true (one_of (codes "trace") (if b then [] else no_trace ∷ [])) ≡ false
+last_trace_if : (b : Bool) → is_true (first_of (codes "trace") (if b then [] else no_trace ∷ [])) ≡ false
 last_trace_if true = refl
 last_trace_if false = refl
 
-last_trace : (may : Follows) (rows : List Row) → is_true (one_of (codes "trace") (trace_row may rows)) ≡ false
+last_trace : (may : Follows) (rows : List Row) → is_true (first_of (codes "trace") (trace_row may rows)) ≡ false
 last_trace Nothing rows = refl
 last_trace Options rows = last_trace_if (has_row (codes "trace") rows)
 last_trace OptionsAndNumber rows = last_trace_if (has_row (codes "trace") rows)
 
-trace_by : (may : Follows) (ps : List Part) (b : Bool) → is_set (codes "trace") ps ≡ b → is_true (one_of (codes "trace") (rows_of_parts may ps)) ≡ b
+trace_by : (may : Follows) (ps : List Part) (b : Bool) → is_set (codes "trace") ps ≡ b → is_true (first_of (codes "trace") (rows_of_parts may ps)) ≡ b
 trace_by may ps true e = trace_there ps (trace_row may (map row_of ps)) e
 trace_by may ps false e = trace_away ps (trace_row may (map row_of ps)) e (last_trace may (map row_of ps))
 
-pub trace_found : (may : Follows) (ps : List Part) → is_true (one_of (codes "trace") (rows_of_parts may ps)) ≡ is_set (codes "trace") ps
+pub trace_found : (may : Follows) (ps : List Part) → is_true (first_of (codes "trace") (rows_of_parts may ps)) ≡ is_set (codes "trace") ps
 trace_found may ps = trace_by may ps (is_set (codes "trace") ps) refl

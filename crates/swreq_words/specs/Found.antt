@@ -2,7 +2,7 @@
 use Rattle.std.specs.Prelude.{◌≡◌, ◌==◌, ℕ, Bool, false, List, Option, Some, None, option_and_then, option_map, codes}
 use Rattle.std.specs.Option.{option_map_or}
 use Rattle.std.specs.Str.{bytes_eq}
-use Rattle.clap.specs.Words.{Row, first_of, one_of}
+use Rattle.clap.specs.Words.{Row, first_of}
 use Rattle.swreq_words.specs.declared.command.Command.{Command}
 use Rattle.swreq_words.specs.declared.command.CommandLine.{CommandLine}
 use Rattle.swreq_words.specs.declared.names.Limit.{Limit}
@@ -23,7 +23,7 @@ line_with rows command = record {
   command = command;
   max_rules = limit_found MaxRules rows;
   max_length = limit_found MaxLength rows;
-  trace = is_true (one_of (codes "trace") rows);
+  trace = is_true (first_of (codes "trace") rows);
 }
 
 abbrev pub line_of : CommandName → List Row → Option CommandLine

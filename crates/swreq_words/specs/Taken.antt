@@ -22,11 +22,14 @@ number_rule = record (new_rule (codes "number")) { required = true }
 abbrev pub with_options : App → App
 with_options app = with_rule (with_rule (with_rule app (limit_rule MaxRules)) (limit_rule MaxLength)) trace_rule
 
--- a command of this name, after which this may follow
+-- a command after which this may follow
+abbrev pub with_parts : Follows → App → App
+with_parts Nothing app = app
+with_parts Options app = with_options app
+with_parts OptionsAndNumber app = with_rule (with_options app) number_rule
+
 abbrev pub leaf : Follows → Text → App
-leaf Nothing name = new_app name
-leaf Options name = with_options (new_app name)
-leaf OptionsAndNumber name = with_rule (with_options (new_app name)) number_rule
+leaf may name = with_parts may (new_app name)
 
 abbrev pub leaf_of : CommandName → App
 leaf_of name = leaf (follows name) (word_of name)

@@ -3,13 +3,16 @@
 
 mod command;
 mod form;
+pub mod laws;
 mod meaning;
 mod names;
 mod numbers;
 mod parse;
+mod reading;
 mod seen;
 
 pub use command::{Command, CommandLine};
+pub use reading::{UsageErr, read};
 
 #[cfg(test)]
 mod tests;

@@ -43,7 +43,7 @@ impl CommandName {
     }
 
     /// How it is named.
-    pub(crate) fn word(self) -> &'static str
+    pub(crate) fn word<'a>(self) -> &'a str
         ensures { result.now ≡ word_of self }
     {
         match self {

@@ -1,11 +1,10 @@
 //! The command of `clap`, and the command line in its matches.
 
-ghost use Rattle.std.specs.Prelude.{◌≡◌, List, Option, Some, true, false, IfErr, IfOk, map, string_bytes, option_map, unwrap_or};
-ghost use Rattle.std.specs.Option.{option_map_or};
+ghost use Rattle.std.specs.Prelude.{◌≡◌, List, Option, Some, true, false, IfErr, IfOk, map, string_bytes, option_map, codes};
 ghost use Rattle.clap.specs.Words.{app_of, kind_of, takes, rows_of, found_of, first_of, one_of, subcommand_rows_of, subcommand_of, with_rule};
 ghost use Rattle.clap.specs.declared.builder.command.Command.TheViews.{out-Command};
 ghost use Rattle.swreq_words.specs.Form.{command_of};
-ghost use Rattle.swreq_words.specs.Taken.{genreq, leaf_of, with_options};
+ghost use Rattle.swreq_words.specs.Taken.{genreq, leaf_of, number_rule, with_options, with_parts};
 ghost use Rattle.swreq_words.specs.Found.{is_true, limit_found, line_found, line_of};
 
 use crate::command::{Command, CommandLine};
@@ -31,20 +30,41 @@ fn with_options<'a>(
     command.arg(rules)?.arg(length)?.arg(trace)
 }
 
+// The number of a command that takes one.
+fn with_number<'a>(
+    alloc: Global,
+    command: clap::Command<'a>,
+) -> Result<clap::Command<'a>, AllocError>
+    ensures app { IfOk result (λ c. app_of c ≡ with_rule (app_of command.entry) number_rule) }
+    ensures globals { IfOk result (λ c. (out-Command c).has_globals ≡ (out-Command command.entry).has_globals) }
+{
+    let number = Arg::new(alloc, "number").required(true);
+    command.arg(number)
+}
+
+// What may follow a command.
+fn with_parts<'a>(
+    alloc: Global,
+    command: clap::Command<'a>,
+    follows: Follows,
+) -> Result<clap::Command<'a>, AllocError>
+    ensures app { IfOk result (λ c. app_of c ≡ with_parts follows (app_of command.entry)) }
+    ensures globals { IfOk result (λ c. (out-Command c).has_globals ≡ (out-Command command.entry).has_globals) }
+{
+    match follows {
+        Follows::Nothing => Ok(command),
+        Follows::Options => with_options(alloc, command),
+        Follows::OptionsAndNumber => with_number(alloc, with_options(alloc, command)?),
+    }
+}
+
 // The command of this name.
 fn leaf<'a>(alloc: Global, name: CommandName) -> Result<clap::Command<'a>, AllocError>
     ensures app { IfOk result (λ c. app_of c ≡ leaf_of name) }
     ensures globals { IfOk result (λ c. (out-Command c).has_globals ≡ false) }
 {
     let command = clap::Command::new(alloc, name.word());
-    match name.follows() {
-        Follows::Nothing => Ok(command),
-        Follows::Options => with_options(alloc, command),
-        Follows::OptionsAndNumber => {
-            let number = Arg::new(alloc, "number").required(true);
-            with_options(alloc, command)?.arg(number)
-        }
-    }
+    with_parts(alloc, command, name.follows())
 }
 
 // The whole command.
@@ -76,40 +96,63 @@ pub(crate) fn matches_of<'a>(
     command.try_get_matches_from(words)
 }
 
+// The text that was found for this.
+fn text_found<'a>(matches: &ArgMatches<'a>, what: &str) -> Option<&'a str>
+    ensures { option_map (λ text. text.now) result ≡ first_of what.now (rows_of (found_of matches.now)) }
+{
+    matches.get_str(what)
+}
+
 // The number of the limit.
-fn limit(matches: &ArgMatches<'_>, limit: Limit) -> u32
+fn limit_found(matches: &ArgMatches<'_>, limit: Limit) -> u32
     ensures { result ≡ limit_found limit (rows_of (found_of matches.now)) }
 {
-    match matches.get_str(limit.name()) {
+    match text_found(matches, limit.name()) {
         Some(text) => number_of(text),
         None => limit.preset(),
     }
 }
 
+// Whether the trace is set, or has its default.
+fn trace_found(matches: &ArgMatches<'_>) -> bool
+    ensures { result ≡ is_true (first_of (codes "trace") (rows_of (found_of matches.now))) }
+{
+    match text_found(matches, "trace") {
+        Some(text) => text == "true",
+        None => false,
+    }
+}
+
 fn command_of(name: CommandName, number: Option<&str>) -> Option<Command>
-    ensures { result ≡ command_of name (option_map (λ text. text.now) number) }
+    ensures { result ≡ command_of name (option_map (λ text. text.now) number.entry) }
 {
     match name {
         CommandName::Answer => Some(Command::Answer),
         CommandName::Signatures => Some(Command::Signatures),
         CommandName::Rules => Some(Command::Rules),
-        CommandName::Gen => {
-            let text = number?;
-            Some(Command::Gen { n: number_of(text) })
-        }
+        CommandName::Gen => match number {
+            Some(text) => Some(Command::Gen { n: number_of(text) }),
+            None => None,
+        },
     }
 }
 
 fn line_of(name: CommandName, matches: &ArgMatches<'_>) -> Option<CommandLine>
     ensures { result ≡ line_of name (rows_of (found_of matches.now)) }
 {
-    let command = command_of(name, matches.get_str("number"))?;
-    Some(CommandLine {
-        command,
-        max_rules: limit(matches, Limit::MaxRules),
-        max_length: limit(matches, Limit::MaxLength),
-        trace: matches.get_flag("trace"),
-    })
+    let number = text_found(matches, "number");
+    let max_rules = limit_found(matches, Limit::MaxRules);
+    let max_length = limit_found(matches, Limit::MaxLength);
+    let trace = trace_found(matches);
+    match command_of(name, number) {
+        Some(command) => Some(CommandLine {
+            command,
+            max_rules,
+            max_length,
+            trace,
+        }),
+        None => None,
+    }
 }
 
 /// The command line in what the command found.
