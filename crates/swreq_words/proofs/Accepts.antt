@@ -1,10 +1,9 @@
 -- The words of parts pass the test.
-use Rattle.std.proofs.Common.{ap, ap₂, refl, sym, subst, codes, true, false, Bool, not, ◌==◌, ◌&&◌, ◌||◌, ◌≤◌, if◌then◌else◌, option_and_then, is_some, true≢false, nat_le, length, List, Option, Some, None, [], ◌∷◌, ◌++◌, ◌≡◌, ◌∙◌, ℕ, arith, rules}
+use Rattle.std.proofs.Common.{ap, refl, sym, subst, codes, true, false, Bool, not, ◌==◌, ◌&&◌, ◌||◌, ◌≤◌, if◌then◌else◌, option_and_then, true≢false, nat_le, List, Some, None, [], ◌∷◌, ◌++◌, ◌≡◌, ◌∙◌, ℕ, arith}
 use Rattle.std.specs.Char.{is_ascii_digit}
 use Rattle.std.specs.Str.{bytes_eq}
 use Rattle.std.specs.Str.Parse.{digits_value}
 use Rattle.std.specs.List.{list_all, list_any, flat_map}
-use Rattle.clap.specs.Lexer.{strip_byte}
 use Rattle.swreq_words.specs.declared.names.Follows.{Follows}
 use Rattle.swreq_words.specs.declared.names.Follows.TheVariants.{Nothing, Options, OptionsAndNumber}
 use Rattle.swreq_words.specs.declared.names.Limit.{Limit}
@@ -12,11 +11,11 @@ use Rattle.swreq_words.specs.declared.names.Limit.TheVariants.{MaxRules, MaxLeng
 use Rattle.swreq_words.specs.declared.seen.Seen.{Seen}
 use Rattle.swreq_words.specs.Numbers.{are_few_digits, number_of, is_number}
 use Rattle.swreq_words.specs.Form.{Text, Part, apart, joined, trace, number, limit_name, greatest, greatest_count, option_word, words_of, may_follow, is_in_range, sets, is_each_once, is_set}
-use Rattle.swreq_words.specs.Reading.{after, other, meaning_of, if_new, with_limit, takes_number, with_number, with_meaning, with_word, with_next, read_on}
+use Rattle.swreq_words.specs.Reading.{after, other, meaning_of, if_new, with_limit, with_meaning, with_word, with_next, read_on}
 use Rattle.swreq_words.proofs.Digits.{both, few}
 use Rattle.swreq_words.proofs.Steps.{read_none, read_more}
 use Rattle.swreq_words.proofs.Told.{Holds}
-use Rattle.swreq_words.proofs.Walks.{IsPlainWord, IsPlain, IsOf}
+use Rattle.swreq_words.proofs.Walks.{IsPlainWord, IsPlain}
 use Rattle.swreq_words.proofs.Parts.{AreOf}
 
 -- ---- numbers are no flags

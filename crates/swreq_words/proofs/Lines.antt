@@ -1,32 +1,29 @@
 -- Words of the form, and the command line in what the command finds.
-use Rattle.std.proofs.Common.{ap, ap₂, refl, sym, subst, codes, true, false, Bool, map, not, ◌&&◌, ◌||◌, ◌⊎◌, if◌then◌else◌, option_map, option_and_then, true≢false, is_some, Result, Ok, Err, IfOk, List, Option, Some, None, [], ◌∷◌, ◌++◌, ◌≡◌, ◌∙◌, ℕ}
+use Rattle.std.proofs.Common.{ap, ap₂, refl, sym, subst, codes, true, false, Bool, not, ◌&&◌, ◌||◌, if◌then◌else◌, option_map, option_and_then, true≢false, is_some, Result, Ok, Err, IfOk, List, Option, Some, None, [], ◌∷◌, ◌≡◌, ◌∙◌, ℕ}
 use Rattle.std.specs.Str.{bytes_eq}
 use Rattle.std.specs.Option.{option_map_or, ok_or}
-use Rattle.std.specs.List.{list_all, list_any, flat_map}
+use Rattle.std.specs.List.{list_all, flat_map}
 use Rattle.std.proofs.lemmas.Slice.Eq.{bytes_eq-Decides}
-use Rattle.clap.specs.Words.{takes, subcommand_of, first_of}
-use Rattle.clap.specs.Takes.{is_given}
+use Rattle.clap.specs.Words.{takes, subcommand_of}
 use Rattle.swreq_words.specs.declared.command.Command.{Command}
 use Rattle.swreq_words.specs.declared.command.CommandLine.{CommandLine}
 use Rattle.swreq_words.specs.declared.reading.UsageErr.{UsageErr}
 use Rattle.swreq_words.specs.declared.reading.UsageErr.TheVariants.{Usage, Memory}
 use Rattle.swreq_words.specs.declared.names.CommandName.{CommandName}
 use Rattle.swreq_words.specs.declared.names.CommandName.TheVariants.{Answer, Signatures, Rules, Gen}
-use Rattle.swreq_words.specs.declared.names.Follows.{Follows}
 use Rattle.swreq_words.specs.declared.names.Limit.{Limit}
 use Rattle.swreq_words.specs.declared.names.Limit.TheVariants.{MaxRules, MaxLength}
-use Rattle.swreq_words.specs.declared.names.Follows.TheVariants.{Nothing, Options, OptionsAndNumber}
 use Rattle.swreq_words.specs.declared.seen.Seen.{Seen}
 use Rattle.swreq_words.specs.Numbers.{number_of}
 use Rattle.swreq_words.specs.Form.{Text, Part, Says, words_of, word_of, follows, may_follow, is_in_range, is_each_once, is_set, text_set, limit_in, limit_name, preset, command_of}
 use Rattle.swreq_words.specs.Reading.{name_of, takes_number, read_on, nothing_seen, is_done, are_parts, has_form}
-use Rattle.swreq_words.specs.Found.{limit_found, is_true, line_with, line_of, line_found}
+use Rattle.swreq_words.specs.Found.{limit_found, line_with, line_of, line_found}
 use Rattle.swreq_words.specs.Taken.{genreq}
 use Rattle.swreq_words.proofs.Digits.{both}
 use Rattle.swreq_words.proofs.Fronts.{none_some, some_same}
 use Rattle.swreq_words.proofs.Told.{told}
 use Rattle.swreq_words.proofs.Accepts.{accepted, are_of}
-use Rattle.swreq_words.proofs.TopCommand.{Taken, taken, HasNumber, rows_of_parts}
+use Rattle.swreq_words.proofs.TopCommand.{Taken, taken, rows_of_parts}
 use Rattle.swreq_words.proofs.Values.{are_new, given, text_is_set, set_text, found, trace_found}
 
 -- the words have the form

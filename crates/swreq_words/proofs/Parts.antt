@@ -1,24 +1,20 @@
 -- How the command walks over the words of all parts.
-use Rattle.std.proofs.Common.{ap, ap₂, refl, sym, codes, true, false, Bool, map, not, fold, ◌&&◌, ◌||◌, if◌then◌else◌, true≢false, subst, find, slice_get, unwrap_or, List, Option, Some, None, [], ◌∷◌, ◌++◌, ◌≡◌, ◌∙◌, ℕ, arith}
+use Rattle.std.proofs.Common.{ap, refl, sym, codes, true, false, Bool, map, fold, ◌&&◌, ◌||◌, if◌then◌else◌, true≢false, subst, slice_get, unwrap_or, List, Some, None, [], ◌∷◌, ◌++◌, ◌≡◌, ◌∙◌, ℕ}
 use Rattle.std.specs.Str.{bytes_eq}
-use Rattle.std.specs.Option.{option_map_or}
-use Rattle.std.specs.List.{list_all, list_any, flat_map}
+use Rattle.std.specs.List.{flat_map}
 use Rattle.std.proofs.lemmas.List.{append_assoc, append-nil}
 use Rattle.clap.specs.Words.{Row, Rule}
 use Rattle.clap.specs.Simple.{Shape}
 use Rattle.clap.specs.Values.{reading_of}
-use Rattle.clap.specs.Facts.{explicit_source}
-use Rattle.clap.specs.Walk.{Held, Walk, walked, settled, has_row, nothing_held, with_values, without, at_row, more_values, with_default, default_rows, finished, reading_by, walk}
-use Rattle.clap.specs.Takes.{walk_passes, turn_passes, settle_passes, level_passes, default_passes, is_valid, is_given}
+use Rattle.clap.specs.Walk.{Held, Walk, walked, has_row, with_values, without, at_row, more_values, with_default, default_rows, finished, reading_by}
+use Rattle.clap.specs.Takes.{walk_passes, turn_passes}
 use Rattle.clap.specs.declared.parser.matches.ValueSource.TheVariants.{CommandLine, DefaultValue}
 use Rattle.clap.specs.declared.builder.value_parser.ValueParser.TheVariants as vp
-use Rattle.clap.proofs.OnLiterals.{clap_on_literals}
 use Rattle.swreq_words.specs.declared.names.Follows.{Follows}
 use Rattle.swreq_words.specs.declared.names.Follows.TheVariants.{Nothing, Options, OptionsAndNumber}
-use Rattle.swreq_words.specs.declared.names.Limit.{Limit}
-use Rattle.swreq_words.specs.Form.{Text, Part, apart, joined, trace, number, limit_name, option_word, words_of, sets, may_follow}
+use Rattle.swreq_words.specs.Form.{Text, Part, apart, joined, trace, number, limit_name, option_word, words_of, sets}
 use Rattle.swreq_words.specs.Taken.{number_rule}
-use Rattle.swreq_words.proofs.Walks.{shape, value_of, reading, row_of, between, IsPlainWord, IsOf, built_rules, same_rules, rows_in, set_row, within, with_value, Settles, IsNew, walked_joined, walked_trace, walked_first, walked_second, walked_number, turn_joined, turn_trace, turn_first, turn_second, turn_number, rows_of_value, settles_value, settles_number, on_shape}
+use Rattle.swreq_words.proofs.Walks.{shape, value_of, reading, row_of, between, IsOf, built_rules, rows_in, set_row, within, with_value, Settles, IsNew, walked_joined, walked_trace, walked_first, walked_second, walked_number, turn_joined, turn_trace, turn_first, turn_second, turn_number, rows_of_value, settles_value, settles_number, on_shape}
 
 -- ---- rows
 

@@ -1,5 +1,5 @@
 -- Words that pass the test are the words of parts.
-use Rattle.std.proofs.Common.{ap, ap₂, refl, sym, subst, codes, true, false, Bool, not, ◌&&◌, ◌||◌, if◌then◌else◌, option_and_then, is_some, true≢false, List, Option, Some, None, [], ◌∷◌, ◌++◌, ◌≡◌, ◌∙◌, ℕ}
+use Rattle.std.proofs.Common.{ap, refl, sym, subst, codes, true, false, Bool, not, ◌&&◌, ◌||◌, if◌then◌else◌, option_and_then, true≢false, List, Option, Some, None, [], ◌∷◌, ◌++◌, ◌≡◌, ◌∙◌}
 use Rattle.std.specs.Str.{bytes_eq}
 use Rattle.std.specs.List.{list_all, list_any, flat_map}
 use Rattle.std.proofs.lemmas.List.{append_assoc}
@@ -11,7 +11,7 @@ use Rattle.swreq_words.specs.declared.names.Limit.TheVariants.{MaxRules, MaxLeng
 use Rattle.swreq_words.specs.declared.seen.Seen.{Seen}
 use Rattle.swreq_words.specs.Numbers.{is_number}
 use Rattle.swreq_words.specs.Form.{Text, Part, apart, joined, trace, number, limit_name, greatest, greatest_count, option_word, words_of, may_follow, is_in_range, sets, is_each_once, is_set}
-use Rattle.swreq_words.specs.Reading.{after, front_of, Meaning, opens, sets_limit, traces, other, set_or, set_by, meaning_of_one, meaning_of, if_new, with_limit, takes_number, with_number, with_meaning, with_word, with_next, read_on}
+use Rattle.swreq_words.specs.Reading.{after, front_of, Meaning, opens, sets_limit, traces, other, set_or, meaning_of_one, meaning_of, if_new, with_limit, takes_number, with_number, with_meaning, with_word, with_next, read_on}
 use Rattle.swreq_words.proofs.Digits.{both}
 use Rattle.swreq_words.proofs.Fronts.{none_some, some_same, after_is}
 use Rattle.swreq_words.proofs.Parts.{both_are}

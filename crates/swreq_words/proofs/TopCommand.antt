@@ -1,13 +1,13 @@
 -- The command takes the words of a command and its parts, and what it finds in them.
-use Rattle.std.proofs.Common.{ap, ap₂, refl, sym, codes, true, false, Bool, map, not, fold, ◌&&◌, ◌||◌, if◌then◌else◌, option_map, option_and_then, true≢false, subst, find, is_some, List, Option, Some, None, [], ◌∷◌, ◌++◌, ◌≡◌, ◌∙◌, ℕ, arith}
+use Rattle.std.proofs.Common.{ap, ap₂, refl, sym, codes, true, false, Bool, map, fold, ◌&&◌, if◌then◌else◌, option_map, true≢false, subst, find, is_some, List, Some, [], ◌∷◌, ◌++◌, ◌≡◌, ◌∙◌}
 use Rattle.std.specs.Str.{bytes_eq}
 use Rattle.std.specs.Option.{option_map_or}
-use Rattle.std.specs.List.{list_all, list_any, flat_map}
+use Rattle.std.specs.List.{list_all, flat_map}
 use Rattle.std.proofs.lemmas.List.{append_assoc, append-nil}
-use Rattle.clap.specs.Words.{App, Row, Rule, is_simple, takes, built, subcommand_of}
+use Rattle.clap.specs.Words.{Row, Rule, is_simple, takes, built, subcommand_of}
 use Rattle.clap.specs.Simple.{Shape, names_of, label_of, entered, rows_at}
 use Rattle.clap.specs.Facts.{explicit_source}
-use Rattle.clap.specs.Walk.{Held, Walk, walk, walked, walk_from, answers_to, has_row, nothing_held, finished, rows_after, with_values, more_values}
+use Rattle.clap.specs.Walk.{Walk, walk, walked, walk_from, answers_to, has_row, nothing_held, finished, rows_after, with_values, more_values}
 use Rattle.clap.specs.Values.{reading_of}
 use Rattle.clap.specs.declared.builder.value_parser.ValueParser.TheVariants as vp
 use Rattle.clap.specs.declared.parser.matches.ValueSource.TheVariants.{DefaultValue}
@@ -20,7 +20,7 @@ use Rattle.swreq_words.specs.declared.names.Follows.TheVariants.{Nothing, Option
 use Rattle.swreq_words.specs.Form.{Text, Part, words_of, word_of, follows}
 use Rattle.swreq_words.specs.Taken.{genreq}
 use Rattle.swreq_words.proofs.Walks.{shape, row_of, between, built_rules, same_rules, rows_in, Settles}
-use Rattle.swreq_words.proofs.Parts.{both_are, neither, added, AreOf, AreNew, gone, with_trace, no_trace, finished_as}
+use Rattle.swreq_words.proofs.Parts.{both_are, added, AreOf, AreNew, gone, with_trace, no_trace, finished_as}
 
 -- ---- the row of the trace
 

@@ -1,21 +1,20 @@
 -- What the rows of parts say.
-use Rattle.std.proofs.Common.{ap, ap₂, refl, sym, subst, codes, true, false, Bool, map, not, ◌&&◌, ◌||◌, if◌then◌else◌, option_and_then, true≢false, find, slice_get, List, Option, Some, None, [], ◌∷◌, ◌++◌, ◌≡◌, ◌∙◌, ℕ}
+use Rattle.std.proofs.Common.{ap, refl, sym, codes, true, false, Bool, map, not, ◌||◌, if◌then◌else◌, option_and_then, true≢false, find, slice_get, List, Option, Some, None, [], ◌∷◌, ◌++◌, ◌≡◌, ◌∙◌}
 use Rattle.std.specs.Str.{bytes_eq}
 use Rattle.std.specs.Option.{option_map_or}
 use Rattle.std.specs.List.{list_any}
 use Rattle.clap.specs.Words.{Row, first_of}
 use Rattle.clap.specs.Facts.{explicit_source}
-use Rattle.clap.specs.Walk.{has_row, row_text}
+use Rattle.clap.specs.Walk.{has_row}
 use Rattle.clap.specs.Takes.{is_given}
 use Rattle.swreq_words.specs.declared.names.Follows.{Follows}
 use Rattle.swreq_words.specs.declared.names.Follows.TheVariants.{Nothing, Options, OptionsAndNumber}
-use Rattle.swreq_words.specs.declared.names.Limit.{Limit}
 use Rattle.swreq_words.specs.declared.names.Limit.TheVariants.{MaxRules, MaxLength}
-use Rattle.swreq_words.specs.Form.{Text, Part, apart, joined, trace, number, sets, is_each_once, is_set, text_set, text_of, limit_name}
+use Rattle.swreq_words.specs.Form.{Text, Part, apart, joined, trace, number, sets, is_each_once, is_set, text_set, text_of}
 use Rattle.swreq_words.specs.Found.{is_true}
 use Rattle.swreq_words.proofs.Digits.{both}
 use Rattle.swreq_words.proofs.Fronts.{none_some}
-use Rattle.swreq_words.proofs.Walks.{row_of, value_of}
+use Rattle.swreq_words.proofs.Walks.{row_of}
 use Rattle.swreq_words.proofs.Parts.{AreNew, no_trace}
 use Rattle.swreq_words.proofs.TopCommand.{trace_row, rows_of_parts}
 

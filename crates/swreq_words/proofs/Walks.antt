@@ -1,16 +1,14 @@
 -- How the command walks over the words of one part.
-use Rattle.std.proofs.Common.{ap, ap₂, refl, sym, codes, true, false, Bool, map, fold, length, ◌&&◌, ◌||◌, if◌then◌else◌, option_and_then, unwrap_or, true≢false, subst, List, Option, Some, None, [], ◌∷◌, ◌++◌, ◌≡◌, ◌∙◌, ℕ, arith}
+use Rattle.std.proofs.Common.{ap, ap₂, refl, sym, codes, true, false, Bool, ◌&&◌, ◌||◌, if◌then◌else◌, option_and_then, unwrap_or, true≢false, List, Some, None, [], ◌∷◌, ◌++◌, ◌≡◌, ◌∙◌, ℕ}
 use Rattle.std.specs.Str.{bytes_eq}
 use Rattle.std.specs.Option.{option_map_or}
-use Rattle.std.specs.List.{list_all, list_any}
-use Rattle.clap.specs.Words.{App, Row, Rule}
+use Rattle.clap.specs.Words.{Row, Rule}
 use Rattle.clap.specs.Simple.{Shape, built_leaf}
 use Rattle.clap.specs.Lexer.{strip_byte, long_of_rest, short_of_rest}
 use Rattle.clap.specs.Values.{reading_of}
 use Rattle.clap.specs.declared.builder.value_parser.Reading.{Reading}
-use Rattle.clap.specs.Walk.{Held, Walk, Waiting, Step, idle, positional, option, trailing, walked, after_step, arg_by_index, is_pending, plain_word, long_or_other, short_or_plain, subcommand_or_other, settled, pushed, has_row, nothing_held, with_values, without, at_row, more_values}
-use Rattle.clap.specs.Takes.{walk_passes, turn_passes, settle_passes, bundle_passes, word_passes, step_passes}
-use Rattle.clap.specs.declared.parser.matches.ValueSource.{ValueSource}
+use Rattle.clap.specs.Walk.{Held, Walk, Waiting, Step, idle, positional, option, trailing, walked, after_step, arg_by_index, is_pending, plain_word, long_or_other, short_or_plain, subcommand_or_other, settled, pushed, has_row, with_values, without}
+use Rattle.clap.specs.Takes.{turn_passes, settle_passes, bundle_passes, word_passes, step_passes}
 use Rattle.clap.specs.declared.parser.matches.ValueSource.TheVariants.{CommandLine}
 use Rattle.clap.specs.declared.builder.value_parser.ValueParser.TheVariants as vp
 use Rattle.clap.proofs.OnLiterals.{clap_on_literals}
@@ -18,8 +16,8 @@ use Rattle.swreq_words.specs.declared.names.Follows.{Follows}
 use Rattle.swreq_words.specs.declared.names.Follows.TheVariants.{Nothing, Options, OptionsAndNumber}
 use Rattle.swreq_words.specs.declared.names.Limit.{Limit}
 use Rattle.swreq_words.specs.declared.names.Limit.TheVariants.{MaxRules, MaxLength}
-use Rattle.swreq_words.specs.Form.{Text, Part, apart, joined, trace, number, limit_name, option_word, words_of, sets, may_follow}
-use Rattle.swreq_words.specs.Taken.{limit_rule, trace_rule, number_rule, leaf}
+use Rattle.swreq_words.specs.Form.{Text, Part, apart, joined, trace, number, limit_name, option_word, sets, may_follow}
+use Rattle.swreq_words.specs.Taken.{number_rule, leaf}
 
 -- the built command
 abbrev pub shape : Follows → Text → Shape

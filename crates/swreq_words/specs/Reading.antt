@@ -1,5 +1,5 @@
 -- How the form is tested, word for word.
-use Rattle.std.specs.Prelude.{◌≡◌, ◌==◌, ℕ, Bool, true, false, not, List, [], ◌∷◌, ◌++◌, ◌&&◌, ◌||◌, Option, Some, None, option_and_then, is_some, if◌then◌else◌, codes}
+use Rattle.std.specs.Prelude.{◌==◌, Bool, true, false, not, List, [], ◌∷◌, ◌++◌, ◌&&◌, ◌||◌, Option, Some, None, option_and_then, is_some, if◌then◌else◌, codes}
 use Rattle.std.specs.Str.{bytes_eq}
 use Rattle.std.specs.Option.{option_map_or}
 use Rattle.swreq_words.specs.declared.names.CommandName.{CommandName}
@@ -10,7 +10,7 @@ use Rattle.swreq_words.specs.declared.names.Limit.{Limit}
 use Rattle.swreq_words.specs.declared.names.Limit.TheVariants.{MaxRules, MaxLength}
 use Rattle.swreq_words.specs.declared.seen.Seen.{Seen}
 use Rattle.swreq_words.specs.Numbers.{is_number}
-use Rattle.swreq_words.specs.Form.{Text, Part, apart, joined, trace, number, word_of, follows, limit_name, greatest, greatest_count, option_word}
+use Rattle.swreq_words.specs.Form.{Text, follows, limit_name, greatest, greatest_count, option_word}
 
 -- the command that a word names
 abbrev pub name_of : Text → Option CommandName

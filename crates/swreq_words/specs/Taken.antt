@@ -1,5 +1,5 @@
 -- The command of `clap`, as what its parse reads of it.
-use Rattle.std.specs.Prelude.{true, List, Some, codes}
+use Rattle.std.specs.Prelude.{true, Some, codes}
 use Rattle.clap.specs.Words.{App, Rule, new_app, new_rule, with_rule, with_subcommand}
 use Rattle.clap.specs.declared.builder.action.ArgAction.TheVariants.{SetTrue}
 use Rattle.swreq_words.specs.declared.names.CommandName.{CommandName}

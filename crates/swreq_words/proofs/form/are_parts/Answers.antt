@@ -1,4 +1,4 @@
-use Rattle.std.proofs.Common.{◌≡◌, ◌∙◌, string_bytes, ap}
+use Rattle.std.proofs.Common.{◌∙◌, string_bytes, ap}
 use Rattle.swreq_words.specs.Reading.{with_next}
 use Rattle.swreq_words.proofs.Steps.{refused, goes_on, ended}
 use Rattle.swreq_words.proofs.form.are_parts.Goals as goal

@@ -1,12 +1,8 @@
-use Rattle.std.proofs.Common.{rules, ◌≡◌, ◌∙◌, ◌||◌, false, true, ap, ap₂, codes}
+use Rattle.std.proofs.Common.{◌≡◌, ◌∙◌, true, ap, ap₂}
 use Rattle.std.proofs.lemmas.Result.{IfOk-weaker}
-use Rattle.clap.specs.Words.{App, app_of, rule_of, with_rule, with_subcommand, new_app}
-use Rattle.clap.specs.declared.builder.arg.Arg.{Arg}
-use Rattle.clap.specs.declared.builder.command.Command.TheViews.{out-Command}
-use Rattle.swreq_words.proofs.Digits.{or_none}
+use Rattle.clap.specs.Words.{App, app_of, with_subcommand}
 use Rattle.clap.specs.Simple.{app_of_fields}
-use Rattle.swreq_words.specs.declared.names.CommandName.TheVariants.{Answer, Signatures, Rules, Gen}
-use Rattle.swreq_words.specs.Taken.{bare, leaf_of}
+use Rattle.swreq_words.specs.Taken.{bare}
 use Rattle.swreq_words.proofs.parse.genreq.Goals as goal
 
 pub returns : goal.returns

@@ -1,4 +1,4 @@
-use Rattle.std.proofs.Common.{◌≡◌, ◌∙◌, map, string_bytes, sym, ap}
+use Rattle.std.proofs.Common.{◌∙◌, map, string_bytes, sym, ap}
 use Rattle.swreq_words.specs.Found.{line_found}
 use Rattle.swreq_words.proofs.Lines.{usage_without, usage_memory, ok_found, usage_found}
 use Rattle.swreq_words.proofs.reading.read.Goals as goal
