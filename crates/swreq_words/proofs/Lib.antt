@@ -1,0 +1,10 @@
+pub mod Digits
+pub mod Fronts
+pub mod Steps
+pub mod Walks
+pub mod Parts
+pub mod TopCommand
+pub mod Told
+pub mod Accepts
+pub mod Values
+pub mod Lines

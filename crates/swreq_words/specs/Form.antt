@@ -1,0 +1,139 @@
+-- The form of the words, and what words of the form say.
+use Rattle.std.specs.Prelude.{◌≡◌, ℕ, Bool, true, false, not, List, [], ◌∷◌, ◌++◌, ◌&&◌, Option, Some, None, if◌then◌else◌, codes}
+use Rattle.std.specs.List.{list_all, list_any, flat_map}
+use Rattle.std.specs.Option.{option_map_or}
+use Rattle.std.specs.Str.{bytes_eq}
+use Rattle.swreq_words.specs.declared.command.Command.{Command}
+use Rattle.swreq_words.specs.declared.command.Command.TheVariants as command
+use Rattle.swreq_words.specs.declared.command.CommandLine.{CommandLine}
+use Rattle.swreq_words.specs.declared.names.CommandName.{CommandName}
+use Rattle.swreq_words.specs.declared.names.CommandName.TheVariants.{Answer, Signatures, Rules, Gen}
+use Rattle.swreq_words.specs.declared.names.Follows.{Follows}
+use Rattle.swreq_words.specs.declared.names.Follows.TheVariants.{Nothing, Options, OptionsAndNumber}
+use Rattle.swreq_words.specs.declared.names.Limit.{Limit}
+use Rattle.swreq_words.specs.declared.names.Limit.TheVariants.{MaxRules, MaxLength}
+use Rattle.swreq_words.specs.Numbers.{is_number, number_of}
+
+abbrev pub Text : Type 0
+Text = List ℕ
+
+-- ---- the tables
+
+-- how a command is named
+abbrev pub word_of : CommandName → Text
+word_of Answer = codes "answer"
+word_of Signatures = codes "signatures"
+word_of Rules = codes "rules"
+word_of Gen = codes "gen"
+
+-- what may follow it
+abbrev pub follows : CommandName → Follows
+follows Answer = Options
+follows Signatures = Options
+follows Rules = Options
+follows Gen = OptionsAndNumber
+
+-- how a limit is named
+abbrev pub limit_name : Limit → Text
+limit_name MaxRules = codes "max-rules"
+limit_name MaxLength = codes "max-length"
+
+-- its greatest number
+abbrev pub greatest : Limit → ℕ
+greatest MaxRules = 100000
+greatest MaxLength = 255
+
+-- its number where no word sets it
+abbrev pub preset : Limit → ℕ
+preset MaxRules = 4000
+preset MaxLength = 64
+
+-- the greatest number of `gen`
+abbrev pub greatest_count : ℕ
+greatest_count = 100
+
+-- ---- the form
+
+-- what stands among the words after the first: an option of two words, an option of one word, the option `--trace`, or the number
+pub data Part : Type 0 where
+  apart : Limit → Text → Part
+  joined : Limit → Text → Part
+  trace : Part
+  number : Text → Part
+
+-- the word that names an option
+abbrev pub option_word : Text → Text
+option_word name = codes "--" ++ name
+
+abbrev pub words_of : Part → List Text
+words_of (apart limit text) = option_word (limit_name limit) ∷ text ∷ []
+words_of (joined limit text) = (option_word (limit_name limit) ++ (codes "=" ++ text)) ∷ []
+words_of trace = option_word (codes "trace") ∷ []
+words_of (number text) = text ∷ []
+
+-- the part may stand where this may follow
+abbrev pub may_follow : Follows → Part → Bool
+may_follow Nothing part = false
+may_follow Options (number text) = false
+may_follow Options part = true
+may_follow OptionsAndNumber part = true
+
+-- its number lies in its range
+abbrev pub is_in_range : Part → Bool
+is_in_range (apart limit text) = is_number (greatest limit) text
+is_in_range (joined limit text) = is_number (greatest limit) text
+is_in_range trace = true
+is_in_range (number text) = is_number greatest_count text
+
+-- what it sets
+abbrev pub sets : Part → Text
+sets (apart limit text) = limit_name limit
+sets (joined limit text) = limit_name limit
+sets trace = codes "trace"
+sets (number text) = codes "number"
+
+-- each part sets what none before it has set
+abbrev pub is_each_once : List Text → List Part → Bool
+is_each_once before [] = true
+is_each_once before (part ∷ parts) = not (list_any (λ other. bytes_eq other (sets part)) before) && is_each_once (sets part ∷ before) parts
+
+-- ---- what the words say
+
+-- the text of the part's number
+abbrev pub text_of : Part → Text
+text_of (apart limit text) = text
+text_of (joined limit text) = text
+text_of trace = []
+text_of (number text) = text
+
+-- the first of these parts that sets this
+abbrev pub text_set : Text → List Part → Option Text
+text_set what [] = None
+text_set what (part ∷ parts) = if bytes_eq (sets part) what then Some (text_of part) else text_set what parts
+
+abbrev pub is_set : Text → List Part → Bool
+is_set what = list_any (λ part. bytes_eq (sets part) what)
+
+abbrev pub limit_in : Limit → List Part → ℕ
+limit_in limit parts = option_map_or number_of (text_set (limit_name limit) parts) (preset limit)
+
+-- the command, which for `gen` wants the number
+abbrev pub command_of : CommandName → Option Text → Option Command
+command_of Answer text = Some command.Answer
+command_of Signatures text = Some command.Signatures
+command_of Rules text = Some command.Rules
+command_of Gen None = None
+command_of Gen (Some text) = Some (command.Gen (number_of text))
+
+-- the words have the form, and say this command line
+pub record Says (words : List Text) (line : CommandLine) : Type 0 where
+  pub name : CommandName
+  pub parts : List Part
+  pub spelled : words ≡ word_of name ∷ flat_map words_of parts
+  pub follow : list_all (may_follow (follows name)) parts ≡ true
+  pub in_range : list_all is_in_range parts ≡ true
+  pub once : is_each_once [] parts ≡ true
+  pub command : command_of name (text_set (codes "number") parts) ≡ Some line.command
+  pub max_rules : line.max_rules ≡ limit_in MaxRules parts
+  pub max_length : line.max_length ≡ limit_in MaxLength parts
+  pub traces : line.trace ≡ is_set (codes "trace") parts

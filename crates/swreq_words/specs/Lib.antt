@@ -1,0 +1,6 @@
+pub mod Numbers
+pub mod Form
+pub mod Reading
+pub mod Meant
+pub mod Taken
+pub mod Found

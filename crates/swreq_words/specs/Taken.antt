@@ -1,0 +1,44 @@
+-- The command of `clap`, as what its parse reads of it.
+use Rattle.std.specs.Prelude.{true, Some, codes}
+use Rattle.clap.specs.Words.{App, Rule, new_app, new_rule, with_rule, with_subcommand}
+use Rattle.clap.specs.declared.builder.action.ArgAction.TheVariants.{SetTrue}
+use Rattle.swreq_words.specs.declared.names.CommandName.{CommandName}
+use Rattle.swreq_words.specs.declared.names.CommandName.TheVariants.{Answer, Signatures, Rules, Gen}
+use Rattle.swreq_words.specs.declared.names.Follows.{Follows}
+use Rattle.swreq_words.specs.declared.names.Follows.TheVariants.{Nothing, Options, OptionsAndNumber}
+use Rattle.swreq_words.specs.declared.names.Limit.{Limit}
+use Rattle.swreq_words.specs.declared.names.Limit.TheVariants.{MaxRules, MaxLength}
+use Rattle.swreq_words.specs.Form.{Text, follows, limit_name, word_of}
+
+abbrev pub limit_rule : Limit → Rule
+limit_rule limit = record (new_rule (limit_name limit)) { long = Some (limit_name limit) }
+
+abbrev pub trace_rule : Rule
+trace_rule = record (new_rule (codes "trace")) { long = Some (codes "trace"); action = Some SetTrue }
+
+abbrev pub number_rule : Rule
+number_rule = record (new_rule (codes "number")) { required = true }
+
+abbrev pub with_options : App → App
+with_options app = with_rule (with_rule (with_rule app (limit_rule MaxRules)) (limit_rule MaxLength)) trace_rule
+
+-- a command after which this may follow
+abbrev pub with_parts : Follows → App → App
+with_parts Nothing app = app
+with_parts Options app = with_options app
+with_parts OptionsAndNumber app = with_rule (with_options app) number_rule
+
+abbrev pub leaf : Follows → Text → App
+leaf may name = with_parts may (new_app name)
+
+abbrev pub leaf_of : CommandName → App
+leaf_of name = leaf (follows name) (word_of name)
+
+abbrev pub bare : App
+bare = record (new_app (codes "genreq")) { top = record (new_app (codes "genreq")).top { subcommand_required = true; no_binary_name = true } }
+
+abbrev pub with_leaf : App → CommandName → App
+with_leaf app name = with_subcommand app (leaf_of name).top
+
+abbrev pub genreq : App
+genreq = with_leaf (with_leaf (with_leaf (with_leaf bare Answer) Signatures) Rules) Gen

@@ -1,0 +1,18 @@
+//! The words of the command line, read by `clap`.
+#![tactic(auto)]
+
+mod command;
+mod form;
+pub mod laws;
+mod meaning;
+mod names;
+mod numbers;
+mod parse;
+mod reading;
+mod seen;
+
+pub use command::{Command, CommandLine};
+pub use reading::{UsageErr, read};
+
+#[cfg(test)]
+mod tests;

@@ -1,0 +1,169 @@
+//! The command of `clap`, and the command line in its matches.
+
+ghost use Rattle.std.specs.Prelude.{◌≡◌, List, Option, Some, true, false, IfErr, IfOk, map, string_bytes, option_map, codes};
+ghost use Rattle.clap.specs.Words.{app_of, kind_of, takes, rows_of, found_of, first_of, one_of, subcommand_rows_of, subcommand_of, with_rule};
+ghost use Rattle.clap.specs.declared.builder.command.Command.TheViews.{out-Command};
+ghost use Rattle.swreq_words.specs.Form.{command_of};
+ghost use Rattle.swreq_words.specs.Taken.{genreq, leaf_of, number_rule, with_options, with_parts};
+ghost use Rattle.swreq_words.specs.Found.{is_true, limit_found, line_found, line_of};
+
+use crate::command::{Command, CommandLine};
+use crate::names::{CommandName, Follows, Limit};
+use crate::numbers::number_of;
+use clap::error::ErrorKind;
+use clap::{Arg, ArgAction, ArgMatches};
+use std::alloc::{AllocError, Global};
+
+// The options that any command takes.
+fn with_options<'a>(
+    alloc: Global,
+    command: clap::Command<'a>,
+) -> Result<clap::Command<'a>, AllocError>
+    ensures app { IfOk result (λ c. app_of c ≡ with_options (app_of command.entry)) }
+    ensures globals { IfOk result (λ c. (out-Command c).has_globals ≡ (out-Command command.entry).has_globals) }
+{
+    let rules = Arg::new(alloc, "max-rules").long("max-rules");
+    let length = Arg::new(alloc, "max-length").long("max-length");
+    let trace = Arg::new(alloc, "trace")
+        .long("trace")
+        .action(ArgAction::SetTrue);
+    command.arg(rules)?.arg(length)?.arg(trace)
+}
+
+// The number of a command that takes one.
+fn with_number<'a>(
+    alloc: Global,
+    command: clap::Command<'a>,
+) -> Result<clap::Command<'a>, AllocError>
+    ensures app { IfOk result (λ c. app_of c ≡ with_rule (app_of command.entry) number_rule) }
+    ensures globals { IfOk result (λ c. (out-Command c).has_globals ≡ (out-Command command.entry).has_globals) }
+{
+    let number = Arg::new(alloc, "number").required(true);
+    command.arg(number)
+}
+
+// What may follow a command.
+fn with_parts<'a>(
+    alloc: Global,
+    command: clap::Command<'a>,
+    follows: Follows,
+) -> Result<clap::Command<'a>, AllocError>
+    ensures app { IfOk result (λ c. app_of c ≡ with_parts follows (app_of command.entry)) }
+    ensures globals { IfOk result (λ c. (out-Command c).has_globals ≡ (out-Command command.entry).has_globals) }
+{
+    match follows {
+        Follows::Nothing => Ok(command),
+        Follows::Options => with_options(alloc, command),
+        Follows::OptionsAndNumber => with_number(alloc, with_options(alloc, command)?),
+    }
+}
+
+// The command of this name.
+fn leaf<'a>(alloc: Global, name: CommandName) -> Result<clap::Command<'a>, AllocError>
+    ensures app { IfOk result (λ c. app_of c ≡ leaf_of name) }
+    ensures globals { IfOk result (λ c. (out-Command c).has_globals ≡ false) }
+{
+    let command = clap::Command::new(alloc, name.word());
+    with_parts(alloc, command, name.follows())
+}
+
+// The whole command.
+fn genreq<'a>(alloc: Global) -> Result<clap::Command<'a>, AllocError>
+    ensures { IfOk result (λ c. app_of c ≡ genreq) }
+{
+    let top = clap::Command::new(alloc, "genreq")
+        .subcommand_required(true)
+        .no_binary_name(true);
+    let answer = leaf(alloc, CommandName::Answer)?;
+    let signatures = leaf(alloc, CommandName::Signatures)?;
+    let rules = leaf(alloc, CommandName::Rules)?;
+    let generate = leaf(alloc, CommandName::Gen)?;
+    top.subcommand(answer)?
+        .subcommand(signatures)?
+        .subcommand(rules)?
+        .subcommand(generate)
+}
+
+/// What the command finds in the words. Where it takes them, it fails for want of memory alone.
+pub(crate) fn matches_of<'a>(
+    alloc: Global,
+    words: &'a [String],
+) -> Result<ArgMatches<'a>, clap::Error>
+    ensures found { IfOk result (λ m. subcommand_rows_of m ≡ subcommand_of genreq (map string_bytes words.now)) }
+    ensures memory { IfErr result (λ e. takes genreq (map string_bytes words.now) ≡ true → kind_of e ≡ ErrorKind.OutOfMemory) }
+{
+    let command = genreq(alloc)?;
+    command.try_get_matches_from(words)
+}
+
+// The text that was found for this.
+fn text_found<'a>(matches: &ArgMatches<'a>, what: &str) -> Option<&'a str>
+    ensures { option_map (λ text. text.now) result ≡ first_of what.now (rows_of (found_of matches.now)) }
+{
+    matches.get_str(what)
+}
+
+// The number of the limit.
+fn limit_found(matches: &ArgMatches<'_>, limit: Limit) -> u32
+    ensures { result ≡ limit_found limit (rows_of (found_of matches.now)) }
+{
+    match text_found(matches, limit.name()) {
+        Some(text) => number_of(text),
+        None => limit.preset(),
+    }
+}
+
+// Whether the trace is set, or has its default.
+fn trace_found(matches: &ArgMatches<'_>) -> bool
+    ensures { result ≡ is_true (first_of (codes "trace") (rows_of (found_of matches.now))) }
+{
+    match text_found(matches, "trace") {
+        Some(text) => text == "true",
+        None => false,
+    }
+}
+
+fn command_of(name: CommandName, number: Option<&str>) -> Option<Command>
+    ensures { result ≡ command_of name (option_map (λ text. text.now) number.entry) }
+{
+    match name {
+        CommandName::Answer => Some(Command::Answer),
+        CommandName::Signatures => Some(Command::Signatures),
+        CommandName::Rules => Some(Command::Rules),
+        CommandName::Gen => match number {
+            Some(text) => Some(Command::Gen { n: number_of(text) }),
+            None => None,
+        },
+    }
+}
+
+fn line_of(name: CommandName, matches: &ArgMatches<'_>) -> Option<CommandLine>
+    ensures { result ≡ line_of name (rows_of (found_of matches.now)) }
+{
+    let number = text_found(matches, "number");
+    let max_rules = limit_found(matches, Limit::MaxRules);
+    let max_length = limit_found(matches, Limit::MaxLength);
+    let trace = trace_found(matches);
+    match command_of(name, number) {
+        Some(command) => Some(CommandLine {
+            command,
+            max_rules,
+            max_length,
+            trace,
+        }),
+        None => None,
+    }
+}
+
+/// The command line in what the command found.
+pub(crate) fn line_found(matches: &ArgMatches<'_>) -> Option<CommandLine>
+    ensures { result ≡ line_found (subcommand_rows_of matches.now) }
+{
+    match matches.subcommand() {
+        Some((word, inner)) => match CommandName::of(word) {
+            Some(name) => line_of(name, inner),
+            None => None,
+        },
+        None => None,
+    }
+}

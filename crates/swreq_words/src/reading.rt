@@ -1,0 +1,37 @@
+//! The words as a command line.
+
+ghost use Rattle.std.specs.Prelude.{◌≡◌, ◌↔◌, Err, IfOk, map, string_bytes};
+ghost use Rattle.swreq_words.specs.declared.command.CommandLine.{CommandLine};
+ghost use Rattle.swreq_words.specs.Form.{Says};
+
+use crate::command::CommandLine;
+use crate::form::has_form;
+use crate::parse::{line_found, matches_of};
+use std::alloc::Global;
+use thiserror::Error;
+
+/// Why words are no command line.
+#[derive(Clone, Copy, Debug, PartialEq, Eq, Error)]
+pub enum UsageErr {
+    /// The words have not the form.
+    #[error("wrong words")]
+    Usage,
+    /// There was no memory.
+    #[error("out of memory")]
+    Memory,
+}
+
+/// The command line of the words, without the program's name. `Usage` comes exactly where they have not the form: a command's name, and
+/// then its options in any order, each at most once, and the one number of `gen`.
+pub fn read(alloc: Global, words: &[String]) -> Result<CommandLine, UsageErr>
+    ensures ok { IfOk result (λ line. Says (map string_bytes words.now) line) }
+    ensures usage { (result ≡ Err UsageErr.Usage) ↔ ((line : CommandLine) → ¬ Says (map string_bytes words.now) line) }
+{
+    if !has_form(words) {
+        return Err(UsageErr::Usage);
+    }
+    match matches_of(alloc, words) {
+        Ok(matches) => line_found(&matches).ok_or(UsageErr::Usage),
+        Err(_) => Err(UsageErr::Memory),
+    }
+}
