@@ -11,6 +11,8 @@ pub mod OrderKeys
 pub mod SymbolRanks
 pub mod Declared
 pub mod Whole
+pub mod Few
+pub mod RankLaws
 pub mod Made
 pub mod Search
 pub mod Positions

@@ -1,0 +1,130 @@
+//! Texts, and the ranks of what they have.
+
+use crate::{Lexicon, is_small};
+use std::alloc::Global;
+use std::process::Abort;
+use std::test::Fail;
+use swreq_decl::parse;
+use swreq_names::resolve_names;
+use swreq_param::{AssocId, NameId, ProtoId};
+
+/// The lexicon of a text.
+fn lexicon_of(rt: &impl Abort, alloc: Global, text: &[u8]) -> Result<Lexicon, Fail> {
+    assert!(rt; text.len() <= 1_048_576);
+    match parse(alloc, text) {
+        Ok(skeleton) => match resolve_names(alloc, text, &skeleton) {
+            Ok(names) => {
+                let small = is_small(alloc, text, &skeleton)?;
+                assert!(rt; small);
+                Ok(Lexicon::of(alloc, text, &skeleton, names)?)
+            }
+            Err(_) => Err("a refusal of names".into()),
+        },
+        Err(_) => Err("no skeleton".into()),
+    }
+}
+
+const COLLECTIONS: &[u8] = b"protocol IteratorProtocol { associatedtype Element }
+protocol Sequence {
+  associatedtype Iterator: IteratorProtocol
+  associatedtype Element where Iterator.Element == Element
+}
+protocol Equatable { }
+protocol Collection: Sequence {
+  associatedtype Index
+  associatedtype SubSequence: Collection where SubSequence.Element == Element, SubSequence.Index == Index, SubSequence.SubSequence == SubSequence
+  associatedtype Indices: Collection where Indices.Element == Index, Indices.Index == Index, Indices.SubSequence == Indices
+}
+protocol BidirectionalCollection: Collection {
+  associatedtype SubSequence: BidirectionalCollection
+  associatedtype Indices: BidirectionalCollection
+}
+func f<C: BidirectionalCollection & Sequence>() where C.Element: Equatable { }
+query f(C.SubSequence.Element : Equatable)
+query f(C.SubSequence.SubSequence.Iterator.Element)
+";
+
+/// The member symbols in their order, found by hand. By their bytes the names are Element, Index, Indices, Iterator and
+/// SubSequence. BidirectionalCollection inherits two protocols, Collection one, and the others none, so within a name they
+/// come in that order; of IteratorProtocol and Sequence, which both declare Element, the former has the lesser name.
+const SYMBOLS: &[(&str, &str)] = &[
+    ("BidirectionalCollection", "Element"),
+    ("Collection", "Element"),
+    ("IteratorProtocol", "Element"),
+    ("Sequence", "Element"),
+    ("BidirectionalCollection", "Index"),
+    ("Collection", "Index"),
+    ("BidirectionalCollection", "Indices"),
+    ("Collection", "Indices"),
+    ("BidirectionalCollection", "Iterator"),
+    ("Collection", "Iterator"),
+    ("Sequence", "Iterator"),
+    ("BidirectionalCollection", "SubSequence"),
+    ("Collection", "SubSequence"),
+];
+
+#[test]
+fn member_symbols_go_by_name_and_then_by_inheritance(rt: HostRuntime) -> Result<(), Fail> {
+    let x = lexicon_of(&rt, rt.alloc(), COLLECTIONS)?;
+    assert!(rt; x.members() == 13);
+    for (m, (proto, name)) in SYMBOLS.iter().enumerate() {
+        let rank = m as u64;
+        assert!(rt; rank < x.members());
+        let d = x.member_at(rank);
+        assert!(rt; d.proto.rank < x.protocols());
+        assert!(rt; d.name.rank < x.names());
+        assert!(rt; x.proto_name(d.proto) == proto.as_bytes());
+        assert!(rt; x.name(d.name) == name.as_bytes());
+        assert!(rt; x.member_rank(d.proto, d.name) == Some(rank));
+    }
+    Ok(())
+}
+
+const NEXT: &[u8] = b"protocol Late { associatedtype Next: Late }
+protocol Early: Late { associatedtype Next: Early }";
+
+#[test]
+fn roots_come_first_and_heirs_come_first(rt: HostRuntime) -> Result<(), Fail> {
+    let x = lexicon_of(&rt, rt.alloc(), NEXT)?;
+    let early = ProtoId { rank: 0 };
+    let late = ProtoId { rank: 1 };
+    let next = NameId { rank: 0 };
+    assert!(rt; x.protocols() == 2);
+    assert!(rt; x.associated() == 2);
+    assert!(rt; x.find_proto(b"Early") == Some(early));
+    assert!(rt; x.find_proto(b"Late") == Some(late));
+    assert!(rt; x.find_name(b"Next") == Some(next));
+    assert!(rt; x.inherits(early, late));
+    assert!(rt; !x.inherits(late, early));
+    assert!(rt; x.depth(early) == 1);
+    assert!(rt; x.depth(late) == 0);
+    assert!(rt; x.declares(late, next) == Some(AssocId { rank: 0 }));
+    assert!(rt; x.declares(early, next) == Some(AssocId { rank: 1 }));
+    assert!(rt; x.assoc(AssocId { rank: 0 }).proto == late);
+    assert!(rt; x.assoc_id(early, next) == AssocId { rank: 1 });
+    assert!(rt; x.member_rank(early, next) == Some(0));
+    assert!(rt; x.member_rank(late, next) == Some(1));
+    Ok(())
+}
+
+const LACKING: &[u8] = b"protocol Q { associatedtype A }
+protocol P { associatedtype B }";
+
+#[test]
+fn what_is_lacking_is_not_found(rt: HostRuntime) -> Result<(), Fail> {
+    let x = lexicon_of(&rt, rt.alloc(), LACKING)?;
+    let p = x.proto_id(b"P");
+    let a = x.name_id(b"A");
+    let b = x.name_id(b"B");
+    assert!(rt; x.find_proto(b"R") == None);
+    assert!(rt; x.find_name(b"Q") == None);
+    assert!(rt; x.proto_id(b"R") == ProtoId { rank: 0 });
+    assert!(rt; x.name_id(b"") == NameId { rank: 0 });
+    assert!(rt; x.declares(p, a) == None);
+    assert!(rt; x.member_rank(p, a) == None);
+    assert!(rt; !x.has_member(p, a) && x.has_member(p, b));
+    assert!(rt; x.protocols() == 2);
+    assert!(rt; x.proto_at(1) == p);
+    assert!(rt; x.resolved().find_protocol(b"P") == Some(1));
+    Ok(())
+}
