@@ -2,7 +2,7 @@ pub mod Rising
 pub mod Counting
 pub mod Names
 pub mod Places
-pub mod Tests
+pub mod Passing
 pub mod Declarers
 pub mod KeyOrders
 pub mod SymbolPlaces

@@ -36,7 +36,7 @@ use Rattle.swreq_ranks.proofs.PairPlaces.{by_place}
 use Rattle.swreq_ranks.proofs.Places.{declared_names, names_length, there}
 use Rattle.swreq_ranks.proofs.Positions.{rank_of_there}
 use Rattle.swreq_ranks.proofs.Rising.{IsRising, rising_from_sorted, one_place}
-use Rattle.swreq_ranks.proofs.Tests.{one_of}
+use Rattle.swreq_ranks.proofs.Passing.{one_of}
 
 -- ---- names
 

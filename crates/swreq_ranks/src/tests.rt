@@ -6,7 +6,6 @@ use std::process::Abort;
 use std::test::Fail;
 use swreq_decl::parse;
 use swreq_names::resolve_names;
-use swreq_param::{AssocId, NameId, ProtoId};
 
 /// The lexicon of a text.
 fn lexicon_of(rt: &impl Abort, alloc: Global, text: &[u8]) -> Result<Lexicon, Fail> {
@@ -83,48 +82,52 @@ fn member_symbols_go_by_name_and_then_by_inheritance(rt: HostRuntime) -> Result<
 const NEXT: &[u8] = b"protocol Late { associatedtype Next: Late }
 protocol Early: Late { associatedtype Next: Early }";
 
+/// The protocols, each with how many it inherits, the rank of its associated type Next and that of its member symbol Next.
+const RANKS: &[(&str, u32, u32, u64)] = &[("Early", 1, 1, 0), ("Late", 0, 0, 1)];
+
 #[test]
 fn roots_come_first_and_heirs_come_first(rt: HostRuntime) -> Result<(), Fail> {
     let x = lexicon_of(&rt, rt.alloc(), NEXT)?;
-    let early = ProtoId { rank: 0 };
-    let late = ProtoId { rank: 1 };
-    let next = NameId { rank: 0 };
-    assert!(rt; x.protocols() == 2);
-    assert!(rt; x.associated() == 2);
-    assert!(rt; x.find_proto(b"Early") == Some(early));
-    assert!(rt; x.find_proto(b"Late") == Some(late));
-    assert!(rt; x.find_name(b"Next") == Some(next));
-    assert!(rt; x.inherits(early, late));
-    assert!(rt; !x.inherits(late, early));
-    assert!(rt; x.depth(early) == 1);
-    assert!(rt; x.depth(late) == 0);
-    assert!(rt; x.declares(late, next) == Some(AssocId { rank: 0 }));
-    assert!(rt; x.declares(early, next) == Some(AssocId { rank: 1 }));
-    assert!(rt; x.assoc(AssocId { rank: 0 }).proto == late);
-    assert!(rt; x.assoc_id(early, next) == AssocId { rank: 1 });
-    assert!(rt; x.member_rank(early, next) == Some(0));
-    assert!(rt; x.member_rank(late, next) == Some(1));
+    let next = x.name_id(b"Next");
+    for (name, depth, assoc, member) in RANKS {
+        let p = x.proto_id(name.as_bytes());
+        assert!(rt; x.depth(p) == *depth);
+        assert!(rt; x.assoc_id(p, next).rank == *assoc);
+        assert!(rt; x.member_rank(p, next) == Some(*member));
+    }
     Ok(())
 }
 
 const LACKING: &[u8] = b"protocol Q { associatedtype A }
 protocol P { associatedtype B }";
 
+/// Words, each with the ranks of the protocol and of the name that it is.
+const WORDS: &[(&str, Option<u32>, Option<u32>)] = &[
+    ("A", None, Some(0)),
+    ("B", None, Some(1)),
+    ("C", None, None),
+    ("P", Some(0), None),
+    ("Q", Some(1), None),
+    ("", None, None),
+];
+
 #[test]
 fn what_is_lacking_is_not_found(rt: HostRuntime) -> Result<(), Fail> {
     let x = lexicon_of(&rt, rt.alloc(), LACKING)?;
+    for (word, proto, name) in WORDS {
+        assert!(rt; x.find_proto(word.as_bytes()).map(|p| p.rank) == *proto);
+        assert!(rt; x.find_name(word.as_bytes()).map(|a| a.rank) == *name);
+    }
+    Ok(())
+}
+
+#[test]
+fn a_name_of_another_protocol_is_not_found(rt: HostRuntime) -> Result<(), Fail> {
+    let x = lexicon_of(&rt, rt.alloc(), LACKING)?;
     let p = x.proto_id(b"P");
     let a = x.name_id(b"A");
-    let b = x.name_id(b"B");
-    assert!(rt; x.find_proto(b"R") == None);
-    assert!(rt; x.find_name(b"Q") == None);
-    assert!(rt; x.proto_id(b"R") == ProtoId { rank: 0 });
-    assert!(rt; x.name_id(b"") == NameId { rank: 0 });
     assert!(rt; x.declares(p, a) == None);
     assert!(rt; x.member_rank(p, a) == None);
-    assert!(rt; !x.has_member(p, a) && x.has_member(p, b));
-    assert!(rt; x.protocols() == 2);
-    assert!(rt; x.proto_at(1) == p);
-    assert!(rt; x.resolved().find_protocol(b"P") == Some(1));
+    assert!(rt; !x.has_member(p, a));
     Ok(())
 }
