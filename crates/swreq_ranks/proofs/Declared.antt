@@ -19,7 +19,7 @@ use Rattle.swreq_ranks.specs.Texts.{declared_by, declared_in}
 use Rattle.swreq_ranks.proofs.Keyed.{key_of}
 use Rattle.swreq_ranks.proofs.Positions.{rank_of_there}
 use Rattle.swreq_ranks.proofs.Rising.{rising_from_sorted}
-use Rattle.swreq_ranks.proofs.Tests.{one_of}
+use Rattle.swreq_ranks.proofs.Passing.{one_of}
 
 module _ {A B : Type 0} (f : A → List B) where
   -- an item of a piece, and the piece of an item

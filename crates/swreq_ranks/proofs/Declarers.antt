@@ -11,7 +11,7 @@ use Rattle.swreq_names.proofs.Declaring.{no_element}
 use Rattle.swreq_ranks.specs.declared.pair.ProtocolName.{ProtocolName}
 use Rattle.swreq_ranks.specs.Lexicons.{pair}
 use Rattle.swreq_ranks.specs.Symbols.{AreDeclarers}
-use Rattle.swreq_ranks.proofs.Tests.{some_passes, passes}
+use Rattle.swreq_ranks.proofs.Passing.{some_passes, passes}
 
 same_name : (a : NameId) (d : ProtocolName) → a.rank ≡ d.name.rank → pair d.proto a ≡ d
 same_name a d e = λ k. record { proto = d.proto; name = record { rank = e k } }

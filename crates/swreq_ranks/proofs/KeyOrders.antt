@@ -10,7 +10,7 @@ use Rattle.swreq_ranks.specs.Associated.{inherits_name, assoc_cmp}
 use Rattle.swreq_ranks.specs.Keys.{key, pair_of}
 use Rattle.swreq_ranks.proofs.Keyed.{GoesBy, key_of, keyed_same, keyed_rises}
 use Rattle.swreq_ranks.proofs.Rising.{rising_from_sorted, sorted_from_rising}
-use Rattle.swreq_ranks.proofs.Tests.{same_members}
+use Rattle.swreq_ranks.proofs.Passing.{same_members}
 
 roots_first : (a b : Bool) → nat_cmp (cond (not a) 0 1) (cond (not b) 0 1) ≡ bool_cmp a b
 roots_first true true = refl

@@ -2,7 +2,7 @@ pub mod Rising
 pub mod Counting
 pub mod Names
 pub mod Places
-pub mod Tests
+pub mod Passing
 pub mod Declarers
 pub mod KeyOrders
 pub mod SymbolPlaces
@@ -11,6 +11,8 @@ pub mod OrderKeys
 pub mod SymbolRanks
 pub mod Declared
 pub mod Whole
+pub mod Few
+pub mod RankLaws
 pub mod Made
 pub mod Search
 pub mod Positions

@@ -22,8 +22,11 @@ rising_names xs r i j d h l =
 apart : (xs : List Bytes) → IsRising bytes_cmp xs → IsDistinct bytes_eq xs
 apart xs r = IsDistinct-from_apart bytes_eq xs (λ i j d h l. texts_ties (get_or xs i d) (get_or xs j d) ∙ ap is_eq (r i j d h l))
 
--- a ranking is no longer than the list whose names it has
-pub few_names : (xs ys : List Bytes) → IsRising bytes_cmp xs → ((q : Bytes) → Contains xs q → Contains ys q) → length xs ≤ length ys
-few_names xs ys r within =
-    length-le_from_is_member nat_list_eq_equiv xs ys (apart xs r)
+-- names that are told apart are no more than those of a list that has them
+pub distinct_names : (xs ys : List Bytes) → IsDistinct bytes_eq xs → ((q : Bytes) → Contains xs q → Contains ys q) → length xs ≤ length ys
+distinct_names xs ys distinct within =
+    length-le_from_is_member nat_list_eq_equiv xs ys distinct
     (λ q h. list_any-from_Contains nat_list_eq_equiv q ys (within q (Contains-from_any (λ x y e. same_text x y (sym e)) q xs h)))
+
+pub few_names : (xs ys : List Bytes) → IsRising bytes_cmp xs → ((q : Bytes) → Contains xs q → Contains ys q) → length xs ≤ length ys
+few_names xs ys r within = distinct_names xs ys (apart xs r) within

@@ -14,7 +14,7 @@ use Rattle.swreq_ranks.proofs.PairKeys.{is_pair_itself, pair_same}
 use Rattle.swreq_ranks.proofs.Positions.{fails_all}
 use Rattle.swreq_ranks.proofs.Mapped.{get_within}
 
-by_place : (p : ProtoId) (a : NameId) (ds : List ProtocolName) (o : Option ℕ) → position (is_pair p a) ds ≡ o
+pub by_place : (p : ProtoId) (a : NameId) (ds : List ProtocolName) (o : Option ℕ) → position (is_pair p a) ds ≡ o
     → MatchOption (option_map assoc_at o) (Contains ds (pair p a) → ⊥) (λ d. slice_get ds d.rank ≡ Some (pair p a))
 by_place p a ds None h = λ c.
     true≢false (sym (is_pair_itself p a) ∙ ap (is_pair p a) (sym c.2) ∙ fails_all (is_pair p a) ds h c.0 (pair p a) c.1)

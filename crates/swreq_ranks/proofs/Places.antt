@@ -1,17 +1,19 @@
 -- The places of protocols in written order.
-use Rattle.std.proofs.Common.{◌≡◌, ℕ, ◌+◌, ◌<◌, ◌≤◌, ⊎_elim, Bool, true, false, cond, List, [], ◌∷◌, ◌++◌, length, get_or, set, take, map, slice_get, Some, Contains, refl, sym, ap, subst, ◌∙◌, arith, true≢false}
+use Rattle.std.proofs.Common.{◌≡◌, ℕ, ◌+◌, ◌-◌, ◌<◌, ◌≤◌, ⊎_elim, Bool, true, false, cond, List, [], ◌∷◌, ◌++◌, length, get_or, set, drop, map, slice_get, Option, Some, None, Contains, refl, sym, ap, subst, ◌∙◌, arith, true≢false}
+use Rattle.std.specs.List.{position_from}
 use Rattle.std.specs.Str.{bytes_eq}
 use Rattle.std.proofs.lemmas.Bool.{cases_eq}
-use Rattle.std.proofs.lemmas.List.{get_or-set_same, get_or-set_other, take_more, take_all, length-map, get_or-map}
-use Rattle.std.proofs.lemmas.List.Elements.{Contains-push_cases}
-use Rattle.std.proofs.lemmas.Option.{slice_get_within, get_or_from_slice_get, slice_get-get_or, same_Some}
-use Rattle.std.proofs.lemmas.Slice.Eq.{bytes_eq-Decides}
+use Rattle.std.proofs.lemmas.List.{at_drop_more, get_or-set_same, get_or-set_other, drop_all, length-map, get_or-map}
+use Rattle.std.proofs.lemmas.Iterator.Adapters.{position_from-zero}
+use Rattle.std.proofs.lemmas.Option.{slice_get_within, get_or_from_slice_get, same_Some}
 use Rattle.swreq_decl.specs.declared.skeleton.ProtocolDecl.{ProtocolDecl}
 use Rattle.swreq_names.specs.Rising.{IsRising}
-use Rattle.swreq_names.specs.Spaces.{word}
+use Rattle.swreq_names.specs.Spaces.{word, declarations}
+use Rattle.swreq_names.specs.declared.directory.Declaration.{Declaration}
 use Rattle.swreq_names.proofs.Firsts.{one_rank, same_true, same_false}
 use Rattle.swreq_ranks.specs.Ranks.{Bytes}
 use Rattle.swreq_ranks.specs.Texts.{protocol_names}
+use Rattle.swreq_ranks.proofs.Positions.{fails_all}
 
 -- ---- a place is noted
 
@@ -38,30 +40,53 @@ module _ (ranks : List Bytes) (places : List ℕ) (size : length places ≡ leng
   not_noted none r q f =
       ap (λ b. cond b at (get_or places r 0)) (sym (same_false q name (λ s. none (r, slice_get_within ranks r q f, get_or_from_slice_get ranks r q name f ∙ s))))
 
--- ---- the names so far have places
+-- ---- from the last name back to the first
 
-module _ (all : List Bytes) (i : ℕ) (name q : Bytes) (old new : ℕ) (within : i < length all) (is : name ≡ get_or all i name) where
-  placed_by : (b : Bool) → bytes_eq q name ≡ b → new ≡ cond b i old → (Contains (take i all) q → slice_get all old ≡ Some q) → Contains (take (i + 1) all) q → slice_get all new ≡ Some q
-  placed_by true e n before c = ap (slice_get all) n ∙ slice_get-get_or all i name within ∙ ap Some (sym is ∙ sym ((bytes_eq-Decides q name).0 e))
-  placed_by false e n before c =
-      ap (slice_get all) n
-      ∙ before (⊎_elim (λ h. h) (λ s. absurd (true≢false (sym (same_true q name (sym (is ∙ s))) ∙ e)))
-      (Contains-push_cases (take i all) (get_or all i name) q (subst (λ xs. Contains xs q) (take_more all i name within) c)))
+module _ (all : List Bytes) (i : ℕ) (name q : Bytes) (old new : ℕ) (after : 0 < i) (within : i ≤ length all) (is : name ≡ get_or all (i - 1) name) where
+  one_back : position_from (bytes_eq q) (i - 1) (drop (i - 1) all) ≡ cond (bytes_eq q name) (Some (i - 1)) (position_from (bytes_eq q) i (drop i all))
+  one_back =
+      let back : i - 1 + 1 ≡ i = omega arith in
+      let lt : i - 1 < length all = omega arith in
+      at_drop_more (position_from (bytes_eq q) (i - 1)) all (i - 1) name lt
+      ∙ (λ j. cond (bytes_eq q (sym is j)) (Some (i - 1)) (position_from (bytes_eq q) (back j) (drop (back j) all)))
 
-  pub placed_more : new ≡ cond (bytes_eq q name) i old → (Contains (take i all) q → slice_get all old ≡ Some q) → Contains (take (i + 1) all) q → slice_get all new ≡ Some q
-  placed_more n before c = placed_by (bytes_eq q name) refl n before c
+  placed_by : (b : Bool) → bytes_eq q name ≡ b → new ≡ cond b (i - 1) old → ((k : ℕ) → position_from (bytes_eq q) i (drop i all) ≡ Some k → old ≡ k)
+      → (k : ℕ) → position_from (bytes_eq q) (i - 1) (drop (i - 1) all) ≡ Some k → new ≡ k
+  placed_by true e n before k h = n ∙ same_Some (i - 1) k (sym (one_back ∙ ap (λ b. cond b (Some (i - 1)) (position_from (bytes_eq q) i (drop i all))) e) ∙ h)
+  placed_by false e n before k h = n ∙ before k (sym (one_back ∙ ap (λ b. cond b (Some (i - 1)) (position_from (bytes_eq q) i (drop i all))) e) ∙ h)
+
+  pub placed_back : new ≡ cond (bytes_eq q name) (i - 1) old → ((k : ℕ) → position_from (bytes_eq q) i (drop i all) ≡ Some k → old ≡ k)
+      → (k : ℕ) → position_from (bytes_eq q) (i - 1) (drop (i - 1) all) ≡ Some k → new ≡ k
+  placed_back n before k h = placed_by (bytes_eq q name) refl n before k h
+
+pub none_placed : (all : List Bytes) (i : ℕ) (q : Bytes) (place : ℕ) → length all ≤ i → (k : ℕ) → position_from (bytes_eq q) i (drop i all) ≡ Some k → place ≡ k
+none_placed all i q place h k e = let s = sym (ap (position_from (bytes_eq q) i) (drop_all i all h)) ∙ e in absurd cc
+
+-- a name that is there has a first place
+pub some_place : (all : List Bytes) (q : Bytes) → Contains all q → (k : ℕ) × (position_from (bytes_eq q) 0 all ≡ Some k)
+some_place all q c = by (position_from (bytes_eq q) 0 all) refl
+  where
+    by : (o : Option ℕ) → position_from (bytes_eq q) 0 all ≡ o → (k : ℕ) × (position_from (bytes_eq q) 0 all ≡ Some k)
+    by (Some k) e = (k, e)
+    by None e =
+        let no = fails_all (bytes_eq q) all (position_from-zero (bytes_eq q) all ∙ e) c.0 q c.1 in
+        absurd (true≢false (sym (same_true q (get_or all c.0 q) (sym c.2)) ∙ no))
+
+pub all_placed : (all : List Bytes) (i : ℕ) (q : Bytes) (place : ℕ) → i ≤ 0 → Contains all q → ((k : ℕ) → position_from (bytes_eq q) i (drop i all) ≡ Some k → place ≡ k) → position_from (bytes_eq q) 0 all ≡ Some place
+all_placed all i q place h c before =
+    let z : i ≡ 0 = omega arith in
+    let f = some_place all q c in
+    f.1 ∙ ap Some (sym (before f.0 ((λ j. position_from (bytes_eq q) (z j) (drop (z j) all)) ∙ f.1)))
+
+-- ---- the names of the protocols
 
 pub name_at : (text : Bytes) (ps : List ProtocolDecl) (i : ℕ) (p : ProtocolDecl) → i < length ps → p ≡ get_or ps i p → word text p.name ≡ get_or (protocol_names text ps) i (word text p.name)
 name_at text ps i p h e = ap (λ (x : ProtocolDecl). word text x.name) e ∙ sym (get_or-map (λ (x : ProtocolDecl). word text x.name) ps i p (word text p.name) h)
 
-pub none_placed : (all : List Bytes) (q : Bytes) {P : Type 0} → Contains (take 0 all) q → P
-none_placed all q c = absurd (no_element q c)
-  where
-    no_element : (x : Bytes) → Contains [] x → ⊥
-    no_element x c = let h = c.1 in omega arith
-
-pub all_placed : (all : List Bytes) (i : ℕ) (q : Bytes) (place : ℕ) → length all ≤ i → Contains all q → (Contains (take i all) q → slice_get all place ≡ Some q) → slice_get all place ≡ Some q
-all_placed all i q place h c before = before (subst (λ xs. Contains xs q) (sym (take_all i all h)) c)
+-- as they are declared
+pub declared_names : (text : Bytes) (ps : List ProtocolDecl) → map (λ (d : Declaration). d.name) (declarations text (map (λ (p : ProtocolDecl). p.name) ps)) ≡ protocol_names text ps
+declared_names text [] = refl
+declared_names text (p ∷ ps) = ap (λ xs. word text p.name ∷ xs) (declared_names text ps)
 
 pub names_length : (text : Bytes) (ps : List ProtocolDecl) → length (protocol_names text ps) ≡ length ps
 names_length text ps = length-map ps (λ (x : ProtocolDecl). word text x.name)

@@ -22,7 +22,7 @@ use Rattle.swreq_ranks.proofs.Keyed.{key_of, of_key}
 use Rattle.swreq_ranks.proofs.Places.{there}
 use Rattle.swreq_ranks.proofs.Rising.{all_contained, sorted_nil, sorted_append, sorted_map}
 use Rattle.swreq_ranks.proofs.SymbolPlaces.{filter_place}
-use Rattle.swreq_ranks.proofs.Tests.{some_passes, passes}
+use Rattle.swreq_ranks.proofs.Passing.{some_passes, passes}
 
 -- ---- which there are
 

@@ -1,5 +1,7 @@
 -- The lexicon of a text from its parts.
-use Rattle.std.proofs.Common.{◌≡◌, ℕ, ◌<◌, ◌≤◌, ◌↔◌, Bool, IsTrue, ⊎_elim, List, length, map, slice_get, Some, Contains, sym, subst}
+use Rattle.std.proofs.Common.{◌≡◌, ℕ, ◌<◌, ◌≤◌, ◌↔◌, Bool, IsTrue, ⊎_elim, List, length, map, slice_get, Some, Contains, sym, ap, subst, ◌∙◌}
+use Rattle.std.specs.List.{position_from}
+use Rattle.std.specs.Str.{bytes_eq}
 use Rattle.std.specs.List.Sorted.{IsStrictlySortedBy}
 use Rattle.swreq_closure.specs.Chains.{leads}
 use Rattle.swreq_decl.specs.declared.skeleton.Skeleton.{Skeleton}
@@ -16,6 +18,7 @@ use Rattle.swreq_ranks.specs.Ranks.{Bytes, IsRanking, bytes_cmp}
 use Rattle.swreq_ranks.specs.Symbols.{has_member, symbols_below}
 use Rattle.swreq_ranks.specs.Texts.{IsLexiconOf, protocol_names, declared_in}
 use Rattle.swreq_ranks.specs.Views.{LexiconView, ProtocolsView, IsProtocol, HasMember, place_by, inherits_by, assoc_cmp, symbol_cmp}
+use Rattle.swreq_ranks.proofs.Places.{declared_names}
 use Rattle.swreq_ranks.proofs.SymbolMembers.{symbol_is, symbol_there, symbols_sorted, member_from, member_to}
 
 module _ (text : Bytes) (s : Skeleton) (ps : ProtocolsView) (names : List Bytes) (pairs associated : List ProtocolName) (order : List ProtoId) where
@@ -48,14 +51,14 @@ module _ (text : Bytes) (s : Skeleton) (ps : ProtocolsView) (names : List Bytes)
 
     pub lexicon_is : IsRanking bytes_cmp (Contains (protocol_names text s.protocols)) ps.protocols → IsRanking bytes_cmp (Contains (mentioned text s)) names
         → ps.written_order ≡ map (λ p. proto_by ps.protocols (word text p.name)) s.protocols
-        → ((p : ProtoId) (name : Bytes) → slice_get ps.protocols p.rank ≡ Some name → slice_get (protocol_names text s.protocols) (place_by ps.places p) ≡ Some name)
+        → ((p : ProtoId) (name : Bytes) → slice_get ps.protocols p.rank ≡ Some name → position_from (bytes_eq name) 0 (protocol_names text s.protocols) ≡ Some (place_by ps.places p))
         → HasDeclared text s ps.resolved → pairs ≡ declared_in text ps.protocols names s.protocols
         → IsStrictlySortedBy (over.assoc_cmp inherits associated) associated → IsLexiconOf text s whole
     lexicon_is protocols named written places declared is sorted = record {
       protocols = protocols;
       names = named;
       written_order = written;
-      places = places;
+      places = λ p name h. ap (position_from (bytes_eq name) 0) (declared_names text s.protocols) ∙ places p name h;
       inheritance = λ p q. declared.tells (place_by ps.places p) (place_by ps.places q);
       associated = record { sorted = sorted; same = subst (λ (xs : List ProtocolName). (d : ProtocolName) → Contains associated d ↔ Contains xs d) is same };
       symbols = symbols;

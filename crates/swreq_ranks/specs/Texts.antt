@@ -3,7 +3,7 @@ use Rattle.std.specs.Prelude.{◌≡◌, ◌↔◌, ◌≤◌, ℕ, List, length
 use Rattle.std.specs.List.{flat_map}
 use Rattle.swreq_decl.specs.declared.skeleton.ProtocolDecl.{ProtocolDecl}
 use Rattle.swreq_decl.specs.declared.skeleton.Skeleton.{Skeleton}
-use Rattle.swreq_names.specs.Spaces.{word}
+use Rattle.swreq_names.specs.Spaces.{word, place, spaces}
 use Rattle.swreq_names.specs.Inheritance.{Inherits}
 use Rattle.swreq_names.specs.Mentioned.{mentioned}
 use Rattle.swreq_names.specs.Names.{HasDeclared}
@@ -26,11 +26,11 @@ module _ (text : Bytes) (protocols names : List Bytes) where
   abbrev pub declared_in : List ProtocolDecl → List ProtocolName
   declared_in ps = flat_map declared_by ps
 
--- A text of at most 1,048,576 bytes has no more protocols, associated types and names than that.
+-- A text of at most 1,048,576 bytes has no more protocols, associated types and names than that. Names are counted once each.
 pub record IsSmall (text : Bytes) (s : Skeleton) : Type 0 where
   pub protocols : length s.protocols ≤ 1048576
   pub associated : length (flat_map (λ p. p.members) s.protocols) ≤ 1048576
-  pub names : length (mentioned text s) ≤ 1048576
+  pub names : (ranking : List Bytes) → IsRanking bytes_cmp (Contains (mentioned text s)) ranking → length ranking ≤ 1048576
 
 -- This is the lexicon of the text.
 pub record IsLexiconOf (text : Bytes) (s : Skeleton) (x : LexiconView) : Type 0 where
@@ -38,8 +38,8 @@ pub record IsLexiconOf (text : Bytes) (s : Skeleton) (x : LexiconView) : Type 0 
   pub protocols : IsRanking bytes_cmp (Contains (protocol_names text s.protocols)) x.protocols
   pub names : IsRanking bytes_cmp (Contains (mentioned text s)) x.names
   pub written_order : x.written_order ≡ map (λ p. proto_by x.protocols (word text p.name)) s.protocols
-  -- each protocol is at a place of its name
-  pub places : (p : ProtoId) (name : Bytes) → slice_get x.protocols p.rank ≡ Some name → slice_get (protocol_names text s.protocols) (place_of x p) ≡ Some name
+  -- each protocol is at the first place of its name
+  pub places : (p : ProtoId) (name : Bytes) → slice_get x.protocols p.rank ≡ Some name → place (spaces text s).protocols name ≡ Some (place_of x p)
   -- and inherits what the protocol at this place inherits
   pub inheritance : (p q : ProtoId) → IsTrue (inherits x p q) ↔ Inherits text s (place_of x p) (place_of x q)
   -- associated types are the declared pairs

@@ -20,7 +20,7 @@ pub record ProtocolsView : Type 0 where
 pub record LexiconView : Type 0 where
   -- the names of the protocols, by rank
   pub protocols : List Bytes
-  -- of each protocol, by rank, its place in written order
+  -- of each protocol, by rank, the first place of its name in written order
   pub places : List ℕ
   -- the protocols in written order
   pub written_order : List ProtoId

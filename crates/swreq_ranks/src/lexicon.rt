@@ -132,7 +132,7 @@ impl Lexicon {
 
     /// The k-th protocol in written order, from 0.
     pub fn proto_at(&self, k: u32) -> ProtoId
-        requires { k < length self.now.written_order }
+        requires { k < length self.now.protocols }
         ensures { slice_get self.now.written_order k ≡ Some result }
     {
         self.protocols.at(k)
@@ -236,9 +236,8 @@ impl Lexicon {
 }
 
 /// The names of associated types and of members, by rank.
-fn names_of(alloc: Global, text: &[u8], s: &Skeleton) -> Result<Ranks, AllocError>
-    ensures ranking { IfOk result (IsRanking bytes_cmp (Contains (mentioned text.now s.now))) }
-    ensures few { IfOk result (λ names. length names ≤ length (mentioned text.now s.now)) }
+pub fn names_of(alloc: Global, text: &[u8], s: &Skeleton) -> Result<Ranks, AllocError>
+    ensures { IfOk result (IsRanking bytes_cmp (Contains (mentioned text.now s.now))) }
 {
     let names = member_names(alloc, text, s)?;
     let _count = names.len();

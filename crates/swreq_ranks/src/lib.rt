@@ -2,11 +2,17 @@
 #![tactic(auto)]
 
 mod associated;
+pub mod laws;
 mod lexicon;
 mod pair;
 mod protocols;
 mod ranked;
+mod small;
 mod symbols;
 
 pub use lexicon::Lexicon;
 pub use pair::ProtocolName;
+pub use small::is_small;
+
+#[cfg(test)]
+mod tests;

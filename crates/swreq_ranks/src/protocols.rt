@@ -1,5 +1,6 @@
 // The protocols of a text by rank.
 ghost use Rattle.std.specs.Prelude.{◌≡◌, ◌<◌, ◌≤◌, ◌+◌, ◌++◌, ◌∷◌, [], ◌↔◌, ℕ, List, length, map, cond, slice_get, slice_index, slice_index_or, Some, MatchOption, IfOk, Contains};
+ghost use Rattle.std.specs.List.{position_from};
 ghost use Rattle.std.specs.Str.{bytes_eq};
 ghost use Rattle.swreq_names.specs.Spaces.{word};
 ghost use Rattle.swreq_ranks.specs.Associated.{depth};
@@ -19,7 +20,7 @@ use swreq_text::Seq;
 #[derive(Drop)]
 pub struct Protocols {
     ranks: Ranks,
-    /// Of each protocol, by rank, its place in written order.
+    /// Of each protocol, by rank, the first place of its name in written order.
     places: Vec<usize>,
     written_order: Vec<ProtoId>,
     resolved: Names,
@@ -38,7 +39,7 @@ impl Model for Protocols {
       resolved = p.resolved;
     } };
 
-    ghost invariant = { λ p. length p.ranks ≤ 1048576 };
+    ghost invariant = { λ p. (length p.ranks ≤ 1048576) × (length p.ranks ≤ length p.written_order.items) };
 }
 
 impl Protocols {
@@ -52,7 +53,7 @@ impl Protocols {
         requires { length protocols.now ≤ 1048576 }
         ensures ranking { IfOk result (λ x. IsRanking bytes_cmp (Contains (protocol_names text.now protocols.now)) x.protocols) }
         ensures places { IfOk result (λ x. (p : ProtoId) (name : Bytes) → slice_get x.protocols p.rank ≡ Some name
-            → slice_get (protocol_names text.now protocols.now) (place_by x.places p) ≡ Some name) }
+            → position_from (bytes_eq name) 0 (protocol_names text.now protocols.now) ≡ Some (place_by x.places p)) }
         ensures written { IfOk result (λ x. x.written_order ≡ map (λ p. proto_by x.protocols (word text.now p.name)) protocols.now) }
         ensures resolved { IfOk result (λ x. x.resolved ≡ resolved) }
     {
@@ -97,7 +98,7 @@ impl Protocols {
 
     /// A protocol by its place in written order.
     pub fn at(&self, k: u32) -> ProtoId
-        requires { k < length self.now.written_order }
+        requires { k < length self.now.protocols }
         ensures { slice_get self.now.written_order k ≡ Some result }
     {
         self.written_order[k as usize]
@@ -192,7 +193,7 @@ fn note(place: usize, name: &[u8], ranks: &Ranks, places: &mut Vec<usize>)
     }
 }
 
-/// Of each protocol, by rank, its place in written order.
+/// Of each protocol, by rank, the first place of its name in written order.
 fn places(
     alloc: Global,
     text: &[u8],
@@ -201,11 +202,14 @@ fn places(
 ) -> Result<Vec<usize>, AllocError>
     requires { (q : Bytes) → Contains ranks.now q → Contains (protocol_names text.now protocols.now) q }
     ensures { IfOk result (λ places. (r : ℕ) (q : Bytes) → slice_get ranks.now r ≡ Some q
-        → slice_get (protocol_names text.now protocols.now) (slice_index places.items r) ≡ Some q) }
+        → position_from (bytes_eq q) 0 (protocol_names text.now protocols.now) ≡ Some (slice_index places.items r)) }
 {
     let mut places = vec![in alloc; 0; ranks.len()]?;
-    for (place, p) in protocols.iter().enumerate() {
-        note(place, word(text, p.name), ranks, &mut places);
+    let mut i = protocols.len();
+    while i > 0 {
+        i -= 1;
+        let p = &protocols[i];
+        note(i, word(text, p.name), ranks, &mut places);
     }
     Ok(places)
 }

@@ -1,4 +1,6 @@
 use Rattle.std.proofs.Common.{◌≡◌, ◌∙◌, ◌≤◌, ◌<◌, ◌↔◌, ℕ, List, length, map, slice_get, Some, Contains, sym, ap, subst, arith}
+use Rattle.std.specs.List.{position_from}
+use Rattle.std.specs.Str.{bytes_eq}
 use Rattle.swreq_decl.specs.declared.skeleton.ProtocolDecl.{ProtocolDecl}
 use Rattle.swreq_names.specs.Names.{NamesView, HasDeclared}
 use Rattle.swreq_names.specs.Spaces.{word}
@@ -14,9 +16,7 @@ use Rattle.swreq_ranks.proofs.lexicon.Lexicon.of.Goals as goal
 
 pub invariant_of-result : goal.invariant_of-result
 invariant_of-result c =
-    let few = c.in_ok-names.ensures.few in
-    let small = c.requires.small.names in
-    (omega (arith, few, small),
+    (c.requires.small.names c.in_ok-names.names c.in_ok-names.ensures,
     c.in_ok-symbols.ensures.few,
     subst (λ n. AreStarts c.in_ok-symbols.symbols.order (has_member (inherits_by c.in_ok-protocols.protocols.places c.in_ok-protocols.protocols.resolved.inherits) c.in_ok-associated.associated) n c.in_ok-symbols.symbols.starts)
     c.len-2.ensures.len c.in_ok-symbols.ensures.starts)
@@ -29,9 +29,9 @@ returns c =
     lexicon_is text s ps c.in_ok-names.names c.in_ok-pairs.pairs.items c.in_ok-associated.associated c.in_ok-symbols.symbols.order
     c.in_ok-pairs.ensures.within c.in_ok-associated.ensures.same c.in_ok-symbols.ensures.order
     (subst (λ (ds : List ProtocolDecl). IsRanking bytes_cmp (Contains (protocol_names text ds)) ps.protocols) c.items-ps.ensures c.in_ok-protocols.ensures.ranking)
-    c.in_ok-names.ensures.ranking
+    c.in_ok-names.ensures
     (c.in_ok-protocols.ensures.written ∙ ap (λ (ds : List ProtocolDecl). map (λ p. proto_by ps.protocols (word text p.name)) ds) c.items-ps.ensures)
-    (subst (λ (ds : List ProtocolDecl). (p : ProtoId) (name : Bytes) → slice_get ps.protocols p.rank ≡ Some name → slice_get (protocol_names text ds) (place_by ps.places p) ≡ Some name) c.items-ps.ensures c.in_ok-protocols.ensures.places)
+    (subst (λ (ds : List ProtocolDecl). (p : ProtoId) (name : Bytes) → slice_get ps.protocols p.rank ≡ Some name → position_from (bytes_eq name) 0 (protocol_names text ds) ≡ Some (place_by ps.places p)) c.items-ps.ensures c.in_ok-protocols.ensures.places)
     (subst (HasDeclared text s) (sym c.in_ok-protocols.ensures.resolved) c.requires.declared)
     c.in_ok-pairs.ensures.is
     c.in_ok-associated.ensures.sorted
