@@ -1,5 +1,5 @@
 -- Keys in the order of what they rank.
-use Rattle.std.proofs.Common.{◌≡◌, ℕ, Bool, true, false, cond, not, ◌&&◌, nat_eq, ◌↔◌, List, [], ◌∷◌, length, map, Contains, refl, sym, ap, subst, ◌∙◌}
+use Rattle.std.proofs.Common.{◌≡◌, Bool, true, false, cond, not, ◌&&◌, nat_eq, ◌↔◌, List, [], ◌∷◌, map, Contains, refl, sym, ap, subst, ◌∙◌}
 use Rattle.std.specs.Ordering.{nat_cmp, bool_cmp, ordering_then}
 use Rattle.std.specs.List.Sorted.{IsStrictlySortedBy}
 use Rattle.swreq_param.specs.declared.ids.ProtoId.{ProtoId}

@@ -9,7 +9,9 @@ use Rattle.std.specs.FinSet.{nat_cmp-IsAntisymmetric}
 use Rattle.std.proofs.lemmas.Bool.{eqb-true}
 use Rattle.std.proofs.lemmas.Cmp.{nat_cmp_total, tied_itself}
 use Rattle.std.proofs.lemmas.List.{get_or_default}
-use Rattle.swreq_ranks.proofs.Mapped.{at_map_any, length_map}
+use Rattle.std.proofs.lemmas.List.{length-map}
+use Rattle.std.proofs.lemmas.Option.{slice_get_within, get_or_from_slice_get}
+use Rattle.swreq_ranks.proofs.Mapped.{at_map_any}
 use Rattle.swreq_param.specs.declared.ids.NameId.{NameId}
 use Rattle.swreq_param.specs.declared.ids.ProtoId.{ProtoId}
 use Rattle.swreq_ranks.specs.Ranks.{TellsApart}
@@ -19,7 +21,7 @@ use Rattle.swreq_ranks.specs.declared.associated.AssocKey.{AssocKey}
 use Rattle.swreq_ranks.specs.contracts.associated.AssocKeyOrd.TheImpl.{cmp-value}
 use Rattle.swreq_ranks.specs.Lexicons.{is_pair}
 use Rattle.swreq_ranks.specs.Keys.{pair_of}
-use Rattle.swreq_ranks.proofs.Positions.{fails, got_within, got_is, is_first, is_none}
+use Rattle.swreq_ranks.proofs.Positions.{fails, is_first, is_none}
 
 abbrev pub key : ProtoId → NameId → Bool → AssocKey
 key p a b = record { name = a; inherited = b; proto = p }
@@ -87,13 +89,13 @@ module _ (ks : List AssocKey) (rising : IsRising cmp-value.it ks) (p : ProtoId) 
   first_at : (i : ℕ) (b : Bool) → slice_get ks i ≡ Some (key p a b)
       → ((j : ℕ) → j < i → is_pair p a (get_or (map pair_of ks) j (pair_of (key p a b))) ≡ true → ⊥) → position (is_pair p a) (map pair_of ks) ≡ Some i
   first_at i b h none =
-      is_first (is_pair p a) (map pair_of ks) i (pair_of (key p a b)) (subst (λ n. i < n) (sym (length_map pair_of ks)) (got_within ks i (key p a b) h))
-      (at_map i (key p a b) ∙ ap (λ k. is_pair p a (pair_of k)) (got_is ks i (key p a b) (key p a b) h) ∙ is_pair_itself p a)
+      is_first (is_pair p a) (map pair_of ks) i (pair_of (key p a b)) (subst (λ n. i < n) (sym (length-map ks pair_of)) (slice_get_within ks i (key p a b) h))
+      (at_map i (key p a b) ∙ ap (λ k. is_pair p a (pair_of k)) (get_or_from_slice_get ks i (key p a b) (key p a b) h) ∙ is_pair_itself p a)
       (λ j l. fails (is_pair p a (get_or (map pair_of ks) j (pair_of (key p a b)))) (none j l))
 
   -- key j comes before key i
   before : (i j : ℕ) (b : Bool) → slice_get ks i ≡ Some (key p a b) → j < i → cmp-value.it (get_or ks j (key p a b)) (key p a b) ≡ Less
-  before i j b h l = subst (λ k. cmp-value.it (get_or ks j (key p a b)) k ≡ Less) (got_is ks i (key p a b) (key p a b) h) (rising j i (key p a b) l (got_within ks i (key p a b) h))
+  before i j b h l = subst (λ k. cmp-value.it (get_or ks j (key p a b)) k ≡ Less) (get_or_from_slice_get ks i (key p a b) (key p a b) h) (rising j i (key p a b) l (slice_get_within ks i (key p a b) h))
 
   pub root_at : (i : ℕ) → slice_get ks i ≡ Some (key p a false) → position (is_pair p a) (map pair_of ks) ≡ Some i
   root_at i h = first_at i false h (λ j l t.
@@ -107,11 +109,11 @@ module _ (ks : List AssocKey) (rising : IsRising cmp-value.it ks) (p : ProtoId) 
     where
       by : (j : ℕ) → j < i → (b : Bool) → get_or ks j (key p a true) ≡ key p a b → ⊥
       by j l true e = not_before_itself p a true (subst (λ k. cmp-value.it k (key p a true) ≡ Less) e (before i j true h l))
-      by j l false e = let w : i < length ks = got_within ks i (key p a true) h in lacks (there j (key p a true) false (omega arith) e)
+      by j l false e = let w : i < length ks = slice_get_within ks i (key p a true) h in lacks (there j (key p a true) false (omega arith) e)
 
   pub nowhere : (Contains ks (key p a false) → ⊥) → (Contains ks (key p a true) → ⊥) → position (is_pair p a) (map pair_of ks) ≡ None
   nowhere lacks none = is_none (is_pair p a) (map pair_of ks) (pair_of (key p a true))
-      (λ j l. fails (is_pair p a (get_or (map pair_of ks) j (pair_of (key p a true)))) (λ t. by j (subst (λ n. j < n) (length_map pair_of ks) l) (get_or ks j (key p a true)).inherited (key_at j (key p a true) t)))
+      (λ j l. fails (is_pair p a (get_or (map pair_of ks) j (pair_of (key p a true)))) (λ t. by j (subst (λ n. j < n) (length-map ks pair_of) l) (get_or ks j (key p a true)).inherited (key_at j (key p a true) t)))
     where
       by : (j : ℕ) → j < length ks → (b : Bool) → get_or ks j (key p a true) ≡ key p a b → ⊥
       by j l true e = none (there j (key p a true) true l e)

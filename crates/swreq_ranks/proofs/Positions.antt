@@ -1,5 +1,5 @@
 -- The place of the first item that passes a test.
-use Rattle.std.proofs.Common.{◌≡◌, ℕ, zero, suc, ◌<◌, ◌≤◌, Bool, true, false, cond, List, [], ◌∷◌, length, get_or, slice_get, Some, None, unwrap_or, nat_lt, Contains, refl, sym, ap, subst, ◌∙◌, arith}
+use Rattle.std.proofs.Common.{◌≡◌, ℕ, ◌<◌, Bool, true, false, cond, List, length, get_or, slice_get, Some, None, unwrap_or, nat_lt, Contains, refl, sym, ap, subst, ◌∙◌, arith}
 use Rattle.std.specs.List.{position, position_or_len}
 use Rattle.std.specs.Cmp.Lexicographic.{same_text, texts_ties, nat_list_eq_equiv}
 use Rattle.std.specs.declared.cmp.Ordering.TheVariants.{Less}
@@ -8,22 +8,13 @@ use Rattle.std.proofs.lemmas.List.Sums.{position_or_len_is, fails_before_first}
 use Rattle.std.proofs.lemmas.Bool.{lt-ltb, le-ltb, ltb-false}
 use Rattle.std.proofs.lemmas.Cmp.{nat_list_cmp_total}
 use Rattle.std.specs.Str.{bytes_eq}
+use Rattle.std.proofs.lemmas.Option.{slice_get_within, get_or_from_slice_get}
 use Rattle.swreq_ranks.specs.Ranks.{Bytes, bytes_cmp, rank}
 use Rattle.swreq_ranks.proofs.Rising.{IsRising}
 
 pub fails : (b : Bool) → (b ≡ true → ⊥) → b ≡ false
 fails true h = absurd (h refl)
 fails false h = refl
-
-pub got_within : {X : Type 0} (xs : List X) (i : ℕ) (x : X) → slice_get xs i ≡ Some x → i < length xs
-got_within [] i x h = absurd cc
-got_within (y ∷ xs) zero x h = omega arith
-got_within (y ∷ xs) (suc i) x h = let l : i < length xs = got_within xs i x h in omega arith
-
-pub got_is : {X : Type 0} (xs : List X) (i : ℕ) (x d : X) → slice_get xs i ≡ Some x → get_or xs i d ≡ x
-got_is [] i x d h = absurd cc
-got_is (y ∷ xs) zero x d h = cc
-got_is (y ∷ xs) (suc i) x d h = got_is xs i x d h
 
 module _ {X : Type 0} (p : X → Bool) (xs : List X) where
   pub is_first : (i : ℕ) (d : X) → i < length xs → p (get_or xs i d) ≡ true → ((k : ℕ) → k < i → p (get_or xs k d) ≡ false) → position p xs ≡ Some i
@@ -54,9 +45,9 @@ less_is_other v w h = texts_ties w v ∙ ap is_eq (nat_list_cmp_total.antisymm w
 
 pub rank_place : (names : List Bytes) (w : Bytes) (i : ℕ) → IsRising bytes_cmp names → slice_get names i ≡ Some w → position (bytes_eq w) names ≡ Some i
 rank_place names w i r h =
-    let l = got_within names i w h in
-    is_first (bytes_eq w) names i w l (subst (λ v. bytes_eq w v ≡ true) (sym (got_is names i w w h)) (nat_list_eq_equiv.refl w))
-    (λ k b. less_is_other (get_or names k w) w (subst (λ v. bytes_cmp (get_or names k w) v ≡ Less) (got_is names i w w h) (r k i w b l)))
+    let l = slice_get_within names i w h in
+    is_first (bytes_eq w) names i w l (subst (λ v. bytes_eq w v ≡ true) (sym (get_or_from_slice_get names i w w h)) (nat_list_eq_equiv.refl w))
+    (λ k b. less_is_other (get_or names k w) w (subst (λ v. bytes_cmp (get_or names k w) v ≡ Less) (get_or_from_slice_get names i w w h) (r k i w b l)))
 
 pub no_place : (names : List Bytes) (w : Bytes) → (Contains names w → ⊥) → position (bytes_eq w) names ≡ None
 no_place names w h = is_none (bytes_eq w) names w (λ k l. fails (bytes_eq w (get_or names k w)) (λ t. h (k, l, sym (same_text w (get_or names k w) (sym t)))))

@@ -1,5 +1,5 @@
 -- What ranks say.
-use Rattle.std.proofs.Common.{◌≡◌, ℕ, zero, suc, ◌+◌, ◌-◌, ◌<◌, ◌≤◌, ⊎_elim, ◌↔◌, Bool, true, false, cond, nat_eq, nat_lt, List, [], ◌∷◌, length, map, get_or, slice_get, position, Option, Some, None, unwrap_or, Contains, refl, sym, ap, subst, ◌∙◌, arith, true≢false, eqb-true}
+use Rattle.std.proofs.Common.{◌≡◌, ℕ, zero, suc, ◌+◌, ◌-◌, ◌<◌, ◌≤◌, ⊎_elim, ◌↔◌, Bool, true, false, cond, nat_eq, List, [], ◌∷◌, length, get_or, slice_get, position, Option, Some, None, unwrap_or, Contains, refl, sym, ap, subst, ◌∙◌, arith, eqb-true}
 use Rattle.std.specs.declared.cmp.Ordering.{Ordering}
 use Rattle.std.specs.declared.cmp.Ordering.TheVariants.{Less, Equal, Greater}
 use Rattle.std.specs.Ordering.{nat_cmp, ordering_then, then_cmp, on}
@@ -8,7 +8,7 @@ use Rattle.std.specs.List.{position_from, IsDistinct}
 use Rattle.std.specs.List.Sorted.{IsStrictlySortedBy}
 use Rattle.std.specs.Option.{option_map}
 use Rattle.std.specs.Str.{bytes_eq}
-use Rattle.std.proofs.lemmas.Bool.{cases_lt, cases_eq, lt-ltb, le-ltb, eq-eqb}
+use Rattle.std.proofs.lemmas.Bool.{cases_lt, cases_eq, le-ltb}
 use Rattle.std.proofs.lemmas.Cmp.{then_total, on_total, nat_cmp_total}
 use Rattle.std.proofs.lemmas.Iterator.Adapters.{position_from-zero}
 use Rattle.std.proofs.lemmas.List.{length-map}
@@ -27,15 +27,15 @@ use Rattle.swreq_param.specs.declared.ids.NameId.{NameId}
 use Rattle.swreq_param.specs.declared.ids.ProtoId.{ProtoId}
 use Rattle.swreq_ranks.specs.declared.pair.ProtocolName.{ProtocolName}
 use Rattle.swreq_ranks.specs.Associated as over
-use Rattle.swreq_ranks.specs.Lexicons.{pair, is_pair, proto_by, name_by, assoc_at, assoc_by, associated_from, associated_types}
+use Rattle.swreq_ranks.specs.Lexicons.{pair, is_pair, proto_by, assoc_at, assoc_by, associated_from, associated_types}
 use Rattle.swreq_ranks.specs.Ranks.{Bytes, IsRanking, bytes_cmp, rank}
-use Rattle.swreq_ranks.specs.Texts.{IsLexiconOf, protocol_names, declared_in}
-use Rattle.swreq_ranks.specs.Views.{LexiconView, IsProtocol, place_of, inherits, assoc_cmp, symbol_cmp}
+use Rattle.swreq_ranks.specs.Texts.{IsLexiconOf, protocol_names}
+use Rattle.swreq_ranks.specs.Views.{LexiconView, IsProtocol, place_of, inherits}
 use Rattle.swreq_ranks.proofs.Names.{few_names, distinct_names}
 use Rattle.swreq_ranks.proofs.PairPlaces.{by_place}
 use Rattle.swreq_ranks.proofs.Places.{declared_names, names_length, there}
 use Rattle.swreq_ranks.proofs.Positions.{rank_of_there}
-use Rattle.swreq_ranks.proofs.Rising.{IsRising, rising_from_sorted, one_place}
+use Rattle.swreq_ranks.proofs.Rising.{rising_from_sorted, one_place}
 use Rattle.swreq_ranks.proofs.Passing.{one_of}
 
 -- ---- names

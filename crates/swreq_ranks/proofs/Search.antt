@@ -1,7 +1,8 @@
 -- Searches among items that rise.
-use Rattle.std.proofs.Common.{◌≡◌, ℕ, zero, suc, ◌+◌, ◌<◌, ◌≤◌, ⊎_elim, List, [], ◌∷◌, length, get_or, slice_get, Some, Contains, refl, sym, ap, subst, ◌∙◌, arith}
+use Rattle.std.proofs.Common.{◌≡◌, ℕ, ◌+◌, ◌<◌, ◌≤◌, ⊎_elim, List, length, get_or, slice_get, Some, Contains, refl, sym, ap, subst, ◌∙◌, arith}
 use Rattle.std.proofs.lemmas.List.{get_or_default}
 use Rattle.std.proofs.lemmas.Bool.{cases_eq, cases_lt}
+use Rattle.std.proofs.lemmas.Option.{slice_get-get_or}
 use Rattle.std.specs.declared.cmp.Ordering.{Ordering}
 use Rattle.std.specs.declared.cmp.Ordering.TheVariants.{Less, Equal, Greater}
 use Rattle.std.specs.Ordering.{ordering_reverse, ordering_index}
@@ -13,11 +14,6 @@ use Rattle.swreq_ranks.specs.Ranks.{TellsApart}
 use Rattle.swreq_ranks.proofs.Rising.{IsRising}
 
 module _ {K : Type 0} (cmp : K → K → Ordering) (total : IsTotalOrder cmp) (apart : TellsApart cmp) (xs : List K) (rising : IsRising cmp xs) (x d : K) where
-  got : (ys : List K) (i : ℕ) (d : K) → i < length ys → slice_get ys i ≡ Some (get_or ys i d)
-  got [] i d h = absurd (omega arith)
-  got (y ∷ ys) zero d h = refl
-  got (y ∷ ys) (suc i) d h = got ys i d (omega arith)
-
   abbrev pub by : ℕ → Ordering
   by k = cmp (get_or xs k d) x
 
@@ -44,7 +40,7 @@ module _ {K : Type 0} (cmp : K → K → Ordering) (total : IsTotalOrder cmp) (a
       above k m h n = omega arith
 
   pub found : (m : ℕ) → m < length xs → by m ≡ Equal → slice_get xs m ≡ Some x
-  found m l e = got xs m d l ∙ ap Some (apart (get_or xs m d) x e)
+  found m l e = slice_get-get_or xs m d l ∙ ap Some (apart (get_or xs m d) x e)
 
   pub absent : (low high : ℕ) → high ≤ low → ((k : ℕ) → k < low → by k ≡ Less) → ((k : ℕ) → high ≤ k → k < length xs → by k ≡ Greater) → Contains xs x → ⊥
   absent low high h before after c =

@@ -6,6 +6,7 @@ use std::process::Abort;
 use std::test::Fail;
 use swreq_decl::parse;
 use swreq_names::resolve_names;
+use swreq_param::{NameId, ProtoId};
 
 /// The lexicon of a text.
 fn lexicon_of(rt: &impl Abort, alloc: Global, text: &[u8]) -> Result<Lexicon, Fail> {
@@ -102,12 +103,12 @@ const LACKING: &[u8] = b"protocol Q { associatedtype A }
 protocol P { associatedtype B }";
 
 /// Words, each with the ranks of the protocol and of the name that it is.
-const WORDS: &[(&str, Option<u32>, Option<u32>)] = &[
-    ("A", None, Some(0)),
-    ("B", None, Some(1)),
+const WORDS: &[(&str, Option<ProtoId>, Option<NameId>)] = &[
+    ("A", None, Some(NameId { rank: 0 })),
+    ("B", None, Some(NameId { rank: 1 })),
     ("C", None, None),
-    ("P", Some(0), None),
-    ("Q", Some(1), None),
+    ("P", Some(ProtoId { rank: 0 }), None),
+    ("Q", Some(ProtoId { rank: 1 }), None),
     ("", None, None),
 ];
 
@@ -115,8 +116,8 @@ const WORDS: &[(&str, Option<u32>, Option<u32>)] = &[
 fn what_is_lacking_is_not_found(rt: HostRuntime) -> Result<(), Fail> {
     let x = lexicon_of(&rt, rt.alloc(), LACKING)?;
     for (word, proto, name) in WORDS {
-        assert!(rt; x.find_proto(word.as_bytes()).map(|p| p.rank) == *proto);
-        assert!(rt; x.find_name(word.as_bytes()).map(|a| a.rank) == *name);
+        assert!(rt; x.find_proto(word.as_bytes()) == *proto);
+        assert!(rt; x.find_name(word.as_bytes()) == *name);
     }
     Ok(())
 }

@@ -1,7 +1,6 @@
-use Rattle.std.proofs.Common.{◌≡◌, ◌∙◌, ◌||◌, nat_eq, List, map, [], get_or, ap, sym}
+use Rattle.std.proofs.Common.{◌∙◌, ◌||◌, nat_eq, List, map, [], get_or, ap}
 use Rattle.std.specs.List.{list_any}
 use Rattle.swreq_param.specs.declared.ids.ProtoId.{ProtoId}
-use Rattle.swreq_ranks.specs.declared.pair.ProtocolName.{ProtocolName}
 use Rattle.swreq_ranks.specs.Keys.{pair_of}
 use Rattle.swreq_ranks.specs.Symbols.{has_member}
 use Rattle.swreq_ranks.specs.Views.{inherits_by}
