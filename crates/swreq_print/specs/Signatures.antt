@@ -2,10 +2,6 @@
 use Rattle.std.specs.Prelude.{ℕ, List, [], ◌∷◌, ◌++◌, map, codes}
 use Rattle.swreq_bytes.specs.Joined.{joined}
 use Rattle.swreq_param.specs.declared.ids.ParamId.{ParamId}
-use Rattle.swreq_param.specs.Terms.{Term}
-use Rattle.swreq_param.specs.Tables.{IsOf}
-use Rattle.swreq_derive.specs.declared.requirements.Requirement.{Requirement}
-use Rattle.swreq_derive.specs.declared.requirements.Requirement.TheVariants.{Conf, Layout, Same}
 use Rattle.swreq_derive.specs.Derivation.{TermRequirement}
 use Rattle.swreq_derive.specs.Derivation.TermRequirement.{Conforms, IsAnyObject, Equals}
 use Rattle.swreq_ranks.specs.Views.{LexiconView}
@@ -35,10 +31,3 @@ where_text x (r ∷ rs) = codes " where " ++ joined (codes ", ") (map (requireme
 -- `<`, the generic parameters, the requirements, and `>`
 abbrev pub signature_text : LexiconView → List ParamId → List TermRequirement → Text
 signature_text x params rs = codes "<" ++ (joined (codes ", ") (map param_text params) ++ (where_text x rs ++ codes ">"))
-
--- ---- ids of a table
-
-abbrev pub HasIdsOf : List Term → Requirement → Type 0
-HasIdsOf terms (Conf t p) = IsOf terms t
-HasIdsOf terms (Layout t) = IsOf terms t
-HasIdsOf terms (Same t u) = IsOf terms t × IsOf terms u

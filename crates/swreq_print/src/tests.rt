@@ -3,7 +3,7 @@
 ghost use Rattle.std.specs.Prelude.{◌≡◌, ◌≤◌, length, IfOk};
 ghost use Rattle.swreq_decl.specs.Skeletons.{StandsFor};
 ghost use Rattle.swreq_param.specs.Tables.{IsOf};
-ghost use Rattle.swreq_print.specs.Signatures.{HasIdsOf};
+ghost use Rattle.swreq_written.specs.ByTable.{HasIdsOf};
 
 use crate::{
     RefusalKind, refusal_text, requirement_text, rule_text, self_text, signature_text, steps_text,

@@ -9,7 +9,7 @@ use Rattle.swreq_names.specs.declared.signature.Param.{Param}
 use Rattle.swreq_names.specs.declared.signature.Param.TheVariants.{Outer, Own}
 use Rattle.swreq_names.specs.Spaces.{Spaces, place, outer_params, own_params, param_of}
 
-from_below : {A : Type 0} (test : A → Bool) (i : ℕ) (xs : List A) (k : ℕ) → position_from test i xs ≡ Some k → k < i + length xs
+pub from_below : {A : Type 0} (test : A → Bool) (i : ℕ) (xs : List A) (k : ℕ) → position_from test i xs ≡ Some k → k < i + length xs
 from_below test i [] k e = cc
 from_below test i (x ∷ xs) k e = by (test x) e (from_below test (i + 1) xs k)
   where
@@ -21,7 +21,7 @@ length_map : {A B : Type 0} (f : A → B) (xs : List A) → length (map f xs) �
 length_map f [] = refl
 length_map f (x ∷ xs) = ap suc (length_map f xs)
 
-place_below : (ds : List Declaration) (name : List ℕ) (k : ℕ) → place ds name ≡ Some k → k < length ds
+pub place_below : (ds : List Declaration) (name : List ℕ) (k : ℕ) → place ds name ≡ Some k → k < length ds
 place_below ds name k e =
     let l = from_below (bytes_eq name) 0 (map (λ d. d.name) ds) k e in
     let m = length_map (λ (d : Declaration). d.name) ds in

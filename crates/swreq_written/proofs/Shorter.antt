@@ -1,5 +1,5 @@
 -- The lists of a skeleton are no longer than its text.
-use Rattle.std.proofs.Common.{◌≡◌, ℕ, zero, suc, ◌+◌, ◌-◌, ◌≤◌, ◌<◌, ◌^◌, Bool, true, false, cond, List, [], ◌∷◌, ◌++◌, Option, Some, None, length, get_or, slice_get, map, take, drop, sum_by, refl, sym, ap, subst, ◌∙◌, arith, length-append}
+use Rattle.std.proofs.Common.{◌≡◌, ℕ, zero, suc, ◌+◌, ◌-◌, ◌≤◌, ◌<◌, ◌^◌, Bool, true, false, cond, List, [], ◌∷◌, ◌++◌, Option, Some, None, length, get_or, slice_get, map, drop, sum_by, refl, sym, ap, subst, ◌∙◌, arith, length-append, length-drop}
 use Rattle.std.proofs.lemmas.List.Concat.{length-flat_map}
 use Rattle.std.proofs.lemmas.List.Sums.{sum_by-cons, sum_by-le-sum_by}
 use Rattle.std.specs.List.{All, filter_map, flat_map, prefix_len}
@@ -250,33 +250,37 @@ module _ (text : List ℕ) (s : Skeleton) where
 
   -- ---- signatures
 
-  from_count : (k : ℕ) (fs : List FunctionDecl) → length (functions_from k fs) ≡ length fs
-  from_count k [] = refl
-  from_count k (f ∷ fs) = ap suc (from_count (k + 1) fs)
+  from_count : (k n : ℕ) → length (functions_from k n) ≡ n
+  from_count k zero = refl
+  from_count k (suc n) = ap suc (from_count (k + 1) n)
 
-  nested_count : (i j : ℕ) (fs : List FunctionDecl) → length (nested_from i j fs) ≡ length fs
-  nested_count i j [] = refl
-  nested_count i j (f ∷ fs) = ap suc (nested_count i (j + 1) fs)
+  nested_count : (i j n : ℕ) → length (nested_from i j n) ≡ n
+  nested_count i j zero = refl
+  nested_count i j (suc n) = ap suc (nested_count i (j + 1) n)
 
-  cut_count : {A : Type 0} (n : ℕ) (xs : List A) → length (take n xs) + length (drop n xs) ≡ length xs
-  cut_count zero xs = omega arith
-  cut_count (suc n) [] = refl
-  cut_count (suc n) (x ∷ xs) = let i = cut_count n xs in omega arith
+  front_count : {A : Type 0} (p : A → Bool) (xs : List A) → prefix_len p xs ≤ length xs
+  front_count p [] = omega arith
+  front_count p (x ∷ xs) = by (p x) (front_count p xs)
+    where
+      by : (b : Bool) → prefix_len p xs ≤ length xs → cond b (1 + prefix_len p xs) 0 ≤ suc (length xs)
+      by true h = omega arith
+      by false h = omega arith
 
   functions_count : (t : StructDecl) → 1 + length t.functions ≤ struct_size t
   functions_count t = let i = count_sum function_size t.functions (λ f. omega arith) in omega arith
 
   merged_count : (i : ℕ) (ts : List StructDecl) (k : ℕ) (fs : List FunctionDecl) → length (merged i ts k fs) ≤ sum_by struct_size ts + length fs
-  merged_count i [] k fs = let j = from_count k fs in omega arith
+  merged_count i [] k fs = let j = from_count k (length fs) in omega arith
   merged_count i (t ∷ ts) k fs =
       let n = prefix_len (stands_before t) fs in
       let rest = drop n fs in
-      let a = length-append (functions_from k (take n fs)) (with_nested i t ++ merged (i + 1) ts (k + n) rest) in
+      let a = length-append (functions_from k n) (with_nested i t ++ merged (i + 1) ts (k + n) rest) in
       let b = length-append (with_nested i t) (merged (i + 1) ts (k + n) rest) in
-      let c = from_count k (take n fs) in
-      let d = nested_count i 0 t.functions in
+      let c = from_count k n in
+      let d = nested_count i 0 (length t.functions) in
       let e = merged_count (i + 1) ts (k + n) rest in
-      let f = cut_count n fs in
+      let f = length-drop n fs in
+      let g = front_count (stands_before t) fs in
       let h = functions_count t in
       let l = sum_by-cons struct_size t ts in
       omega arith

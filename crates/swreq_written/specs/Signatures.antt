@@ -1,6 +1,6 @@
 -- The generic parameters of signatures, and the order of signatures.
-use Rattle.std.specs.Prelude.{ℕ, ◌+◌, ◌&&◌, nat_eq, Bool, false, List, [], ◌∷◌, ◌++◌, length, take, drop, position, unwrap_or, Option, Some, None, slice_get}
-use Rattle.std.specs.List.{prefix_len}
+use Rattle.std.specs.Prelude.{ℕ, ◌+◌, ◌&&◌, nat_eq, Bool, false, List, [], ◌∷◌, ◌++◌, zero, suc, length, drop, unwrap_or, Option, Some, None, slice_get}
+use Rattle.std.specs.List.{position_from, prefix_len}
 use Rattle.swreq_derive.specs.declared.known.Params.{Params}
 use Rattle.swreq_decl.specs.declared.skeleton.FunctionDecl.{FunctionDecl}
 use Rattle.swreq_decl.specs.declared.skeleton.ParamDecl.{ParamDecl}
@@ -56,26 +56,26 @@ params_of s g = counts (outer_params s g) (own_params s g)
 
 -- ---- the order
 
--- the functions of the i-th struct, from the j-th on
-abbrev pub nested_from : ℕ → ℕ → List FunctionDecl → List Signature
-nested_from i j [] = []
-nested_from i j (f ∷ fs) = Nested i j ∷ nested_from i (j + 1) fs
+-- n functions of the i-th struct, from the j-th on
+abbrev pub nested_from : ℕ → ℕ → ℕ → List Signature
+nested_from i j zero = []
+nested_from i j (suc n) = Nested i j ∷ nested_from i (j + 1) n
 
--- the functions at the top, from the k-th on
-abbrev pub functions_from : ℕ → List FunctionDecl → List Signature
-functions_from k [] = []
-functions_from k (f ∷ fs) = Function k ∷ functions_from (k + 1) fs
+-- n functions at the top, from the k-th on
+abbrev pub functions_from : ℕ → ℕ → List Signature
+functions_from k zero = []
+functions_from k (suc n) = Function k ∷ functions_from (k + 1) n
 
 -- a struct before its functions
 abbrev pub with_nested : ℕ → StructDecl → List Signature
-with_nested i s = Struct i ∷ nested_from i 0 s.functions
+with_nested i s = Struct i ∷ nested_from i 0 (length s.functions)
 
 -- The structs from the i-th on and the functions at the top from the k-th on: before each struct the functions that stand before it.
 abbrev pub merged : ℕ → List StructDecl → ℕ → List FunctionDecl → List Signature
-merged i [] k fs = functions_from k fs
+merged i [] k fs = functions_from k (length fs)
 merged i (s ∷ ss) k fs =
     let n : ℕ = prefix_len (stands_before s) fs in
-    functions_from k (take n fs) ++ (with_nested i s ++ merged (i + 1) ss (k + n) (drop n fs))
+    functions_from k n ++ (with_nested i s ++ merged (i + 1) ss (k + n) (drop n fs))
 
 -- the signatures of a text in written order
 abbrev pub in_order : Skeleton → List Signature
@@ -87,6 +87,13 @@ is_signature (Function i) (Function k) = nat_eq i k
 is_signature (Nested i j) (Nested k l) = nat_eq i k && nat_eq j l
 is_signature _ _ = false
 
--- the place of a signature in written order, which is 0 for none; where the names of a text resolve, a query has one
+-- the first place of a signature, if it has one
+abbrev pub place_in : List Signature → Signature → Option ℕ
+place_in order g = position_from (is_signature g) 0 order
+
+-- The place of a signature in written order: the functions of a struct follow it. For a struct or a function at the top that has no place it is 0;
+-- where the names of a text resolve, each signature that is asked has one.
 abbrev pub func_id : List Signature → Signature → FuncId
-func_id order g = record { place = unwrap_or (position (is_signature g) order) 0 }
+func_id order (Struct i) = record { place = unwrap_or (place_in order (Struct i)) 0 }
+func_id order (Function i) = record { place = unwrap_or (place_in order (Function i)) 0 }
+func_id order (Nested i j) = record { place = unwrap_or (place_in order (Struct i)) 0 + (1 + j) }

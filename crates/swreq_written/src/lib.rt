@@ -16,7 +16,7 @@ mod words;
 
 pub use ids::{FuncId, Query, Written};
 pub use lookups::words_of;
-pub use params::params_of;
+pub use params::{own_depth, params_of};
 pub use protocols::of_protocol;
 pub use queries::{asked_signature, query};
 pub use scope::Scope;

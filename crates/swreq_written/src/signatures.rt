@@ -141,7 +141,7 @@ pub fn of_nested(
     ensures { (s : StructDecl) → placed table.old of_struct.now ≡ in_struct (words_by words.now) outer s
         → IfOk result (λ v. Lists table.old table.new (in_nested (words_by words.now) outer s function f.now) v.items) }
 {
-    let mut into = Vec::from_slice(alloc, of_struct)?;
+    let mut list = Vec::from_slice(alloc, of_struct)?;
     let signature = Signature::Nested { outer, function };
     add_signature(
         table,
@@ -149,7 +149,7 @@ pub fn of_nested(
         signature,
         f.params.items(),
         f.clause.items(),
-        &mut into,
+        &mut list,
     )?;
-    Ok(into)
+    Ok(list)
 }
