@@ -12,7 +12,8 @@ use Rattle.swreq_words.specs.declared.seen.Seen.{Seen}
 use Rattle.swreq_words.specs.Numbers.{are_few_digits, number_of, is_number}
 use Rattle.swreq_words.specs.Form.{Text, Part, apart, joined, trace, number, limit_name, greatest, greatest_count, option_word, words_of, may_follow, is_in_range, sets, is_each_once, is_set}
 use Rattle.swreq_words.specs.Reading.{after, other, meaning_of, if_new, with_limit, with_meaning, with_word, with_next, read_on}
-use Rattle.swreq_words.proofs.Digits.{both, few}
+use Rattle.swreq_words.proofs.Booleans.{both, not_true, or_none}
+use Rattle.swreq_words.proofs.Digits.{few}
 use Rattle.swreq_words.proofs.Steps.{read_none, read_more}
 use Rattle.swreq_words.proofs.Told.{Holds}
 use Rattle.swreq_words.proofs.Walks.{IsPlainWord, IsPlain}
@@ -184,21 +185,13 @@ pub record Accepted (may : Follows) (seen : Seen) (parts : List Part) : Type 0 w
   pub waits : end.waiting ≡ None
   pub counts : (seen.number || is_set (codes "number") parts) ≡ true → end.number ≡ true
 
-not_true : (b : Bool) → not b ≡ true → b ≡ false
-not_true true e = absurd (true≢false (sym e))
-not_true false e = refl
-
-or_false : (b : Bool) → (b || false) ≡ true → b ≡ true
-or_false true e = refl
-or_false false e = e
-
 pub accepted : (may : Follows) (seen : Seen) (before : List Text) (parts : List Part) → Holds seen before → list_all (may_follow may) parts ≡ true → list_all is_in_range parts ≡ true
     → is_each_once before parts ≡ true → Accepted may seen parts
 accepted may seen before [] h f r once = record {
   end = calm seen;
   reads = read_none may (calm seen);
   waits = refl;
-  counts = or_false seen.number;
+  counts = λ e. sym (or_none seen.number) ∙ e;
 }
 accepted may seen before (p ∷ ps) h f r once =
     let f' = both (may_follow may p) (list_all (may_follow may) ps) f in

@@ -1,18 +1,11 @@
 -- What `parse` makes of digits.
-use Rattle.std.proofs.Common.{◌≡◌, ◌&&◌, ◌||◌, ◌≤◌, ℕ, Bool, true, false, true≢false, List, length, refl, sym, nat_le, rules, Result, Ok, arith}
+use Rattle.std.proofs.Common.{◌≡◌, ◌&&◌, ◌≤◌, ℕ, true, List, length, nat_le, rules, Result, Ok, arith}
 use Rattle.std.specs.Char.{is_ascii_digit}
 use Rattle.std.specs.List.{list_all}
 use Rattle.std.specs.Str.Parse.{digits_value, ParsesUnsigned}
 use Rattle.std.proofs.lemmas.Str.Parse.{IsNumeralModel, numerals_by_value, parse_gives, digits_value_short}
 use Rattle.swreq_words.specs.Numbers.{are_few_digits}
-
-pub both : (a b : Bool) → (a && b) ≡ true → (a ≡ true) × (b ≡ true)
-both true b e = (refl, e)
-both false b e = absurd (true≢false (sym e))
-
-pub or_none : (b : Bool) → (b || false) ≡ b
-or_none true = refl
-or_none false = refl
+use Rattle.swreq_words.proofs.Booleans.{both}
 
 own : IsNumeralModel (λ text. list_all is_ascii_digit text ≡ true) (digits_value 10)
 own = numerals_by_value _ (search rules)

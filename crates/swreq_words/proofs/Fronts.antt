@@ -1,6 +1,8 @@
 -- Texts and their fronts.
 use Rattle.std.proofs.Common.{◌≡◌, ◌≢◌, ◌∙◌, ◌==◌, ℕ, Bool, true, false, true≢false, [], ◌∷◌, ◌++◌, Option, Some, None, option_map, is_some, refl, sym, ap, ap₂, if◌then◌else◌, rules}
 use Rattle.std.specs.Option.{MatchOption}
+use Rattle.std.specs.Str.{bytes_eq}
+use Rattle.std.proofs.lemmas.Slice.Eq.{bytes_eq-Decides}
 use Rattle.std.proofs.lemmas.Bool.{eqb-true}
 use Rattle.swreq_words.specs.Form.{Text}
 use Rattle.swreq_words.specs.Reading.{after}
@@ -15,6 +17,9 @@ or_else d (Some x) = x
 pub some_same : {A : Type 0} (x y : A) → Some x ≡ Some y → x ≡ y
 unfolding or_else
 some_same x y e = ap (or_else x) e
+
+pub bytes_same : (a b : Text) → bytes_eq a b ≡ true → a ≡ b
+bytes_same a b e = (bytes_eq-Decides a b).0 e
 
 step : (b : Bool) (x y : ℕ) (xs ys text : Text) → (y == x) ≡ b → (after xs ys ≡ Some text → ys ≡ xs ++ text) → (if b then after xs ys else None) ≡ Some text → y ∷ ys ≡ x ∷ (xs ++ text)
 step false x y xs ys text is more e = absurd (none_some text e)

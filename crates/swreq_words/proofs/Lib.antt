@@ -1,3 +1,4 @@
+pub mod Booleans
 pub mod Digits
 pub mod Fronts
 pub mod Steps

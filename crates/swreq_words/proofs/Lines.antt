@@ -3,7 +3,6 @@ use Rattle.std.proofs.Common.{ap, ap₂, refl, sym, subst, codes, true, false, B
 use Rattle.std.specs.Str.{bytes_eq}
 use Rattle.std.specs.Option.{option_map_or, ok_or}
 use Rattle.std.specs.List.{list_all, flat_map}
-use Rattle.std.proofs.lemmas.Slice.Eq.{bytes_eq-Decides}
 use Rattle.clap.specs.Words.{takes, subcommand_of}
 use Rattle.swreq_words.specs.declared.command.Command.{Command}
 use Rattle.swreq_words.specs.declared.command.CommandLine.{CommandLine}
@@ -19,8 +18,8 @@ use Rattle.swreq_words.specs.Form.{Text, Part, Says, words_of, word_of, follows,
 use Rattle.swreq_words.specs.Reading.{name_of, takes_number, read_on, nothing_seen, is_done, are_parts, has_form}
 use Rattle.swreq_words.specs.Found.{limit_found, line_with, line_of, line_found}
 use Rattle.swreq_words.specs.Taken.{genreq}
-use Rattle.swreq_words.proofs.Digits.{both}
-use Rattle.swreq_words.proofs.Fronts.{none_some, some_same}
+use Rattle.swreq_words.proofs.Booleans.{both}
+use Rattle.swreq_words.proofs.Fronts.{none_some, some_same, bytes_same}
 use Rattle.swreq_words.proofs.Told.{told}
 use Rattle.swreq_words.proofs.Accepts.{accepted, are_of}
 use Rattle.swreq_words.proofs.TopCommand.{Taken, taken, rows_of_parts}
@@ -41,9 +40,6 @@ pub record Formed (words : List Text) : Type 0 where
 abbrev Names : Text → Option CommandName → Type 0
 Names w None = Unit {0}
 Names w (Some n) = w ≡ word_of n
-
-bytes_same : (a b : Text) → bytes_eq a b ≡ true → a ≡ b
-bytes_same a b e = (bytes_eq-Decides a b).0 e
 
 names_if : (w : Text) (b : Bool) (x y : Option CommandName) → (b ≡ true → Names w x) → Names w y → Names w (if b then x else y)
 names_if w true x y f other_name = f refl

@@ -1,5 +1,5 @@
 -- How the command walks over the words of all parts.
-use Rattle.std.proofs.Common.{ap, refl, sym, codes, true, false, Bool, map, fold, ◌&&◌, ◌||◌, if◌then◌else◌, true≢false, subst, slice_get, unwrap_or, List, Some, None, [], ◌∷◌, ◌++◌, ◌≡◌, ◌∙◌, ℕ}
+use Rattle.std.proofs.Common.{ap, refl, sym, codes, true, false, Bool, map, fold, if◌then◌else◌, true≢false, subst, slice_get, unwrap_or, List, Some, None, [], ◌∷◌, ◌++◌, ◌≡◌, ◌∙◌, ℕ}
 use Rattle.std.specs.Str.{bytes_eq}
 use Rattle.std.specs.List.{flat_map}
 use Rattle.std.proofs.lemmas.List.{append_assoc, append-nil}
@@ -14,16 +14,10 @@ use Rattle.swreq_words.specs.declared.names.Follows.{Follows}
 use Rattle.swreq_words.specs.declared.names.Follows.TheVariants.{Nothing, Options, OptionsAndNumber}
 use Rattle.swreq_words.specs.Form.{Text, Part, apart, joined, trace, number, limit_name, option_word, words_of, sets}
 use Rattle.swreq_words.specs.Taken.{number_rule}
+use Rattle.swreq_words.proofs.Booleans.{both_are, neither}
 use Rattle.swreq_words.proofs.Walks.{shape, value_of, reading, row_of, between, IsOf, built_rules, rows_in, set_row, within, with_value, Settles, IsNew, walked_joined, walked_trace, walked_first, walked_second, walked_number, turn_joined, turn_trace, turn_first, turn_second, turn_number, rows_of_value, settles_value, settles_number, on_shape}
 
 -- ---- rows
-
-pub both_are : (a b : Bool) → a ≡ true → b ≡ true → (a && b) ≡ true
-both_are a b x y = rw (x, y) refl
-
-pub neither : (a b : Bool) → (a || b) ≡ false → (a ≡ false) × (b ≡ false)
-neither true b e = absurd (true≢false e)
-neither false b e = (refl, e)
 
 without_none : (id : Text) (rows : List Row) → has_row id rows ≡ false → without id rows ≡ rows
 without_none id [] e = refl

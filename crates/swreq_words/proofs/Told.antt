@@ -3,7 +3,6 @@ use Rattle.std.proofs.Common.{ap, refl, sym, subst, codes, true, false, Bool, no
 use Rattle.std.specs.Str.{bytes_eq}
 use Rattle.std.specs.List.{list_all, list_any, flat_map}
 use Rattle.std.proofs.lemmas.List.{append_assoc}
-use Rattle.std.proofs.lemmas.Slice.Eq.{bytes_eq-Decides}
 use Rattle.swreq_words.specs.declared.names.Follows.{Follows}
 use Rattle.swreq_words.specs.declared.names.Follows.TheVariants.{Nothing, Options, OptionsAndNumber}
 use Rattle.swreq_words.specs.declared.names.Limit.{Limit}
@@ -12,9 +11,8 @@ use Rattle.swreq_words.specs.declared.seen.Seen.{Seen}
 use Rattle.swreq_words.specs.Numbers.{is_number}
 use Rattle.swreq_words.specs.Form.{Text, Part, apart, joined, trace, number, limit_name, greatest, greatest_count, option_word, words_of, may_follow, is_in_range, sets, is_each_once, is_set}
 use Rattle.swreq_words.specs.Reading.{after, front_of, Meaning, opens, sets_limit, traces, other, set_or, meaning_of_one, meaning_of, if_new, with_limit, takes_number, with_number, with_meaning, with_word, with_next, read_on}
-use Rattle.swreq_words.proofs.Digits.{both}
-use Rattle.swreq_words.proofs.Fronts.{none_some, some_same, after_is}
-use Rattle.swreq_words.proofs.Parts.{both_are}
+use Rattle.swreq_words.proofs.Booleans.{both, both_are}
+use Rattle.swreq_words.proofs.Fronts.{none_some, some_same, bytes_same, after_is}
 
 -- ---- what was set before
 
@@ -134,9 +132,6 @@ Spells w (opens l) = w ≡ option_word (limit_name l)
 Spells w (sets_limit l t) = w ≡ option_word (limit_name l) ++ (codes "=" ++ t)
 Spells w traces = w ≡ option_word (codes "trace")
 Spells w other = Unit {0}
-
-bytes_same : (a b : Text) → bytes_eq a b ≡ true → a ≡ b
-bytes_same a b e = (bytes_eq-Decides a b).0 e
 
 spells_if : (w : Text) (b : Bool) (x y : Meaning) → (b ≡ true → Spells w x) → Spells w y → Spells w (if b then x else y)
 spells_if w true x y spells otherwise = spells refl

@@ -19,8 +19,9 @@ use Rattle.swreq_words.specs.declared.names.Follows.{Follows}
 use Rattle.swreq_words.specs.declared.names.Follows.TheVariants.{Nothing, Options, OptionsAndNumber}
 use Rattle.swreq_words.specs.Form.{Text, Part, words_of, word_of, follows}
 use Rattle.swreq_words.specs.Taken.{genreq}
+use Rattle.swreq_words.proofs.Booleans.{both_are}
 use Rattle.swreq_words.proofs.Walks.{shape, row_of, between, built_rules, same_rules, rows_in, Settles}
-use Rattle.swreq_words.proofs.Parts.{both_are, added, AreOf, AreNew, gone, with_trace, no_trace, finished_as}
+use Rattle.swreq_words.proofs.Parts.{added, AreOf, AreNew, gone, with_trace, no_trace, finished_as}
 
 -- ---- the row of the trace
 

@@ -12,17 +12,13 @@ use Rattle.swreq_words.specs.declared.names.Follows.TheVariants.{Nothing, Option
 use Rattle.swreq_words.specs.declared.names.Limit.TheVariants.{MaxRules, MaxLength}
 use Rattle.swreq_words.specs.Form.{Text, Part, apart, joined, trace, number, sets, is_each_once, is_set, text_set, text_of}
 use Rattle.swreq_words.specs.Found.{is_true}
-use Rattle.swreq_words.proofs.Digits.{both}
+use Rattle.swreq_words.proofs.Booleans.{both, not_true}
 use Rattle.swreq_words.proofs.Fronts.{none_some}
 use Rattle.swreq_words.proofs.Walks.{row_of}
 use Rattle.swreq_words.proofs.Parts.{AreNew, no_trace}
 use Rattle.swreq_words.proofs.TopCommand.{trace_row, rows_of_parts}
 
 -- ---- each once, so no row twice
-
-not_true : (b : Bool) → not b ≡ true → b ≡ false
-not_true true e = absurd (true≢false (sym e))
-not_true false e = refl
 
 or_last : (a b c : Bool) → (a || (b || c)) ≡ (b || (a || c))
 or_last true true c = refl

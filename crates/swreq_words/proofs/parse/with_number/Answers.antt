@@ -3,7 +3,7 @@ use Rattle.std.proofs.lemmas.Result.{IfOk-weaker}
 use Rattle.clap.specs.Words.{app_of, rule_of, with_rule}
 use Rattle.clap.specs.declared.builder.arg.Arg.{Arg}
 use Rattle.clap.specs.declared.builder.command.Command.TheViews.{out-Command}
-use Rattle.swreq_words.proofs.Digits.{or_none}
+use Rattle.swreq_words.proofs.Booleans.{or_none}
 use Rattle.swreq_words.specs.Taken.{number_rule}
 use Rattle.swreq_words.proofs.parse.with_number.Goals as goal
 
