@@ -1,11 +1,10 @@
 -- The text of a type parameter says which one it is.
-use Rattle.std.proofs.Common.{◌≡◌, ◌∙◌, ◌&&◌, ◌==◌, ◌++◌, ◌∷◌, ◌+◌, ◌<◌, ◌^◌, ◌%◌, [], ap, ap₂, refl, sym, ℕ, Bool, true, false, nat_le, List, codes, true≢false, arith, if◌then◌else◌}
+use Rattle.std.proofs.Common.{◌≡◌, ◌∙◌, ◌&&◌, ◌==◌, ◌++◌, ◌∷◌, ◌+◌, ◌<◌, ◌^◌, ◌%◌, [], ap, ap₂, refl, sym, ℕ, Bool, true, false, nat_le, List, true≢false, arith, if◌then◌else◌}
 use Rattle.std.specs.List.{list_all, AllByRecursion}
-use Rattle.std.proofs.lemmas.List.{append_assoc, append-nil}
+use Rattle.std.proofs.lemmas.List.{append_assoc}
 use Rattle.std.proofs.lemmas.Fmt.{decimal_by_steps, decimal_is_IsNumeral}
 use Rattle.std.specs.Str.Parse.{digits_value}
 use Rattle.std.specs.Fmt.{decimal}
-use Rattle.swreq_param.specs.declared.ids.AssocId.{AssocId}
 use Rattle.swreq_param.specs.declared.ids.NameId.{NameId}
 use Rattle.swreq_param.specs.declared.ids.ParamId.{ParamId}
 use Rattle.swreq_param.specs.declared.ids.ProtoId.{ProtoId}
@@ -19,7 +18,7 @@ use Rattle.swreq_print.specs.declared.types.Scope.TheVariants.{Signature}
 use Rattle.swreq_print.specs.Names.{Text, protocol_name, name_text, pair_at}
 use Rattle.swreq_print.specs.Types.{param_text, bound_text, step_text, steps_text, type_text}
 use Rattle.swreq_print.specs.Reading.{in_name, IsPair, IsStep, HasSteps, TellsApart, HasNumbers, IsTypeOf}
-use Rattle.swreq_print.proofs.Cutting.{Stops, cut, both, rest_of, first_of, empty_not, numbers_apart}
+use Rattle.swreq_print.proofs.Cutting.{Stops, cut, both, rest_of, first_of, empty_not}
 use Rattle.swreq_print.proofs.Steps.{steps_of_text, type_by_steps}
 
 -- ---- numbers and generic parameters

@@ -1,5 +1,5 @@
 -- What a lexicon has to tell for printed texts to be read in one way.
-use Rattle.std.specs.Prelude.{◌≡◌, ◌≢◌, ◌<◌, ◌^◌, ◌||◌, ◌==◌, ℕ, Bool, true, not, List, [], ◌∷◌, length, codes}
+use Rattle.std.specs.Prelude.{◌≡◌, ◌≢◌, ◌<◌, ◌^◌, ◌||◌, ◌==◌, ℕ, Bool, true, not, List, ◌∷◌, length, codes}
 use Rattle.std.specs.List.{list_all, AllByRecursion}
 use Rattle.swreq_param.specs.declared.ids.AssocId.{AssocId}
 use Rattle.swreq_param.specs.declared.ids.NameId.{NameId}

@@ -2,7 +2,7 @@
 
 ghost use Rattle.std.specs.Prelude.{◌≡◌, ◌++◌, ⊤, OnErr, OnOk};
 ghost use Rattle.swreq_word.specs.declared.symbols.Symbol.TheVariants.{Proto};
-ghost use Rattle.swreq_print.specs.Rules.{birth_text, member_text, rule_text, symbol_text, trace_from, trace_line, trace_text, word_text};
+ghost use Rattle.swreq_print.specs.Rules.{birth_text, member_text, rule_text, symbol_text, trace_line, trace_text, word_text};
 
 use crate::names::{name_text, protocol_name, symbol_at};
 use crate::types::put_param;

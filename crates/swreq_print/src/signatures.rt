@@ -1,9 +1,8 @@
 //! Requirements and signatures.
 
-ghost use Rattle.std.specs.Prelude.{◌≡◌, ◌++◌, ⊤, codes, map, IfOk, OnErr, OnOk};
+ghost use Rattle.std.specs.Prelude.{◌≡◌, ◌++◌, ⊤, map, IfOk, OnErr, OnOk};
 ghost use Rattle.std.specs.List.{All};
 ghost use Rattle.swreq_derive.specs.Facts.{generic_params, params_of_depth, requirement_of};
-ghost use Rattle.swreq_bytes.specs.Joined.{joined};
 ghost use Rattle.swreq_written.specs.ByTable.{HasIdsOf};
 ghost use Rattle.swreq_print.specs.Types.{param_text};
 ghost use Rattle.swreq_print.specs.Signatures.{requirement_in, requirement_text, self_text, signature_text, where_text};
