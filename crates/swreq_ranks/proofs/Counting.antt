@@ -1,5 +1,5 @@
 -- How many numbers pass a test.
-use Rattle.std.proofs.Common.{◌≡◌, ℕ, zero, suc, ◌+◌, ◌≤◌, Bool, true, false, cond, refl, sym, ap, ◌∙◌, arith, add-one}
+use Rattle.std.proofs.Common.{◌≡◌, ℕ, zero, suc, ◌+◌, ◌≤◌, Bool, true, false, cond, sym, ap, ◌∙◌, arith, add-one}
 use Rattle.swreq_ranks.specs.Associated.{count_below}
 
 module _ (test : ℕ → Bool) where

@@ -43,7 +43,7 @@ module _ (inherits : ProtoId → ProtoId → Bool) (pairs : List ProtocolName) (
   goes : GoesBy cmp-value.it pair_of (assoc_cmp inherits (map pair_of ranked)) (map (key inherits pairs) pairs)
   goes k l c d =
       let e = roots_first (inherits_name inherits (map pair_of ranked) k.proto k.name) (inherits_name inherits (map pair_of ranked) l.proto l.name)
-          ∙ (λ i. bool_cmp (sym (flag k c) i) (sym (flag l d) i)) in
+      ∙ (λ i. bool_cmp (sym (flag k c) i) (sym (flag l d) i)) in
       λ i. ordering_then (nat_cmp k.name.rank l.name.rank) (ordering_then (e i) (nat_cmp k.proto.rank l.proto.rank))
 
   pub ranked_sorted : IsStrictlySortedBy cmp-value.it ranked → IsStrictlySortedBy (assoc_cmp inherits (map pair_of ranked)) (map pair_of ranked)

@@ -20,8 +20,9 @@ module _ {K A : Type 0} (item : K → A) (any : A → K) where
 
   pub keyed_same : (ks rs : List K) → ((x : K) → Contains rs x ↔ Contains ks x) → (d : A) → Contains (map item rs) d ↔ Contains (map item ks) d
   keyed_same ks rs same d = (
-      λ c. let k = key_of rs d c in subst (λ e. Contains (map item ks) e) k.2 (of_key ks k.0 ((same k.0).0 k.1)),
-      λ c. let k = key_of ks d c in subst (λ e. Contains (map item rs) e) k.2 (of_key rs k.0 ((same k.0).1 k.1)))
+    λ c. let k = key_of rs d c in subst (λ e. Contains (map item ks) e) k.2 (of_key ks k.0 ((same k.0).0 k.1)),
+    λ c. let k = key_of ks d c in subst (λ e. Contains (map item rs) e) k.2 (of_key rs k.0 ((same k.0).1 k.1)),
+  )
 
   pub keyed_rises : (key_cmp : K → K → Ordering) (ks rs : List K) → ((x : K) → Contains rs x ↔ Contains ks x) → IsRising key_cmp rs
       → (cmp : A → A → Ordering) → GoesBy key_cmp item cmp ks → IsRising cmp (map item rs)

@@ -1,5 +1,5 @@
 -- Protocols in their order.
-use Rattle.std.proofs.Common.{◌≡◌, ℕ, zero, suc, ◌+◌, ◌<◌, ◌≤◌, ◌⊎◌, inl, inr, ⊎_elim, ◌↔◌, Bool, List, [], ◌∷◌, ◌++◌, length, map, Contains, refl, sym, ap, subst, ◌∙◌, arith, length-append}
+use Rattle.std.proofs.Common.{◌≡◌, ℕ, zero, suc, ◌<◌, ◌≤◌, ⊎_elim, ◌↔◌, Bool, List, [], ◌∷◌, length, map, Contains, refl, sym, ap, subst, ◌∙◌, arith, length-append}
 use Rattle.std.specs.List.Sorted.{IsStrictlySortedBy}
 use Rattle.std.specs.Ordering.{nat_cmp, ordering_then}
 use Rattle.std.proofs.lemmas.Bool.{cases_lt}
@@ -9,10 +9,10 @@ use Rattle.swreq_param.specs.declared.ids.ProtoId.{ProtoId}
 use Rattle.swreq_names.proofs.Declaring.{no_element}
 use Rattle.swreq_ranks.specs.declared.symbols.OrderKey.{OrderKey}
 use Rattle.swreq_ranks.specs.contracts.symbols.OrderKeyOrd.TheImpl.{cmp-value}
-use Rattle.swreq_ranks.specs.Associated.{protocol, depth, order_cmp}
+use Rattle.swreq_ranks.specs.Associated.{protocol, order_cmp}
 use Rattle.swreq_ranks.specs.Keys.{order_key, order_keys}
 use Rattle.swreq_ranks.specs.Ranks.{IsRanking}
-use Rattle.swreq_ranks.proofs.Keyed.{GoesBy, key_of, of_key, keyed_same, keyed_rises}
+use Rattle.swreq_ranks.proofs.Keyed.{GoesBy, key_of, of_key, keyed_rises}
 use Rattle.swreq_ranks.proofs.Rising.{rising_from_sorted, sorted_from_rising}
 
 abbrev proto_of : OrderKey → ProtoId
@@ -61,7 +61,8 @@ module _ (inherits : ProtoId → ProtoId → Bool) (n : ℕ) where
           (order_cmp inherits n) (goes (order_keys inherits n n) (λ k c. (key_is n k c).1)));
       same = λ p. (
         λ c. let k = key_of proto_of (order_key inherits n) ranked p c in subst (λ (q : ProtoId). q.rank < n) k.2 (key_is n k.0 ((same k.0).0 k.1)).0,
-        λ h. of_key proto_of (order_key inherits n) ranked (order_key inherits n p) ((same (order_key inherits n p)).1 (key_there n p h)));
+        λ h. of_key proto_of (order_key inherits n) ranked (order_key inherits n p) ((same (order_key inherits n p)).1 (key_there n p h)),
+      );
     }
 
     pub order_few : length ranked ≤ length (order_keys inherits n n) → n ≤ 1048576 → length (map proto_of ranked) ≤ 1048576

@@ -93,13 +93,14 @@ pub ranked : (ds : List ProtocolName) (d : AssociatedType) → Contains (associa
 ranked ds d = (
   λ c. let z : d.assoc.rank - 0 ≡ d.assoc.rank = omega arith in ap (slice_get ds) (sym z) ∙ (ranked_to 0 ds d c).is,
   λ h. let z : 0 + d.assoc.rank ≡ d.assoc.rank = omega arith in
-      subst (λ r. Contains (associated_types ds) (record { proto = d.proto; name = d.name; assoc = record { rank = r } })) z (ranked_from 0 ds d.assoc.rank d.proto d.name h))
+      subst (λ r. Contains (associated_types ds) (record { proto = d.proto; name = d.name; assoc = record { rank = r } })) z (ranked_from 0 ds d.assoc.rank d.proto d.name h),
+)
 
 pub one_to_one : (cmp : ProtocolName → ProtocolName → Ordering) → IsTotalOrder cmp → (ds : List ProtocolName) → IsStrictlySortedBy cmp ds → AreOneToOne (associated_types ds)
 one_to_one cmp total ds sorted = record {
   of_pair = λ p a d e c f.
       let r = one_place cmp total ds (rising_from_sorted cmp ds sorted) d.rank e.rank (pair p a)
-          ((ranked ds (record { proto = p; name = a; assoc = d })).0 c) ((ranked ds (record { proto = p; name = a; assoc = e })).0 f) in
+      ((ranked ds (record { proto = p; name = a; assoc = d })).0 c) ((ranked ds (record { proto = p; name = a; assoc = e })).0 f) in
       λ i. record { rank = r i };
   of_assoc = λ b c d e s.
       let r = ap (λ (x : AssocId). x.rank) s in
@@ -137,7 +138,7 @@ by_name rest ds sorted i j d e f g h =
     not_after l =
         let less = rising_from_sorted (then_cmp (on (λ (x : ProtocolName). x.name.rank) nat_cmp) rest) ds sorted j i d l (slice_get_within ds i d f) in
         let is : ordering_then (nat_cmp e.name.rank d.name.rank) (rest e d) ≡ Less =
-            (λ k. then_cmp (on (λ (x : ProtocolName). x.name.rank) nat_cmp) rest (sym (get_or_from_slice_get ds j e d g) k) (sym (get_or_from_slice_get ds i d d f) k)) ∙ less in
+        (λ k. then_cmp (on (λ (x : ProtocolName). x.name.rank) nat_cmp) rest (sym (get_or_from_slice_get ds j e d g) k) (sym (get_or_from_slice_get ds i d d f) k)) ∙ less in
         let clash : Greater ≡ Less = sym (ap (λ o. ordering_then o (rest e d)) (greater_name d.name.rank e.name.rank h)) ∙ is in
         absurd cc
 

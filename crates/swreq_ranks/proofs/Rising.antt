@@ -35,7 +35,8 @@ unfolding IsStrictlySortedBy
 sorted_from_rising cmp [] r = tt
 sorted_from_rising cmp (x ∷ xs) r = (
   all_from (λ y. cmp x y ≡ Less) xs (λ k d l. r 0 (suc k) d (omega arith) (omega arith)),
-  sorted_from_rising cmp xs (λ i j d h l. r (suc i) (suc j) d (omega arith) (omega arith)))
+  sorted_from_rising cmp xs (λ i j d h l. r (suc i) (suc j) d (omega arith) (omega arith)),
+)
 
 -- ---- an item has one place
 

@@ -1,13 +1,11 @@
 -- The lexicon of a text from its parts.
-use Rattle.std.proofs.Common.{◌≡◌, ℕ, ◌<◌, ◌≤◌, ◌↔◌, Bool, IsTrue, ⊎_elim, List, length, map, slice_get, Some, Contains, sym, ap, subst, ◌∙◌}
+use Rattle.std.proofs.Common.{◌≡◌, ◌<◌, ◌↔◌, Bool, ⊎_elim, List, length, map, slice_get, Some, Contains, ap, subst, ◌∙◌}
 use Rattle.std.specs.List.{position_from}
 use Rattle.std.specs.Str.{bytes_eq}
 use Rattle.std.specs.List.Sorted.{IsStrictlySortedBy}
-use Rattle.swreq_closure.specs.Chains.{leads}
 use Rattle.swreq_decl.specs.declared.skeleton.Skeleton.{Skeleton}
-use Rattle.swreq_names.specs.Inheritance.{Inherits}
 use Rattle.swreq_names.specs.Mentioned.{mentioned}
-use Rattle.swreq_names.specs.Names.{NamesView, HasDeclared}
+use Rattle.swreq_names.specs.Names.{HasDeclared}
 use Rattle.swreq_names.specs.Spaces.{word}
 use Rattle.swreq_param.specs.declared.ids.NameId.{NameId}
 use Rattle.swreq_param.specs.declared.ids.ProtoId.{ProtoId}
@@ -17,7 +15,7 @@ use Rattle.swreq_ranks.specs.Lexicons.{pair, proto_by}
 use Rattle.swreq_ranks.specs.Ranks.{Bytes, IsRanking, bytes_cmp}
 use Rattle.swreq_ranks.specs.Symbols.{has_member, symbols_below}
 use Rattle.swreq_ranks.specs.Texts.{IsLexiconOf, protocol_names, declared_in}
-use Rattle.swreq_ranks.specs.Views.{LexiconView, ProtocolsView, IsProtocol, HasMember, place_by, inherits_by, assoc_cmp, symbol_cmp}
+use Rattle.swreq_ranks.specs.Views.{LexiconView, ProtocolsView, IsProtocol, HasMember, place_by, inherits_by, symbol_cmp}
 use Rattle.swreq_ranks.proofs.Places.{declared_names}
 use Rattle.swreq_ranks.proofs.SymbolMembers.{symbol_is, symbol_there, symbols_sorted, member_from, member_to}
 
@@ -46,7 +44,8 @@ module _ (text : Bytes) (s : Skeleton) (ps : ProtocolsView) (names : List Bytes)
       sorted = symbols_sorted inherits (length ps.protocols) order (has_member inherits associated) ordered.sorted (length names);
       same = λ d. (
         λ c. let is = symbol_is order (has_member inherits associated) (length names) d c in ((ordered.same d.proto).0 is.ordered, member_from inherits associated d.proto d.name is.member),
-        λ h. symbol_there order (has_member inherits associated) (length names) d (named d.proto d.name h.1) ((ordered.same d.proto).1 h.0) (member_to inherits associated d.proto d.name h.1));
+        λ h. symbol_there order (has_member inherits associated) (length names) d (named d.proto d.name h.1) ((ordered.same d.proto).1 h.0) (member_to inherits associated d.proto d.name h.1),
+      );
     }
 
     pub lexicon_is : IsRanking bytes_cmp (Contains (protocol_names text s.protocols)) ps.protocols → IsRanking bytes_cmp (Contains (mentioned text s)) names

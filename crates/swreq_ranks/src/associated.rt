@@ -201,12 +201,7 @@ fn declarers_of(
 }
 
 /// Whether some protocol that the protocol inherits declares the name.
-fn inherits_name(
-    protocols: &Protocols,
-    lists: &[ProtoList],
-    p: ProtoId,
-    a: NameId,
-) -> bool
+fn inherits_name(protocols: &Protocols, lists: &[ProtoList], p: ProtoId, a: NameId) -> bool
     ensures { result ≡ list_any (inherits_by protocols.now.places protocols.now.resolved.inherits p) (slice_index_or lists.now a.rank []) }
 {
     list_of(lists, a).iter().any(|q| protocols.inherits(p, *q))

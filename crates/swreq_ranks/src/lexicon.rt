@@ -50,7 +50,7 @@ impl Model for Lexicon {
     } };
 
     ghost invariant = { λ x. (length x.names ≤ 1048576) × (length x.symbols.order ≤ 1048576)
-      × AreStarts x.symbols.order (has_member (inherits_by x.protocols.places x.protocols.resolved.inherits) x.associated) (length x.names) x.symbols.starts };
+        × AreStarts x.symbols.order (has_member (inherits_by x.protocols.places x.protocols.resolved.inherits) x.associated) (length x.names) x.symbols.starts };
 }
 
 impl Lexicon {

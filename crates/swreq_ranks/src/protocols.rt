@@ -60,7 +60,12 @@ impl Protocols {
         let ranks = ranks_of(alloc, text, protocols)?;
         let places = places(alloc, text, protocols, &ranks)?;
         let written_order = written_order(alloc, text, protocols, &ranks)?;
-        Ok(Protocols { ranks, places, written_order, resolved })
+        Ok(Protocols {
+            ranks,
+            places,
+            written_order,
+            resolved,
+        })
     }
 
     /// How many there are.
@@ -93,7 +98,9 @@ impl Protocols {
     pub fn id(&self, name: &[u8]) -> ProtoId
         ensures { result ≡ proto_by self.now.protocols name.now }
     {
-        ProtoId { rank: rank_or_first(&self.ranks, name) }
+        ProtoId {
+            rank: rank_or_first(&self.ranks, name),
+        }
     }
 
     /// A protocol by its place in written order.
@@ -155,11 +162,7 @@ pub fn rank_or_first(ranks: &Ranks, name: &[u8]) -> u32
 }
 
 /// The names of the protocols, in written order.
-fn names(
-    alloc: Global,
-    text: &[u8],
-    protocols: &[ProtocolDecl],
-) -> Result<Vec<Seq<u8>>, AllocError>
+fn names(alloc: Global, text: &[u8], protocols: &[ProtocolDecl]) -> Result<Vec<Seq<u8>>, AllocError>
     ensures { IfOk result (λ names. names.items ≡ protocol_names text.now protocols.now) }
 {
     let mut names = Vec::new(alloc);
@@ -226,7 +229,9 @@ fn written_order(
 {
     let mut order = Vec::new(alloc);
     for p in protocols {
-        order.push(ProtoId { rank: rank_or_first(ranks, word(text, p.name)) })?;
+        order.push(ProtoId {
+            rank: rank_or_first(ranks, word(text, p.name)),
+        })?;
     }
     Ok(order)
 }

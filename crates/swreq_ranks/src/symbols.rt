@@ -113,7 +113,13 @@ impl Symbols {
     {
         let rank = last_from(&self.starts, names, m);
         let name = NameId { rank: rank as u32 };
-        let proto = nth(protocols, associated, &self.order, name, m - self.starts[rank]);
+        let proto = nth(
+            protocols,
+            associated,
+            &self.order,
+            name,
+            m - self.starts[rank],
+        );
         ProtocolName { proto, name }
     }
 }
@@ -142,7 +148,7 @@ fn protos(alloc: Global, keys: &[OrderKey]) -> Result<Vec<ProtoId>, AllocError>
 /// The protocols in their order within each name: those first that inherit more.
 fn order(alloc: Global, protocols: &Protocols) -> Result<Vec<ProtoId>, AllocError>
     ensures ranking { IfOk result (λ order. IsRanking (order_cmp (inherits_by protocols.now.places protocols.now.resolved.inherits) (length protocols.now.protocols))
-            (λ p. p.rank < length protocols.now.protocols) order.items) }
+        (λ p. p.rank < length protocols.now.protocols) order.items) }
     ensures few { IfOk result (λ order. length order.items ≤ 1048576) }
 {
     let _count = protocols.len();

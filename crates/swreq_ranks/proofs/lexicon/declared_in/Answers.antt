@@ -1,4 +1,4 @@
-use Rattle.std.proofs.Common.{◌≡◌, ◌∙◌, [], ◌++◌, map, ap}
+use Rattle.std.proofs.Common.{◌∙◌, [], ◌++◌, map, ap}
 use Rattle.swreq_names.proofs.Pieces.{pieces_more}
 use Rattle.swreq_names.specs.Spaces.{word}
 use Rattle.swreq_ranks.specs.Lexicons.{pair, proto_by, name_by}

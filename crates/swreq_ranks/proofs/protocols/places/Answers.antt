@@ -1,4 +1,4 @@
-use Rattle.std.proofs.Common.{◌≡◌, ◌-◌, ◌<◌, ◌≤◌, ◌∙◌, cond, length, get_or, arith, rules}
+use Rattle.std.proofs.Common.{◌-◌, ◌<◌, ◌≤◌, ◌∙◌, cond, length, get_or, arith, rules}
 use Rattle.std.specs.Str.{bytes_eq}
 use Rattle.swreq_names.specs.Spaces.{word}
 use Rattle.swreq_ranks.specs.Texts.{protocol_names}

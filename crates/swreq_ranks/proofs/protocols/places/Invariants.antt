@@ -1,4 +1,4 @@
-use Rattle.std.proofs.Common.{◌≡◌, ℕ, ◌≤◌, List, length, drop, slice_get, get_or, Some}
+use Rattle.std.proofs.Common.{◌≡◌, ℕ, ◌≤◌, length, drop, slice_get, get_or, Some}
 use Rattle.std.specs.List.{position_from}
 use Rattle.std.specs.Str.{bytes_eq}
 use Rattle.swreq_ranks.specs.Ranks.{Bytes}

@@ -1,4 +1,4 @@
-use Rattle.std.proofs.Common.{◌≡◌, ◌≤◌, ◌↔◌, List, length, Contains, subst, arith}
+use Rattle.std.proofs.Common.{◌≤◌, ◌↔◌, List, length, Contains, subst, arith}
 use Rattle.swreq_ranks.specs.Ranks.{Bytes, bytes_cmp}
 use Rattle.swreq_ranks.specs.Texts.{protocol_names}
 use Rattle.swreq_ranks.proofs.Names.{rising_names, few_names}
@@ -16,6 +16,6 @@ pub returns-clause-few : goal.returns-clause-few
 returns-clause-few c =
     let size = names_length c.args.text.now c.args.protocols.now in
     let few : length c.in_ok-ranks.ranks ≤ length (protocol_names c.args.text.now c.args.protocols.now) =
-        few_names c.in_ok-ranks.ranks (protocol_names c.args.text.now c.args.protocols.now) (rising_names c.in_ok-ranks.ranks c.len-count.ensures.rising)
-        (subst (λ (xs : List Bytes). (q : Bytes) → Contains c.in_ok-ranks.ranks q → Contains xs q) c.in_ok-names.ensures (λ q. (c.in_ok-ranks.ensures q).0)) in
+    few_names c.in_ok-ranks.ranks (protocol_names c.args.text.now c.args.protocols.now) (rising_names c.in_ok-ranks.ranks c.len-count.ensures.rising)
+    (subst (λ (xs : List Bytes). (q : Bytes) → Contains c.in_ok-ranks.ranks q → Contains xs q) c.in_ok-names.ensures (λ q. (c.in_ok-ranks.ensures q).0)) in
     omega (arith, size, few)

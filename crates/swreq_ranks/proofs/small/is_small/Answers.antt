@@ -1,4 +1,4 @@
-use Rattle.std.proofs.Common.{◌≡◌, ◌∙◌, ◌≤◌, length, sym, arith, rules}
+use Rattle.std.proofs.Common.{arith, rules}
 use Rattle.std.proofs.lemmas.Bool.{leb-true, le-leb}
 use Rattle.swreq_ranks.specs.Ranks.{bytes_cmp}
 use Rattle.swreq_ranks.proofs.Names.{few_names}
@@ -19,4 +19,5 @@ returns-in_ok-names c = (
   λ small.
       let few = small.names c.in_ok-names.names c.in_ok-names.ensures in
       let len = c.len-count.ensures.len in
-      le-leb c.len-count.result 1048576 (omega (arith, few, len)))
+      le-leb c.len-count.result 1048576 (omega (arith, few, len)),
+)

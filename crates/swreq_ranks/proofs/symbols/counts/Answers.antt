@@ -1,4 +1,4 @@
-use Rattle.std.proofs.Common.{◌≡◌, ◌∙◌, ◌<◌, ◌≤◌, Bool, List, length, get_or, take, ap, sym, arith}
+use Rattle.std.proofs.Common.{◌∙◌, ◌<◌, List, length, take, ap, sym, arith}
 use Rattle.std.proofs.lemmas.List.{length-take-le, take_all, length-map}
 use Rattle.swreq_param.specs.declared.ids.ProtoId.{ProtoId}
 use Rattle.swreq_ranks.specs.Associated.{name}

@@ -1,4 +1,4 @@
-use Rattle.std.proofs.Common.{ℕ, ◌<◌, ◌≤◌, ◌-◌, get_or}
+use Rattle.std.proofs.Common.{◌<◌, ◌≤◌, ◌-◌, get_or}
 use Rattle.swreq_ranks.proofs.symbols.last_from.Given as goal
 
 abbrev pub invariant-loop-low : goal.invariant-loop-low

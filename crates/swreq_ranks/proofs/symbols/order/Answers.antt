@@ -1,4 +1,4 @@
-use Rattle.std.proofs.Common.{◌≡◌, ◌∙◌, ◌≤◌, ◌<◌, ◌↔◌, List, length, map, Contains, sym, ap, subst, arith}
+use Rattle.std.proofs.Common.{◌∙◌, ◌≤◌, ◌<◌, ◌↔◌, List, length, map, Contains, sym, ap, subst, arith}
 use Rattle.swreq_param.specs.declared.ids.ProtoId.{ProtoId}
 use Rattle.swreq_ranks.specs.declared.symbols.OrderKey.{OrderKey}
 use Rattle.swreq_ranks.specs.Associated.{order_cmp}

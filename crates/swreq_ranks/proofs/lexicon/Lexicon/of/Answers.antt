@@ -1,11 +1,10 @@
-use Rattle.std.proofs.Common.{◌≡◌, ◌∙◌, ◌≤◌, ◌<◌, ◌↔◌, ℕ, List, length, map, slice_get, Some, Contains, sym, ap, subst, arith}
+use Rattle.std.proofs.Common.{◌≡◌, ◌∙◌, List, map, slice_get, Some, Contains, sym, ap, subst}
 use Rattle.std.specs.List.{position_from}
 use Rattle.std.specs.Str.{bytes_eq}
 use Rattle.swreq_decl.specs.declared.skeleton.ProtocolDecl.{ProtocolDecl}
-use Rattle.swreq_names.specs.Names.{NamesView, HasDeclared}
+use Rattle.swreq_names.specs.Names.{HasDeclared}
 use Rattle.swreq_names.specs.Spaces.{word}
 use Rattle.swreq_param.specs.declared.ids.ProtoId.{ProtoId}
-use Rattle.swreq_ranks.specs.declared.pair.ProtocolName.{ProtocolName}
 use Rattle.swreq_ranks.specs.Lexicons.{proto_by}
 use Rattle.swreq_ranks.specs.Ranks.{Bytes, IsRanking, bytes_cmp}
 use Rattle.swreq_ranks.specs.Symbols.{has_member, AreStarts}
@@ -15,11 +14,12 @@ use Rattle.swreq_ranks.proofs.Whole.{lexicon_is}
 use Rattle.swreq_ranks.proofs.lexicon.Lexicon.of.Goals as goal
 
 pub invariant_of-result : goal.invariant_of-result
-invariant_of-result c =
-    (c.requires.small.names c.in_ok-names.names c.in_ok-names.ensures,
-    c.in_ok-symbols.ensures.few,
-    subst (λ n. AreStarts c.in_ok-symbols.symbols.order (has_member (inherits_by c.in_ok-protocols.protocols.places c.in_ok-protocols.protocols.resolved.inherits) c.in_ok-associated.associated) n c.in_ok-symbols.symbols.starts)
-    c.len-2.ensures.len c.in_ok-symbols.ensures.starts)
+invariant_of-result c = (
+  c.requires.small.names c.in_ok-names.names c.in_ok-names.ensures,
+  c.in_ok-symbols.ensures.few,
+  subst (λ n. AreStarts c.in_ok-symbols.symbols.order (has_member (inherits_by c.in_ok-protocols.protocols.places c.in_ok-protocols.protocols.resolved.inherits) c.in_ok-associated.associated) n c.in_ok-symbols.symbols.starts)
+      c.len-2.ensures.len c.in_ok-symbols.ensures.starts,
+)
 
 pub returns : goal.returns
 returns c =

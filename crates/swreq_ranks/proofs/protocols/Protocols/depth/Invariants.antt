@@ -1,4 +1,4 @@
-use Rattle.std.proofs.Common.{◌≡◌, ◌≤◌, length}
+use Rattle.std.proofs.Common.{◌≡◌, ◌≤◌}
 use Rattle.swreq_ranks.specs.Associated.{protocol, count_below}
 use Rattle.swreq_ranks.specs.Views.{inherits_by}
 use Rattle.swreq_ranks.proofs.protocols.Protocols.depth.Given as goal

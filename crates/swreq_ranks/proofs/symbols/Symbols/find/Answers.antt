@@ -1,4 +1,4 @@
-use Rattle.std.proofs.Common.{◌≡◌, ◌∙◌, ◌+◌, ◌≤◌, ◌<◌, ℕ, nat_eq, List, length, get_or, take, position, slice_get, Some, None, ap, sym, subst, arith}
+use Rattle.std.proofs.Common.{◌≡◌, ◌∙◌, ◌+◌, nat_eq, List, length, get_or, take, position, slice_get, Some, ap, sym, arith}
 use Rattle.swreq_param.specs.declared.ids.ProtoId.{ProtoId}
 use Rattle.swreq_ranks.specs.Symbols.{has_member, having, symbols_below, SymbolsView}
 use Rattle.swreq_ranks.specs.Views.{inherits_by}
@@ -12,13 +12,13 @@ overflow_add-result c =
     let order = c.args.self.now.order in
     let below = c.if-a-names.true in
     let start : c.index.result.now ≡ length (symbols_below order has c.args.a.rank) =
-        c.index.ensures ∙ ap (λ (v : SymbolsView). get_or v.starts c.args.a.rank c.index.result.now) c.self.view_is
-        ∙ start_is order has c.args.names c.args.self.now.starts c.requires.starts c.args.a.rank c.index.result.now (omega (arith, below)) in
+    c.index.ensures ∙ ap (λ (v : SymbolsView). get_or v.starts c.args.a.rank c.index.result.now) c.self.view_is
+    ∙ start_is order has c.args.names c.args.self.now.starts c.requires.starts c.args.a.rank c.index.result.now (omega (arith, below)) in
     let placed : position (λ q. nat_eq c.args.p.rank q.rank) order ≡ Some c.in-Some.place =
-        ap (λ (ps : List ProtoId). position (λ q. nat_eq c.args.p.rank q.rank) ps) (sym (c.deref.ensures.value ∙ ap (λ (v : SymbolsView). v.order) c.self.view_is)) ∙ sym c.in-Some.ensures in
+    ap (λ (ps : List ProtoId). position (λ q. nat_eq c.args.p.rank q.rank) ps) (sym (c.deref.ensures.value ∙ ap (λ (v : SymbolsView). v.order) c.self.view_is)) ∙ sym c.in-Some.ensures in
     let before : c.count_before-before.result ≡ length (having (take c.in-Some.place order) has c.args.a) =
-        c.count_before-before.ensures
-        ∙ ap (λ (ps : List ProtoId). length (having (take c.in-Some.place ps) has c.args.a)) (c.deref-in-Some.ensures.value ∙ ap (λ (v : SymbolsView). v.order) c.self.view_is) in
+    c.count_before-before.ensures
+    ∙ ap (λ (ps : List ProtoId). length (having (take c.in-Some.place ps) has c.args.a)) (c.deref-in-Some.ensures.value ∙ ap (λ (v : SymbolsView). v.order) c.self.view_is) in
     let fits = rank_fits order has c.args.names c.args.p c.args.a c.in-Some.place c.index.result.now c.count_before-before.result placed below c.requires.names c.requires.few start before in
     omega (arith, fits)
 
@@ -28,13 +28,13 @@ returns-in-Some c =
     let order = c.args.self.now.order in
     let below = c.if-a-names.true in
     let start : c.index.result.now ≡ length (symbols_below order has c.args.a.rank) =
-        c.index.ensures ∙ ap (λ (v : SymbolsView). get_or v.starts c.args.a.rank c.index.result.now) c.self.view_is
-        ∙ start_is order has c.args.names c.args.self.now.starts c.requires.starts c.args.a.rank c.index.result.now (omega (arith, below)) in
+    c.index.ensures ∙ ap (λ (v : SymbolsView). get_or v.starts c.args.a.rank c.index.result.now) c.self.view_is
+    ∙ start_is order has c.args.names c.args.self.now.starts c.requires.starts c.args.a.rank c.index.result.now (omega (arith, below)) in
     let placed : position (λ q. nat_eq c.args.p.rank q.rank) order ≡ Some c.in-Some.place =
-        ap (λ (ps : List ProtoId). position (λ q. nat_eq c.args.p.rank q.rank) ps) (sym (c.deref.ensures.value ∙ ap (λ (v : SymbolsView). v.order) c.self.view_is)) ∙ sym c.in-Some.ensures in
+    ap (λ (ps : List ProtoId). position (λ q. nat_eq c.args.p.rank q.rank) ps) (sym (c.deref.ensures.value ∙ ap (λ (v : SymbolsView). v.order) c.self.view_is)) ∙ sym c.in-Some.ensures in
     let before : c.count_before-before.result ≡ length (having (take c.in-Some.place order) has c.args.a) =
-        c.count_before-before.ensures
-        ∙ ap (λ (ps : List ProtoId). length (having (take c.in-Some.place ps) has c.args.a)) (c.deref-in-Some.ensures.value ∙ ap (λ (v : SymbolsView). v.order) c.self.view_is) in
+    c.count_before-before.ensures
+    ∙ ap (λ (ps : List ProtoId). length (having (take c.in-Some.place ps) has c.args.a)) (c.deref-in-Some.ensures.value ∙ ap (λ (v : SymbolsView). v.order) c.self.view_is) in
     (λ i. slice_get (symbols_below order has c.args.names) (start i + before i))
     ∙ rank_found order has c.args.names c.args.p c.args.a c.in-Some.place placed below (sym c.has_member.ensures ∙ c.if-has_member.true)
 
