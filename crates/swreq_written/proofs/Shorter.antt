@@ -31,7 +31,10 @@ use Rattle.swreq_names.specs.declared.signature.Signature.{Signature}
 use Rattle.swreq_names.specs.declared.signature.Signature.TheVariants.{Struct, Function, Nested}
 use Rattle.swreq_names.specs.Mentioned as names
 use Rattle.swreq_names.specs.Spaces.{spaces, declaration, declarations, of_params, outer_params as declared_outer, own_params as declared_own}
+use Rattle.swreq_ranks.specs.Ranks.{bytes_cmp}
 use Rattle.swreq_ranks.specs.Texts.{IsSmall}
+use Rattle.swreq_ranks.proofs.Names.{few_names}
+use Rattle.swreq_ranks.proofs.Rising.{rising_from_sorted}
 use Rattle.swreq_written.specs.Short.{HasShortLists}
 use Rattle.swreq_written.specs.Signatures.{params_of_struct, params_of_function, functions_of, outer_params, own_params, nested_from, functions_from, with_nested, merged, in_order}
 use Rattle.swreq_written.proofs.Sizes.{type_size, entity_size, bounds_size, requirement_size, clause_size, member_size, protocol_size, param_size, function_size, struct_size, ask_size, query_size, item_size, parts_bound}
@@ -310,7 +313,10 @@ module _ (text : List ℕ) (s : Skeleton) where
   small h = record {
     protocols = let i = count_sum protocol_size s.protocols (λ p. omega arith) in omega arith;
     associated = let i = pieces_sum (λ (p : ProtocolDecl). p.members) protocol_size s.protocols (λ p. let j = count_sum member_size p.members (λ m. omega arith) in omega arith) in omega arith;
-    names = let i = all_names text s in omega arith;
+    names = λ ranking are.
+        let i = all_names text s in
+        let j = few_names ranking (names.mentioned text s) (rising_from_sorted bytes_cmp ranking are.sorted) (λ q h. (are.same q).0 h) in
+        omega arith;
   }
 
   pub short_lists : ((ts : List lexed.Token) → HasTokens text ts → AreSlices text (first_offset (chars text)) ts) → length text ≤ 1048576 → StandsFor text s → HasShortLists text s
