@@ -104,6 +104,9 @@ module _ (text : List ℕ) (parsed : Result Skeleton ParseErr) (o : Outcome) (ex
   reported_refusal (refusals.UnknownSignature at) has = reported_names (names.UnknownSignature at) has
   reported_refusal (refusals.WrongArity at) has = reported_names (names.WrongArity at) has
   reported_refusal (refusals.Cycle at) has = reported_names (names.Cycle at) has
+  reported_refusal (refusals.NotATypeParameter at) has = absurd has
+  reported_refusal (refusals.LimitRules max) has = absurd has
+  reported_refusal (refusals.LimitLength max) has = absurd has
   reported_refusal refusals.NotBuilt has = absurd has
   reported_refusal refusals.ReadFault has = absurd has
   reported_refusal refusals.OutOfMemory has = absurd has
