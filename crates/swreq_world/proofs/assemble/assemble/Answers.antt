@@ -1,0 +1,31 @@
+use Rattle.std.proofs.Common.{sym, subst}
+use Rattle.swreq_names.specs.Names.{HasDeclared}
+use Rattle.swreq_written.specs.Short.{HasShortLists}
+use Rattle.swreq_written.specs.Words.{WordsView, words_by}
+use Rattle.swreq_world.specs.ByTable.{world_by, IsOverTable}
+use Rattle.swreq_world.specs.WorldOf.{IsWorldOf}
+use Rattle.swreq_world.specs.Worlds.{IdWorld}
+use Rattle.swreq_world.proofs.Assembling.{ready, world_is, over_is}
+use Rattle.swreq_world.proofs.assemble.assemble.Goals as goal
+
+pub words_of-words-requires : goal.words_of-words-requires
+words_of-words-requires c = record { limit = c.requires.limit; stands = c.requires.stands; declared = c.requires.lexicon.resolved }
+
+pub lists_of-requires-clause-short : goal.lists_of-requires-clause-short
+lists_of-requires-clause-short c = subst (λ (w : WordsView). HasShortLists w.text w.skeleton) (sym c.words_of-words.ensures) c.requires.short
+
+pub lists_of-requires-clause-declared : goal.lists_of-requires-clause-declared
+lists_of-requires-clause-declared c = subst (λ (w : WordsView). HasDeclared w.text w.skeleton w.lexicon.resolved) (sym c.words_of-words.ensures) c.requires.lexicon.resolved
+
+pub of-requires : goal.of-requires
+of-requires c =
+    ready c.args.text.now c.args.s.now c.args.lexicon c.args.table.now c.lists_of.new.table (words_by c.words_of-words.result) c.in_ok-made.made c.words_of-words.ensures c.requires.short c.requires.lexicon
+    c.in_ok-made.ensures
+
+pub returns : goal.returns
+returns c = record {
+  world = subst (λ (w : IdWorld). IsWorldOf c.args.text.now c.args.s.now (world_by c.lists_of.new.table w)) (sym c.of.ensures)
+      (world_is c.args.text.now c.args.s.now c.args.lexicon c.args.table.now c.lists_of.new.table (words_by c.words_of-words.result) c.in_ok-made.made c.words_of-words.ensures c.requires.lexicon c.in_ok-made.ensures);
+  over = subst (IsOverTable c.lists_of.new.table) (sym c.of.ensures)
+      (over_is c.args.text.now c.args.s.now c.args.lexicon c.args.table.now c.lists_of.new.table (words_by c.words_of-words.result) c.in_ok-made.made c.in_ok-made.ensures);
+}

@@ -1,0 +1,12 @@
+pub mod Places
+pub mod Worlds
+pub mod ByTable
+pub mod Text
+pub mod WorldOf
+pub mod Filling
+pub mod Entries
+pub mod Inside
+pub mod Lookups
+pub mod FactsAt
+pub mod Made
+pub mod Ready

@@ -1,0 +1,37 @@
+-- What the look-ups of a world answer.
+use Rattle.std.specs.Prelude.{◌≡◌, ℕ, Bool, true, false, List, Option, Some, None, map}
+use Rattle.std.specs.Option.{option_map}
+use Rattle.swreq_param.specs.declared.ids.ParamId.{ParamId}
+use Rattle.swreq_names.specs.declared.signature.Signature.{Signature}
+use Rattle.swreq_names.specs.declared.signature.Signature.TheVariants.{Struct}
+use Rattle.swreq_names.specs.Spaces.{Spaces, signature_of, nested_of, param_of}
+use Rattle.swreq_written.specs.declared.ids.FuncId.{FuncId}
+use Rattle.swreq_written.specs.Signatures.{func_id}
+use Rattle.swreq_written.specs.Types.{param_id}
+use Rattle.swreq_world.specs.Worlds.{WorldOver, SignatureOver, signature_at}
+
+abbrev pub is_struct : Signature → Bool
+is_struct (Struct i) = true
+is_struct _ = false
+
+-- the signatures in written order
+abbrev pub order_of : {R Q : Type 0} → WorldOver R Q → List Signature
+order_of w = map (λ g. g.signature) w.signatures
+
+-- the struct or function at the top of this name, or the function of the struct `outer`
+abbrev pub signature_named : Spaces → Option (List ℕ) → List ℕ → Option Signature
+signature_named d None name = signature_of d name
+signature_named d (Some outer) name = nested_of d outer name
+
+-- its place
+abbrev pub func_named : {R Q : Type 0} → WorldOver R Q → Option (List ℕ) → List ℕ → Option FuncId
+func_named w outer name = option_map (func_id (order_of w)) (signature_named w.lexicon.resolved.declared outer name)
+
+-- the generic parameter of a signature that a name refers to
+abbrev pub param_of_signature : {R Q : Type 0} → WorldOver R Q → FuncId → List ℕ → Option ParamId
+param_of_signature w f name = option_map (param_id (signature_at w f).own_depth) (param_of w.lexicon.resolved.declared (signature_at w f).signature name)
+
+-- the name of the struct around a signature
+abbrev pub outer_name : {R Q : Type 0} → WorldOver R Q → Option FuncId → Option (List ℕ)
+outer_name w None = None
+outer_name w (Some g) = Some (signature_at w g).name

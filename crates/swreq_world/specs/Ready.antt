@@ -1,0 +1,16 @@
+-- What makes a world of a lexicon and lists.
+use Rattle.std.specs.Prelude.{◌≡◌, ℕ, ◌≤◌, [], length, map, slice_index_or}
+use Rattle.swreq_derive.specs.Facts.{AreOneToOne}
+use Rattle.swreq_ranks.specs.Lexicons.{associated_types}
+use Rattle.swreq_ranks.specs.Views.{LexiconView}
+use Rattle.swreq_written.specs.Small.{HasFewParams}
+use Rattle.swreq_world.specs.declared.made.Lists.{Lists}
+
+-- Each protocol has its list, the signatures stand in their order, and places fit 32 bits. Each declared pair is one associated type.
+pub record IsReady (lexicon : LexiconView) (made : Lists) : Type 0 where
+  pub requirements : length made.requirements.items ≡ length lexicon.protocols
+  pub order : made.order ≡ map (λ e. e.signature) made.signatures.items
+  pub few : length made.signatures.items ≤ 1048576
+  pub params : HasFewParams lexicon.resolved.declared
+  pub functions_of : (i : ℕ) → length (slice_index_or lexicon.resolved.declared.nested i []) ≤ 1048576
+  pub one_to_one : AreOneToOne (associated_types lexicon.associated)

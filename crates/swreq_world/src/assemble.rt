@@ -1,0 +1,91 @@
+// The world of a skeleton whose names resolve.
+ghost use Rattle.std.specs.Prelude.{◌≡◌, ◌≤◌, ◌⊎◌, length, IfOk, IfErr, IsOk, Err};
+ghost use Rattle.swreq_decl.specs.Skeletons.{StandsFor};
+ghost use Rattle.swreq_names.specs.Names.{HasDeclared, Resolve, Refuses};
+ghost use Rattle.swreq_names.specs.declared.refusal.NameErr.{NameErr};
+ghost use Rattle.swreq_names.specs.declared.refusal.NameErr.TheVariants.{Memory};
+ghost use Rattle.swreq_ranks.specs.Texts.{IsLexiconOf};
+ghost use Rattle.swreq_written.specs.Short.{HasShortLists};
+ghost use Rattle.swreq_world.specs.ByTable.{world_by, IsOverTable};
+ghost use Rattle.swreq_world.specs.WorldOf.{IsWorldOf};
+
+use crate::making::lists_of;
+use crate::world::World;
+use std::alloc::{AllocError, Global};
+use swreq_decl::Skeleton;
+use swreq_names::{NameErr, Names, resolve_names};
+use swreq_param::ParamTable;
+use swreq_ranks::Lexicon;
+use swreq_written::laws::lists_are_short;
+use swreq_written::words_of;
+
+/// The world of a skeleton with this lexicon.
+fn assemble(
+    alloc: Global,
+    text: &[u8],
+    s: &Skeleton,
+    lexicon: Lexicon,
+    table: &mut ParamTable,
+) -> Result<World, AllocError>
+    requires limit { length text.now ≤ 1048576 }
+    requires stands { StandsFor text.now s.now }
+    requires short { HasShortLists text.now s.now }
+    requires lexicon { IsLexiconOf text.now s.now lexicon }
+    ensures world { IfOk result (λ w. IsWorldOf text.now s.now (world_by table.new w)) }
+    ensures over { IfOk result (IsOverTable table.new) }
+{
+    let words = words_of(text, s, &lexicon);
+    let made = lists_of(alloc, table, &words)?;
+    Ok(World::of(lexicon, made))
+}
+
+/// The world of a skeleton with these names.
+fn with_names(
+    alloc: Global,
+    text: &[u8],
+    s: &Skeleton,
+    names: Names,
+    table: &mut ParamTable,
+) -> Result<World, AllocError>
+    requires limit { length text.now ≤ 1048576 }
+    requires stands { StandsFor text.now s.now }
+    requires declared { HasDeclared text.now s.now names }
+    ensures world { IfOk result (λ w. IsWorldOf text.now s.now (world_by table.new w)) }
+    ensures over { IfOk result (IsOverTable table.new) }
+{
+    lists_are_short(text);
+    let lexicon = Lexicon::of(alloc, text, s, names)?;
+    assemble(alloc, text, s, lexicon, table)
+}
+
+impl World {
+    /// The world of the skeleton that stands for a text of at most 1,048,576 bytes. Ok exactly where its names resolve and no
+    /// protocol inherits itself, and then the table has each type parameter of the text.
+    ///
+    /// Where they do not, the refusal is of the name with the least offset among those that are refused. `Cycle` comes only
+    /// where no name is refused, at the name of the first protocol in written order that inherits itself. After a refusal the
+    /// table has some of the type parameters of the text.
+    pub fn resolve(
+        alloc: Global,
+        text: &[u8],
+        s: &Skeleton,
+        table: &mut ParamTable,
+    ) -> Result<World, NameErr>
+        requires limit { length text.now ≤ 1048576 }
+        requires stands { StandsFor text.now s.now }
+        ensures world { IfOk result (λ w. IsWorldOf text.now s.now (world_by table.new w)) }
+        ensures over { IfOk result (IsOverTable table.new) }
+        ensures ok { IsOk result → Resolve text.now s.now }
+        ensures resolves { Resolve text.now s.now → IsOk result ⊎ (result ≡ Err Memory) }
+        ensures refused { IfErr result (λ e. Refuses text.now s.now e ⊎ (e ≡ Memory)) }
+        ensures refuses { (e : NameErr) → Refuses text.now s.now e → (result ≡ Err e) ⊎ (result ≡ Err Memory) }
+    {
+        match resolve_names(alloc, text, s) {
+            Ok(names) => match with_names(alloc, text, s, names, table) {
+                Ok(world) => Ok(world),
+                Err(_) => Err(NameErr::Memory),
+            },
+            Err(refusal) => Err(refusal),
+        }
+    }
+}

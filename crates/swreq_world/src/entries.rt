@@ -1,0 +1,201 @@
+// The signatures of a text, with their lists.
+ghost use Rattle.std.specs.Prelude.{◌≡◌, ◌<◌, ◌^◌, length, slice_get, map, IfOk};
+ghost use Rattle.swreq_param.specs.Tables.{Extends};
+ghost use Rattle.swreq_world.specs.Entries.{IsEntryOf, entry_meant, FillsEntries};
+ghost use Rattle.swreq_world.specs.Text.{function_name, list_of, name_of, of_function, of_nested_in, of_struct, outer_of, signature_in, struct_name};
+ghost use Rattle.swreq_written.specs.Adding.{Lists};
+ghost use Rattle.swreq_written.specs.Requirements.{in_nested};
+ghost use Rattle.swreq_written.specs.Short.{HasShortLists};
+ghost use Rattle.swreq_written.specs.Signatures.{functions_of};
+ghost use Rattle.swreq_written.specs.Words.{words_by};
+
+use crate::entry::Entry;
+use crate::listed::Listed;
+use crate::order::Order;
+use std::alloc::{AllocError, Global};
+use swreq_decl::{FunctionDecl, StructDecl};
+use swreq_names::{Signature, word};
+use swreq_param::ParamTable;
+use swreq_text::Seq;
+use swreq_written::{
+    FuncId, Words, Written, of_function, of_nested, of_struct, own_depth, params_of,
+};
+
+fn struct_name<'a>(words: &Words<'a>, place: usize) -> &'a [u8]
+    ensures { result.now ≡ struct_name (words_by words.now) (slice_get words.now.skeleton.now.structs place) }
+{
+    match words.skeleton.structs.items().get(place) {
+        Some(s) => word(words.text, s.name),
+        None => &[],
+    }
+}
+
+fn function_name<'a>(words: &Words<'a>, functions: &[FunctionDecl], place: usize) -> &'a [u8]
+    ensures { result.now ≡ function_name (words_by words.now) (slice_get functions.now place) }
+{
+    match functions.get(place) {
+        Some(f) => word(words.text, f.name),
+        None => &[],
+    }
+}
+
+fn functions_of(structs: &[StructDecl], place: usize) -> &[FunctionDecl]
+    ensures { result.now ≡ functions_of (slice_get structs.now place) }
+{
+    match structs.get(place) {
+        Some(s) => s.functions.items(),
+        None => &[],
+    }
+}
+
+/// The name of a signature.
+fn name_of<'a>(words: &Words<'a>, g: Signature) -> &'a [u8]
+    ensures { result.now ≡ name_of (words_by words.now) g }
+{
+    match g {
+        Signature::Struct(place) => struct_name(words, place),
+        Signature::Function(place) => function_name(words, words.skeleton.functions.items(), place),
+        Signature::Nested { outer, function } => {
+            let functions = functions_of(words.skeleton.structs.items(), outer);
+            function_name(words, functions, function)
+        }
+    }
+}
+
+/// The struct around a signature.
+fn outer_of(order: &Order, g: Signature) -> Option<FuncId>
+    ensures { result ≡ outer_of order.now g }
+{
+    match g {
+        Signature::Nested { outer, .. } => Some(order.func_id(Signature::Struct(outer))),
+        _ => None,
+    }
+}
+
+fn list_of_struct(
+    alloc: Global,
+    table: &mut ParamTable,
+    words: &Words<'_>,
+    place: usize,
+) -> Result<Vec<Written>, AllocError>
+    requires { HasShortLists words.now.text.now words.now.skeleton.now }
+    ensures { IfOk result (λ v. Lists table.old table.new (of_struct (words_by words.now) place (slice_get words.now.skeleton.now.structs place)) v.items) }
+{
+    match words.skeleton.structs.items().get(place) {
+        Some(s) => of_struct(alloc, table, words, place, s),
+        None => Ok(Vec::new(alloc)),
+    }
+}
+
+fn list_of_function(
+    alloc: Global,
+    table: &mut ParamTable,
+    words: &Words<'_>,
+    place: usize,
+) -> Result<Vec<Written>, AllocError>
+    requires { HasShortLists words.now.text.now words.now.skeleton.now }
+    ensures { IfOk result (λ v. Lists table.old table.new (of_function (words_by words.now) place (slice_get words.now.skeleton.now.functions place)) v.items) }
+{
+    match words.skeleton.functions.items().get(place) {
+        Some(f) => of_function(alloc, table, words, place, f),
+        None => Ok(Vec::new(alloc)),
+    }
+}
+
+/// The list of a struct, followed by what is written in a function of it.
+fn list_within(
+    alloc: Global,
+    table: &mut ParamTable,
+    words: &Words<'_>,
+    outer: usize,
+    s: &StructDecl,
+    function: usize,
+    f: &FunctionDecl,
+) -> Result<Vec<Written>, AllocError>
+    requires outer { length s.now.params < 2 ^ 32 }
+    requires own { length f.now.params < 2 ^ 32 }
+    ensures { IfOk result (λ v. Lists table.old table.new (in_nested (words_by words.now) outer s.now function f.now) v.items) }
+{
+    let list = of_struct(alloc, table, words, outer, s)?;
+    of_nested(alloc, table, words, outer, &list, function, f)
+}
+
+fn list_of_nested(
+    alloc: Global,
+    table: &mut ParamTable,
+    words: &Words<'_>,
+    outer: usize,
+    function: usize,
+) -> Result<Vec<Written>, AllocError>
+    requires { HasShortLists words.now.text.now words.now.skeleton.now }
+    ensures { IfOk result (λ v. Lists table.old table.new (of_nested_in (words_by words.now) outer function (slice_get words.now.skeleton.now.structs outer)) v.items) }
+{
+    match words.skeleton.structs.items().get(outer) {
+        Some(s) => match s.functions.items().get(function) {
+            Some(f) => list_within(alloc, table, words, outer, s, function, f),
+            None => Ok(Vec::new(alloc)),
+        },
+        None => Ok(Vec::new(alloc)),
+    }
+}
+
+/// The list of a signature.
+fn list_of(
+    alloc: Global,
+    table: &mut ParamTable,
+    words: &Words<'_>,
+    g: Signature,
+) -> Result<Vec<Written>, AllocError>
+    requires { HasShortLists words.now.text.now words.now.skeleton.now }
+    ensures { IfOk result (λ v. Lists table.old table.new (list_of (words_by words.now) g) v.items) }
+{
+    match g {
+        Signature::Struct(place) => list_of_struct(alloc, table, words, place),
+        Signature::Function(place) => list_of_function(alloc, table, words, place),
+        Signature::Nested { outer, function } => {
+            list_of_nested(alloc, table, words, outer, function)
+        }
+    }
+}
+
+/// A signature with its list.
+fn entry(
+    alloc: Global,
+    table: &mut ParamTable,
+    words: &Words<'_>,
+    order: &Order,
+    g: Signature,
+) -> Result<Entry, AllocError>
+    requires { HasShortLists words.now.text.now words.now.skeleton.now }
+    ensures extends { IfOk result (λ _. Extends table.old table.new) }
+    ensures of { IfOk result (IsEntryOf table.new) }
+    ensures means { IfOk result (λ e. entry_meant table.new e ≡ signature_in (words_by words.now) order.now g) }
+{
+    let written = list_of(alloc, table, words, g)?;
+    Ok(Entry {
+        signature: g,
+        name: Seq::new(name_of(words, g).to_vec(alloc)?),
+        outer: outer_of(order, g),
+        own_depth: own_depth(words.skeleton, g),
+        params: params_of(words.skeleton, g),
+        listed: Listed::of(alloc, written)?,
+    })
+}
+
+/// The signatures in written order, with their lists.
+pub fn entries(
+    alloc: Global,
+    table: &mut ParamTable,
+    words: &Words<'_>,
+    order: &Order,
+) -> Result<Vec<Entry>, AllocError>
+    requires { HasShortLists words.now.text.now words.now.skeleton.now }
+    ensures { IfOk result (λ v. FillsEntries table.old table.new (map (signature_in (words_by words.now) order.now) order.now) v.items) }
+{
+    let mut made = Vec::new(alloc);
+    for g in order.signatures() {
+        let entry = entry(alloc, table, words, order, *g)?;
+        made.push(entry)?;
+    }
+    Ok(made)
+}

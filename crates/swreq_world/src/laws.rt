@@ -1,0 +1,12 @@
+//! What holds of the world of each text.
+ghost use Rattle.std.specs.Prelude.{All, List, ℕ};
+ghost use Rattle.swreq_decl.specs.declared.skeleton.Skeleton.{Skeleton};
+ghost use Rattle.swreq_written.specs.Heads.{IsOverSelf};
+ghost use Rattle.swreq_world.specs.WorldOf.{IsWorldOf};
+ghost use Rattle.swreq_world.specs.Worlds.{TextWorld};
+
+/// The requirements of protocols are over `τ_0_0` alone.
+pub fn protocols_require_of_self()
+    ensures { (text : List ℕ) (s : Skeleton) (w : TextWorld) → IsWorldOf text s w
+        → All (All (λ r. IsOverSelf r.requirement)) w.requirements }
+{}

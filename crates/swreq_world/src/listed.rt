@@ -1,0 +1,60 @@
+// Lists of written requirements.
+ghost use Rattle.std.specs.Prelude.{◌≡◌, map, IfOk};
+
+use std::alloc::{AllocError, Global};
+use std::marker::Model;
+use swreq_derive::Requirement;
+use swreq_text::Seq;
+use swreq_written::Written;
+
+/// Written requirements, with the places of their sides and without.
+#[derive(Drop)]
+pub struct Listed {
+    written: Seq<Written>,
+    bare: Seq<Requirement>,
+}
+
+impl Model for Listed {
+    ghost use Rattle.std.specs.Prelude.{◌≡◌, List, map};
+    ghost use Rattle.swreq_written.specs.declared.ids.Written.{Written};
+
+    ghost Value = { List Written };
+
+    ghost view = { λ r. r.written };
+
+    ghost invariant = { λ r. r.bare ≡ map (λ w. w.requirement) r.written };
+}
+
+impl Listed {
+    /// The requirements of the list.
+    pub fn of(alloc: Global, written: Vec<Written>) -> Result<Listed, AllocError>
+        ensures { IfOk result (λ r. r ≡ written.items) }
+    {
+        let bare = bare_of(alloc, &written)?;
+        Ok(Listed {
+            written: Seq::new(written),
+            bare: Seq::new(bare),
+        })
+    }
+
+    /// The requirements with the places of their sides.
+    pub fn written(&self) -> &[Written]
+        ensures { result.now ≡ self.now }
+    {
+        self.written.items()
+    }
+
+    /// The requirements alone.
+    pub fn bare(&self) -> &[Requirement]
+        ensures { result.now ≡ map (λ w. w.requirement) self.now }
+    {
+        self.bare.items()
+    }
+}
+
+/// The requirements without the places of their sides.
+fn bare_of(alloc: Global, written: &[Written]) -> Result<Vec<Requirement>, AllocError>
+    ensures { IfOk result (λ v. v.items ≡ map (λ w. w.requirement) written.now) }
+{
+    written.iter().map(|w| w.requirement).collect(alloc)
+}

@@ -1,0 +1,37 @@
+// The lists of the world of a text.
+ghost use Rattle.std.specs.Prelude.{IfOk};
+ghost use Rattle.swreq_names.specs.Names.{HasDeclared};
+ghost use Rattle.swreq_world.specs.Made.{AreListsOf};
+ghost use Rattle.swreq_written.specs.Short.{HasShortLists};
+ghost use Rattle.swreq_written.specs.Words.{words_by};
+
+use crate::entries::entries;
+use crate::made::Lists;
+use crate::order::Order;
+use crate::protocols::requirements;
+use crate::queries::queries;
+use std::alloc::{AllocError, Global};
+use swreq_param::ParamTable;
+use swreq_written::Words;
+
+/// The lists of the world of a text.
+pub fn lists_of(
+    alloc: Global,
+    table: &mut ParamTable,
+    words: &Words<'_>,
+) -> Result<Lists, AllocError>
+    requires short { HasShortLists words.now.text.now words.now.skeleton.now }
+    requires declared { HasDeclared words.now.text.now words.now.skeleton.now words.now.lexicon.now.resolved }
+    ensures { IfOk result (AreListsOf table.old table.new (words_by words.now)) }
+{
+    let order = Order::of(alloc, words.skeleton)?;
+    let requirements = requirements(alloc, table, words)?;
+    let signatures = entries(alloc, table, words, &order)?;
+    let queries = queries(alloc, table, words, &order)?;
+    Ok(Lists {
+        order,
+        requirements,
+        signatures,
+        queries,
+    })
+}

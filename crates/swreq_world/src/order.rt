@@ -1,0 +1,93 @@
+// The signatures of a text, by their places.
+ghost use Rattle.std.specs.Prelude.{◌≡◌, ◌≤◌, length, unwrap_or, slice_index_or, None, IfOk};
+ghost use Rattle.swreq_names.specs.declared.signature.Signature.TheVariants.{Struct, Function};
+ghost use Rattle.swreq_world.specs.Places.{IsSmall};
+ghost use Rattle.swreq_written.specs.Signatures.{func_id, in_order, place_in};
+
+use crate::merging::in_order;
+use crate::places::{Places, places_of};
+use std::alloc::{AllocError, Global};
+use std::marker::Model;
+use swreq_decl::Skeleton;
+use swreq_names::Signature;
+use swreq_written::FuncId;
+
+/// At most 1,048,576 signatures in written order.
+#[derive(Drop)]
+pub struct Order {
+    signatures: Vec<Signature>,
+    places: Places,
+}
+
+impl Model for Order {
+    ghost use Rattle.std.specs.Prelude.{List, length, ◌≤◌};
+    ghost use Rattle.swreq_names.specs.declared.signature.Signature.{Signature};
+    ghost use Rattle.swreq_world.specs.Places.{ArePlaces};
+
+    ghost Value = { List Signature };
+
+    ghost view = { λ o. o.signatures.items };
+
+    ghost invariant = { λ o. ArePlaces o.signatures.items o.places.structs.items o.places.functions.items × (length o.signatures.items ≤ 1048576) };
+}
+
+impl Order {
+    /// The signatures of a skeleton.
+    pub fn of(alloc: Global, s: &Skeleton) -> Result<Order, AllocError>
+        requires { length (in_order s.now) ≤ 1048576 }
+        ensures { IfOk result (λ order. order ≡ in_order s.now) }
+    {
+        let signatures = in_order(alloc, s)?;
+        let places = places_of(alloc, &signatures)?;
+        Ok(Order { signatures, places })
+    }
+
+    /// The signatures in written order.
+    pub fn signatures(&self) -> &[Signature]
+        ensures same { result.now ≡ self.now }
+        ensures few { length self.now ≤ 1048576 }
+    {
+        &self.signatures
+    }
+
+    /// The place of a struct, or 0 where it has none.
+    fn struct_place(&self, i: usize) -> usize
+        ensures is { result ≡ unwrap_or (place_in self.now (Struct i)) 0 }
+        ensures small { result ≤ 1048576 }
+    {
+        place_at(&self.places.structs, i)
+    }
+
+    /// The place of a function at the top, or 0 where it has none.
+    fn function_place(&self, i: usize) -> usize
+        ensures is { result ≡ unwrap_or (place_in self.now (Function i)) 0 }
+        ensures small { result ≤ 1048576 }
+    {
+        place_at(&self.places.functions, i)
+    }
+
+    /// The place of a signature. The functions of a struct follow it.
+    pub fn func_id(&self, g: Signature) -> FuncId
+        requires { IsSmall g }
+        ensures { result ≡ func_id self.now g }
+    {
+        let place = match g {
+            Signature::Struct(i) => self.struct_place(i),
+            Signature::Function(i) => self.function_place(i),
+            Signature::Nested { outer, function } => self.struct_place(outer) + (1 + function),
+        };
+        FuncId {
+            place: place as u32,
+        }
+    }
+}
+
+/// The place that is noted, or 0 where none is.
+fn place_at(places: &[Option<usize>], i: usize) -> usize
+    ensures { result ≡ unwrap_or (slice_index_or places.now i None) 0 }
+{
+    match places.get(i) {
+        Some(Some(place)) => *place,
+        _ => 0,
+    }
+}

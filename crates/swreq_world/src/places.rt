@@ -1,0 +1,54 @@
+// The places of signatures.
+ghost use Rattle.std.specs.Prelude.{◌≡◌, ℕ, cond, nat_eq, None, Some, slice_index_or, IfOk, OnOk};
+ghost use Rattle.swreq_names.specs.declared.signature.Signature.TheVariants.{Struct, Function};
+ghost use Rattle.swreq_world.specs.Places.{ArePlaces};
+ghost use Rattle.swreq_written.specs.Signatures.{is_signature};
+
+use std::alloc::{AllocError, Global};
+use swreq_names::Signature;
+
+/// The places of structs, and of functions at the top.
+#[derive(Drop)]
+pub struct Places {
+    pub structs: Vec<Option<usize>>,
+    pub functions: Vec<Option<usize>>,
+}
+
+/// Notes a place, over what was noted before.
+fn note(places: &mut Vec<Option<usize>>, i: usize, place: usize) -> Result<(), AllocError>
+    ensures { OnOk result ((k : ℕ) → slice_index_or places.new.items k None ≡ cond (nat_eq k i) (Some place) (slice_index_or places.old.items k None)) }
+{
+    while places.len() <= i {
+        places.push(None)?;
+    }
+    places[i] = Some(place);
+    Ok(())
+}
+
+/// Notes the place of a signature.
+fn note_signature(places: &mut Places, g: Signature, place: usize) -> Result<(), AllocError>
+    ensures structs { OnOk result ((k : ℕ) → slice_index_or places.new.structs.items k None ≡ cond (is_signature (Struct k) g) (Some place) (slice_index_or places.old.structs.items k None)) }
+    ensures functions { OnOk result ((k : ℕ) → slice_index_or places.new.functions.items k None ≡ cond (is_signature (Function k) g) (Some place) (slice_index_or places.old.functions.items k None)) }
+{
+    match g {
+        Signature::Struct(i) => note(&mut places.structs, i, place),
+        Signature::Function(i) => note(&mut places.functions, i, place),
+        Signature::Nested { .. } => Ok(()),
+    }
+}
+
+/// The places of these signatures.
+pub fn places_of(alloc: Global, order: &[Signature]) -> Result<Places, AllocError>
+    ensures { IfOk result (λ p. ArePlaces order.now p.structs.items p.functions.items) }
+{
+    let mut places = Places {
+        structs: Vec::new(alloc),
+        functions: Vec::new(alloc),
+    };
+    let mut at = order.len();
+    while at > 0 {
+        at -= 1;
+        note_signature(&mut places, order[at], at)?;
+    }
+    Ok(places)
+}

@@ -1,0 +1,49 @@
+// The queries of a text.
+ghost use Rattle.std.specs.Prelude.{◌≡◌, map, IfOk};
+ghost use Rattle.swreq_names.specs.Names.{HasDeclared};
+ghost use Rattle.swreq_world.specs.Filling.{FillsQueries};
+ghost use Rattle.swreq_written.specs.Adding.{Asks};
+ghost use Rattle.swreq_written.specs.Queries.{query_of};
+ghost use Rattle.swreq_written.specs.Short.{HasShortLists};
+ghost use Rattle.swreq_written.specs.Words.{words_by};
+
+use crate::order::Order;
+use std::alloc::{AllocError, Global};
+use swreq_decl::QueryDecl;
+use swreq_param::ParamTable;
+use swreq_written::{Query, Words, asked_signature, query};
+
+/// A query.
+fn query_of(
+    table: &mut ParamTable,
+    words: &Words<'_>,
+    order: &Order,
+    q: &QueryDecl,
+) -> Result<Query, AllocError>
+    requires short { HasShortLists words.now.text.now words.now.skeleton.now }
+    requires declared { HasDeclared words.now.text.now words.now.skeleton.now words.now.lexicon.now.resolved }
+    ensures { IfOk result (Asks table.old table.new (query_of (words_by words.now) order.now q.now)) }
+{
+    let g = asked_signature(words, q);
+    let f = order.func_id(g);
+    query(table, words, g, f, &q.ask)
+}
+
+/// The queries in written order.
+pub fn queries(
+    alloc: Global,
+    table: &mut ParamTable,
+    words: &Words<'_>,
+    order: &Order,
+) -> Result<Vec<Query>, AllocError>
+    requires short { HasShortLists words.now.text.now words.now.skeleton.now }
+    requires declared { HasDeclared words.now.text.now words.now.skeleton.now words.now.lexicon.now.resolved }
+    ensures { IfOk result (λ v. FillsQueries table.old table.new (map (query_of (words_by words.now) order.now) words.now.skeleton.now.queries) v.items) }
+{
+    let mut made = Vec::new(alloc);
+    for q in words.skeleton.queries.items() {
+        let query = query_of(table, words, order, q)?;
+        made.push(query)?;
+    }
+    Ok(made)
+}
