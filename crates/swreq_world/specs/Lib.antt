@@ -10,3 +10,4 @@ pub mod Lookups
 pub mod FactsAt
 pub mod Made
 pub mod Ready
+pub mod Closed

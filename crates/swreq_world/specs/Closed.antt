@@ -1,0 +1,85 @@
+-- What holds of the world of each text: all that is written in it is of the world.
+use Rattle.std.specs.Prelude.{◌≡◌, ◌↔◌, ◌<◌, ℕ, List, length, Contains, All, Some, slice_get}
+use Rattle.swreq_derive.specs.declared.known.Params.{Params}
+use Rattle.swreq_derive.specs.Derivation.{TermRequirement}
+use Rattle.swreq_derive.specs.Derivation.TermRequirement.{Conforms, IsAnyObject, Equals}
+use Rattle.swreq_derive.specs.Facts.{AreOneToOne, generic_params}
+use Rattle.swreq_param.specs.declared.ids.NameId.{NameId}
+use Rattle.swreq_param.specs.declared.ids.ParamId.{ParamId}
+use Rattle.swreq_param.specs.declared.ids.ProtoId.{ProtoId}
+use Rattle.swreq_param.specs.declared.ids.Step.{Step}
+use Rattle.swreq_param.specs.declared.ids.Step.TheVariants.{Bound, Name}
+use Rattle.swreq_param.specs.Terms.{Term}
+use Rattle.swreq_param.specs.Terms.Term.{Generic, Member}
+use Rattle.swreq_ranks.specs.declared.pair.ProtocolName.{ProtocolName}
+use Rattle.swreq_ranks.specs.Lexicons.{pair, associated_types}
+use Rattle.swreq_ranks.specs.Views.{LexiconView, IsProtocol, IsName, HasMember}
+use Rattle.swreq_written.specs.Heads.{IsOver, IsOverSelf}
+use Rattle.swreq_written.specs.Requirements.{PlacedRequirement}
+use Rattle.swreq_written.specs.Queries.{TermQuery}
+use Rattle.swreq_written.specs.Queries.TermQuery.{AsksSignature, AsksReduced, AsksConforms, AsksAnyObject, AsksEquals}
+use Rattle.swreq_world.specs.Worlds.{TextWorld, SignatureOver}
+
+-- ---- protocols, names, associated types and member symbols
+
+-- Protocols stand in written order, and no others. Each associated type is a protocol of the text with a name of it, and each such pair is
+-- one associated type. Member symbols are the pairs of a protocol and a member name of it, each once. Associated types and member symbols go
+-- by their names first.
+pub record AreIds (x : LexiconView) : Type 0 where
+  pub written_order : (p : ProtoId) → Contains x.written_order p ↔ IsProtocol x p
+  pub associated : (d : ProtocolName) → Contains x.associated d → IsProtocol x d.proto × IsName x d.name
+  pub one_to_one : AreOneToOne (associated_types x.associated)
+  pub associated_by_name : (i j : ℕ) (d e : ProtocolName) → slice_get x.associated i ≡ Some d → slice_get x.associated j ≡ Some e
+      → d.name.rank < e.name.rank → i < j
+  pub symbols : (p : ProtoId) (a : NameId) → Contains x.symbols (pair p a) ↔ (IsProtocol x p × HasMember x p a)
+  pub one_symbol : (i j : ℕ) (d : ProtocolName) → slice_get x.symbols i ≡ Some d → slice_get x.symbols j ≡ Some d → i ≡ j
+  pub symbols_by_name : (i j : ℕ) (d e : ProtocolName) → slice_get x.symbols i ≡ Some d → slice_get x.symbols j ≡ Some e
+      → d.name.rank < e.name.rank → i < j
+
+-- ---- what is written
+
+module _ (x : LexiconView) where
+  -- The name or the associated type is of the text.
+  abbrev pub IsStepOf : Step → Type 0
+  IsStepOf (Name a) = IsName x a
+  IsStepOf (Bound d) = d.rank < length x.associated
+
+  -- The members of the type parameter are of the text.
+  abbrev pub IsTermOf : Term → Type 0
+  IsTermOf (Generic g) = Unit {0}
+  IsTermOf (Member t s) = IsTermOf t × IsStepOf s
+
+  abbrev pub IsRequirementOf : TermRequirement → Type 0
+  IsRequirementOf (Conforms t p) = IsTermOf t × IsProtocol x p
+  IsRequirementOf (IsAnyObject t) = IsTermOf t
+  IsRequirementOf (Equals t u) = IsTermOf t × IsTermOf u
+
+  abbrev pub IsQueryOf : TermQuery → Type 0
+  IsQueryOf (AsksSignature f) = Unit {0}
+  IsQueryOf (AsksReduced f t) = IsTermOf t
+  IsQueryOf (AsksConforms f t p) = IsTermOf t × IsProtocol x p
+  IsQueryOf (AsksAnyObject f t) = IsTermOf t
+  IsQueryOf (AsksEquals f t u) = IsTermOf t × IsTermOf u
+
+-- one of these generic parameters
+abbrev pub IsParamOf : Params → ParamId → Type 0
+IsParamOf params g = Contains (generic_params params) g
+
+-- A requirement of a protocol is over τ_0_0 alone.
+abbrev pub IsOfProtocol : LexiconView → PlacedRequirement → Type 0
+IsOfProtocol x r = IsRequirementOf x r.requirement × IsOverSelf r.requirement
+
+-- A requirement of a signature is over the generic parameters of the signature.
+abbrev pub IsOfSignature : LexiconView → Params → PlacedRequirement → Type 0
+IsOfSignature x params r = IsRequirementOf x r.requirement × IsOver (IsParamOf params) r.requirement
+
+abbrev pub HasOwn : LexiconView → SignatureOver PlacedRequirement → Type 0
+HasOwn x g = All (IsOfSignature x g.params) g.requirements
+
+-- All that is written is of the world.
+pub record IsClosed (w : TextWorld) : Type 0 where
+  pub ids : AreIds w.lexicon
+  pub protocols : length w.requirements ≡ length w.lexicon.protocols
+  pub requirements : All (All (IsOfProtocol w.lexicon)) w.requirements
+  pub signatures : All (HasOwn w.lexicon) w.signatures
+  pub queries : All (IsQueryOf w.lexicon) w.queries
