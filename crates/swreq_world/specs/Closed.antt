@@ -9,16 +9,17 @@ use Rattle.swreq_param.specs.declared.ids.ParamId.{ParamId}
 use Rattle.swreq_param.specs.declared.ids.ProtoId.{ProtoId}
 use Rattle.swreq_param.specs.declared.ids.Step.{Step}
 use Rattle.swreq_param.specs.declared.ids.Step.TheVariants.{Bound, Name}
-use Rattle.swreq_param.specs.Terms.{Term}
+use Rattle.swreq_param.specs.Terms.{Term, head}
 use Rattle.swreq_param.specs.Terms.Term.{Generic, Member}
 use Rattle.swreq_ranks.specs.declared.pair.ProtocolName.{ProtocolName}
 use Rattle.swreq_ranks.specs.Lexicons.{pair, associated_types}
 use Rattle.swreq_ranks.specs.Views.{LexiconView, IsProtocol, IsName, HasMember}
+use Rattle.swreq_written.specs.declared.ids.FuncId.{FuncId}
 use Rattle.swreq_written.specs.Heads.{IsOver, IsOverSelf}
 use Rattle.swreq_written.specs.Requirements.{PlacedRequirement}
 use Rattle.swreq_written.specs.Queries.{TermQuery}
 use Rattle.swreq_written.specs.Queries.TermQuery.{AsksSignature, AsksReduced, AsksConforms, AsksAnyObject, AsksEquals}
-use Rattle.swreq_world.specs.Worlds.{TextWorld, SignatureOver}
+use Rattle.swreq_world.specs.Worlds.{TextWorld, SignatureOver, signature_at}
 
 -- ---- protocols, names, associated types and member symbols
 
@@ -54,13 +55,6 @@ module _ (x : LexiconView) where
   IsRequirementOf (IsAnyObject t) = IsTermOf t
   IsRequirementOf (Equals t u) = IsTermOf t × IsTermOf u
 
-  abbrev pub IsQueryOf : TermQuery → Type 0
-  IsQueryOf (AsksSignature f) = Unit {0}
-  IsQueryOf (AsksReduced f t) = IsTermOf t
-  IsQueryOf (AsksConforms f t p) = IsTermOf t × IsProtocol x p
-  IsQueryOf (AsksAnyObject f t) = IsTermOf t
-  IsQueryOf (AsksEquals f t u) = IsTermOf t × IsTermOf u
-
 -- one of these generic parameters
 abbrev pub IsParamOf : Params → ParamId → Type 0
 IsParamOf params g = Contains (generic_params params) g
@@ -76,10 +70,25 @@ IsOfSignature x params r = IsRequirementOf x r.requirement × IsOver (IsParamOf 
 abbrev pub HasOwn : LexiconView → SignatureOver PlacedRequirement → Type 0
 HasOwn x g = All (IsOfSignature x g.params) g.requirements
 
+-- A query asks a signature of the world about type parameters over its generic parameters.
+module _ (w : TextWorld) where
+  abbrev pub IsSignature : FuncId → Type 0
+  IsSignature f = f.place < length w.signatures
+
+  abbrev pub IsAskedOf : FuncId → Term → Type 0
+  IsAskedOf f t = IsTermOf w.lexicon t × IsParamOf (signature_at w f).params (head t)
+
+  abbrev pub IsQueryOf : TermQuery → Type 0
+  IsQueryOf (AsksSignature f) = IsSignature f
+  IsQueryOf (AsksReduced f t) = IsSignature f × IsAskedOf f t
+  IsQueryOf (AsksConforms f t p) = IsSignature f × IsAskedOf f t × IsProtocol w.lexicon p
+  IsQueryOf (AsksAnyObject f t) = IsSignature f × IsAskedOf f t
+  IsQueryOf (AsksEquals f t u) = IsSignature f × IsAskedOf f t × IsAskedOf f u
+
 -- All that is written is of the world.
 pub record IsClosed (w : TextWorld) : Type 0 where
   pub ids : AreIds w.lexicon
   pub protocols : length w.requirements ≡ length w.lexicon.protocols
   pub requirements : All (All (IsOfProtocol w.lexicon)) w.requirements
   pub signatures : All (HasOwn w.lexicon) w.signatures
-  pub queries : All (IsQueryOf w.lexicon) w.queries
+  pub queries : All (IsQueryOf w) w.queries
