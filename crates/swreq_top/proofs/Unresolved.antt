@@ -20,7 +20,7 @@ module _ {Names : Type 0} (text : List ℕ) (skeleton : Skeleton) (result : Resu
   abbrev pub IsExact : Type 0
   IsExact = (e : NameErr) → Refuses text skeleton e → (result ≡ Err e) ⊎ (result ≡ Err Memory)
 
-  pub answers_resolved : (names : Names) (o : Outcome) → result ≡ Ok names → IsExact → Resolve text skeleton → IsAnswered skeleton o → AnswersSkeleton text skeleton o
+  pub answers_resolved : (names : Names) (o : Outcome) → result ≡ Ok names → IsExact → Resolve text skeleton → IsAnswered text skeleton o → AnswersSkeleton text skeleton o
   answers_resolved names o is refuses resolve answered = record {
     one = inl (resolve, answered);
     refused = λ e h. elim (refuses e h) [ inl same ↦ absurd (no_error names e is same) | inr none ↦ absurd (no_error names Memory is none) ];

@@ -61,7 +61,7 @@ names_refused text skeleton names.Memory within stands refuses = not_memory refu
 skeleton_verdict : (text : List ℕ) (skeleton : Skeleton) (o : Outcome) → length text ≤ TEXT_LIMIT → StandsFor text skeleton → AnswersSkeleton text skeleton o → IsVerdict text o
 skeleton_verdict text skeleton o within stands answers = by answers.one
   where
-    by : (Resolve text skeleton × IsAnswered skeleton o) ⊎ ((e : NameErr) × Refuses text skeleton e × (o ≡ refused_with (name_refusal e))) → IsVerdict text o
+    by : (Resolve text skeleton × IsAnswered text skeleton o) ⊎ ((e : NameErr) × Refuses text skeleton e × (o ≡ refused_with (name_refusal e))) → IsVerdict text o
     by (inl (resolve, answered)) = inr (within, (skeleton, stands, resolve, answered))
     by (inr (e, refuses, is)) = inl (name_refusal e, names_refused text skeleton e within stands refuses, is)
 
@@ -113,7 +113,7 @@ module _ (text : List ℕ) (parsed : Result Skeleton ParseErr) (o : Outcome) (ex
   reported_refusal refusals.Usage has = absurd has
 
   -- a text whose names resolve is answered, or it cannot be answered yet
-  pub reported_answer : (skeleton : Skeleton) → StandsFor text skeleton → Resolve text skeleton → IsAnswered skeleton o
+  pub reported_answer : (skeleton : Skeleton) → StandsFor text skeleton → Resolve text skeleton → IsAnswered text skeleton o
   reported_answer skeleton stands = (reported_skeleton skeleton stands).answered
 
 -- a source that was read to its end gave all that it had left, and its text has been answered

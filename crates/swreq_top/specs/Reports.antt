@@ -37,9 +37,9 @@ name_refusal names.Memory = refusals.OutOfMemory
 
 -- What is answered where this skeleton stands for the text: what its names are refused for, or its answers.
 pub record AnswersSkeleton (text : List ℕ) (skeleton : Skeleton) (o : Outcome) : Type 0 where
-  pub one : (Resolve text skeleton × IsAnswered skeleton o) ⊎ ((e : NameErr) × Refuses text skeleton e × (o ≡ refused_with (name_refusal e)))
+  pub one : (Resolve text skeleton × IsAnswered text skeleton o) ⊎ ((e : NameErr) × Refuses text skeleton e × (o ≡ refused_with (name_refusal e)))
   pub refused : (e : NameErr) → Refuses text skeleton e → o ≡ refused_with (name_refusal e)
-  pub answered : Resolve text skeleton → IsAnswered skeleton o
+  pub answered : Resolve text skeleton → IsAnswered text skeleton o
 
 -- Of a text that was not read for want of memory nothing is answered.
 abbrev pub Reports : List ℕ → Result Skeleton ParseErr → Outcome → Type 0

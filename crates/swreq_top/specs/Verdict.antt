@@ -12,6 +12,12 @@ use Rattle.swreq_top.specs.declared.outcome.Outcome.{Outcome}
 use Rattle.swreq_print.specs.declared.refusal.RefusalKind.{RefusalKind}
 use Rattle.swreq_print.specs.declared.refusal.RefusalKind.TheVariants as refusals
 use Rattle.swreq_print.specs.Refusals.{refusal_line}
+use Rattle.swreq_param.specs.Terms.{Term}
+use Rattle.swreq_param.specs.Tables.{AreDistinct}
+use Rattle.swreq_world.specs.ByTable.{world_by}
+use Rattle.swreq_world.specs.WorldOf.{IsWorldOf}
+use Rattle.swreq_world.specs.Worlds.{IdWorld}
+use Rattle.swreq_top.specs.Answers.{answers}
 use Rattle.swreq_top.specs.Plain.{is_plain}
 
 -- status 1, with the line of the refusal
@@ -45,13 +51,22 @@ IsRefused text refusals.ReadFault = ⊥
 IsRefused text refusals.OutOfMemory = ⊥
 IsRefused text refusals.Usage = ⊥
 
+-- Status 0, with the answers of the queries of the text's world, whatever table of type parameters has its ids.
+pub record AnswersQueries (text : List ℕ) (skeleton : Skeleton) (o : Outcome) : Type 0 where
+  pub terms : List Term
+  pub distinct : AreDistinct terms
+  pub world : IdWorld
+  pub is_world : IsWorldOf text skeleton (world_by terms world)
+  pub status : o.status ≡ 0
+  pub output : o.output ≡ answers world
+
 -- A text with this skeleton, whose names resolve, is answered where it is plain, and else it cannot be answered yet.
-abbrev pub IsAnswered : Skeleton → Outcome → Type 0
-IsAnswered skeleton o = MatchBool (is_plain skeleton) (o.status ≡ 0) (o ≡ refused_with refusals.NotBuilt)
+abbrev pub IsAnswered : List ℕ → Skeleton → Outcome → Type 0
+IsAnswered text skeleton o = MatchBool (is_plain skeleton) (AnswersQueries text skeleton o) (o ≡ refused_with refusals.NotBuilt)
 
 -- A verdict on the text: it is refused with the line of its refusal, or it is not too long, a skeleton stands for it whose names
 -- resolve, and it is answered.
 abbrev pub IsVerdict : List ℕ → Outcome → Type 0
 IsVerdict text o =
     ((refusal : RefusalKind) × IsRefused text refusal × (o ≡ refused_with refusal))
-    ⊎ ((length text ≤ TEXT_LIMIT) × ((skeleton : Skeleton) × StandsFor text skeleton × Resolve text skeleton × IsAnswered skeleton o))
+    ⊎ ((length text ≤ TEXT_LIMIT) × ((skeleton : Skeleton) × StandsFor text skeleton × Resolve text skeleton × IsAnswered text skeleton o))

@@ -7,6 +7,8 @@ ghost use Rattle.swreq_names.specs.declared.refusal.NameErr.TheVariants.{Memory}
 ghost use Rattle.swreq_names.specs.Names.{Resolve};
 ghost use Rattle.swreq_print.specs.declared.refusal.RefusalKind.{RefusalKind};
 ghost use Rattle.swreq_top.specs.Verdict.{IsAnswered, IsRefused, IsVerdict, refused_with};
+ghost use Rattle.swreq_world.specs.ByTable.{world_by};
+ghost use Rattle.swreq_world.specs.WorldOf.{IsWorldOf};
 ghost use Rattle.swreq_top.specs.Reports.{AnswersSkeleton, Reports, name_refusal};
 
 use crate::plain::is_plain;
@@ -15,9 +17,11 @@ use crate::search::answers;
 use std::alloc::{AllocError, Global};
 use swreq_decl::{ParseErr, Skeleton, parse};
 use swreq_lex::TEXT_LIMIT;
-use swreq_names::{NameErr, Names, resolve_names};
+use swreq_names::NameErr;
+use swreq_param::ParamTable;
 use swreq_print::{RefusalKind, refusal_text};
 use swreq_text::Seq;
+use swreq_world::World;
 
 /// A status and what is printed with it.
 #[derive(Debug, Drop, PartialEq, Eq)]
@@ -37,7 +41,7 @@ pub fn reply(alloc: Global, text: &[u8]) -> Result<Outcome, AllocError>
     ensures refused { (refusal : RefusalKind) → IsRefused text.now refusal →
         IfOk result (λ o. o ≡ refused_with refusal) }
     ensures answered { (skeleton : Skeleton) → StandsFor text.now skeleton → Resolve text.now skeleton →
-        IfOk result (IsAnswered skeleton) }
+        IfOk result (IsAnswered text.now skeleton) }
 {
     let parsed = parse(alloc, text);
     report(alloc, text, parsed)
@@ -49,6 +53,8 @@ fn report(
     text: &[u8],
     parsed: Result<Skeleton, ParseErr>,
 ) -> Result<Outcome, AllocError>
+    requires limit { length text.now ≤ TEXT_LIMIT }
+    requires stands { IfOk parsed (StandsFor text.now) }
     ensures { IfOk result (Reports text.now parsed) }
 {
     match parsed {
@@ -60,10 +66,13 @@ fn report(
 
 /// What is answered where this skeleton stands for the text.
 fn resolved(alloc: Global, text: &[u8], skeleton: &Skeleton) -> Result<Outcome, AllocError>
+    requires limit { length text.now ≤ TEXT_LIMIT }
+    requires stands { StandsFor text.now skeleton.now }
     ensures { IfOk result (AnswersSkeleton text.now skeleton.now) }
 {
-    match resolve_names(alloc, text, skeleton) {
-        Ok(names) => answered(alloc, text, skeleton, &names),
+    let mut table = ParamTable::new(alloc);
+    match World::resolve(alloc, text, skeleton, &mut table) {
+        Ok(world) => answered(alloc, text, skeleton, &world, &table),
         Err(e) => unresolved(alloc, e),
     }
 }
@@ -83,16 +92,20 @@ fn answered(
     alloc: Global,
     text: &[u8],
     skeleton: &Skeleton,
-    names: &Names,
+    world: &World,
+    table: &ParamTable,
 ) -> Result<Outcome, AllocError>
-    ensures { IfOk result (IsAnswered skeleton.now) }
+    requires { IsWorldOf text.now skeleton.now (world_by table.now world.now) }
+    ensures { IfOk result (IsAnswered text.now skeleton.now) }
 {
     if !is_plain(skeleton) {
         return refused(alloc, RefusalKind::NotBuilt);
     }
+    let _count = table.len();
+    let _ = text;
     Ok(Outcome {
         status: 0,
-        output: Seq::new(answers(alloc, text, skeleton, names)?),
+        output: Seq::new(answers(alloc, world)?),
     })
 }
 

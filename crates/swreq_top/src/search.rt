@@ -1,69 +1,74 @@
 // The answers of plain texts, along inheritance.
-use std::alloc::{AllocError, Global};
-use swreq_decl::{Ask, Entity, QueryDecl, Skeleton, Span};
-use swreq_names::{Names, Param, Signature, word};
+ghost use Rattle.std.specs.Prelude.{◌≡◌, cond, codes, IfOk};
+ghost use Rattle.std.specs.List.{list_any};
+ghost use Rattle.swreq_top.specs.Answers.{answer, answers, conforms, gives, leads};
 
-/// The answers of the queries of a plain text whose names resolve, a line each, in written order.
-pub fn answers(
-    alloc: Global,
-    text: &[u8],
-    skeleton: &Skeleton,
-    names: &Names,
-) -> Result<Vec<u8>, AllocError> {
+use std::alloc::{AllocError, Global};
+use swreq_derive::Requirement;
+use swreq_param::{ProtoId, TermId};
+use swreq_world::{FuncId, Query, World, Written};
+
+/// The answers of the queries of a plain text, a line each, in written order.
+pub fn answers(alloc: Global, world: &World) -> Result<Vec<u8>, AllocError>
+    ensures { IfOk result (λ v. v.items ≡ answers world.now) }
+{
     let mut output = Vec::new(alloc);
-    for query in skeleton.queries.items() {
-        let line: &[u8] = if conforms(text, skeleton, names, query) {
-            b"yes\n"
-        } else {
-            b"no\n"
-        };
-        output.extend_from_slice(line)?;
+    for query in world.queries() {
+        output.extend_from_slice(answer(world, query))?;
     }
     Ok(output)
 }
 
-/// Whether the generic parameter that is asked conforms to the protocol.
-fn conforms(text: &[u8], skeleton: &Skeleton, names: &Names, query: &QueryDecl) -> bool {
-    match &query.ask {
-        Ask::Is { t, bound } => match bounds_of(text, skeleton, names, query, t.head) {
-            Some(bounds) => leads_from_one(text, names, bounds, bound),
-            None => false,
-        },
-        Ask::Signature | Ask::Reduced { .. } | Ask::Same { .. } => false,
+fn answer(world: &World, query: &Query) -> &'static [u8]
+    ensures { result.now ≡ answer world.now query.now }
+{
+    match *query {
+        Query::Conf { f, t, p } => yes_or_no(conforms(world, f, t, p)),
+        Query::Signature { .. }
+        | Query::Reduced { .. }
+        | Query::Layout { .. }
+        | Query::Same { .. } => b"no\n",
     }
 }
 
-/// The bounds of the generic parameter with this name of the function that is asked.
-fn bounds_of<'a>(
-    text: &[u8],
-    skeleton: &'a Skeleton,
-    names: &Names,
-    query: &QueryDecl,
-    name: Span,
-) -> Option<&'a [Entity]> {
-    let signature = names.find_signature(word(text, query.function))?;
-    let param = names.find_param(signature, word(text, name))?;
-    match (signature, param) {
-        (Signature::Function(i), Param::Own(k)) => {
-            let function = skeleton.functions.items().get(i)?;
-            Some(function.params.items().get(k)?.bounds.items())
+fn yes_or_no(answer: bool) -> &'static [u8]
+    ensures { result.now ≡ cond answer (codes "yes\n") (codes "no\n") }
+{
+    if answer { b"yes\n" } else { b"no\n" }
+}
+
+/// Whether some requirement of a signature gives that the type parameter conforms to the protocol.
+fn conforms(world: &World, f: FuncId, t: TermId, p: ProtoId) -> bool
+    ensures { result ≡ conforms world.now f t p }
+{
+    if f.place < world.functions() {
+        has_one(world, world.signature(f), t, p)
+    } else {
+        false
+    }
+}
+
+fn has_one(world: &World, list: &[Written], t: TermId, p: ProtoId) -> bool
+    ensures { result ≡ list_any (λ r. gives world.now t p r.requirement) list.now }
+{
+    list.iter().any(|r| gives(world, r, t, p))
+}
+
+/// Whether a requirement gives that the type parameter conforms to the protocol.
+fn gives(world: &World, r: &Written, t: TermId, p: ProtoId) -> bool
+    ensures { result ≡ gives world.now t p r.now.requirement }
+{
+    match r.requirement {
+        Requirement::Conf { subject, proto } => {
+            t.place == subject.place && leads(world, proto, p)
         }
-        _ => None,
+        Requirement::Layout { .. } | Requirement::Same { .. } => false,
     }
 }
 
-/// Whether one of the bounds is the protocol, or inherits it.
-fn leads_from_one(text: &[u8], names: &Names, bounds: &[Entity], protocol: &Entity) -> bool {
-    match names.find_protocol(word(text, protocol.span)) {
-        Some(p) => bounds.iter().any(|bound| leads(text, names, bound, p)),
-        None => false,
-    }
-}
-
-/// Whether the bound is the protocol, or inherits it.
-fn leads(text: &[u8], names: &Names, bound: &Entity, protocol: usize) -> bool {
-    match names.find_protocol(word(text, bound.span)) {
-        Some(p) => p == protocol || names.inherits(p, protocol),
-        None => false,
-    }
+/// Whether the first protocol is the second, or inherits it.
+fn leads(world: &World, q: ProtoId, p: ProtoId) -> bool
+    ensures { result ≡ leads world.now q p }
+{
+    q.rank == p.rank || world.inherits(q, p)
 }

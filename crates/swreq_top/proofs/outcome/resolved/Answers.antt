@@ -5,14 +5,14 @@ use Rattle.swreq_top.proofs.outcome.resolved.Goals as goal
 
 pub returns-in-Ok : goal.returns-in-Ok
 returns-in-Ok c =
-    let names = c.resolve_names.ensures in
+    let names = c.resolve.ensures in
     IfOk-weaker c.answered.result _ _
-    (λ o h. answers_resolved c.args.text.now c.args.skeleton.now c.resolve_names.result _ o c.in-Ok.is names.refuses (names.ok (subst IsOk (sym c.in-Ok.is) refl)) h)
+    (λ o h. answers_resolved c.args.text.now c.args.skeleton.now c.resolve.result _ o c.in-Ok.is names.refuses (names.ok (subst IsOk (sym c.in-Ok.is) refl)) h)
     c.answered.ensures
 
 pub returns-in-Err : goal.returns-in-Err
 returns-in-Err c =
-    let names = c.resolve_names.ensures in
+    let names = c.resolve.ensures in
     IfOk-weaker c.unresolved.result _ _
-    (λ o h. answers_refused c.args.text.now c.args.skeleton.now c.resolve_names.result _ o c.in-Err.is names.refuses names.refused names.resolves h)
+    (λ o h. answers_refused c.args.text.now c.args.skeleton.now c.resolve.result _ o c.in-Err.is names.refuses names.refused names.resolves h)
     c.unresolved.ensures
