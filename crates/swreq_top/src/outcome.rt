@@ -1,5 +1,5 @@
 // What a text is answered with.
-ghost use Rattle.std.specs.Prelude.{◌≡◌, ◌≢◌, ◌≤◌, length, IfOk};
+ghost use Rattle.std.specs.Prelude.{◌≡◌, ◌≢◌, ◌≤◌, length, Ok, IfOk};
 ghost use Rattle.swreq_lex.specs.declared.lexer.TheConstants.{TEXT_LIMIT};
 ghost use Rattle.swreq_decl.specs.declared.skeleton.Skeleton.{Skeleton};
 ghost use Rattle.swreq_decl.specs.Skeletons.{StandsFor};
@@ -54,7 +54,7 @@ fn report(
     parsed: Result<Skeleton, ParseErr>,
 ) -> Result<Outcome, AllocError>
     requires limit { length text.now ≤ TEXT_LIMIT }
-    requires stands { IfOk parsed (StandsFor text.now) }
+    requires stands { (skeleton : Skeleton) → parsed ≡ Ok skeleton → StandsFor text.now skeleton }
     ensures { IfOk result (Reports text.now parsed) }
 {
     match parsed {
@@ -71,8 +71,22 @@ fn resolved(alloc: Global, text: &[u8], skeleton: &Skeleton) -> Result<Outcome, 
     ensures { IfOk result (AnswersSkeleton text.now skeleton.now) }
 {
     let mut table = ParamTable::new(alloc);
-    match World::resolve(alloc, text, skeleton, &mut table) {
-        Ok(world) => answered(alloc, text, skeleton, &world, &table),
+    resolved_over(alloc, text, skeleton, &mut table)
+}
+
+/// The same, where this table is for the type parameters of the text.
+fn resolved_over(
+    alloc: Global,
+    text: &[u8],
+    skeleton: &Skeleton,
+    table: &mut ParamTable,
+) -> Result<Outcome, AllocError>
+    requires limit { length text.now ≤ TEXT_LIMIT }
+    requires stands { StandsFor text.now skeleton.now }
+    ensures { IfOk result (AnswersSkeleton text.now skeleton.now) }
+{
+    match World::resolve(alloc, text, skeleton, table) {
+        Ok(world) => answered(alloc, text, skeleton, world, table),
         Err(e) => unresolved(alloc, e),
     }
 }
@@ -92,10 +106,10 @@ fn answered(
     alloc: Global,
     text: &[u8],
     skeleton: &Skeleton,
-    world: &World,
+    world: World,
     table: &ParamTable,
 ) -> Result<Outcome, AllocError>
-    requires { IsWorldOf text.now skeleton.now (world_by table.now world.now) }
+    requires { IsWorldOf text.now skeleton.now (world_by table.now world) }
     ensures { IfOk result (IsAnswered text.now skeleton.now) }
 {
     if !is_plain(skeleton) {
@@ -105,7 +119,7 @@ fn answered(
     let _ = text;
     Ok(Outcome {
         status: 0,
-        output: Seq::new(answers(alloc, world)?),
+        output: Seq::new(answers(alloc, &world)?),
     })
 }
 

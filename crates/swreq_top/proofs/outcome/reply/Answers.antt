@@ -22,3 +22,6 @@ returns-clause-refused c refusal has =
 pub returns-clause-answered : goal.returns-clause-answered
 returns-clause-answered c skeleton stands resolve =
     IfOk-weaker c.report.result _ _ (λ o reports. reported_answer c.args.text.now c.parse-parsed.result o (exact c) reports skeleton stands resolve) c.report.ensures
+
+pub report-requires-clause-stands : goal.report-requires-clause-stands
+report-requires-clause-stands c skeleton is = (c.parse-parsed.ensures.ok skeleton).0 is

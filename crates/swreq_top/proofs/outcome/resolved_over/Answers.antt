@@ -1,7 +1,7 @@
 use Rattle.std.proofs.Common.{IsOk, refl, subst, sym}
 use Rattle.std.proofs.lemmas.Result.{IfOk-weaker}
 use Rattle.swreq_top.proofs.Unresolved.{answers_refused, answers_resolved}
-use Rattle.swreq_top.proofs.outcome.resolved.Goals as goal
+use Rattle.swreq_top.proofs.outcome.resolved_over.Goals as goal
 
 pub returns-in-Ok : goal.returns-in-Ok
 returns-in-Ok c =
