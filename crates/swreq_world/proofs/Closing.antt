@@ -1,6 +1,8 @@
 -- All that is written in the world of a text is of the world, where the names of the text resolve.
 use Rattle.std.proofs.Common.{◌≡◌, ◌↔◌, ◌<◌, ℕ, cond, List, [], Option, Some, None, length, get_or, map, slice_get, Contains, refl, sym, ap, subst, ◌∙◌, arith}
 use Rattle.std.proofs.lemmas.Cmp.{then_total, on_total, back_total, nat_cmp_total}
+use Rattle.std.proofs.lemmas.List.{length-map}
+use Rattle.std.proofs.lemmas.List.Elements.{All-map}
 use Rattle.std.proofs.lemmas.Option.{slice_get-get_or, slice_get_within}
 use Rattle.std.specs.Cmp.{IsTotalOrder}
 use Rattle.std.specs.List.{All}
@@ -23,15 +25,16 @@ use Rattle.swreq_ranks.proofs.RankLaws.{rank_is, one_to_one, assoc_total, by_nam
 use Rattle.swreq_ranks.proofs.Rising.{rising_from_sorted, one_place}
 use Rattle.swreq_written.specs.Queries.{query_of}
 use Rattle.swreq_written.specs.Signatures.{in_order}
-use Rattle.swreq_world.specs.Closed.{IsClosed, AreIds, IsOfProtocol, HasOwn, IsQueryOf}
-use Rattle.swreq_world.specs.Text.{requirements_named}
+use Rattle.swreq_world.specs.Closed.{IsClosed, AreIds, IsOfProtocol, HasOwn, HasOuter, IsQueryOf}
+use Rattle.swreq_world.specs.Text.{requirements_named, signature_in, signatures}
 use Rattle.swreq_world.specs.WorldOf.{IsWorldOf, words_of}
 use Rattle.swreq_world.specs.Worlds.{TextWorld}
-use Rattle.swreq_world.proofs.Everywhere.{stands_mapped, mapped_from, length_mapped}
+use Rattle.swreq_world.proofs.Everywhere.{stands_mapped, mapped_from}
 use Rattle.swreq_world.proofs.InProtocols.{protocols_are}
 use Rattle.swreq_world.proofs.InQueries.{queries_are}
 use Rattle.swreq_world.proofs.InSignatures.{signatures_are}
 use Rattle.swreq_world.proofs.Resolving.{resolved}
+use Rattle.swreq_world.proofs.Standing.{outer_within}
 
 found : {A : Type 0} (xs : List A) (x : A) → Contains xs x → (k : ℕ) × (slice_get xs k ≡ Some x)
 found xs x c = (c.0, slice_get-get_or xs c.0 x c.1 ∙ ap Some c.2)
@@ -69,6 +72,17 @@ module _ (text : Bytes) (s : Skeleton) (x : LexiconView) (is : IsLexiconOf text 
     symbols_by_name = by_name (on (λ (d : ProtocolName). d.proto) (order_cmp (inherits x) (length x.protocols))) x.symbols is.symbols.sorted;
   }
 
+-- the structs around the signatures
+outers : (text : Bytes) (s : Skeleton) (w : TextWorld) → w.signatures ≡ signatures (words_of text s w) → All (HasOuter w) w.signatures
+outers text s w is =
+    subst (All (HasOuter w)) (sym is) (All-map (HasOuter w) (signature_in (words_of text s w) (in_order s)) (in_order s) one)
+  where
+    count : length w.signatures ≡ length (in_order s)
+    count = ap length is ∙ length-map (in_order s) (signature_in (words_of text s w) (in_order s))
+
+    one : All (λ g. HasOuter w (signature_in (words_of text s w) (in_order s) g)) (in_order s)
+    one k g l f e = let h = outer_within (in_order s) (get_or (in_order s) k g) f (omega arith) e in omega (arith, h, count)
+
 pub closed : (text : Bytes) (s : Skeleton) (w : TextWorld) → IsWorldOf text s w → Resolve text s → IsClosed w
 closed text s w is resolve =
     let words = words_of text s w in
@@ -77,8 +91,9 @@ closed text s w is resolve =
     let same = is.lexicon.resolved.declared in
     record {
       ids = ids text s w.lexicon is.lexicon;
-      protocols = ap length is.requirements ∙ length_mapped (requirements_named words) w.lexicon.protocols;
+      protocols = ap length is.requirements ∙ length-map w.lexicon.protocols (requirements_named words);
       requirements = subst (All (All (IsOfProtocol w.lexicon))) (sym is.requirements) (protocols_are words tells are w.lexicon.protocols);
       signatures = subst (All (HasOwn w.lexicon)) (sym is.signatures) (signatures_are words tells are same (in_order s) (in_order s));
+      outer = outers text s w is.signatures;
       queries = subst (All (IsQueryOf w)) (sym is.queries) (queries_are text s w tells are same is.signatures);
     }

@@ -1,5 +1,6 @@
 -- What a query asks, where its names resolve.
 use Rattle.std.proofs.Common.{◌≡◌, ℕ, ◌<◌, Bool, true, false, cond, List, [], ◌∷◌, ◌++◌, Option, Some, None, length, get_or, map, slice_get, refl, sym, ap, subst, ◌∙◌, arith}
+use Rattle.std.proofs.lemmas.List.Elements.{All-map}
 use Rattle.std.proofs.lemmas.Option.{slice_get_within, get_or_from_slice_get, same_Some}
 use Rattle.std.specs.List.{All, flat_map}
 use Rattle.std.specs.Option.{option_map}
@@ -32,8 +33,8 @@ use Rattle.swreq_world.specs.Closed.{IsTermOf, IsParamOf, IsSignature, IsAskedOf
 use Rattle.swreq_world.specs.Text.{signature_in, signatures}
 use Rattle.swreq_world.specs.WorldOf.{words_of}
 use Rattle.swreq_world.specs.Worlds.{TextWorld, SignatureOver, signature_at, no_signature}
-use Rattle.swreq_world.proofs.Constraints.{first, rest, type_is, named_is}
-use Rattle.swreq_world.proofs.Everywhere.{all_left, all_mapped, at_mapped, stands_mapped}
+use Rattle.swreq_world.proofs.Constraints.{parts, type_is, named_is}
+use Rattle.swreq_world.proofs.Everywhere.{all_left, at_mapped, stands_mapped}
 use Rattle.swreq_world.proofs.InSignatures.{starts}
 use Rattle.swreq_world.proofs.Resolving.{Never, AreResolved, Resolved, refused, referred, declared_at}
 use Rattle.swreq_world.proofs.Standing.{IsIn, stands}
@@ -132,14 +133,11 @@ module _ (text : Bytes) (s : Skeleton) (v : TextWorld) where
       ask_is (asked_for.Is t e) h =
           let of_first = of_type text (declared words) begins t in
           let of_args = flat_map (of_type text (declared words) begins) e.args in
-          let one = first words of_first (of_entity text (declared words) begins e) (names.in_type text t) (names.in_entity text e) h in
-          let other = rest words of_first (of_entity text (declared words) begins e) (names.in_type text t) (names.in_entity text e) h in
-          entity_asked (type_in words (scopes.Signature g) t) e e.layout (type_asked t one) (all_left Never (of_named text (declared words) e) of_args other.0)
+          let p = parts words of_first (of_entity text (declared words) begins e) (names.in_type text t) (names.in_entity text e) h in
+          entity_asked (type_in words (scopes.Signature g) t) e e.layout (type_asked t p.0) (all_left Never (of_named text (declared words) e) of_args p.1.0)
       ask_is (asked_for.Same t u) h =
-          let of_both = λ (x : TypeDecl). of_type text (declared words) begins x in
-          let one = first words (of_both t) (of_both u) (names.in_type text t) (names.in_type text u) h in
-          let other = rest words (of_both t) (of_both u) (names.in_type text t) (names.in_type text u) h in
-          (at, type_asked t one, type_asked u other)
+          let p = parts words (of_type text (declared words) begins t) (of_type text (declared words) begins u) (names.in_type text t) (names.in_type text u) h in
+          (at, type_asked t p.0, type_asked u p.1)
 
     module _ (is : v.signatures ≡ signatures words) where
       signature_stands : (g : Signature) → IsIn s g → slice_get v.signatures (func_id (in_order s) g).place ≡ Some (signature_in words (in_order s) g)
@@ -156,4 +154,4 @@ module _ (text : Bytes) (s : Skeleton) (v : TextWorld) where
           subst (λ g. IsQueryOf v (asked_of words g (func_id (in_order s) g) q.ask)) (sym (ap asked_signature a.1)) (ask_is a.0 f at params q.ask (a.2, h.1))
 
       pub queries_are : All (IsQueryOf v) (map (query_of words (in_order s)) s.queries)
-      queries_are = all_mapped (IsQueryOf v) (query_of words (in_order s)) s.queries (λ k q l. query_is (get_or s.queries k q) (are.queries k q l))
+      queries_are = All-map (IsQueryOf v) (query_of words (in_order s)) s.queries (λ k q l. query_is (get_or s.queries k q) (are.queries k q l))

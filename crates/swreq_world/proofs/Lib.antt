@@ -10,6 +10,7 @@ pub mod Everywhere
 pub mod Resolving
 pub mod Constraints
 pub mod InProtocols
+pub mod GenericParams
 pub mod InSignatures
 pub mod Standing
 pub mod InQueries

@@ -1,7 +1,7 @@
 -- What the names of a text refer to, where they resolve.
 use Rattle.std.proofs.Common.{◌≡◌, ℕ, zero, suc, ◌+◌, ◌<◌, ⊎_elim, Bool, true, false, cond, not, ◌&&◌, ◌||◌, List, [], ◌∷◌, ◌++◌, Option, Some, None, is_some, length, get_or, map, slice_get, refl, sym, ap, subst, ◌∙◌, arith}
 use Rattle.std.proofs.lemmas.Iterator.Adapters.{position_from-zero}
-use Rattle.std.proofs.lemmas.List.Elements.{Contains-get_or}
+use Rattle.std.proofs.lemmas.List.Elements.{All-nil, All-weaker, Contains-get_or}
 use Rattle.std.proofs.lemmas.List.Quantifiers.{position-Some}
 use Rattle.std.proofs.lemmas.Option.{slice_get-get_or, slice_get_within, same_Some}
 use Rattle.std.proofs.lemmas.Slice.Eq.{bytes_eq-Decides}
@@ -33,8 +33,7 @@ use Rattle.swreq_ranks.proofs.Declared.{in_pieces, named_within}
 use Rattle.swreq_ranks.proofs.Places.{there}
 use Rattle.swreq_ranks.proofs.RankLaws.{rank_is, assoc_is}
 use Rattle.swreq_written.specs.Words.{WordsView, declared, proto_of, name_of, primaries_of, primaries_at, primaries_named}
-use Rattle.swreq_written.proofs.Over.{all_none}
-use Rattle.swreq_world.proofs.Everywhere.{all_left, all_right, all_at, all_mapped, each_mapped, all_each, each_piece, placed_piece, at_mapped, past_mapped, stands_mapped, mapped_from}
+use Rattle.swreq_world.proofs.Everywhere.{all_left, all_right, all_at, each_mapped, each_piece, placed_piece, at_mapped, past_mapped, stands_mapped, mapped_from}
 
 -- ---- refusals
 
@@ -195,7 +194,7 @@ module _ (text : Bytes) (s : Skeleton) (x : LexiconView) (is : IsLexiconOf text 
     none : All Never (refusals_in text d resolve.inherits s)
     none =
         let e : refusals_in text d resolve.inherits s ≡ [] = subst (λ (c : Spaces). refusals_in text c resolve.inherits s ≡ []) (sym is.resolved.declared) resolve.none in
-        subst (All Never) (sym e) (all_none Never)
+        subst (All Never) (sym e) (All-nil Never)
 
     none_of_parts : All Never (of_protocols ++ ((of_structs ++ of_functions) ++ of_queries))
     none_of_parts = all_right Never (of_spaces d) (of_protocols ++ ((of_structs ++ of_functions) ++ of_queries)) none
@@ -238,8 +237,8 @@ module _ (text : Bytes) (s : Skeleton) (x : LexiconView) (is : IsLexiconOf text 
 
     primary_names : (p : ProtocolDecl) (k : ℕ) → slice_get s.protocols k ≡ Some p → All (λ a. IsName x (name_of words a)) p.primaries
     primary_names p k at =
-        all_each (λ a. IsName x (name_of words a)) p.primaries
-        (λ a h. is_member resolve.inherits k (word text a) (passes (has_member d resolve.inherits k (word text a)) NoSuchMember a.start h))
+        All-weaker (λ a. All Never (primary_of d resolve.inherits k (declaration text a))) (λ a. IsName x (name_of words a))
+        (λ a h. is_member resolve.inherits k (word text a) (passes (has_member d resolve.inherits k (word text a)) NoSuchMember a.start h)) p.primaries
         (each_mapped (λ b. All Never (primary_of d resolve.inherits k b)) (declaration text) p.primaries (each_piece Never (primary_of d resolve.inherits k) (declarations text p.primaries) each))
       where
         refusals : All Never (of_primaries d resolve.inherits k)
@@ -262,11 +261,11 @@ module _ (text : Bytes) (s : Skeleton) (x : LexiconView) (is : IsLexiconOf text 
     primaries_are p = of_named (protocol_of d (word text p))
       where
         of_stated : (k : ℕ) (o : Option ProtocolDecl) → slice_get s.protocols k ≡ o → All (λ a. IsName x (name_of words a)) (primaries_of o)
-        of_stated k None e = all_none (λ a. IsName x (name_of words a))
+        of_stated k None e = All-nil (λ a. IsName x (name_of words a))
         of_stated k (Some q) e = primary_names q k e
 
         of_named : (o : Option ℕ) → All (λ a. IsName x (name_of words a)) (primaries_at s.protocols o)
-        of_named None = all_none (λ a. IsName x (name_of words a))
+        of_named None = All-nil (λ a. IsName x (name_of words a))
         of_named (Some k) = of_stated k (slice_get s.protocols k) refl
 
     refers : Refers words

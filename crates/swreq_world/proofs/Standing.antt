@@ -16,6 +16,9 @@ use Rattle.swreq_names.proofs.Booleans.{and_first, and_second}
 use Rattle.swreq_ranks.proofs.Positions.{fails_all}
 use Rattle.swreq_ranks.proofs.SymbolPlaces.{get_left, get_right}
 use Rattle.swreq_written.specs.Signatures.{nested_from, functions_from, with_nested, merged, in_order, is_signature, place_in, func_id}
+use Rattle.swreq_written.specs.declared.ids.FuncId.{FuncId}
+use Rattle.swreq_written.proofs.Referring.{from_below}
+use Rattle.swreq_world.specs.Text.{outer_of}
 use Rattle.swreq_world.proofs.WrittenOrder.{length_rest}
 
 -- The signature is of the text.
@@ -195,3 +198,17 @@ stands s (Nested i j) h =
     let z : i - 0 ≡ i = omega arith in
     let same = same_Some h.0 f.is (sym h.1 ∙ ap (slice_get s.structs) (sym z) ∙ f.stands) in
     ap (λ o. slice_get (in_order s) (unwrap_or o 0 + (1 + j))) p.1 ∙ f.functions j (subst (λ (t : StructDecl). j < length t.functions) same h.2)
+
+-- ---- the struct around a signature
+
+some_within : (order : List Signature) (g : Signature) → 0 < length order → unwrap_or (place_in order g) 0 < length order
+some_within order g h = by (place_in order g) refl
+  where
+    by : (o : Option ℕ) → place_in order g ≡ o → unwrap_or o 0 < length order
+    by None e = h
+    by (Some k) e = let l = from_below (is_signature g) 0 order k e in omega arith
+
+pub outer_within : (order : List Signature) (g : Signature) (f : FuncId) → 0 < length order → outer_of order g ≡ Some f → f.place < length order
+outer_within order (Struct i) f h e = absurd cc
+outer_within order (Function i) f h e = absurd cc
+outer_within order (Nested i j) f h e = subst (λ (o : FuncId). o.place < length order) (same_Some (func_id order (Struct i)) f e) (some_within order (Struct i) h)
