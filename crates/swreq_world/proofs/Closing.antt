@@ -1,5 +1,5 @@
 -- All that is written in the world of a text is of the world, where the names of the text resolve.
-use Rattle.std.proofs.Common.{◌≡◌, ◌↔◌, ◌<◌, ℕ, cond, List, [], Option, Some, None, length, get_or, map, slice_get, Contains, refl, sym, ap, subst, ◌∙◌, arith}
+use Rattle.std.proofs.Common.{◌≡◌, ℕ, cond, List, Some, length, get_or, slice_get, Contains, sym, ap, subst, ◌∙◌, arith}
 use Rattle.std.proofs.lemmas.Cmp.{then_total, on_total, back_total, nat_cmp_total}
 use Rattle.std.proofs.lemmas.List.{length-map}
 use Rattle.std.proofs.lemmas.List.Elements.{All-map}
@@ -23,7 +23,6 @@ use Rattle.swreq_ranks.proofs.Declared.{from_pieces, named_within}
 use Rattle.swreq_ranks.proofs.Places.{there}
 use Rattle.swreq_ranks.proofs.RankLaws.{rank_is, one_to_one, assoc_total, by_name, written_at, written_protocol}
 use Rattle.swreq_ranks.proofs.Rising.{rising_from_sorted, one_place}
-use Rattle.swreq_written.specs.Queries.{query_of}
 use Rattle.swreq_written.specs.Signatures.{in_order}
 use Rattle.swreq_world.specs.Closed.{IsClosed, AreIds, IsOfProtocol, HasOwn, HasOuter, IsQueryOf}
 use Rattle.swreq_world.specs.Text.{requirements_named, signature_in, signatures}
@@ -33,7 +32,7 @@ use Rattle.swreq_world.proofs.Everywhere.{stands_mapped, mapped_from}
 use Rattle.swreq_world.proofs.InProtocols.{protocols_are}
 use Rattle.swreq_world.proofs.InQueries.{queries_are}
 use Rattle.swreq_world.proofs.InSignatures.{signatures_are}
-use Rattle.swreq_world.proofs.Resolving.{resolved}
+use Rattle.swreq_world.proofs.Resolving.{protocol_is, resolved}
 use Rattle.swreq_world.proofs.Standing.{outer_within}
 
 found : {A : Type 0} (xs : List A) (x : A) → Contains xs x → (k : ℕ) × (slice_get xs k ≡ Some x)
@@ -54,9 +53,7 @@ module _ (text : Bytes) (s : Skeleton) (x : LexiconView) (is : IsLexiconOf text 
       let name = word text p.0.name in
       let in_it = found (declared_by text x.protocols x.names p.0) d p.2 in
       let m = mapped_from (λ (m : AssocDecl). pair (proto_by x.protocols name) (name_by x.names (word text m.name))) p.0.members in_it.0 d in_it.1 in
-      let named = there (protocol_names text s.protocols) at.0 name (stands_mapped (λ (q : ProtocolDecl). word text q.name) s.protocols at.0 p.0 at.1) in
-      let r = rank_is (Contains (protocol_names text s.protocols)) x.protocols is.protocols name named in
-      subst (λ (e : ProtocolName). IsProtocol x e.proto) m.2 (slice_get_within x.protocols (rank x.protocols name) name r)
+      subst (λ (e : ProtocolName). IsProtocol x e.proto) m.2 (protocol_is text s x is at.0 p.0 at.1)
 
   ids : AreIds x
   ids = record {

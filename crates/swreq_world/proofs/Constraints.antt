@@ -1,5 +1,5 @@
 -- What is written in constraints, where their names resolve: it is of the world, and begins with the generic parameters that stand there.
-use Rattle.std.proofs.Common.{◌≡◌, ℕ, suc, ◌<◌, Bool, true, false, cond, not, List, [], ◌∷◌, ◌++◌, Option, Some, None, length, map, refl, sym, subst, arith}
+use Rattle.std.proofs.Common.{◌≡◌, ℕ, Bool, true, false, cond, not, List, [], ◌∷◌, ◌++◌, Option, Some, None, length, map, refl, sym, subst}
 use Rattle.std.proofs.lemmas.List.Elements.{All-nil, All-cons, All-head, All-tail, All-weaker}
 use Rattle.std.specs.List.{All, flat_map}
 use Rattle.swreq_decl.specs.declared.skeleton.Entity.{Entity}
@@ -9,7 +9,6 @@ use Rattle.swreq_decl.specs.declared.skeleton.Span.{Span}
 use Rattle.swreq_decl.specs.declared.skeleton.StepDecl.{StepDecl}
 use Rattle.swreq_decl.specs.declared.skeleton.StepDecl.TheVariants.{Plain, Bound}
 use Rattle.swreq_decl.specs.declared.skeleton.TypeDecl.{TypeDecl}
-use Rattle.swreq_derive.specs.Derivation.{TermRequirement}
 use Rattle.swreq_derive.specs.Derivation.TermRequirement.{Conforms, IsAnyObject}
 use Rattle.swreq_names.specs.declared.refusal.Fault.TheVariants.{NotAProtocol, ConcreteType, NoSuchMember}
 use Rattle.swreq_names.specs.declared.refusal.Refusal.{Refusal}
@@ -87,8 +86,7 @@ module _ (w : WordsView) (refers : Refers w) where
       type_is t h =
           let of_head = when (not (begins (word w.text t.head))) ConcreteType t.head.start in
           let of_steps = flat_map (of_step w.text (declared w)) t.steps in
-          let i = starts t.head (passes (begins (word w.text t.head)) ConcreteType t.head.start (all_left Never of_head of_steps h.0)) in
-          (
+          let i = starts t.head (passes (begins (word w.text t.head)) ConcreteType t.head.start (all_left Never of_head of_steps h.0)) in (
             steps_are (head_in w scope t.head) t.steps i.0 (after w of_head of_steps (names.in_type w.text t) h),
             subst IsHead (sym (head_steps (head_in w scope t.head) (map (step_of w) t.steps))) i.1,
           )

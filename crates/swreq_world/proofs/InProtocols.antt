@@ -1,5 +1,5 @@
 -- What is written in a protocol, where its names resolve.
-use Rattle.std.proofs.Common.{◌≡◌, ℕ, Bool, true, false, cond, ◌||◌, List, [], ◌∷◌, ◌++◌, Option, Some, None, get_or, map, slice_get, refl}
+use Rattle.std.proofs.Common.{◌≡◌, ℕ, Bool, true, false, cond, ◌||◌, List, [], ◌++◌, Option, Some, None, get_or, map, slice_get, refl}
 use Rattle.std.proofs.lemmas.List.Elements.{All-nil, All-head, All-tail, All-append, All-map}
 use Rattle.std.specs.List.{All, flat_map}
 use Rattle.std.specs.Str.{bytes_eq}
@@ -7,7 +7,6 @@ use Rattle.swreq_decl.specs.declared.skeleton.AssocDecl.{AssocDecl}
 use Rattle.swreq_decl.specs.declared.skeleton.ProtocolDecl.{ProtocolDecl}
 use Rattle.swreq_decl.specs.declared.skeleton.Span.{Span}
 use Rattle.swreq_names.specs.declared.directory.Declaration.{Declaration}
-use Rattle.swreq_names.specs.declared.refusal.Refusal.{Refusal}
 use Rattle.swreq_names.specs.Mentioned as names
 use Rattle.swreq_names.specs.Refusals.{self_bytes, begins_in_protocol, duplicates, of_primaries, of_entity, of_requirement, of_member, of_members}
 use Rattle.swreq_names.specs.Refusals as refusals
@@ -22,7 +21,7 @@ use Rattle.swreq_written.specs.Words.{WordsView, declared}
 use Rattle.swreq_world.specs.Closed.{IsTermOf, IsOfProtocol}
 use Rattle.swreq_world.specs.Text.{of_protocol, of_place, requirements_named}
 use Rattle.swreq_world.proofs.Everywhere.{all_in_pieces}
-use Rattle.swreq_world.proofs.Resolving.{Never, IsRanked, AreResolved, Resolved}
+use Rattle.swreq_world.proofs.Resolving.{IsRanked, AreResolved, Resolved}
 use Rattle.swreq_world.proofs.Constraints.{parts, after, each, bounds_are, clause_is}
 
 module _ (w : WordsView) (inherits : ℕ → ℕ → Bool) (are : AreResolved w inherits) where

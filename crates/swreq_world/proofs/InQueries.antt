@@ -1,5 +1,5 @@
 -- What a query asks, where its names resolve.
-use Rattle.std.proofs.Common.{◌≡◌, ℕ, ◌<◌, Bool, true, false, cond, List, [], ◌∷◌, ◌++◌, Option, Some, None, length, get_or, map, slice_get, refl, sym, ap, subst, ◌∙◌, arith}
+use Rattle.std.proofs.Common.{◌≡◌, ℕ, Bool, true, false, cond, [], Option, Some, None, length, get_or, map, slice_get, refl, sym, ap, subst, ◌∙◌}
 use Rattle.std.proofs.lemmas.List.Elements.{All-map}
 use Rattle.std.proofs.lemmas.Option.{slice_get_within, get_or_from_slice_get, same_Some}
 use Rattle.std.specs.List.{All, flat_map}
@@ -18,7 +18,7 @@ use Rattle.swreq_names.specs.declared.signature.Signature.{Signature}
 use Rattle.swreq_names.specs.declared.signature.Signature.TheVariants.{Struct, Function, Nested}
 use Rattle.swreq_names.specs.Mentioned as names
 use Rattle.swreq_names.specs.Refusals.{begins_in_signature, of_named, of_type, of_entity, of_protocol_name, of_ask, of_asked, of_nested_query, of_query_in, of_query}
-use Rattle.swreq_names.specs.Spaces.{Spaces, spaces, word, declarations, place, protocol_of, struct_of, function_of, signature_of, nested_in, nested_of}
+use Rattle.swreq_names.specs.Spaces.{Spaces, spaces, word, declarations, place, protocol_of, struct_of, function_of, signature_of, nested_in}
 use Rattle.swreq_param.specs.Terms.{Term, head}
 use Rattle.swreq_ranks.specs.Ranks.{Bytes}
 use Rattle.swreq_written.specs.declared.ids.FuncId.{FuncId}

@@ -1,24 +1,16 @@
 -- What is written in a signature, where its names resolve.
-use Rattle.std.proofs.Common.{◌≡◌, ℕ, zero, suc, ◌+◌, ◌<◌, ◌≤◌, ⊎_elim, Bool, true, List, [], ◌∷◌, ◌++◌, Option, Some, None, is_some, unwrap_or, length, get_or, map, slice_get, refl, sym, ap, subst, ◌∙◌, arith}
-use Rattle.std.proofs.lemmas.Bool.{cases_lt}
-use Rattle.std.proofs.lemmas.List.{length-map}
-use Rattle.std.proofs.lemmas.List.Elements.{All-nil, All-append, All-weaker, All-map, Contains-append_left, Contains-append_right, Contains-append_cases}
-use Rattle.std.specs.List.{All, Contains, flat_map}
-use Rattle.std.specs.Option.{option_map}
+use Rattle.std.proofs.Common.{◌≡◌, ℕ, ◌+◌, ◌≤◌, Bool, true, List, [], ◌∷◌, ◌++◌, Option, Some, None, length, get_or, map, slice_get, refl, sym, ap, ◌∙◌, arith}
+use Rattle.std.proofs.lemmas.List.Elements.{All-nil, All-append, All-weaker, All-map}
+use Rattle.std.specs.List.{All, flat_map}
 use Rattle.swreq_decl.specs.declared.skeleton.FunctionDecl.{FunctionDecl}
 use Rattle.swreq_decl.specs.declared.skeleton.ParamDecl.{ParamDecl}
 use Rattle.swreq_decl.specs.declared.skeleton.ReqDecl.{ReqDecl}
-use Rattle.swreq_decl.specs.declared.skeleton.Skeleton.{Skeleton}
 use Rattle.swreq_decl.specs.declared.skeleton.Span.{Span}
 use Rattle.swreq_decl.specs.declared.skeleton.StructDecl.{StructDecl}
 use Rattle.swreq_derive.specs.Derivation.{TermRequirement}
 use Rattle.swreq_derive.specs.Derivation.TermRequirement.{Conforms, IsAnyObject, Equals}
-use Rattle.swreq_derive.specs.declared.known.Params.{Params}
-use Rattle.swreq_derive.specs.Facts.{params_of_depth, generic_params}
-use Rattle.swreq_names.specs.declared.directory.Declaration.{Declaration}
 use Rattle.swreq_names.specs.declared.refusal.Refusal.{Refusal}
-use Rattle.swreq_names.specs.declared.signature.Param.{Param}
-use Rattle.swreq_names.specs.declared.signature.Param.TheVariants.{Outer, Own}
+use Rattle.swreq_names.specs.declared.signature.Param.TheVariants.{Own}
 use Rattle.swreq_names.specs.declared.signature.Signature.{Signature}
 use Rattle.swreq_names.specs.declared.signature.Signature.TheVariants.{Struct, Function, Nested}
 use Rattle.swreq_names.specs.Mentioned as names
@@ -26,18 +18,16 @@ use Rattle.swreq_names.specs.Refusals.{begins_in_signature, duplicates, of_param
 use Rattle.swreq_names.specs.Refusals as refusals
 use Rattle.swreq_names.specs.Spaces.{Spaces, spaces, word, declaration, of_params, param_of}
 use Rattle.swreq_names.specs.Spaces as declarations
-use Rattle.swreq_names.proofs.Declaring.{no_element}
 use Rattle.swreq_param.specs.declared.ids.ParamId.{ParamId}
-use Rattle.swreq_param.specs.Terms.{self_param, head}
+use Rattle.swreq_param.specs.Terms.{head}
 use Rattle.swreq_param.specs.Terms.Term.{Generic}
 use Rattle.swreq_ranks.specs.Ranks.{Bytes}
 use Rattle.swreq_written.specs.declared.scope.Scope.TheVariants as scopes
 use Rattle.swreq_written.specs.Heads.{IsOver}
-use Rattle.swreq_written.specs.Requirements.{PlacedRequirement, in_clause, in_param, in_params, in_signature, in_struct, in_function, in_nested}
-use Rattle.swreq_written.specs.Signatures.{params_of_struct, params_of_function, functions_of, outer_params, own_params, depth_within, own_depth, counts, params_of}
+use Rattle.swreq_written.specs.Requirements.{PlacedRequirement, in_clause, in_param, in_params, in_signature, in_struct, in_nested}
+use Rattle.swreq_written.specs.Signatures.{params_of_struct, params_of_function, functions_of, outer_params, own_params, own_depth, params_of}
 use Rattle.swreq_written.specs.Types.{param_id, signature_head}
 use Rattle.swreq_written.specs.Words.{WordsView, declared}
-use Rattle.swreq_written.proofs.Referring.{outer_below, own_below}
 use Rattle.swreq_world.specs.Closed.{IsTermOf, IsParamOf, IsOfSignature, HasOwn}
 use Rattle.swreq_world.specs.Text.{of_struct, of_function, of_nested, of_nested_in, list_of, signature_in}
 use Rattle.swreq_world.proofs.Everywhere.{all_left, all_right, all_at, each_piece, placed_piece}

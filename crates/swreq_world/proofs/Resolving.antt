@@ -1,5 +1,5 @@
 -- What the names of a text refer to, where they resolve.
-use Rattle.std.proofs.Common.{◌≡◌, ℕ, zero, suc, ◌+◌, ◌<◌, ⊎_elim, Bool, true, false, cond, not, ◌&&◌, ◌||◌, List, [], ◌∷◌, ◌++◌, Option, Some, None, is_some, length, get_or, map, slice_get, refl, sym, ap, subst, ◌∙◌, arith}
+use Rattle.std.proofs.Common.{◌≡◌, ℕ, zero, suc, ◌+◌, ◌<◌, ⊎_elim, Bool, true, false, cond, not, ◌&&◌, List, [], ◌∷◌, ◌++◌, Option, Some, None, is_some, length, get_or, map, slice_get, refl, sym, ap, subst, ◌∙◌, arith}
 use Rattle.std.proofs.lemmas.Iterator.Adapters.{position_from-zero}
 use Rattle.std.proofs.lemmas.List.Elements.{All-nil, All-weaker, Contains-get_or}
 use Rattle.std.proofs.lemmas.List.Quantifiers.{position-Some}
@@ -10,7 +10,6 @@ use Rattle.std.specs.Str.{bytes_eq}
 use Rattle.swreq_decl.specs.declared.skeleton.AssocDecl.{AssocDecl}
 use Rattle.swreq_decl.specs.declared.skeleton.FunctionDecl.{FunctionDecl}
 use Rattle.swreq_decl.specs.declared.skeleton.ProtocolDecl.{ProtocolDecl}
-use Rattle.swreq_decl.specs.declared.skeleton.QueryDecl.{QueryDecl}
 use Rattle.swreq_decl.specs.declared.skeleton.Skeleton.{Skeleton}
 use Rattle.swreq_decl.specs.declared.skeleton.Span.{Span}
 use Rattle.swreq_decl.specs.declared.skeleton.StructDecl.{StructDecl}
@@ -21,7 +20,7 @@ use Rattle.swreq_names.specs.declared.refusal.Refusal.{Refusal}
 use Rattle.swreq_names.specs.First.{when}
 use Rattle.swreq_names.specs.Mentioned as names
 use Rattle.swreq_names.specs.Names.{HasNames}
-use Rattle.swreq_names.specs.Refusals.{duplicates, of_spaces, of_protocol, of_primaries, primary_of, of_entity, of_requirement, of_members, begins_in_protocol, of_struct, of_function, of_signatures, of_query, refusals_in, by_place}
+use Rattle.swreq_names.specs.Refusals.{duplicates, of_spaces, of_protocol, of_primaries, primary_of, of_entity, of_requirement, of_members, begins_in_protocol, of_struct, of_function, of_query, refusals_in, by_place}
 use Rattle.swreq_names.specs.Spaces.{Spaces, spaces, word, declaration, declarations, place, offset_of, is_declared, is_declared_before, refers_to, protocol_of, declares, has_member, any_below}
 use Rattle.swreq_names.proofs.Booleans.{or_cases, and_second}
 use Rattle.swreq_ranks.specs.declared.pair.ProtocolName.{ProtocolName}
@@ -109,6 +108,7 @@ IsRanked w name = IsName w.lexicon (name_by w.lexicon.names name)
 abbrev pub Resolved : WordsView → List Refusal → List Bytes → Type 0
 Resolved w refusals mentioned = All Never refusals × All (IsRanked w) mentioned
 
+-- The names of the text resolve.
 pub record AreResolved (w : WordsView) (inherits : ℕ → ℕ → Bool) : Type 0 where
   pub refers : Refers w
   pub protocol_at : (i : ℕ) (p : ProtocolDecl) → slice_get w.skeleton.protocols i ≡ Some p → Resolved w (of_protocol w.text (declared w) inherits i p) (names.in_protocol w.text p)
@@ -126,11 +126,15 @@ module _ (text : Bytes) (s : Skeleton) (x : LexiconView) (is : IsLexiconOf text 
       let h : protocol_of (spaces text s) name ≡ Some k = subst (λ (d : Spaces). protocol_of d name ≡ Some k) is.resolved.declared e in
       declared_at text (λ (p : ProtocolDecl). p.name) s.protocols name k (referred (spaces text s).protocols (spaces text s).structs name k h)
 
-  is_protocol : (name : Bytes) (k : ℕ) → protocol_of (declared words) name ≡ Some k → IsProtocol x (proto_by x.protocols name)
-  is_protocol name k e =
-      let p = protocol_named name k e in
-      let c = there (protocol_names text s.protocols) k name (stands_mapped (λ (q : ProtocolDecl). word text q.name) s.protocols k p.0 p.1 ∙ ap Some p.2) in
+  -- Each protocol has a rank.
+  pub protocol_is : (k : ℕ) (p : ProtocolDecl) → slice_get s.protocols k ≡ Some p → IsProtocol x (proto_by x.protocols (word text p.name))
+  protocol_is k p e =
+      let name = word text p.name in
+      let c = there (protocol_names text s.protocols) k name (stands_mapped (λ (q : ProtocolDecl). word text q.name) s.protocols k p e) in
       slice_get_within x.protocols (rank x.protocols name) name (rank_is (Contains (protocol_names text s.protocols)) x.protocols is.protocols name c)
+
+  named_is : (name : Bytes) (k : ℕ) → protocol_of (declared words) name ≡ Some k → IsProtocol x (proto_by x.protocols name)
+  named_is name k e = let p = protocol_named name k e in subst (λ n. IsProtocol x (proto_by x.protocols n)) p.2 (protocol_is k p.0 p.1)
 
   abbrev members_of : ProtocolDecl → List Declaration
   members_of p = declarations text (map (λ (m : AssocDecl). m.name) p.members)
@@ -153,13 +157,16 @@ module _ (text : Bytes) (s : Skeleton) (x : LexiconView) (is : IsLexiconOf text 
           let f : is_declared (members_of p) name ≡ true = subst (λ ds. is_declared ds name ≡ true) (at_mapped members_of s.protocols k p [] n) h in
           let j = some_of (place (members_of p) name) f in
           let m = declared_at text (λ (m : AssocDecl). m.name) p.members name j.0 j.1 in
-          let c = there (map (pair_of p) p.members) j.0 (pair_of p m.0) (stands_mapped (pair_of p) p.members j.0 m.0 m.1) in
-          (p, n, in_pieces (declared_by text x.protocols x.names) s.protocols p (pair (proto_by x.protocols (word text p.name)) (name_by x.names name)) (there s.protocols k p n)
-          (subst (λ b. Contains (map (pair_of p) p.members) (pair (proto_by x.protocols (word text p.name)) (name_by x.names b))) m.2 c))
+          let c = there (map (pair_of p) p.members) j.0 (pair_of p m.0) (stands_mapped (pair_of p) p.members j.0 m.0 m.1) in (
+            p,
+            n,
+            in_pieces (declared_by text x.protocols x.names) s.protocols p (pair (proto_by x.protocols (word text p.name)) (name_by x.names name)) (there s.protocols k p n)
+                (subst (λ b. Contains (map (pair_of p) p.members) (pair (proto_by x.protocols (word text p.name)) (name_by x.names b))) m.2 c),
+          )
 
-  is_associated : (p a : Bytes) (k : ℕ) → protocol_of (declared words) p ≡ Some k → declares (declared words) k a ≡ true
+  associated_is : (p a : Bytes) (k : ℕ) → protocol_of (declared words) p ≡ Some k → declares (declared words) k a ≡ true
       → (assoc_by x.associated (proto_by x.protocols p) (name_by x.names a)).rank < length x.associated
-  is_associated p a k e h =
+  associated_is p a k e h =
       let q = protocol_named p k e in
       let r = declared_pair k a h in
       let same : word text r.0.name ≡ p = ap (λ (t : ProtocolDecl). word text t.name) (same_Some r.0 q.0 (sym r.1 ∙ q.1)) ∙ q.2 in
@@ -167,8 +174,8 @@ module _ (text : Bytes) (s : Skeleton) (x : LexiconView) (is : IsLexiconOf text 
       let there_too = subst (λ b. Contains (declared_in text x.protocols x.names s.protocols) (pair (proto_by x.protocols b) (name_by x.names a))) same r.2 in
       slice_get_within x.associated (assoc_by x.associated (proto_by x.protocols p) (name_by x.names a)).rank d (assoc_is x.associated d ((is.associated.same d).1 there_too))
 
-  is_member : (inherits : ℕ → ℕ → Bool) (k : ℕ) (name : Bytes) → has_member (declared words) inherits k name ≡ true → IsName x (name_by x.names name)
-  is_member inherits k name e =
+  member_is : (inherits : ℕ → ℕ → Bool) (k : ℕ) (name : Bytes) → has_member (declared words) inherits k name ≡ true → IsName x (name_by x.names name)
+  member_is inherits k name e =
       let j = declared_somewhere (declared words) inherits k name e in
       let p = declared_pair j.0 name j.1 in
       named_within text s x.protocols x.names is.names (pair (proto_by x.protocols (word text p.0.name)) (name_by x.names name)) p.2
@@ -238,7 +245,7 @@ module _ (text : Bytes) (s : Skeleton) (x : LexiconView) (is : IsLexiconOf text 
     primary_names : (p : ProtocolDecl) (k : ℕ) → slice_get s.protocols k ≡ Some p → All (λ a. IsName x (name_of words a)) p.primaries
     primary_names p k at =
         All-weaker (λ a. All Never (primary_of d resolve.inherits k (declaration text a))) (λ a. IsName x (name_of words a))
-        (λ a h. is_member resolve.inherits k (word text a) (passes (has_member d resolve.inherits k (word text a)) NoSuchMember a.start h)) p.primaries
+        (λ a h. member_is resolve.inherits k (word text a) (passes (has_member d resolve.inherits k (word text a)) NoSuchMember a.start h)) p.primaries
         (each_mapped (λ b. All Never (primary_of d resolve.inherits k b)) (declaration text) p.primaries (each_piece Never (primary_of d resolve.inherits k) (declarations text p.primaries) each))
       where
         refusals : All Never (of_primaries d resolve.inherits k)
@@ -270,9 +277,9 @@ module _ (text : Bytes) (s : Skeleton) (x : LexiconView) (is : IsLexiconOf text 
 
     refers : Refers words
     refers = record {
-      protocol = λ p k e. is_protocol (word text p) k e;
-      associated = λ p a k e h. is_associated (word text p) (word text a) k e h;
-      member = λ inherits k a h. is_member inherits k (word text a) h;
+      protocol = λ p k e. named_is (word text p) k e;
+      associated = λ p a k e h. associated_is (word text p) (word text a) k e h;
+      member = λ inherits k a h. member_is inherits k (word text a) h;
       primaries = primaries_are;
     }
 
