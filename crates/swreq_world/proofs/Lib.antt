@@ -6,3 +6,12 @@ pub mod Looking
 pub mod OfSelf
 pub mod Assembling
 pub mod Associated
+pub mod Everywhere
+pub mod Resolving
+pub mod Constraints
+pub mod InProtocols
+pub mod GenericParams
+pub mod InSignatures
+pub mod Standing
+pub mod InQueries
+pub mod Closing

@@ -1,5 +1,5 @@
--- What holds of the world of each text: all that is written in it is of the world.
-use Rattle.std.specs.Prelude.{◌≡◌, ◌↔◌, ◌<◌, ℕ, List, length, Contains, All, Some, slice_get}
+-- What holds of the world of each text whose names resolve: all that is written in it is of the world.
+use Rattle.std.specs.Prelude.{◌≡◌, ◌↔◌, ◌<◌, ℕ, length, Contains, All, Some, slice_get}
 use Rattle.swreq_derive.specs.declared.known.Params.{Params}
 use Rattle.swreq_derive.specs.Derivation.{TermRequirement}
 use Rattle.swreq_derive.specs.Derivation.TermRequirement.{Conforms, IsAnyObject, Equals}
@@ -70,11 +70,15 @@ IsOfSignature x params r = IsRequirementOf x r.requirement × IsOver (IsParamOf 
 abbrev pub HasOwn : LexiconView → SignatureOver PlacedRequirement → Type 0
 HasOwn x g = All (IsOfSignature x g.params) g.requirements
 
--- A query asks a signature of the world about type parameters over its generic parameters.
 module _ (w : TextWorld) where
   abbrev pub IsSignature : FuncId → Type 0
   IsSignature f = f.place < length w.signatures
 
+  -- The struct around a signature is of the world.
+  abbrev pub HasOuter : SignatureOver PlacedRequirement → Type 0
+  HasOuter g = (f : FuncId) → g.outer ≡ Some f → IsSignature f
+
+  -- A query asks a signature of the world about type parameters over its generic parameters.
   abbrev pub IsAskedOf : FuncId → Term → Type 0
   IsAskedOf f t = IsTermOf w.lexicon t × IsParamOf (signature_at w f).params (head t)
 
@@ -91,4 +95,5 @@ pub record IsClosed (w : TextWorld) : Type 0 where
   pub protocols : length w.requirements ≡ length w.lexicon.protocols
   pub requirements : All (All (IsOfProtocol w.lexicon)) w.requirements
   pub signatures : All (HasOwn w.lexicon) w.signatures
+  pub outer : All (HasOuter w) w.signatures
   pub queries : All (IsQueryOf w) w.queries

@@ -1,7 +1,9 @@
 //! What holds of the world of each text.
 ghost use Rattle.std.specs.Prelude.{All, List, ℕ};
 ghost use Rattle.swreq_decl.specs.declared.skeleton.Skeleton.{Skeleton};
+ghost use Rattle.swreq_names.specs.Names.{Resolve};
 ghost use Rattle.swreq_written.specs.Heads.{IsOverSelf};
+ghost use Rattle.swreq_world.specs.Closed.{IsClosed};
 ghost use Rattle.swreq_world.specs.WorldOf.{IsWorldOf};
 ghost use Rattle.swreq_world.specs.Worlds.{TextWorld};
 
@@ -9,4 +11,9 @@ ghost use Rattle.swreq_world.specs.Worlds.{TextWorld};
 pub fn protocols_require_of_self()
     ensures { (text : List ℕ) (s : Skeleton) (w : TextWorld) → IsWorldOf text s w
         → All (All (λ r. IsOverSelf r.requirement)) w.requirements }
+{}
+
+/// Where the names of a text resolve, all that is written in its world is of the world.
+pub fn worlds_are_closed()
+    ensures closed { (text : List ℕ) (s : Skeleton) (w : TextWorld) → IsWorldOf text s w → Resolve text s → IsClosed w }
 {}

@@ -1,0 +1,112 @@
+-- The generic parameters of signatures.
+use Rattle.std.proofs.Common.{◌≡◌, ℕ, zero, suc, ◌<◌, ◌≤◌, ⊎_elim, true, List, [], ◌∷◌, Option, Some, None, is_some, unwrap_or, length, get_or, map, slice_get, refl, ap, ◌∙◌, arith}
+use Rattle.std.proofs.lemmas.Bool.{cases_lt}
+use Rattle.std.proofs.lemmas.List.{length-map}
+use Rattle.std.proofs.lemmas.List.Elements.{Contains-append_left, Contains-append_right, Contains-append_cases}
+use Rattle.std.specs.List.{Contains}
+use Rattle.std.specs.Option.{option_map}
+use Rattle.swreq_decl.specs.declared.skeleton.FunctionDecl.{FunctionDecl}
+use Rattle.swreq_decl.specs.declared.skeleton.ParamDecl.{ParamDecl}
+use Rattle.swreq_decl.specs.declared.skeleton.Skeleton.{Skeleton}
+use Rattle.swreq_decl.specs.declared.skeleton.StructDecl.{StructDecl}
+use Rattle.swreq_derive.specs.Facts.{params_of_depth}
+use Rattle.swreq_names.specs.declared.directory.Declaration.{Declaration}
+use Rattle.swreq_names.specs.declared.signature.Param.{Param}
+use Rattle.swreq_names.specs.declared.signature.Param.TheVariants.{Outer, Own}
+use Rattle.swreq_names.specs.declared.signature.Signature.{Signature}
+use Rattle.swreq_names.specs.declared.signature.Signature.TheVariants.{Struct, Function, Nested}
+use Rattle.swreq_names.specs.Spaces.{Spaces, spaces, declaration, of_params, param_of}
+use Rattle.swreq_names.specs.Spaces as declarations
+use Rattle.swreq_names.proofs.Declaring.{no_element}
+use Rattle.swreq_param.specs.declared.ids.ParamId.{ParamId}
+use Rattle.swreq_param.specs.Terms.{self_param}
+use Rattle.swreq_ranks.specs.Ranks.{Bytes}
+use Rattle.swreq_written.specs.Signatures.{params_of_struct, params_of_function, functions_of, outer_params, own_params, depth_within, own_depth, counts, params_of}
+use Rattle.swreq_written.specs.Types.{param_id, param_named}
+use Rattle.swreq_written.specs.Words.{WordsView, declared}
+use Rattle.swreq_written.proofs.Referring.{outer_below, own_below}
+use Rattle.swreq_world.specs.Closed.{IsParamOf}
+use Rattle.swreq_world.proofs.Everywhere.{at_mapped, past_mapped}
+
+-- ---- by their numbers
+
+has_depth : (d n i : ℕ) → i < n → Contains (params_of_depth d n) (record { depth = d; index = i })
+has_depth d zero i h = absurd (omega arith)
+has_depth d (suc n) i h =
+    let last : List ParamId = record { depth = d; index = n } ∷ [] in
+    ⊎_elim (λ l. Contains-append_left (params_of_depth d n) last (record { depth = d; index = i }) (has_depth d n i l))
+    (λ g. Contains-append_right (params_of_depth d n) last (record { depth = d; index = i }) (0, omega arith, here (same g))) (cases_lt i n)
+  where
+    same : n ≤ i → n ≡ i
+    same g = omega arith
+
+    here : n ≡ i → ◌≡◌ {A = ParamId} (record { depth = d; index = n }) (record { depth = d; index = i })
+    here e k = record { depth = d; index = e k }
+
+pub outer_is : (outer own : List ParamDecl) (k : ℕ) → k < length outer → IsParamOf (counts outer own) (record { depth = 0; index = k })
+outer_is [] own k h = absurd (omega arith)
+outer_is (g ∷ gs) own k h =
+    Contains-append_left (params_of_depth 0 (length (g ∷ gs))) (params_of_depth 1 (length own)) (record { depth = 0; index = k }) (has_depth 0 (length (g ∷ gs)) k h)
+
+pub own_is : (outer own : List ParamDecl) (k : ℕ) → k < length own → IsParamOf (counts outer own) (record { depth = depth_within outer; index = k })
+own_is [] own k h = Contains-append_left (params_of_depth 0 (length own)) (params_of_depth 1 0) (record { depth = 0; index = k }) (has_depth 0 (length own) k h)
+own_is (g ∷ gs) own k h =
+    Contains-append_right (params_of_depth 0 (length (g ∷ gs))) (params_of_depth 1 (length own)) (record { depth = 1; index = k }) (has_depth 1 (length own) k h)
+
+-- The generic parameters of a struct are those of its functions too.
+pub of_struct_too : (outer own : List ParamDecl) (g : ParamId) → IsParamOf (counts [] outer) g → IsParamOf (counts outer own) g
+of_struct_too [] own g h = absurd (no_element g h)
+of_struct_too (p ∷ ps) own g h =
+    let all = params_of_depth 0 (length (p ∷ ps)) in
+    ⊎_elim (λ c. Contains-append_left all (params_of_depth 1 (length own)) g c) (λ c. absurd (no_element g c)) (Contains-append_cases all [] g h)
+
+-- ---- as they are declared
+
+module _ (words : Bytes) (s : Skeleton) where
+  named : (ps : List ParamDecl) → length (of_params words ps) ≡ length ps
+  named ps = length-map (map (λ (g : ParamDecl). g.name) ps) (declaration words) ∙ length-map ps (λ (g : ParamDecl). g.name)
+
+  of_structs : (i : ℕ) (o : Option StructDecl) → slice_get s.structs i ≡ o → length (get_or (spaces words s).struct_params i []) ≡ length (params_of_struct o)
+  of_structs i None e = ap length (past_mapped (λ (t : StructDecl). of_params words t.params) s.structs i [] e)
+  of_structs i (Some t) e = ap length (at_mapped (λ (t : StructDecl). of_params words t.params) s.structs i t [] e) ∙ named t.params
+
+  of_functions : (fs : List FunctionDecl) (j : ℕ) (o : Option FunctionDecl) → slice_get fs j ≡ o → length (get_or (map (λ f. of_params words f.params) fs) j []) ≡ length (params_of_function o)
+  of_functions fs j None e = ap length (past_mapped (λ (f : FunctionDecl). of_params words f.params) fs j [] e)
+  of_functions fs j (Some f) e = ap length (at_mapped (λ (f : FunctionDecl). of_params words f.params) fs j f [] e) ∙ named f.params
+
+  of_nested_functions : (i j : ℕ) (o : Option StructDecl) → slice_get s.structs i ≡ o
+      → length (get_or (get_or (spaces words s).nested_params i []) j []) ≡ length (params_of_function (slice_get (functions_of o) j))
+  of_nested_functions i j None e =
+      ap (λ (ds : List (List Declaration)). length (get_or ds j [])) (past_mapped (λ (t : StructDecl). map (λ (f : FunctionDecl). of_params words f.params) t.functions) s.structs i [] e)
+  of_nested_functions i j (Some t) e =
+      ap (λ (ds : List (List Declaration)). length (get_or ds j [])) (at_mapped (λ (t : StructDecl). map (λ (f : FunctionDecl). of_params words f.params) t.functions) s.structs i t [] e)
+      ∙ of_functions t.functions j (slice_get t.functions j) refl
+
+  outer_length : (g : Signature) → length (declarations.outer_params (spaces words s) g) ≡ length (outer_params s g)
+  outer_length (Struct i) = refl
+  outer_length (Function i) = refl
+  outer_length (Nested i j) = of_structs i (slice_get s.structs i) refl
+
+  own_length : (g : Signature) → length (declarations.own_params (spaces words s) g) ≡ length (own_params s g)
+  own_length (Struct i) = of_structs i (slice_get s.structs i) refl
+  own_length (Function i) = of_functions s.functions i (slice_get s.functions i) refl
+  own_length (Nested i j) = of_nested_functions i j (slice_get s.structs i) refl
+
+-- ---- what a name refers to
+
+-- A name that refers to a generic parameter refers to one of the signature.
+pub named_is : (w : WordsView) → declared w ≡ spaces w.text w.skeleton → (g : Signature) (name : Bytes) → is_some (param_of (declared w) g name) ≡ true
+    → IsParamOf (params_of w.skeleton g) (unwrap_or (param_named w g name) self_param)
+named_is w same g name e = by (param_of (declared w) g name) refl e
+  where
+    by : (o : Option Param) → param_of (declared w) g name ≡ o → is_some o ≡ true
+        → IsParamOf (params_of w.skeleton g) (unwrap_or (option_map (param_id (own_depth w.skeleton g)) o) self_param)
+    by None n e = absurd cc
+    by (Some (Outer k)) n e =
+        let l = outer_below (declared w) g name k n in
+        let m = ap (λ (d : Spaces). length (declarations.outer_params d g)) same ∙ outer_length w.text w.skeleton g in
+        outer_is (outer_params w.skeleton g) (own_params w.skeleton g) k (omega arith)
+    by (Some (Own k)) n e =
+        let l = own_below (declared w) g name k n in
+        let m = ap (λ (d : Spaces). length (declarations.own_params d g)) same ∙ own_length w.text w.skeleton g in
+        own_is (outer_params w.skeleton g) (own_params w.skeleton g) k (omega arith)
