@@ -1,0 +1,35 @@
+-- What a map keeps: with words the properties that end left sides behind them.
+use Rattle.std.specs.Prelude.{◌≡◌, ◌↔◌, ℕ, ◌<◌, List, [], ◌∷◌, ◌++◌, Some, Vec, Contains, slice_get}
+use Rattle.std.specs.declared.alloc.Global.{Global}
+use Rattle.swreq_word.specs.declared.symbols.Symbol.{Symbol}
+use Rattle.swreq_word.specs.declared.symbols.Symbol.TheVariants.{Proto}
+use Rattle.swreq_word.specs.declared.table.WordId.{WordId}
+use Rattle.swreq_word.specs.Interned.{StandsFor}
+use Rattle.swreq_rule.specs.declared.rules.Rule.{Rule}
+use Rattle.swreq_map.specs.Properties.{IsProperty, Vanishes}
+
+-- words, and for each of them a list of symbols, where the protocols are those below a number
+pub record MapView : Type 0 where
+  pub protocols : ℕ
+  pub words : List (List Symbol)
+  pub lists : List (Vec Symbol Global)
+
+abbrev pub IsListed : List (Vec Symbol Global) → ℕ → Symbol → Type 0
+IsListed lists place x = (list : Vec Symbol Global) × (slice_get lists place ≡ Some list) × Contains list.items x
+
+-- what was listed stays listed
+abbrev pub KeepsListed : List (Vec Symbol Global) → List (Vec Symbol Global) → Type 0
+KeepsListed old new = (place : ℕ) (x : Symbol) → IsListed old place x → IsListed new place x
+
+-- The symbol is listed with the word.
+abbrev pub Follows : List (List Symbol) → List (Vec Symbol Global) → List Symbol → Symbol → Type 0
+Follows words lists v x = (id : WordId) × StandsFor words id v × IsListed lists id.place x
+
+-- The map of these rules: each property that ends a left side is listed with the word before it.
+abbrev pub IsMapOf : List Rule → MapView → Type 0
+IsMapOf rules m = (rule : Rule) (v : List Symbol) (x : Symbol) → Contains rules rule → rule.left ≡ v ++ x ∷ [] → IsProperty m.protocols x
+    → Follows m.words m.lists v x
+
+-- just the protocols below this number among these symbols that vanish behind the word
+abbrev pub AreConforming : List Rule → ℕ → List Symbol → List Symbol → List ℕ → Type 0
+AreConforming rules protocols u symbols found = (p : ℕ) → Contains found p ↔ (Contains symbols (Proto p) × (p < protocols) × Vanishes rules u (Proto p))

@@ -1,0 +1,11 @@
+//! The properties of irreducible words: the protocols whose symbols vanish behind them, and the layout.
+#![tactic(auto)]
+
+mod followers;
+mod map;
+mod vanishing;
+
+pub use map::{Properties, PropertyMap};
+
+#[cfg(test)]
+mod tests;

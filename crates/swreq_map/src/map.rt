@@ -1,0 +1,239 @@
+// The map from the endings of words to the properties that rules give them.
+ghost use Rattle.std.specs.Prelude.{◌≡◌, ℕ, ◌+◌, ◌<◌, ◌≤◌, true, Contains, drop, length, take, slice_get, Some, IfOk, OnOk, MatchOption, vec_capacity};
+ghost use Rattle.std.specs.Bool.{Decides};
+ghost use Rattle.swreq_word.specs.declared.symbols.Symbol.{Symbol};
+ghost use Rattle.swreq_word.specs.declared.symbols.Symbol.TheVariants.{Proto};
+ghost use Rattle.swreq_word.specs.Interned.{AreDistinct};
+ghost use Rattle.swreq_word.specs.Least.{IsLeast};
+ghost use Rattle.swreq_word.specs.Relations.{Linked};
+ghost use Rattle.swreq_rule.specs.Steps.{Step};
+ghost use Rattle.swreq_map.specs.Follows.{AreConforming, Follows, IsMapOf};
+ghost use Rattle.swreq_map.specs.Properties.{ArePropertiesOf, IsProperty, Vanishes};
+
+use crate::followers::{add_end, followers};
+use crate::vanishing::vanishes;
+use std::alloc::{AllocError, Global};
+use std::marker::Model;
+use swreq_complete::CompleteRules;
+use swreq_text::Seq;
+use swreq_word::{Symbol, WordTable};
+
+/// The protocols to which a word conforms, ascending, and whether it has the layout.
+#[derive(Debug, Drop)]
+pub struct Properties {
+    pub protocols: Seq<u32>,
+    pub layout: bool,
+}
+
+/// For each ending of a word the properties that rules may give to the word.
+#[derive(Drop)]
+pub struct PropertyMap {
+    protocols: u32,
+    table: WordTable,
+    lists: Vec<Vec<Symbol>>,
+}
+
+impl Model for PropertyMap {
+    ghost use Rattle.swreq_word.specs.Interned.{AreDistinct};
+    ghost use Rattle.swreq_map.specs.Follows.{MapView};
+
+    ghost Value = { MapView };
+
+    ghost view = { λ m. record { protocols = m.protocols; words = m.table; lists = m.lists.items } };
+
+    ghost invariant = { λ m. AreDistinct m.table };
+}
+
+/// The symbols that are kept with some ending of a word.
+fn candidates(
+    alloc: Global,
+    table: &WordTable,
+    lists: &[Vec<Symbol>],
+    u: &[Symbol],
+) -> Result<Vec<Symbol>, AllocError>
+    requires { AreDistinct table.now }
+    ensures { IfOk result (λ v. (at : ℕ) (x : Symbol) → at ≤ length u.now → Follows table.now lists.now (drop at u.now) x → Contains v.items x) }
+{
+    let mut found: Vec<Symbol> = Vec::new(alloc);
+    for at in 0..u.len() + 1 {
+        found.extend_from_slice(followers(table, lists, &u[at..]))?;
+    }
+    Ok(found)
+}
+
+impl PropertyMap {
+    /// The map of the rules, where the protocols are those below a number.
+    pub fn build(
+        alloc: Global,
+        rules: &CompleteRules,
+        protocols: u32,
+    ) -> Result<PropertyMap, AllocError>
+        ensures protocols { IfOk result (λ m. m.protocols ≡ protocols) }
+        ensures map { IfOk result (IsMapOf rules.now) }
+    {
+        let mut table = WordTable::new(alloc);
+        let mut lists: Vec<Vec<Symbol>> = Vec::new(alloc);
+        let all = rules.rules();
+        for k in 0..all.len() {
+            let rule = &all[k];
+            add_end(
+                alloc,
+                &mut table,
+                &mut lists,
+                protocols,
+                rule.left.symbols(),
+            )?;
+        }
+        Ok(PropertyMap {
+            protocols,
+            table,
+            lists,
+        })
+    }
+    /// Whether the map keeps the symbol with some ending of a word.
+    fn is_candidate(&self, u: &[Symbol], x: Symbol) -> bool
+        ensures { (at : ℕ) → at ≤ length u.now → Follows self.now.words self.now.lists (drop at u.now) x → result ≡ true }
+    {
+        for at in 0..u.len() + 1 {
+            if is_among(followers(&self.table, &self.lists, &u[at..]), x) {
+                return true;
+            }
+        }
+        false
+    }
+
+    /// Whether a property vanishes behind the least word of a class, by the rules of the map. No memory is taken: the room is for one
+    /// symbol more than the word.
+    pub fn has(
+        &self,
+        rules: &CompleteRules,
+        u: &[Symbol],
+        x: Symbol,
+        room: &mut Vec<Symbol>,
+    ) -> bool
+        requires map { IsMapOf rules.now self.now }
+        requires property { IsProperty self.now.protocols x }
+        requires least { IsLeast (Linked (Step rules.now)) u.now }
+        requires fits { length u.now + 1 ≤ vec_capacity room.old }
+        ensures answer { Decides result (Vanishes rules.now u.now x) }
+        ensures room { vec_capacity room.old ≤ vec_capacity room.new }
+    {
+        let _rules = rules.rules();
+        if self.is_candidate(u, x) {
+            vanishes(rules, u, x, room)
+        } else {
+            false
+        }
+    }
+
+    /// The properties of the least word of a class, by the rules of the map.
+    pub fn properties(
+        &self,
+        alloc: Global,
+        rules: &CompleteRules,
+        u: &[Symbol],
+    ) -> Result<Properties, AllocError>
+        requires map { IsMapOf rules.now self.now }
+        requires least { IsLeast (Linked (Step rules.now)) u.now }
+        ensures { IfOk result (ArePropertiesOf rules.now self.now.protocols u.now) }
+    {
+        let _rules = rules.rules();
+        let candidates = candidates(alloc, &self.table, &self.lists, u)?;
+        let mut room = Vec::with_capacity(alloc, u.len() + 1)?;
+        let mut protocols = conforming(alloc, rules, u, self.protocols, &candidates, &mut room)?;
+        protocols.sort_unstable();
+        protocols.dedup();
+        let layout = self.has(rules, u, Symbol::Layout, &mut room);
+        Ok(Properties {
+            protocols: Seq::new(protocols),
+            layout,
+        })
+    }
+}
+
+fn is_among(symbols: &[Symbol], x: Symbol) -> bool
+    ensures { Decides result (Contains symbols.now x) }
+{
+    symbols.contains(&x)
+}
+
+fn symbol_at(symbols: &[Symbol], k: usize) -> Symbol
+    requires { k < length symbols.now }
+    ensures { slice_get symbols.now k ≡ Some result }
+{
+    symbols[k]
+}
+
+/// The protocol of the symbol, if it is one below this number that vanishes behind the least word of a class.
+fn conforms(
+    rules: &CompleteRules,
+    u: &[Symbol],
+    protocols: u32,
+    x: Symbol,
+    room: &mut Vec<Symbol>,
+) -> Option<u32>
+    requires least { IsLeast (Linked (Step rules.now)) u.now }
+    requires fits { length u.now + 1 ≤ vec_capacity room.old }
+    ensures answer { MatchOption result
+        ((p : ℕ) → x ≡ Proto p → p < protocols → Vanishes rules.now u.now x → ⊥)
+        (λ p. (x ≡ Proto p) × (p < protocols) × Vanishes rules.now u.now (Proto p)) }
+    ensures room { vec_capacity room.old ≤ vec_capacity room.new }
+{
+    match x {
+        Symbol::Proto(p) => {
+            if p < protocols && vanishes(rules, u, x, room) {
+                Some(p)
+            } else {
+                None
+            }
+        }
+        _ => None,
+    }
+}
+
+/// Adds the protocol of the next symbol, if it is one below this number that vanishes behind the least word of a class.
+fn add_conforming(
+    rules: &CompleteRules,
+    u: &[Symbol],
+    protocols: u32,
+    symbols: &[Symbol],
+    k: usize,
+    room: &mut Vec<Symbol>,
+    found: &mut Vec<u32>,
+) -> Result<(), AllocError>
+    requires within { k < length symbols.now }
+    requires least { IsLeast (Linked (Step rules.now)) u.now }
+    requires fits { length u.now + 1 ≤ vec_capacity room.old }
+    requires so_far { AreConforming rules.now protocols u.now (take k symbols.now) found.old.items }
+    ensures found { OnOk result (AreConforming rules.now protocols u.now (take (k + 1) symbols.now) found.new.items) }
+    ensures room { vec_capacity room.old ≤ vec_capacity room.new }
+{
+    match conforms(rules, u, protocols, symbol_at(symbols, k), room) {
+        Some(p) => {
+            found.push(p)?;
+            Ok(())
+        }
+        None => Ok(()),
+    }
+}
+
+/// The protocols among these symbols that vanish behind the least word of a class.
+fn conforming(
+    alloc: Global,
+    rules: &CompleteRules,
+    u: &[Symbol],
+    protocols: u32,
+    symbols: &[Symbol],
+    room: &mut Vec<Symbol>,
+) -> Result<Vec<u32>, AllocError>
+    requires least { IsLeast (Linked (Step rules.now)) u.now }
+    requires fits { length u.now + 1 ≤ vec_capacity room.old }
+    ensures found { IfOk result (λ v. AreConforming rules.now protocols u.now symbols.now v.items) }
+    ensures room { vec_capacity room.old ≤ vec_capacity room.new }
+{
+    let mut found = Vec::new(alloc);
+    for k in 0..symbols.len() {
+        add_conforming(rules, u, protocols, symbols, k, room, &mut found)?;
+    }
+    Ok(found)
+}

@@ -1,0 +1,86 @@
+//! Words with their properties.
+ghost use Rattle.std.specs.Prelude.{◌≡◌, IfOk};
+
+use crate::PropertyMap;
+use std::alloc::{AllocError, Global};
+use std::test::Fail;
+use swreq_complete::{CompleteRules, Limits, extend};
+use swreq_watch::Quiet;
+use swreq_word::{Symbol, Word};
+
+const N: Symbol = Symbol::Proto(0);
+
+const M: Symbol = Symbol::Proto(1);
+
+const NEXT: Symbol = Symbol::Name(0);
+
+const N_NEXT: Symbol = Symbol::Member(0);
+
+const T: Symbol = Symbol::Param(0, 0);
+
+const U: Symbol = Symbol::Param(0, 1);
+
+const LIMITS: Limits = Limits {
+    max_rules: 100,
+    max_length: 16,
+};
+
+/// N has a member Next that conforms to N. M inherits N and has the layout. T conforms to M, and U is T.
+const EQUATIONS: [(&[Symbol], &[Symbol]); 8] = [
+    (&[N, N], &[N]),
+    (&[N, NEXT], &[N_NEXT]),
+    (&[M, M], &[M]),
+    (&[N, NEXT, N], &[N, NEXT]),
+    (&[M, N], &[M]),
+    (&[M, Symbol::Layout], &[M]),
+    (&[T, M], &[T]),
+    (&[U], &[T]),
+];
+
+/// Words, each with the protocols below 2 that vanish behind it, and whether the layout does.
+const ROWS: [(&[Symbol], &[u32], bool); 5] = [
+    (&[T], &[0, 1], true),
+    (&[T, N_NEXT], &[0], false),
+    (&[T, N_NEXT, N_NEXT], &[0], false),
+    (&[], &[], false),
+    (&[Symbol::Param(0, 2)], &[], false),
+];
+
+fn word(alloc: Global, symbols: &[Symbol]) -> Result<Word, AllocError>
+    ensures { IfOk result (λ w. w ≡ symbols.now) }
+{
+    Ok(Word::new(Vec::from_slice(alloc, symbols)?))
+}
+
+fn completed(alloc: Global) -> Result<CompleteRules, Fail> {
+    let mut given: Vec<(Word, Word)> = Vec::new(alloc);
+    for (left, right) in EQUATIONS {
+        given.push((word(alloc, left)?, word(alloc, right)?))?;
+    }
+    match extend(
+        alloc,
+        CompleteRules::empty(alloc),
+        &given,
+        LIMITS,
+        &mut Quiet,
+    ) {
+        Ok(rules) => Ok(rules),
+        Err(_) => Err(Fail::from("the completion did not end")),
+    }
+}
+
+#[test]
+fn a_word_has_the_properties_of_its_endings(rt: HostRuntime) -> Result<(), Fail> {
+    let rules = completed(rt.alloc())?;
+    let map = PropertyMap::build(rt.alloc(), &rules, 2)?;
+    for (u, protocols, layout) in ROWS {
+        let mut least = Vec::from_slice(rt.alloc(), u)?;
+        rules.reduce(&mut least);
+        assert!(&rt; least.as_slice() == u);
+        let found = map.properties(rt.alloc(), &rules, &least)?;
+        assert!(&rt; found.protocols.items() == protocols && found.layout == layout);
+        let mut room = Vec::with_capacity(rt.alloc(), least.len() + 1)?;
+        assert!(&rt; map.has(&rules, &least, Symbol::Layout, &mut room) == layout);
+    }
+    Ok(())
+}
