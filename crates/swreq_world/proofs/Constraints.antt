@@ -69,6 +69,7 @@ module _ (w : WordsView) (refers : Refers w) where
   -- ---- where types begin with such words, and stand for type parameters over these generic parameters
 
   module _ (scope : Scope) (begins : Bytes → Bool) (IsHead : ParamId → Type 0) where
+    -- The type parameter is of the world, and begins with such a generic parameter.
     abbrev pub IsSubject : Term → Type 0
     IsSubject t = IsTermOf w.lexicon t × IsHead (head t)
 
@@ -78,6 +79,7 @@ module _ (w : WordsView) (refers : Refers w) where
     abbrev IsNamed : Span → Type 0
     IsNamed a = IsName w.lexicon (name_of w a)
 
+    -- The requirement is of the world, and over such generic parameters.
     abbrev pub IsWithin : PlacedRequirement → Type 0
     IsWithin r = IsRequirementOf w.lexicon r.requirement × IsOver IsHead r.requirement
 

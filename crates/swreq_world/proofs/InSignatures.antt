@@ -41,6 +41,7 @@ over_more P Q f (IsAnyObject t) h = f (head t) h
 over_more P Q f (Equals t u) h = (f (head t) h.0, f (head u) h.1)
 
 module _ (w : WordsView) (inherits : ℕ → ℕ → Bool) (are : AreResolved w inherits) (same : declared w ≡ spaces w.text w.skeleton) where
+  -- The requirement is of the world, and over the generic parameters of the signature.
   abbrev IsWithin : Signature → PlacedRequirement → Type 0
   IsWithin g = IsOfSignature w.lexicon (params_of w.skeleton g)
 
