@@ -28,7 +28,7 @@ use Rattle.swreq_reading.specs.Equations.{AreCongruent}
 use Rattle.swreq_reading.specs.Equations.Equation.{member}
 use Rattle.swreq_reading.specs.Equations.Link.{back}
 use Rattle.swreq_reading.specs.Readings.{CanRead, CanReadAll, HasName, HasReading, read_on, reading}
-use Rattle.swreq_reading.specs.Symbols.{AreOfText, AreSymbolsOf, IsInText, Symbols, Word, name_of, proto_of, spell, steps, symbol}
+use Rattle.swreq_reading.specs.Symbols.{AreOfText, AreSymbolsOf, IsInText, IsRank, Symbols, Word, name_of, proto_of, spell, steps, symbol}
 use Rattle.swreq_word.proofs.Chains.{at_once, joined}
 use Rattle.swreq_word.proofs.Comparing.{by_length, by_symbols, nat_cmp_less, not_below_itself, not_both_below}
 use Rattle.swreq_word.specs.Least.{IsLeast}
@@ -143,9 +143,9 @@ module _ (m : Symbols) (f : TermFacts) (ps : List ParamId) (ms : List TermRequir
       let y : a.rank ≡ b.rank → ⊥ = λ q. let z : e.rank ≤ d.rank = i.first p d (subst (λ c. Declares f p c d) (λ j. record { rank = q j }) k) c in omega arith in
       omega arith
 
-  symbol_less : (k j : ℕ) → (name_of m k).rank < (name_of m j).rank → k < j
-  symbol_less k j h =
-      let x : j < k → ⊥ = λ q. let z : (name_of m j).rank ≤ (name_of m k).rank = ranked.symbols j k q in omega arith in
+  symbol_less : (k j : ℕ) → IsRank m k → (name_of m k).rank < (name_of m j).rank → k < j
+  symbol_less k j o h =
+      let x : j < k → ⊥ = λ q. let z : (name_of m j).rank ≤ (name_of m k).rank = ranked.symbols j k q o in omega arith in
       let y : k ≡ j → ⊥ = λ q. let z : (name_of m k).rank ≡ (name_of m j).rank = ap (λ i. (name_of m i).rank) q in omega arith in
       omega arith
 
@@ -163,7 +163,7 @@ module _ (m : Symbols) (f : TermFacts) (ps : List ParamId) (ms : List TermRequir
       let h'' : BeginsAs m f L t (MemberSymbol k' ∷ rest') v = subst (λ x. BeginsAs m f L x (MemberSymbol k' ∷ rest') v) (sym b.0) h' in
       let (pre, e, e', w) = same_front t (MemberSymbol k ∷ rest) (MemberSymbol k' ∷ rest') u v h h'' l l' in
       subst₂ Lex (sym e) (sym e') (lex_at pre (MemberSymbol k) (MemberSymbol k') rest rest' (before_member k k'
-      (symbol_less k k' (name_less t i.proto (name_of m k) d (name_of m k') d' i.declares i.conforms (subst (λ x. IsFirstFor f L x (name_of m k') d') (sym b.0) i') b.1))))
+      (symbol_less k k' c.0 (name_less t i.proto (name_of m k) d (name_of m k') d' i.declares i.conforms (subst (λ x. IsFirstFor f L x (name_of m k') d') (sym b.0) i') b.1))))
 
   -- A type parameter whose word is congruent to a least word does not come before its type.
   none_before : (t : Term) (w : Term) (rest z u : Word) → BeginsAs m f L t rest u → Least u → Derivable f L (IsValid w) → C u (spell m L w z)
@@ -189,7 +189,7 @@ module _ (m : Symbols) (f : TermFacts) (ps : List ParamId) (ms : List TermRequir
       none_less C _ _ l r'
       (subst (λ x. WordLess (pre ++ (MemberSymbol (m.rank_of e) ∷ z)) x) (sym q)
       (by_symbols _ _ (same_length pre (MemberSymbol (m.rank_of e)) (MemberSymbol k) z rest g)
-      (lex_at pre (MemberSymbol (m.rank_of e)) (MemberSymbol k) z rest (before_member (m.rank_of e) k (symbol_less (m.rank_of e) k y')))))
+      (lex_at pre (MemberSymbol (m.rank_of e)) (MemberSymbol k) z rest (before_member (m.rank_of e) k (symbol_less (m.rank_of e) k (fit p a e o').0 y')))))
 
   steps_length : (w : Term) (z : Word) → length (steps m w z) ≡ member_count w + length z
   steps_length (Generic i) z = omega arith

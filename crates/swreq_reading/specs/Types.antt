@@ -10,7 +10,7 @@ use Rattle.swreq_derive.specs.Derivation.{TermFacts, Source, Declares, Derivable
 use Rattle.swreq_derive.specs.Derivation.TermRequirement.{Conforms}
 use Rattle.swreq_derive.specs.Derivation.TermStatement.{Requires}
 use Rattle.swreq_word.specs.declared.symbols.Symbol.TheVariants.{Member as MemberSymbol, Param as ParamSymbol}
-use Rattle.swreq_reading.specs.Symbols.{Word, Symbols, name_of}
+use Rattle.swreq_reading.specs.Symbols.{Word, Symbols, IsRank, name_of}
 use Rattle.swreq_reading.specs.Readings.{CanRead, HasName}
 
 -- d is the first associated type with the name A among those of the protocols to which T conforms. Associated types come in the order of
@@ -38,7 +38,7 @@ pub record AreRanked (m : Symbols) (f : TermFacts) : Type 0 where
   pub one_name : (p : ProtoId) (a : NameId) (q : ProtoId) (b : NameId) (d : AssocId) → Declares f p a d → Declares f q b d → a ≡ b
   pub assocs : (p : ProtoId) (a : NameId) (d : AssocId) (q : ProtoId) (b : NameId) (e : AssocId)
       → Declares f p a d → Declares f q b e → d.rank < e.rank → a.rank ≤ b.rank
-  pub symbols : (k j : ℕ) → k < j → (name_of m k).rank ≤ (name_of m j).rank
+  pub symbols : (k j : ℕ) → k < j → IsRank m j → (name_of m k).rank ≤ (name_of m j).rank
 
 -- For each name that a protocol to which T conforms declares, the first such associated type is told. An ended completion tells it, by a
 -- finite search.

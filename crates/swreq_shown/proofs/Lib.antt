@@ -1,0 +1,4 @@
+pub mod Declared
+pub mod Symbols
+pub mod Walking
+pub mod Searching

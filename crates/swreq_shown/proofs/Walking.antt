@@ -1,0 +1,89 @@
+-- The walk along the members of a type parameter.
+use Rattle.std.proofs.Common.{◌≡◌, inl, inr, sym, subst, List, [], ◌∷◌, ◌++◌, Bool}
+use Rattle.std.specs.Bool.{Decides}
+use Rattle.swreq_param.specs.declared.ids.ProtoId.{ProtoId}
+use Rattle.swreq_param.specs.declared.ids.Step.{Step}
+use Rattle.swreq_param.specs.declared.ids.Step.TheVariants.{Bound, Name}
+use Rattle.swreq_param.specs.Terms.{Term}
+use Rattle.swreq_param.specs.Terms.Term.{Member}
+use Rattle.swreq_word.specs.declared.symbols.Symbol.{Symbol}
+use Rattle.swreq_word.specs.declared.symbols.Symbol.TheVariants.{Proto}
+use Rattle.swreq_word.proofs.Chains.{linked_back, linked_on}
+use Rattle.swreq_word.proofs.Comparing.{not_both_below}
+use Rattle.swreq_rule.specs.declared.rules.Rule.{Rule}
+use Rattle.swreq_rule.proofs.Context.{Linked-after}
+use Rattle.swreq_derive.specs.Derivation.{Source}
+use Rattle.swreq_ranks.specs.Views.{LexiconView}
+use Rattle.swreq_reading.specs.Shown.{ShowsConformance, ShowsValid}
+use Rattle.swreq_reading.specs.Symbols.{Symbols, Word, symbol, word_of}
+use Rattle.swreq_reading.proofs.Spelling.{spell-append}
+use Rattle.swreq_world.specs.Worlds.{TextWorld}
+use Rattle.swreq_shown.specs.Meaning.{facts_of, symbols_of}
+use Rattle.swreq_shown.specs.Vanishing.{HasStep, IsLeastBy, Links, Vanishes}
+
+-- least words of one class are one
+pub one_least : (rules : List Rule) (u v : Word) → IsLeastBy rules u → IsLeastBy rules v → Links rules u v → u ≡ v
+one_least rules u v a b l = elim (a v l) [
+  | inl e ↦ sym e
+  | inr h ↦ elim (b u (linked_back l)) [ inl e ↦ e | inr k ↦ absurd (not_both_below u v h k) ]
+]
+
+-- what the test of the reduced word tells
+pub vanish_answer : (rules : List Rule) (word more v : Word) (x : Symbol) (r : Bool) → IsLeastBy rules word → more ≡ word ++ x ∷ [] → Links rules more v
+    → IsLeastBy rules v → Decides r (v ≡ word) → Decides r (Vanishes rules word x)
+vanish_answer rules word more v x r a m l b d =
+    let k : Links rules (word ++ x ∷ []) v = subst (λ z. Links rules z v) m l in (
+      (λ h. subst (λ z. Links rules (word ++ x ∷ []) z) (d.0 h) k),
+      λ h. d.1 (one_least rules v word b a (linked_on (linked_back k) h)),
+    )
+
+pub vanishes_same : (rules : List Rule) (u v : Word) (x : Symbol) → Links rules u v → Vanishes rules u x → Vanishes rules v x
+vanishes_same rules u v x l h = linked_on (Linked-after (x ∷ []) (linked_back l)) (linked_on h l)
+
+pub step_same : (x : LexiconView) (rules : List Rule) (u v : Word) (s : Step) → Links rules u v → HasStep x rules u s → HasStep x rules v s
+step_same x rules u v (Name a) l (p, (d, h, k)) = (p, (d, h, vanishes_same rules u v (Proto p.rank) l k))
+step_same x rules u v (Bound d) l (p, a, h, k) = (p, a, h, vanishes_same rules u v (Proto p.rank) l k)
+
+module _ (w : TextWorld) (s : Source) (rules : List Rule) where
+  abbrev m : Symbols
+  m = symbols_of w.lexicon
+
+  abbrev Valid : Term → Type 0
+  Valid t = ShowsValid m (facts_of w) s (Links rules) t
+
+  vanish_shows : (t : Term) (p : ProtoId) → Vanishes rules (word_of m s t) (Proto p.rank) → ShowsConformance m s (Links rules) t p
+  vanish_shows t p h = subst (λ z. Links rules z (word_of m s t)) (spell-append m s t [] (Proto p.rank ∷ [])) h
+
+  shows_vanish : (t : Term) (p : ProtoId) → ShowsConformance m s (Links rules) t p → Vanishes rules (word_of m s t) (Proto p.rank)
+  shows_vanish t p h = subst (λ z. Links rules z (word_of m s t)) (sym (spell-append m s t [] (Proto p.rank ∷ []))) h
+
+  -- a member is valid where its base is and the step is there behind the base's word
+  member_valid : (t : Term) (x : Step) → Valid t → HasStep w.lexicon rules (word_of m s t) x → Valid (Member t x)
+  member_valid t (Name a) v (p, (d, h, k)) = (v, (p, d, h, vanish_shows t p k))
+  member_valid t (Bound d) v (p, a, h, k) = (v, (p, a, h, vanish_shows t p k))
+
+  base_valid : (t : Term) (x : Step) → Valid (Member t x) → Valid t
+  base_valid t (Name a) h = h.0
+  base_valid t (Bound d) h = h.0
+
+  valid_step : (t : Term) (x : Step) → Valid (Member t x) → HasStep w.lexicon rules (word_of m s t) x
+  valid_step t (Name a) (v, (p, d, h, k)) = (p, (d, h, shows_vanish t p k))
+  valid_step t (Bound d) (v, (p, a, h, k)) = (p, a, h, shows_vanish t p k)
+
+  -- the same along a word that is linked to the base's
+  pub goes_on : (t u : Term) (x : Step) (v : Word) → t ≡ Member u x → Valid u → Links rules (word_of m s u) v → HasStep w.lexicon rules v x → Valid t
+  goes_on t u x v e k l h = subst Valid (sym e) (member_valid u x k (step_same w.lexicon rules v (word_of m s u) x (linked_back l) h))
+
+  pub stops_at_base : (t u : Term) (x : Step) → t ≡ Member u x → (Valid u → ⊥) → Valid t → ⊥
+  stops_at_base t u x e n h = n (base_valid u x (subst Valid e h))
+
+  pub stops_at_step : (t u : Term) (x : Step) (v : Word) → t ≡ Member u x → Links rules (word_of m s u) v → (HasStep w.lexicon rules v x → ⊥) → Valid t → ⊥
+  stops_at_step t u x v e l n h = n (step_same w.lexicon rules (word_of m s u) v x l (valid_step u x (subst Valid e h)))
+
+  -- the word of a member is that of its base and the symbol of its step
+  pub next_word : (t u : Term) (x : Step) (v more r : Word) → t ≡ Member u x → Links rules (word_of m s u) v → more ≡ v ++ symbol m x ∷ [] → Links rules more r
+      → Links rules (word_of m s t) r
+  next_word t u x v more r e l k h =
+      let a : Links rules (word_of m s u ++ symbol m x ∷ []) (v ++ symbol m x ∷ []) = Linked-after (symbol m x ∷ []) l in
+      let b : Links rules (word_of m s u ++ symbol m x ∷ []) r = linked_on a (subst (λ z. Links rules z r) k h) in
+      subst (λ z. Links rules (word_of m s z) r) (sym e) (subst (λ z. Links rules z r) (spell-append m s u [] (symbol m x ∷ [])) b)

@@ -1,0 +1,4 @@
+pub mod Meaning
+pub mod Known
+pub mod Overs
+pub mod Vanishing

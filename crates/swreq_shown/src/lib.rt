@@ -1,0 +1,12 @@
+//! What rules show of the type parameters of a text: its symbols and facts, the words of type parameters, and the walk along their
+//! members, which takes no memory.
+#![tactic(auto)]
+
+pub mod laws;
+mod over;
+mod walk;
+mod words;
+
+pub use over::Over;
+pub use walk::{least_word, vanishes};
+pub use words::equation;
