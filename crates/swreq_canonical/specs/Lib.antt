@@ -1,0 +1,4 @@
+pub mod Canonical
+pub mod CanonicalOrder
+pub mod Generators
+pub mod Minimised
