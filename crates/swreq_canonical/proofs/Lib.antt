@@ -7,3 +7,4 @@ pub mod Covering
 pub mod Taking
 pub mod Dropping
 pub mod Agreement
+pub mod FirstParam

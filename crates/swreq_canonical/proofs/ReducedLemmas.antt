@@ -9,8 +9,7 @@ use Rattle.swreq_param.specs.Terms.{Term}
 use Rattle.swreq_param.specs.Terms.Term.{Member}
 use Rattle.swreq_param.proofs.TotalOrder.{total, strict}
 use Rattle.swreq_derive.specs.Derivation.{TermFacts, Source, Derivable}
-use Rattle.swreq_derive.specs.Derivation.TermRequirement.{Equals}
-use Rattle.swreq_derive.specs.Derivation.TermStatement.{IsValid, Requires}
+use Rattle.swreq_derive.specs.Derivation.TermStatement.{IsValid}
 use Rattle.swreq_derive.specs.Derivation.Derives.{assoc_bind, reflex, symm, trans, same_conf, same_decl}
 use Rattle.swreq_derive.specs.Reduced.{IsReducedTypeOf, IsReduced}
 use Rattle.swreq_derive.proofs.ReducedTypes.{reduced_is_one}

@@ -1,5 +1,5 @@
 -- Of candidates that are enough, those that are taken are exactly the generators.
-use Rattle.std.proofs.Common.{◌≡◌, ◌⊎◌, List, [], ◌∷◌, ◌++◌, Contains, refl, subst, sym, inl, inr}
+use Rattle.std.proofs.Common.{◌⊎◌, List, [], ◌∷◌, ◌++◌, Contains, subst, sym, inl, inr}
 use Rattle.std.proofs.lemmas.List.Elements.{Contains-append_left, Contains-push, Contains-push_cases}
 use Rattle.swreq_param.specs.declared.ids.ParamId.{ParamId}
 use Rattle.swreq_derive.specs.Derivation.{Derivable, Source, TermFacts, TermRequirement}
