@@ -1,0 +1,10 @@
+pub mod ReducedLemmas
+pub mod Ordered
+pub mod Following
+pub mod Sides
+pub mod Sufficing
+pub mod Covering
+pub mod Taking
+pub mod Dropping
+pub mod Agreement
+pub mod FirstParam

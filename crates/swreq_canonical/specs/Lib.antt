@@ -1,0 +1,5 @@
+pub mod Canonical
+pub mod CanonicalOrder
+pub mod Generators
+pub mod Minimised
+pub mod Worked
