@@ -6,6 +6,7 @@ mod map;
 mod vanishing;
 
 pub use map::{Properties, PropertyMap};
+pub use vanishing::vanishes;
 
 #[cfg(test)]
 mod tests;

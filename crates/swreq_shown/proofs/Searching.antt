@@ -14,7 +14,8 @@ use Rattle.swreq_ranks.specs.Lexicons.{pair}
 use Rattle.swreq_ranks.specs.Views.{LexiconView}
 use Rattle.swreq_reading.specs.Symbols.{Word}
 use Rattle.swreq_world.specs.Closed.{AreIds}
-use Rattle.swreq_shown.specs.Vanishing.{GivesName, HasStep, IsDeclared, Vanishes}
+use Rattle.swreq_map.specs.Properties.{Vanishes}
+use Rattle.swreq_shown.specs.Vanishing.{GivesName, HasStep, IsDeclared}
 use Rattle.swreq_shown.proofs.Declared.{at_rank, of_text}
 
 -- none of the protocols of lesser rank gives the name

@@ -19,7 +19,8 @@ use Rattle.swreq_reading.specs.Symbols.{Symbols, Word, symbol, word_of}
 use Rattle.swreq_reading.proofs.Spelling.{spell-append}
 use Rattle.swreq_world.specs.Worlds.{TextWorld}
 use Rattle.swreq_shown.specs.Meaning.{facts_of, symbols_of}
-use Rattle.swreq_shown.specs.Vanishing.{HasStep, IsLeastBy, Links, Vanishes}
+use Rattle.swreq_map.specs.Properties.{Vanishes}
+use Rattle.swreq_shown.specs.Vanishing.{HasStep, IsLeastBy, Links}
 
 -- least words of one class are one
 pub one_least : (rules : List Rule) (u v : Word) → IsLeastBy rules u → IsLeastBy rules v → Links rules u v → u ≡ v
@@ -27,15 +28,6 @@ one_least rules u v a b l = elim (a v l) [
   | inl e ↦ sym e
   | inr h ↦ elim (b u (linked_back l)) [ inl e ↦ e | inr k ↦ absurd (not_both_below u v h k) ]
 ]
-
--- what the test of the reduced word tells
-pub vanish_answer : (rules : List Rule) (word more v : Word) (x : Symbol) (r : Bool) → IsLeastBy rules word → more ≡ word ++ x ∷ [] → Links rules more v
-    → IsLeastBy rules v → Decides r (v ≡ word) → Decides r (Vanishes rules word x)
-vanish_answer rules word more v x r a m l b d =
-    let k : Links rules (word ++ x ∷ []) v = subst (λ z. Links rules z v) m l in (
-      (λ h. subst (λ z. Links rules (word ++ x ∷ []) z) (d.0 h) k),
-      λ h. d.1 (one_least rules v word b a (linked_on (linked_back k) h)),
-    )
 
 pub vanishes_same : (rules : List Rule) (u v : Word) (x : Symbol) → Links rules u v → Vanishes rules u x → Vanishes rules v x
 vanishes_same rules u v x l h = linked_on (Linked-after (x ∷ []) (linked_back l)) (linked_on h l)

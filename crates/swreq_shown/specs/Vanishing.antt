@@ -14,6 +14,7 @@ use Rattle.swreq_rule.specs.Steps.{Step as RuleStep}
 use Rattle.swreq_ranks.specs.Lexicons.{associated_types}
 use Rattle.swreq_ranks.specs.Views.{LexiconView}
 use Rattle.swreq_reading.specs.Symbols.{Word}
+use Rattle.swreq_map.specs.Properties.{Vanishes}
 
 -- steps by the rules link the words
 abbrev pub Links : List Rule → Word → Word → Type 0
@@ -22,10 +23,6 @@ Links rules = Linked (RuleStep rules)
 -- The word is the least of those that the rules link to it.
 abbrev pub IsLeastBy : List Rule → Word → Type 0
 IsLeastBy rules = IsLeast (Links rules)
-
--- The symbol vanishes behind the word: the rules link the word with it to the word without it.
-abbrev pub Vanishes : List Rule → Word → Symbol → Type 0
-Vanishes rules w s = Links rules (w ++ s ∷ []) w
 
 -- P declares A in the text, as the associated type d.
 abbrev pub IsDeclared : LexiconView → ProtoId → NameId → AssocId → Type 0

@@ -8,5 +8,5 @@ mod walk;
 mod words;
 
 pub use over::Over;
-pub use walk::{least_word, vanishes};
+pub use walk::least_word;
 pub use words::equation;

@@ -12,11 +12,12 @@ ghost use Rattle.swreq_world.specs.Closed.{AreIds, IsStepOf};
 ghost use Rattle.swreq_shown.specs.Known.{IsTextOver, IsTypeIn};
 ghost use Rattle.swreq_shown.specs.Meaning.{facts_of, symbols_of};
 ghost use Rattle.swreq_shown.specs.Overs.{source_of};
-ghost use Rattle.swreq_shown.specs.Vanishing.{GivesName, HasStep, IsLeastBy, Links, Vanishes};
+ghost use Rattle.swreq_shown.specs.Vanishing.{GivesName, HasStep, IsLeastBy, Links};
 
 use crate::over::Over;
 use crate::words::{start_of, symbol_of};
 use swreq_complete::CompleteRules;
+use swreq_map::vanishes;
 use swreq_param::{AssocId, NameId, ParamId, ParamTable, ProtoId, Step, TermId};
 use swreq_word::Symbol;
 use swreq_world::World;
@@ -28,29 +29,6 @@ fn put(v: &mut Vec<Symbol>, x: Symbol)
     ensures room { vec_capacity v.old ≤ vec_capacity v.new }
 {
     if let Err(_) = v.push(x) {}
-}
-
-/// Puts the symbols last, where there is room for them.
-fn put_all(v: &mut Vec<Symbol>, xs: &[Symbol])
-    requires { vec_len v.old + length xs.now ≤ vec_capacity v.old }
-    ensures items { v.new.items ≡ v.old.items ++ xs.now }
-    ensures room { vec_capacity v.old ≤ vec_capacity v.new }
-{
-    if let Err(_) = v.extend_from_slice(xs) {}
-}
-
-/// Whether the symbol vanishes behind a word that is the least in its class. The list of symbols has room to try it.
-pub fn vanishes(rules: &CompleteRules, word: &[Symbol], x: Symbol, test: &mut Vec<Symbol>) -> bool
-    requires least { IsLeastBy rules.now word.now }
-    requires fits { length word.now + 1 ≤ vec_capacity test.old }
-    ensures answer { IsTrue result ↔ Vanishes rules.now word.now x }
-    ensures room { vec_capacity test.old ≤ vec_capacity test.new }
-{
-    test.clear();
-    put_all(test, word);
-    put(test, x);
-    rules.reduce(test);
-    test.as_slice() == word
 }
 
 /// Whether the protocol declares the name and vanishes behind the word.
