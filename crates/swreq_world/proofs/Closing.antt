@@ -5,8 +5,9 @@ use Rattle.std.proofs.lemmas.List.{length-map}
 use Rattle.std.proofs.lemmas.List.Elements.{All-map}
 use Rattle.std.proofs.lemmas.Option.{slice_get-get_or, slice_get_within}
 use Rattle.std.specs.Cmp.{IsTotalOrder}
-use Rattle.std.specs.List.{All}
+use Rattle.std.specs.List.{All, IsDistinct}
 use Rattle.std.specs.Ordering.{nat_cmp, then_cmp, on}
+use Rattle.std.specs.Str.{bytes_eq}
 use Rattle.swreq_decl.specs.declared.skeleton.AssocDecl.{AssocDecl}
 use Rattle.swreq_decl.specs.declared.skeleton.ProtocolDecl.{ProtocolDecl}
 use Rattle.swreq_decl.specs.declared.skeleton.Skeleton.{Skeleton}
@@ -21,7 +22,7 @@ use Rattle.swreq_ranks.specs.Texts.{IsLexiconOf, protocol_names, declared_by}
 use Rattle.swreq_ranks.specs.Views.{LexiconView, IsProtocol, place_of, inherits, assoc_cmp, symbol_cmp}
 use Rattle.swreq_ranks.proofs.Declared.{from_pieces, named_within}
 use Rattle.swreq_ranks.proofs.Places.{there}
-use Rattle.swreq_ranks.proofs.RankLaws.{rank_is, one_to_one, assoc_total, by_name, written_at, written_protocol}
+use Rattle.swreq_ranks.proofs.RankLaws.{rank_is, one_to_one, assoc_total, by_name, written_at, written_protocol, written_once}
 use Rattle.swreq_ranks.proofs.Rising.{rising_from_sorted, one_place}
 use Rattle.swreq_written.specs.Signatures.{in_order}
 use Rattle.swreq_world.specs.Closed.{IsClosed, AreIds, IsOfProtocol, HasOwn, HasOuter, IsQueryOf}
@@ -32,6 +33,8 @@ use Rattle.swreq_world.proofs.Everywhere.{stands_mapped, mapped_from}
 use Rattle.swreq_world.proofs.InProtocols.{protocols_are}
 use Rattle.swreq_world.proofs.InQueries.{queries_are}
 use Rattle.swreq_world.proofs.InSignatures.{signatures_are}
+use Rattle.swreq_world.proofs.OnceDeclared.{protocols_differ}
+use Rattle.swreq_world.proofs.ProtocolOffsets.{AreRising, name_start}
 use Rattle.swreq_world.proofs.Resolving.{protocol_is, resolved}
 use Rattle.swreq_world.proofs.Standing.{outer_within}
 
@@ -55,12 +58,13 @@ module _ (text : Bytes) (s : Skeleton) (x : LexiconView) (is : IsLexiconOf text 
       let m = mapped_from (λ (m : AssocDecl). pair (proto_by x.protocols name) (name_by x.names (word text m.name))) p.0.members in_it.0 d in_it.1 in
       subst (λ (e : ProtocolName). IsProtocol x e.proto) m.2 (protocol_is text s x is at.0 p.0 at.1)
 
-  ids : AreIds x
-  ids = record {
+  ids : IsDistinct bytes_eq (protocol_names text s.protocols) → AreIds x
+  ids distinct = record {
     written_order = λ p. (
       λ c. let k = found x.written_order p c in written_protocol text s x is k.0 p k.1,
       λ h. there x.written_order (place_of x p) p (written_at text s x is p h),
     );
+    each_once = written_once text s x is distinct;
     associated = λ d c. (declares_it d c, named_within text s x.protocols x.names is.names d ((is.associated.same d).0 c));
     one_to_one = one_to_one (assoc_cmp x) (assoc_total (inherits x) x.associated) x.associated is.associated.sorted;
     associated_by_name = by_name (then_cmp (on (λ (d : ProtocolName). cond (is_root (inherits x) x.associated d) 0 1) nat_cmp) (on (λ (d : ProtocolName). d.proto.rank) nat_cmp)) x.associated is.associated.sorted;
@@ -80,14 +84,14 @@ outers text s w is =
     one : All (λ g. HasOuter w (signature_in (words_of text s w) (in_order s) g)) (in_order s)
     one k g l f e = let h = outer_within (in_order s) (get_or (in_order s) k g) f (omega arith) e in omega (arith, h, count)
 
-pub closed : (text : Bytes) (s : Skeleton) (w : TextWorld) → IsWorldOf text s w → Resolve text s → IsClosed w
-closed text s w is resolve =
+pub closed : (text : Bytes) (s : Skeleton) (w : TextWorld) (from : ℕ) → AreRising name_start from s.protocols → IsWorldOf text s w → Resolve text s → IsClosed w
+closed text s w from rising is resolve =
     let words = words_of text s w in
     let tells = resolve.names.inherits in
     let are = resolved text s w.lexicon is.lexicon resolve.names in
     let same = is.lexicon.resolved.declared in
     record {
-      ids = ids text s w.lexicon is.lexicon;
+      ids = ids text s w.lexicon is.lexicon (protocols_differ text s resolve.names from rising);
       protocols = ap length is.requirements ∙ length-map w.lexicon.protocols (requirements_named words);
       requirements = subst (All (All (IsOfProtocol w.lexicon))) (sym is.requirements) (protocols_are words tells are w.lexicon.protocols);
       signatures = subst (All (HasOwn w.lexicon)) (sym is.signatures) (signatures_are words tells are same (in_order s) (in_order s));

@@ -14,4 +14,6 @@ pub mod GenericParams
 pub mod InSignatures
 pub mod Standing
 pub mod InQueries
+pub mod ProtocolOffsets
+pub mod OnceDeclared
 pub mod Closing

@@ -1,5 +1,8 @@
+use Rattle.std.specs.Str.{chars}
+use Rattle.swreq_lex.specs.Tokens.{first_offset}
 use Rattle.swreq_world.proofs.Closing.{closed}
+use Rattle.swreq_world.proofs.ProtocolOffsets.{protocols_rising}
 use Rattle.swreq_world.proofs.laws.worlds_are_closed.Goals as goal
 
 pub returns : goal.returns
-returns c = record { closed = closed }
+returns c = record { closed = λ s w stands is resolve. closed c.args.text.now s w (first_offset (chars c.args.text.now)) (protocols_rising c.args.text.now s c.tokens_are_slices.ensures stands) is resolve }
