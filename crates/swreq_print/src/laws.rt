@@ -31,10 +31,12 @@ pub fn names_tell_ids_apart(text: &[u8])
 
 /// So in each text the signature that is printed determines its generic parameters and its requirements.
 pub fn signatures_of_a_text_are_told_apart(text: &[u8])
-    ensures params { (s : Skeleton) (x : LexiconView) (params others : List ParamId) (rs qs : List TermRequirement) → StandsFor text.now s → IsLexiconOf text.now s x
-        → IsSignatureOf x params rs → IsSignatureOf x others qs → signature_text x params rs ≡ signature_text x others qs → params ≡ others }
-    ensures requirements { (s : Skeleton) (x : LexiconView) (params others : List ParamId) (rs qs : List TermRequirement) → StandsFor text.now s → IsLexiconOf text.now s x
-        → IsSignatureOf x params rs → IsSignatureOf x others qs → signature_text x params rs ≡ signature_text x others qs → rs ≡ qs }
+    ensures params { (s : Skeleton) (x : LexiconView) (params others : List ParamId) (rs qs : List TermRequirement)
+        → StandsFor text.now s → IsLexiconOf text.now s x → IsSignatureOf x params rs → IsSignatureOf x others qs
+        → signature_text x params rs ≡ signature_text x others qs → params ≡ others }
+    ensures requirements { (s : Skeleton) (x : LexiconView) (params others : List ParamId) (rs qs : List TermRequirement)
+        → StandsFor text.now s → IsLexiconOf text.now s x → IsSignatureOf x params rs → IsSignatureOf x others qs
+        → signature_text x params rs ≡ signature_text x others qs → rs ≡ qs }
 {
     names_tell_ids_apart(text);
     texts_tell_signatures_apart();

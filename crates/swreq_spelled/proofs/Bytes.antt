@@ -55,6 +55,8 @@ byte_in_word bytes w k l =
 
 pub word_bytes : (bytes : List ℕ) → IsSpelledWord bytes → HasWordBytes bytes
 word_bytes bytes w = record {
-  some = omega (arith, ap length w.spelled, length-append (encode w.first) (encodes w.others), length-encode w.first, (len_utf8_bounds w.first).0);
+  some =
+      let n = length-append (encode w.first) (encodes w.others) in
+      omega (arith, ap length w.spelled, n, length-encode w.first, (len_utf8_bounds w.first).0);
   each = list_all-from_AllPass in_word bytes (λ k d l. ap in_word (get_or_default bytes k d 0 l) ∙ byte_in_word bytes w k l);
 }

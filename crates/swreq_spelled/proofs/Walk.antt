@@ -10,6 +10,7 @@ use Rattle.swreq_decl.specs.declared.terminal.Terminal.TheVariants.{Name, Query}
 use Rattle.swreq_decl.specs.declared.kind.Kind.{Kind}
 use Rattle.swreq_decl.specs.declared.skeleton.Item.{Item}
 use Rattle.swreq_decl.specs.declared.skeleton.Item.TheVariants as items
+use Rattle.swreq_decl.specs.declared.skeleton.ProtocolDecl.{ProtocolDecl}
 use Rattle.swreq_decl.specs.Terminals.{number}
 use Rattle.swreq_decl.specs.Source as lines
 use Rattle.swreq_decl.specs.Source.{Line, after, before, or_else, separated, in_angles, continued, plain_step, span}
@@ -63,10 +64,14 @@ module _ {text : List ℕ} where
   none : {A : Type 0} {g : Line A} → Names text g (λ v. Unit {0})
   none = record { holds = λ ts v n m. tt }
 
-  at_sequence : {A B : Type 0} {g : Line A} {h : Line B} {Is : A → Type 0} {Js : B → Type 0} {Ks : A × B → Type 0} → Names text g Is → Names text h Js → ((p : A × B) → Is p.0 → Js p.1 → Ks p) → Names text (sequence g h) Ks
-  at_sequence p q l = record { holds = λ ts v n x. let k = split text ts x.0 x.1 x.2 n in l v (p.holds x.0 v.0 k.0 x.3) (q.holds x.1 v.1 k.1 x.4) }
+  at_sequence : {A B : Type 0} {g : Line A} {h : Line B} {Is : A → Type 0} {Js : B → Type 0} {Ks : A × B → Type 0}
+      → Names text g Is → Names text h Js → ((p : A × B) → Is p.0 → Js p.1 → Ks p) → Names text (sequence g h) Ks
+  at_sequence p q l = record {
+    holds = λ ts v n x. let k = split text ts x.0 x.1 x.2 n in l v (p.holds x.0 v.0 k.0 x.3) (q.holds x.1 v.1 k.1 x.4);
+  }
 
-  at_both : {A B : Type 0} {g : Line A} {h : Line B} {Is : A → Type 0} {Js : B → Type 0} → Names text g Is → Names text h Js → Names text (sequence g h) (λ p. Is p.0 × Js p.1)
+  at_both : {A B : Type 0} {g : Line A} {h : Line B} {Is : A → Type 0} {Js : B → Type 0}
+      → Names text g Is → Names text h Js → Names text (sequence g h) (λ p. Is p.0 × Js p.1)
   at_both p q = at_sequence p q (λ x i j. (i, j))
 
   at_mapped : {A B : Type 0} {f : A → B} {g : Line A} {Is : B → Type 0} → Names text g (λ v. Is (f v)) → Names text (mapped f g) Is
@@ -78,11 +83,13 @@ module _ {text : List ℕ} where
   at_alternative : {A : Type 0} {g h : Line A} {Is : A → Type 0} → Names text g Is → Names text h Is → Names text (alternative g h) Is
   at_alternative p q = record { holds = λ ts v n m. ⊎_elim (p.holds ts v n) (q.holds ts v n) m }
 
-  at_parts : {A : Type 0} (g : Line A) (Is : A → Type 0) → Names text g Is → (ts : Tokens) (vs : List A) → AreNamed text ts → Parts (Matches number g) ts vs → AllByRecursion Is vs
+  at_parts : {A : Type 0} (g : Line A) (Is : A → Type 0) → Names text g Is → (ts : Tokens) (vs : List A) → AreNamed text ts
+      → Parts (Matches number g) ts vs → AllByRecursion Is vs
   at_parts g Is p ts [] n e = tt
   at_parts g Is p ts (v ∷ vs) n (a, b, s, m, ms) = let k = split text ts a b s n in (p.holds a v k.0 m, at_parts g Is p b vs k.1 ms)
 
-  at_repetition : {A : Type 0} {limit : Limit Kind} {g : Line A} {Is : A → Type 0} → Names text g Is → Names text (repetition limit g) (AllByRecursion Is)
+  at_repetition : {A : Type 0} {limit : Limit Kind} {g : Line A} {Is : A → Type 0}
+      → Names text g Is → Names text (repetition limit g) (AllByRecursion Is)
   at_repetition {A} {limit} {g} {Is} p = record { holds = λ ts vs n m. at_parts g Is p ts vs n m.0 }
 
   at_after : {A B : Type 0} {g : Line A} {h : Line B} {Is : B → Type 0} → Names text h Is → Names text (after g h) Is
@@ -94,19 +101,25 @@ module _ {text : List ℕ} where
   at_or_else : {A : Type 0} {default : A} {g : Line A} {Is : A → Type 0} → Is default → Names text g Is → Names text (or_else default g) Is
   at_or_else {Is} d p = at_alternative p (record { holds = λ ts v n m. subst Is m.1 d })
 
-  at_separated : {A : Type 0} {ss : List Terminal} {g : Line A} {Is : A → Type 0} → Names text g Is → Names text (separated ss g) (AllByRecursion Is)
+  at_separated : {A : Type 0} {ss : List Terminal} {g : Line A} {Is : A → Type 0}
+      → Names text g Is → Names text (separated ss g) (AllByRecursion Is)
   at_separated {A} {ss} {g} {Is} p = at_mapped (at_sequence p (at_repetition {Is = Is} (at_after p)) (λ x i j. (i, j)))
 
   at_in_angles : {A : Type 0} {g : Line A} {Is : A → Type 0} → Names text g Is → Names text (in_angles g) (AllByRecursion Is)
   at_in_angles p = at_after (at_before (at_separated p))
 
-  at_continued : {A B : Type 0} {g : Line A} {h : Line (A → B)} {Is : A → Type 0} {Js : B → Type 0} → Names text g Is → NamesOf text h Is Js → Names text (continued g h) Js
-  at_continued p q = at_mapped (record { holds = λ ts v n x. let k = split text ts x.0 x.1 x.2 n in q.holds x.1 v.1 k.1 x.4 v.0 (p.holds x.0 v.0 k.0 x.3) })
+  at_continued : {A B : Type 0} {g : Line A} {h : Line (A → B)} {Is : A → Type 0} {Js : B → Type 0}
+      → Names text g Is → NamesOf text h Is Js → Names text (continued g h) Js
+  at_continued p q = at_mapped (record {
+    holds = λ ts v n x. let k = split text ts x.0 x.1 x.2 n in q.holds x.1 v.1 k.1 x.4 v.0 (p.holds x.0 v.0 k.0 x.3);
+  })
 
-  of_mapped : {A B C : Type 0} {f : C → A → B} {g : Line C} {Is : A → Type 0} {Ks : C → Type 0} {Js : B → Type 0} → Names text g Ks → ((c : C) (v : A) → Is v → Ks c → Js (f c v)) → NamesOf text (mapped f g) Is Js
+  of_mapped : {A B C : Type 0} {f : C → A → B} {g : Line C} {Is : A → Type 0} {Ks : C → Type 0} {Js : B → Type 0}
+      → Names text g Ks → ((c : C) (v : A) → Is v → Ks c → Js (f c v)) → NamesOf text (mapped f g) Is Js
   of_mapped {Js} p l = record { holds = λ ts h n x v i. subst (λ k. Js (k v)) x.2 (l x.0 v i (p.holds ts x.0 n x.1)) }
 
-  of_alternative : {A B : Type 0} {g h : Line (A → B)} {Is : A → Type 0} {Js : B → Type 0} → NamesOf text g Is Js → NamesOf text h Is Js → NamesOf text (alternative g h) Is Js
+  of_alternative : {A B : Type 0} {g h : Line (A → B)} {Is : A → Type 0} {Js : B → Type 0}
+      → NamesOf text g Is Js → NamesOf text h Is Js → NamesOf text (alternative g h) Is Js
   of_alternative p q = record { holds = λ ts f n x. ⊎_elim (p.holds ts f n) (q.holds ts f n) x }
 
   of_empty : {A B : Type 0} {f : A → B} {Is : A → Type 0} {Js : B → Type 0} → ((v : A) → Is v → Js (f v)) → NamesOf text (empty f) Is Js
@@ -136,7 +149,8 @@ module _ (text : List ℕ) where
 
   entity_named : Names text lines.entity (λ e. AreNames (names.in_entity text e))
   unfolding lines.entity
-  entity_named = at_alternative (at_mapped (at_sequence none arguments_named (λ p i j. join_all (names.in_type text) p.1 j))) (at_mapped none)
+  entity_named =
+      at_alternative (at_mapped (at_sequence none arguments_named (λ p i j. join_all (names.in_type text) p.1 j))) (at_mapped none)
 
   qentity_named : Names text lines.qentity (λ e. AreNames (names.in_entity text e))
   unfolding lines.qentity
@@ -174,7 +188,11 @@ module _ (text : List ℕ) where
       (λ p i j. join (word text p.0 ∷ []) (names.in_bounds text p.1.0 ++ names.in_clause text p.1.1) i
       (join (names.in_bounds text p.1.0) (names.in_clause text p.1.1) j.0 j.1))))
 
-  protocol_named : Names text lines.protocol (λ p. AreNames (word text p.name ∷ names.in_protocol text p))
+  -- Of a protocol its own name is one too.
+  abbrev pub IsProtocolNamed : ProtocolDecl → Type 0
+  IsProtocolNamed p = AreNames (word text p.name ∷ names.in_protocol text p)
+
+  protocol_named : Names text lines.protocol IsProtocolNamed
   unfolding lines.protocol
   protocol_named = at_mapped (at_after (at_sequence name_named (at_both none (at_both inherits_named (at_both conditions_named
       (at_after (at_before (at_weaker (join_all (names.in_member text)) (at_repetition member_named)))))))
@@ -236,9 +254,8 @@ module _ (text : List ℕ) where
   unfolding lines.query
   query_named = at_mapped (at_after (at_sequence none (at_after (at_before asked_named)) (λ p i j. j)))
 
-  -- Of a protocol its own name too is one.
   abbrev pub IsItemNamed : Item → Type 0
-  IsItemNamed (items.Protocol p) = AreNames (word text p.name ∷ names.in_protocol text p)
+  IsItemNamed (items.Protocol p) = IsProtocolNamed p
   IsItemNamed (items.Struct s) = AreNames (names.in_struct text s)
   IsItemNamed (items.Function f) = AreNames (names.in_function text f)
   IsItemNamed (items.Query q) = AreNames (names.in_query text q)
@@ -256,6 +273,7 @@ module _ (text : List ℕ) where
   item_named = at_before bare_item_named
 
   -- The names in the parts of named tokens are names.
-  pub parts_named : (ts : List (Token Terminal)) (parts : List Item) → AreNamed text ts → Matches number lines.source ts parts → AllByRecursion IsItemNamed parts
+  pub parts_named : (ts : List (Token Terminal)) (parts : List Item) → AreNamed text ts → Matches number lines.source ts parts
+      → AllByRecursion IsItemNamed parts
   unfolding lines.source
   parts_named ts parts n m = at_parts lines.item IsItemNamed item_named ts parts n m.0

@@ -1,5 +1,5 @@
 -- The names of the skeleton of a text are names.
-use Rattle.std.proofs.Common.{◌≡◌, ◌≢◌, ◌<◌, ◌+◌, ◌∷◌, ◌++◌, ◌&&◌, ℕ, zero, suc, Bool, true, false, not, List, [], Some, None, IsTrue, Contains, length, map, get_or, slice_get, flat_map, refl, sym, ap, subst, true≢false, arith}
+use Rattle.std.proofs.Common.{◌≡◌, ◌≢◌, ◌<◌, ◌+◌, ◌∷◌, ◌++◌, ◌&&◌, ℕ, zero, suc, Bool, true, false, not, List, [], Some, None, IsTrue, Contains, length, map, get_or, slice_get, slice_range, flat_map, refl, sym, ap, subst, true≢false, arith}
 use Rattle.std.specs.List.{AllByRecursion, list_all, filter_map}
 use Rattle.std.specs.Str.{chars}
 use Rattle.std.proofs.lemmas.Bool.{and_parts, not-true, both_ways}
@@ -22,7 +22,7 @@ use Rattle.swreq_decl.specs.Skeletons.{StandsFor, skeleton_of}
 use Rattle.swreq_decl.specs.Terminals.{number, by_kind, entry, marks, reserved_words, slice, with_terminals}
 use Rattle.swreq_names.specs.Mentioned as names
 use Rattle.swreq_names.specs.Spaces.{word}
-use Rattle.swreq_spelled.proofs.Walk.{AreNames, AreNamed, IsItemNamed, join, join_all, parts_named}
+use Rattle.swreq_spelled.proofs.Walk.{AreNames, AreNamed, IsItemNamed, IsProtocolNamed, join, join_all, parts_named}
 
 -- ---- tokens
 
@@ -36,7 +36,8 @@ no_name_in (t ∷ table) zero all e = both_ways (is_name t) (not-true (is_name t
 no_name_in (t ∷ table) (suc n) all e = no_name_in table n (and_parts (not (is_name t)) _ all).1 e
 
 -- A token that is a name for the grammar is spelled as one.
-spelled_name : (kind : TokenKind) (other bytes : List ℕ) → is_name (by_kind other kind) ≡ true → IsSpelled kind bytes → IsSpelled kinds.Name bytes
+spelled_name : (kind : TokenKind) (other bytes : List ℕ) → is_name (by_kind other kind) ≡ true → IsSpelled kind bytes
+    → IsSpelled kinds.Name bytes
 spelled_name kinds.Name other bytes e s = s
 spelled_name (kinds.Reserved n) other bytes e s = absurd (no_name_in reserved_words n refl e)
 spelled_name kinds.Underscore other bytes e s = absurd (true≢false (sym e))
@@ -45,13 +46,13 @@ spelled_name (kinds.Mark n) other bytes e s = absurd (no_name_in marks n refl e)
 tokens_named : (text : List ℕ) (from : ℕ) (ts : List lexed.Token) → AreSlices text from ts → AreNamed text (with_terminals text ts)
 tokens_named text from [] s = tt
 tokens_named text from (t ∷ ts) (next a b c d spelled s) =
-    ((λ e. (spelled_name t.kind (slice text t.start t.end) (word text (record { start = t.start; end = t.end })) e spelled, tt)), tokens_named text t.end ts s)
+    ((λ e. (spelled_name t.kind (slice text t.start t.end) (slice_range text t.start t.end) e spelled, tt)), tokens_named text t.end ts s)
 
 -- ---- skeletons
 
 -- The names in the lists of a skeleton are names.
 record IsSkeletonNamed (text : List ℕ) (s : Skeleton) : Type 0 where
-  protocols : AllByRecursion (λ p. AreNames (word text p.name ∷ names.in_protocol text p)) s.protocols
+  protocols : AllByRecursion (IsProtocolNamed text) s.protocols
   structs : AllByRecursion (λ t. AreNames (names.in_struct text t)) s.structs
   functions : AllByRecursion (λ f. AreNames (names.in_function text f)) s.functions
   queries : AllByRecursion (λ q. AreNames (names.in_query text q)) s.queries
@@ -59,13 +60,17 @@ record IsSkeletonNamed (text : List ℕ) (s : Skeleton) : Type 0 where
 skeleton_named : (text : List ℕ) (parts : List Item) → AllByRecursion (IsItemNamed text) parts → IsSkeletonNamed text (skeleton_of parts)
 skeleton_named text [] n = record { protocols = tt; structs = tt; functions = tt; queries = tt }
 skeleton_named text (items.Protocol p ∷ parts) n =
-    let more = skeleton_named text parts n.1 in record { protocols = (n.0, more.protocols); structs = more.structs; functions = more.functions; queries = more.queries }
+    let more = skeleton_named text parts n.1 in
+    record { protocols = (n.0, more.protocols); structs = more.structs; functions = more.functions; queries = more.queries }
 skeleton_named text (items.Struct s ∷ parts) n =
-    let more = skeleton_named text parts n.1 in record { protocols = more.protocols; structs = (n.0, more.structs); functions = more.functions; queries = more.queries }
+    let more = skeleton_named text parts n.1 in
+    record { protocols = more.protocols; structs = (n.0, more.structs); functions = more.functions; queries = more.queries }
 skeleton_named text (items.Function f ∷ parts) n =
-    let more = skeleton_named text parts n.1 in record { protocols = more.protocols; structs = more.structs; functions = (n.0, more.functions); queries = more.queries }
+    let more = skeleton_named text parts n.1 in
+    record { protocols = more.protocols; structs = more.structs; functions = (n.0, more.functions); queries = more.queries }
 skeleton_named text (items.Query q ∷ parts) n =
-    let more = skeleton_named text parts n.1 in record { protocols = more.protocols; structs = more.structs; functions = more.functions; queries = (n.0, more.queries) }
+    let more = skeleton_named text parts n.1 in
+    record { protocols = more.protocols; structs = more.structs; functions = more.functions; queries = (n.0, more.queries) }
 
 all_names : (text : List ℕ) (s : Skeleton) → IsSkeletonNamed text s → AreNames (names.mentioned text s)
 all_names text s n =
@@ -77,11 +82,11 @@ all_names text s n =
     (join ts (fs ++ qs) (join_all (names.in_struct text) s.structs n.structs)
     (join fs qs (join_all (names.in_function text) s.functions n.functions) (join_all (names.in_query text) s.queries n.queries)))
   where
-    bodies : (ps : List ProtocolDecl) → AllByRecursion (λ p. AreNames (word text p.name ∷ names.in_protocol text p)) ps → AllByRecursion (λ p. AreNames (names.in_protocol text p)) ps
+    bodies : (ps : List ProtocolDecl) → AllByRecursion (IsProtocolNamed text) ps → AllByRecursion (λ p. AreNames (names.in_protocol text p)) ps
     bodies [] n = tt
     bodies (p ∷ ps) n = (n.0.1, bodies ps n.1)
 
-protocol_names : (text : List ℕ) (ps : List ProtocolDecl) → AllByRecursion (λ p. AreNames (word text p.name ∷ names.in_protocol text p)) ps → AreNames (map (λ p. word text p.name) ps)
+protocol_names : (text : List ℕ) (ps : List ProtocolDecl) → AllByRecursion (IsProtocolNamed text) ps → AreNames (map (λ p. word text p.name) ps)
 protocol_names text [] n = tt
 protocol_names text (p ∷ ps) n = (n.0.0, protocol_names text ps n.1)
 
@@ -95,14 +100,18 @@ one_of (w ∷ ws) (suc k) d n l = one_of ws k d n.1 (omega arith)
 contained : (ws : List (List ℕ)) (w : List ℕ) → AreNames ws → Contains ws w → IsSpelled kinds.Name w
 contained ws w n (k, l, e) = subst (IsSpelled kinds.Name) e (one_of ws k w n l)
 
-module _ (text : List ℕ) (slices : (ts : List lexed.Token) → HasTokens text ts → AreSlices text (first_offset (chars text)) ts) (s : Skeleton) where
-  named : StandsFor text s → IsSkeletonNamed text s
-  named (found, tokens, (parts, m, e)) =
-      let n = tokens_named text (first_offset (chars text)) found (slices found tokens) in
-      subst (IsSkeletonNamed text) (sym e) (skeleton_named text parts (parts_named text (with_terminals text found) parts n m))
+module _ (text : List ℕ) (s : Skeleton) (slices : (ts : List lexed.Token) → HasTokens text ts → AreSlices text (first_offset (chars text)) ts)
+  where
+    named : StandsFor text s → IsSkeletonNamed text s
+    named (found, tokens, (parts, m, e)) =
+        let n = tokens_named text (first_offset (chars text)) found (slices found tokens) in
+        subst (IsSkeletonNamed text) (sym e) (skeleton_named text parts (parts_named text (with_terminals text found) parts n m))
 
-  pub protocols_spelled : StandsFor text s → (name : List ℕ) → Contains (map (λ p. word text p.name) s.protocols) name → IsSpelled kinds.Name name
-  protocols_spelled stands name c = contained (map (λ (p : ProtocolDecl). word text p.name) s.protocols) name (protocol_names text s.protocols (named stands).protocols) c
+    pub protocols_spelled : StandsFor text s → (name : List ℕ) → Contains (map (λ p. word text p.name) s.protocols) name
+        → IsSpelled kinds.Name name
+    protocols_spelled stands name c =
+        let n = protocol_names text s.protocols (named stands).protocols in
+        contained (map (λ (p : ProtocolDecl). word text p.name) s.protocols) name n c
 
-  pub members_spelled : StandsFor text s → (name : List ℕ) → Contains (names.mentioned text s) name → IsSpelled kinds.Name name
-  members_spelled stands name c = contained (names.mentioned text s) name (all_names text s (named stands)) c
+    pub members_spelled : StandsFor text s → (name : List ℕ) → Contains (names.mentioned text s) name → IsSpelled kinds.Name name
+    members_spelled stands name c = contained (names.mentioned text s) name (all_names text s (named stands)) c

@@ -13,8 +13,10 @@ use swreq_lex::laws::tokens_are_slices;
 
 /// The names of protocols, and those of associated types and of members, are spelled as names: a word each, and no reserved one.
 pub fn names_are_words(text: &[u8])
-    ensures protocols { (s : Skeleton) → StandsFor text.now s → (name : List ℕ) → Contains (map (λ p. word text.now p.name) s.protocols) name → IsSpelled Name name }
-    ensures members { (s : Skeleton) → StandsFor text.now s → (name : List ℕ) → Contains (mentioned text.now s) name → IsSpelled Name name }
+    ensures protocols { (s : Skeleton) → StandsFor text.now s
+        → (name : List ℕ) → Contains (map (λ p. word text.now p.name) s.protocols) name → IsSpelled Name name }
+    ensures members { (s : Skeleton) → StandsFor text.now s
+        → (name : List ℕ) → Contains (mentioned text.now s) name → IsSpelled Name name }
 {
     tokens_are_slices(text);
 }
