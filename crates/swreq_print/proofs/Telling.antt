@@ -1,5 +1,5 @@
 -- The names of a text tell its ids apart.
-use Rattle.std.proofs.Common.{◌≡◌, ◌≢◌, ◌∙◌, ◌<◌, ◌∷◌, ◌==◌, ℕ, Bool, true, false, List, [], Some, Contains, ⊎_elim, length, map, get_or, slice_get, codes, refl, sym, ap, subst, true≢false, arith}
+use Rattle.std.proofs.Common.{◌≡◌, ◌∙◌, ◌<◌, ◌∷◌, ◌==◌, ℕ, true, false, List, [], Some, Contains, ⊎_elim, length, map, get_or, refl, sym, ap, subst, true≢false, arith}
 use Rattle.std.specs.declared.cmp.Ordering.{Ordering}
 use Rattle.std.specs.Cmp.{IsTotalOrder}
 use Rattle.std.specs.List.{list_all}
@@ -17,7 +17,6 @@ use Rattle.swreq_decl.specs.declared.skeleton.Skeleton.{Skeleton}
 use Rattle.swreq_names.proofs.Declaring.{no_element}
 use Rattle.swreq_names.specs.Mentioned.{mentioned}
 use Rattle.swreq_names.specs.Spaces.{word}
-use Rattle.swreq_param.specs.declared.ids.AssocId.{AssocId}
 use Rattle.swreq_param.specs.declared.ids.NameId.{NameId}
 use Rattle.swreq_param.specs.declared.ids.ProtoId.{ProtoId}
 use Rattle.swreq_ranks.specs.declared.pair.ProtocolName.{ProtocolName}
@@ -31,7 +30,7 @@ use Rattle.swreq_ranks.proofs.RankLaws.{assoc_total, rank_is}
 use Rattle.swreq_ranks.proofs.Rising.{one_place, rising_from_sorted}
 use Rattle.swreq_spelled.specs.WordBytes.{HasWordBytes, in_word}
 use Rattle.swreq_print.specs.Names.{Text, name_text, pair_at, protocol_name}
-use Rattle.swreq_print.specs.Reading.{IsAssociated, IsPair, IsProper, TellsApart, in_name}
+use Rattle.swreq_print.specs.Reading.{IsPair, IsProper, TellsApart, in_name}
 use Rattle.swreq_print.proofs.Cutting.{both}
 
 -- ---- bytes

@@ -1,10 +1,10 @@
 -- The names in the parts of a text are names among its tokens.
-use Rattle.std.proofs.Common.{◌≡◌, ◌∙◌, ◌++◌, ◌∷◌, ⊎_elim, ℕ, List, [], IsTrue, flat_map, refl, subst}
+use Rattle.std.proofs.Common.{◌≡◌, ◌++◌, ◌∷◌, ⊎_elim, ℕ, List, [], IsTrue, flat_map, subst}
 use Rattle.std.specs.List.{AllByRecursion}
 use Rattle.swreq_lex.specs.declared.token.TokenKind.TheVariants as kinds
 use Rattle.swreq_lex.specs.Slices.{IsSpelled}
 use Rattle.swreq_grammar.specs.declared.token.Token.{Token}
-use Rattle.swreq_grammar.specs.Grammar.{Limit, Matches, Parts, has, terminal, empty, mapped, sequence, alternative, repetition}
+use Rattle.swreq_grammar.specs.Grammar.{Limit, Matches, Parts, has, empty, mapped, sequence, alternative, repetition}
 use Rattle.swreq_decl.specs.declared.terminal.Terminal.{Terminal}
 use Rattle.swreq_decl.specs.declared.terminal.Terminal.TheVariants.{Name, Query}
 use Rattle.swreq_decl.specs.declared.kind.Kind.{Kind}

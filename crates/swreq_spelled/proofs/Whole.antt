@@ -1,23 +1,20 @@
 -- The names of the skeleton of a text are names.
-use Rattle.std.proofs.Common.{◌≡◌, ◌≢◌, ◌<◌, ◌+◌, ◌∷◌, ◌++◌, ◌&&◌, ℕ, zero, suc, Bool, true, false, not, List, [], Some, None, IsTrue, Contains, length, map, get_or, slice_get, slice_range, flat_map, refl, sym, ap, subst, true≢false, arith}
-use Rattle.std.specs.List.{AllByRecursion, list_all, filter_map}
+use Rattle.std.proofs.Common.{◌≡◌, ◌<◌, ◌∷◌, ◌++◌, ℕ, zero, suc, Bool, true, not, List, [], Contains, length, map, get_or, slice_range, flat_map, refl, sym, subst, true≢false, arith}
+use Rattle.std.specs.List.{AllByRecursion, list_all}
 use Rattle.std.specs.Str.{chars}
 use Rattle.std.proofs.lemmas.Bool.{and_parts, not-true, both_ways}
 use Rattle.swreq_lex.specs.declared.token.Token as lexed
 use Rattle.swreq_lex.specs.declared.token.TokenKind.{TokenKind}
 use Rattle.swreq_lex.specs.declared.token.TokenKind.TheVariants as kinds
-use Rattle.swreq_lex.specs.Slices.{AreSlices, IsSpelled, last, next}
+use Rattle.swreq_lex.specs.Slices.{AreSlices, IsSpelled, next}
 use Rattle.swreq_lex.specs.Tokens.{HasTokens, first_offset}
 use Rattle.swreq_grammar.specs.Grammar.{has}
 use Rattle.swreq_decl.specs.declared.terminal.Terminal.{Terminal}
 use Rattle.swreq_decl.specs.declared.terminal.Terminal.TheVariants.{Name, Query}
-use Rattle.swreq_decl.specs.declared.skeleton.FunctionDecl.{FunctionDecl}
 use Rattle.swreq_decl.specs.declared.skeleton.Item.{Item}
 use Rattle.swreq_decl.specs.declared.skeleton.Item.TheVariants as items
 use Rattle.swreq_decl.specs.declared.skeleton.ProtocolDecl.{ProtocolDecl}
-use Rattle.swreq_decl.specs.declared.skeleton.QueryDecl.{QueryDecl}
 use Rattle.swreq_decl.specs.declared.skeleton.Skeleton.{Skeleton}
-use Rattle.swreq_decl.specs.declared.skeleton.StructDecl.{StructDecl}
 use Rattle.swreq_decl.specs.Skeletons.{StandsFor, skeleton_of}
 use Rattle.swreq_decl.specs.Terminals.{number, by_kind, entry, marks, reserved_words, slice, with_terminals}
 use Rattle.swreq_names.specs.Mentioned as names
