@@ -2,4 +2,5 @@ mod Cutting
 mod ReadSignatures
 mod ReadTypes
 mod Steps
+mod Telling
 mod Where

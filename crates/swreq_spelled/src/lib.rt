@@ -1,0 +1,4 @@
+//! How the names of a text are spelled, as laws.
+#![tactic(auto)]
+
+pub mod laws;
