@@ -1,0 +1,5 @@
+pub mod Longer
+pub mod LessParts
+pub mod Blocks
+pub mod Cuts
+pub mod OneBlock
