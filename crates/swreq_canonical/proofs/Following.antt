@@ -114,6 +114,11 @@ module _ (f : TermFacts) (ps : List ParamId) (S T : TermRequirement → Type 0) 
   pub wider : {st : TermStatement} → ((r : TermRequirement) → S r → T r) → Follows f ps S st → Follows f ps T st
   wider sub (rs, s, e) = (rs, (λ r h. sub r (s r h)), e)
 
+  pub wider_sides : (r : TermRequirement) → ((q : TermRequirement) → S q → T q) → HasFollowingSides f ps S r → HasFollowingSides f ps T r
+  wider_sides (Conforms t p) sub h = wider sub h
+  wider_sides (IsAnyObject t) sub h = wider sub h
+  wider_sides (Equals t u) sub (h, k) = (wider sub h, wider sub k)
+
 pub by_members : {f : TermFacts} {ps : List ParamId} {rs : List TermRequirement} {st : TermStatement} → Follows f ps (λ r. Contains rs r) st
     → Derivable f (Written ps rs) st
 by_members (qs, s, e) = weaken s e
