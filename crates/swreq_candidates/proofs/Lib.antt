@@ -6,3 +6,6 @@ pub mod OneBlock
 pub mod Ends
 pub mod Parts
 pub mod Settled
+pub mod ReadOver
+pub mod ShorterTypes
+pub mod SameTypes
