@@ -9,3 +9,5 @@ pub mod Settled
 pub mod ReadOver
 pub mod ShorterTypes
 pub mod SameTypes
+pub mod Searches
+pub mod AllSettled

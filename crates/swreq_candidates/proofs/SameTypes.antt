@@ -47,6 +47,7 @@ use Rattle.swreq_candidates.proofs.Ends.{minimal_end}
 use Rattle.swreq_candidates.proofs.LessParts.{SymbolsLess, less_at, symbols_in_parts}
 use Rattle.swreq_candidates.proofs.Parts.{HasTypeAt, Leads, conformance, last_read, leads_longer, part_reduced, read_on-for_self, read_on-push, reads_as, type_of_part}
 use Rattle.swreq_candidates.proofs.ReadOver.{chain_over, read_behind}
+use Rattle.swreq_candidates.proofs.Searches.{same_assoc_id, same_name_id}
 use Rattle.swreq_candidates.proofs.Settled.{IsSettled, equal_spells, leads_of_text, least_word, leasts, member_of_text, minimal_read, not_least, one_reduced, push_of_text, reduce, stands_for}
 use Rattle.swreq_candidates.proofs.ShorterTypes.{principal_follows, shorter_reduces}
 
@@ -66,12 +67,6 @@ no_more_members m t (LayoutSymbol ∷ w) = let h = no_more_members m t w in omeg
 member_before : (t u : Term) (x y : Step) → TermBefore t u → TermBefore (Member t x) (Member u y)
 member_before t u x y (inl h) = inl (omega arith)
 member_before t u x y (inr h) = inr (ap (λ n. n + 1) h.0, inl h.1)
-
-same_name_id : {a b : NameId} → a.rank ≡ b.rank → a ≡ b
-same_name_id e = λ i. record { rank = e i }
-
-same_assoc_id : {d e : AssocId} → d.rank ≡ e.rank → d ≡ e
-same_assoc_id e = λ i. record { rank = e i }
 
 module _ (m : Symbols) (f : TermFacts) (ps : List ParamId) (list : List TermRequirement) (fit : AreSymbolsOf m f) (ranges : AreOfText m f)
     (n : IsInText m (Written ps list)) (ranked : AreRanked m f) where
