@@ -11,3 +11,5 @@ pub mod ShorterTypes
 pub mod SameTypes
 pub mod Searches
 pub mod AllSettled
+pub mod ReadOff
+pub mod Deciding
