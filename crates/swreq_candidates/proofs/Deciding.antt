@@ -84,18 +84,18 @@ module _ (m : Symbols) (f : TermFacts) (s : Source) (fit : AreSymbolsOf m f) (ra
   valid (Member t (Name a)) = elim (valid t) [
     | no k ↦ no (λ e. k (valid_base (Name a) e))
     | yes v ↦ elim (some_member (λ (x : AssociatedType). (x.name ≡ a) × Derivable f s (Requires (Conforms t x.proto)))
-      (λ (x : AssociatedType). both_decided (names_decided x.name a) (valid_conforms t v x.proto)) f.associated_types) [
-        | inl (x, h, (e, c)) ↦ yes (assoc_name c (subst (λ y. Declares f x.proto y x.assoc) e h))
-        | inr none ↦ no (λ e. let (p, d, c, h) = valid_name e in none (record { proto = p; name = a; assoc = d }) h (refl, c))
-      ]
+        (λ (x : AssociatedType). both_decided (names_decided x.name a) (valid_conforms t v x.proto)) f.associated_types) [
+          | inl (x, h, (e, c)) ↦ yes (assoc_name c (subst (λ y. Declares f x.proto y x.assoc) e h))
+          | inr none ↦ no (λ e. let (p, d, c, h) = valid_name e in none (record { proto = p; name = a; assoc = d }) h (refl, c))
+        ]
   ]
   valid (Member t (Bound d)) = elim (valid t) [
     | no k ↦ no (λ e. k (valid_base (Bound d) e))
     | yes v ↦ elim (some_member (λ (x : AssociatedType). (x.assoc ≡ d) × Derivable f s (Requires (Conforms t x.proto)))
-      (λ (x : AssociatedType). both_decided (assocs_decided x.assoc d) (valid_conforms t v x.proto)) f.associated_types) [
-        | inl (x, h, (e, c)) ↦ yes (assoc_decl c (subst (λ y. Declares f x.proto x.name y) e h))
-        | inr none ↦ no (λ e. let (p, a, c, h) = valid_bound e in none (record { proto = p; name = a; assoc = d }) h (refl, c))
-      ]
+        (λ (x : AssociatedType). both_decided (assocs_decided x.assoc d) (valid_conforms t v x.proto)) f.associated_types) [
+          | inl (x, h, (e, c)) ↦ yes (assoc_decl c (subst (λ y. Declares f x.proto x.name y) e h))
+          | inr none ↦ no (λ e. let (p, a, c, h) = valid_bound e in none (record { proto = p; name = a; assoc = d }) h (refl, c))
+        ]
   ]
 
   conforms : (t : Term) (p : ProtoId) → Dec (Derivable f s (Requires (Conforms t p)))

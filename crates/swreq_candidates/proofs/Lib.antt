@@ -13,3 +13,4 @@ pub mod Searches
 pub mod AllSettled
 pub mod ReadOff
 pub mod Deciding
+pub mod Completions

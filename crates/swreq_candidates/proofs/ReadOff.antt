@@ -27,12 +27,11 @@ use Rattle.swreq_reading.proofs.OneType.{one_first, one_param, one_type, typed_l
 use Rattle.swreq_reading.proofs.Orders.{type_is_reduced}
 use Rattle.swreq_reading.proofs.Readings.{valid_base}
 use Rattle.swreq_canonical.specs.Canonical.{CanBePrincipal, IsCanonical, principal}
-use Rattle.swreq_canonical.specs.CanonicalOrder.{IsStrictlySorted}
 use Rattle.swreq_canonical.specs.Generators.{AreEnough, Follows, IsEarlier}
 use Rattle.swreq_canonical.proofs.Following.{wider}
 use Rattle.swreq_canonical.proofs.ReducedLemmas.{not_reduced}
 use Rattle.swreq_canonical.proofs.Sides.{IsOfEarlierType}
-use Rattle.swreq_candidates.specs.Candidates.{IsCandidate, IsNamed, IsReadOff, IsReducedRule, SpeaksOf}
+use Rattle.swreq_candidates.specs.Candidates.{IsCandidate, IsCandidateList, IsNamed, IsReadOff, IsReducedRule, SpeaksOf}
 use Rattle.swreq_candidates.proofs.Parts.{last_read, read_on-push}
 use Rattle.swreq_candidates.proofs.Settled.{stands, stands_for}
 
@@ -112,14 +111,14 @@ module _ (m : Symbols) (f : TermFacts) (ps : List ParamId) (list : List TermRequ
       let reduced : IsReducedTypeOf f L v u = record { equal = q; least = λ w d x. b.least w (trans (symm q) d) x } in
       (symm q, (o, not_reduced reduced (λ e. differ (sym e)), reduced))
 
-  pub candidates_are_enough : (candidates : List TermRequirement) → IsStrictlySorted candidates → ((r : TermRequirement) → Contains candidates r ↔ IsCandidate m f L r)
+  pub candidates_are_enough : (candidates : List TermRequirement) → IsCandidateList m f L candidates
       → ((r : TermRequirement) → IsCanonical f L r → IsCandidate m f L r ⊎ Follows f ps (IsOfEarlierType f ps list (principal r)) (Requires r))
       → AreEnough f ps list candidates
-  candidates_are_enough candidates s all settled = record {
-    sorted = s;
-    canonical = λ r h. candidate_is_canonical r ((all r).0 h);
+  candidates_are_enough candidates all settled = record {
+    sorted = all.sorted;
+    canonical = λ r h. candidate_is_canonical r ((all.members r).0 h);
     covers = λ r c. elim (settled r c) [
-      | inl h ↦ inl ((all r).1 h)
+      | inl h ↦ inl ((all.members r).1 h)
       | inr h ↦ inr (wider f ps (IsOfEarlierType f ps list (principal r)) (IsEarlier f L r) (λ q b. (b.0, inl b.1)) h)
     ];
   }

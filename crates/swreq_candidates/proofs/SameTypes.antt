@@ -160,7 +160,7 @@ module _ (m : Symbols) (f : TermFacts) (ps : List ParamId) (list : List TermRequ
           elim (total w r) [
             | inl h ↦ h
             | inr (inl j) ↦ absurd (none_less C u (pre ++ s) lu
-              (joined (stands_for m f ps list fit ranges n ranked r u hu) (turn_all (subst (λ y. C (pre ++ s) (spell m L y [])) j c1))) l)
+                (joined (stands_for m f ps list fit ranges n ranked r u hu) (turn_all (subst (λ y. C (pre ++ s) (spell m L y [])) j c1))) l)
             | inr (inr j) ↦ (let (y, hy, ly) = least_word m f ps list fit ranges n ranked least firsts w (result_reduced o) in
                 absurd (none_less C y (pre ++ s) ly (joined (stands_for m f ps list fit ranges n ranked w y hy) (turn_all c1))
                 (less_trans (pre ++ s) u y l (type_order m f ps list fit ranges n ranked r w u y hu hy lu ly j))))
@@ -271,8 +271,8 @@ module _ (m : Symbols) (f : TermFacts) (ps : List ParamId) (list : List TermRequ
             by_end s rs less rx g1 g2 = elim (by_last s) [
               | inl h ↦ absurd (subst (λ y. HasReading m f (SelfOf (proto_of m j)) y) h rs)
               | inr (t, y, h) ↦ subst (λ w. Earlier (Requires (Equals (read_on m x w) z))) (sym h)
-                (less_case x e t y hx lead (reduced_valid bx) (subst (λ w. CanReadAll m f L x w) h rx) (subst (λ w. WordLess w (e ++ (MemberSymbol k ∷ []))) h less)
-                (subst (λ w. Derivable f L (Requires (Equals v (read_on m x w)))) h g1) g2)
+                  (less_case x e t y hx lead (reduced_valid bx) (subst (λ w. CanReadAll m f L x w) h rx) (subst (λ w. WordLess w (e ++ (MemberSymbol k ∷ []))) h less)
+                  (subst (λ w. Derivable f L (Requires (Equals v (read_on m x w)))) h g1) g2)
             ]
 
         -- [z == v] is read off a rule, or follows

@@ -58,19 +58,34 @@ least_member {X} Q d size (y ∷ xs) = elim (d y) [
     | inr none ↦ inr (λ x h q. elim (member_cases y x xs h) [ inl e ↦ n (subst Q e q) | inr k ↦ none x k q ])
   ]
   | yes q ↦ elim (least_member Q d size xs) [
-    | inr none ↦ inl (y, first_member y xs, q, λ z i p. elim (member_cases y z xs i) [
-      | inl e ↦ subst (λ w. size y ≤ size w) (sym e) (omega arith)
-      | inr k ↦ absurd (none z k p)
-    ])
+    | inr none ↦ inl (
+      y,
+      first_member y xs,
+      q,
+      λ z i p. elim (member_cases y z xs i) [
+        | inl e ↦ subst (λ w. size y ≤ size w) (sym e) (omega arith)
+        | inr k ↦ absurd (none z k p)
+      ],
+    )
     | inl (x, h, r, l) ↦ elim (dec_lt (size x) (size y)) [
-      | yes g ↦ inl (x, later_member y x xs h, r, λ z i p. elim (member_cases y z xs i) [
-        | inl e ↦ subst (λ w. size x ≤ size w) (sym e) (omega arith)
-        | inr k ↦ l z k p
-      ])
-      | no g ↦ (let n : size x < size y → ⊥ = g in inl (y, first_member y xs, q, λ z i p. elim (member_cases y z xs i) [
+      | yes g ↦ inl (
+        x,
+        later_member y x xs h,
+        r,
+        λ z i p. elim (member_cases y z xs i) [
+          | inl e ↦ subst (λ w. size x ≤ size w) (sym e) (omega arith)
+          | inr k ↦ l z k p
+        ],
+      )
+      | no g ↦ (let n : size x < size y → ⊥ = g in inl (
+        y,
+        first_member y xs,
+        q,
+        λ z i p. elim (member_cases y z xs i) [
           | inl e ↦ subst (λ w. size y ≤ size w) (sym e) (omega arith)
           | inr k ↦ (let a : size x ≤ size z = l z k p in omega arith)
-        ]))
+        ],
+      ))
     ]
   ]
 ]

@@ -1,5 +1,5 @@
 -- The candidates of a list: what the rules of its reduced system say.
-use Rattle.std.specs.Prelude.{◌≡◌, [], ◌∷◌, ◌++◌}
+use Rattle.std.specs.Prelude.{◌≡◌, ◌↔◌, List, [], ◌∷◌, ◌++◌, Contains}
 use Rattle.swreq_param.specs.declared.ids.NameId.{NameId}
 use Rattle.swreq_param.specs.declared.ids.Step.TheVariants.{Bound, Name}
 use Rattle.swreq_param.specs.Terms.{Term}
@@ -10,6 +10,7 @@ use Rattle.swreq_derive.specs.Derivation.TermStatement.{IsValid}
 use Rattle.swreq_word.specs.declared.symbols.Symbol.{Symbol}
 use Rattle.swreq_word.specs.declared.symbols.Symbol.TheVariants.{Proto as ProtoSymbol, Member as MemberSymbol, Param as ParamSymbol, Name as NameSymbol, Layout as LayoutSymbol}
 use Rattle.swreq_word.specs.Least.{IsLeast, IsMinimal}
+use Rattle.swreq_canonical.specs.CanonicalOrder.{IsStrictlySorted}
 use Rattle.swreq_reading.specs.Symbols.{Word, Symbols, IsRank, name_of}
 use Rattle.swreq_reading.specs.Equations.{AreCongruent}
 use Rattle.swreq_reading.specs.Types.{IsFirstFor, IsTypeOf}
@@ -43,3 +44,8 @@ IsReadOff m f s l r (Equals u v) =
 -- A candidate is read off a rule of the reduced system.
 abbrev pub IsCandidate : Symbols → TermFacts → Source → TermRequirement → Type 0
 IsCandidate m f s q = (l r : Word) × IsReducedRule (AreCongruent m f s) l r × IsReadOff m f s l r q
+
+-- The list of candidates is the strictly sorted list whose members are exactly the candidates.
+pub record IsCandidateList (m : Symbols) (f : TermFacts) (s : Source) (candidates : List TermRequirement) : Type 0 where
+  pub sorted : IsStrictlySorted candidates
+  pub members : (r : TermRequirement) → Contains candidates r ↔ IsCandidate m f s r
