@@ -134,7 +134,7 @@ module _ (m : Symbols) (f : TermFacts) (s : Source) (fit : AreSymbolsOf m f) (ra
   names : (t : Term) (a : NameId) (x : AssociatedType) → Dec (Names t a x)
   names t a x = both_decided (names_decided x.name a) (conforms t x.proto)
 
-  has_name : (t : Term) (a : NameId) → Dec (HasName f s t a)
+  pub has_name : (t : Term) (a : NameId) → Dec (HasName f s t a)
   has_name t a = elim (some_member (Names t a) (names t a) f.associated_types) [
     | inl (x, h, (e, c)) ↦ yes (x.proto, x.assoc, c, subst (λ n. Declares f x.proto n x.assoc) e h)
     | inr none ↦ no (λ h. none (record { proto = h.0; name = a; assoc = h.1 }) h.3 (refl, h.2))

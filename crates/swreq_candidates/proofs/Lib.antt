@@ -14,3 +14,4 @@ pub mod AllSettled
 pub mod ReadOff
 pub mod Deciding
 pub mod Completions
+pub mod CandidateLists

@@ -67,7 +67,7 @@ module _ (m : Symbols) (f : TermFacts) (ps : List ParamId) (list : List TermRequ
       let (k, g) = chain_leads m f fit L c h in
       (k, trans e g)
 
-  typed_read : (t : Term) (w : Word) → Derivable f L (IsValid t) → IsTypeOf m f L w t → HasReading m f L w × Derivable f L (Requires (Equals t (reading m w)))
+  pub typed_read : (t : Term) (w : Word) → Derivable f L (IsValid t) → IsTypeOf m f L w t → HasReading m f L w × Derivable f L (Requires (Equals t (reading m w)))
   typed_read t w v h = read_equal t w v (turn_all (stands_for m f ps list fit ranges n ranked t w h))
 
   -- the left side is read as a type that equals the one of which it speaks
@@ -128,7 +128,7 @@ module _ (m : Symbols) (f : TermFacts) (ps : List ParamId) (list : List TermRequ
 heads : {x y : Symbol} {u v : Word} → x ∷ u ≡ y ∷ v → x ≡ y
 heads e = cc
 
-same_push : (u v : Word) (x y : Symbol) → u ++ (x ∷ []) ≡ v ++ (y ∷ []) → (u ≡ v) × (x ≡ y)
+pub same_push : (u v : Word) (x y : Symbol) → u ++ (x ∷ []) ≡ v ++ (y ∷ []) → (u ≡ v) × (x ≡ y)
 same_push u v x y e =
     let n = ap length e in
     let (h, k) = same_cut u (x ∷ []) v (y ∷ []) e (omega (arith, length-append u (x ∷ []), length-append v (y ∷ []))) in
@@ -143,7 +143,7 @@ one_proto {p = p} {q = q} e = λ j. record { rank = same_rank e j }
 no_layout : {p : ℕ} → ProtoSymbol p ≡ LayoutSymbol → ⊥
 no_layout e = cc
 
-one_name : (m : Symbols) (x : Symbol) (a b : NameId) → IsNamed m x a → IsNamed m x b → a ≡ b
+pub one_name : (m : Symbols) (x : Symbol) (a b : NameId) → IsNamed m x a → IsNamed m x b → a ≡ b
 one_name m (MemberSymbol k) a b h i = sym h.1 ∙ i.1
 one_name m (NameSymbol c) a b h i = sym h ∙ i
 one_name m (ProtoSymbol p) a b h i = absurd h
@@ -155,7 +155,7 @@ module _ (m : Symbols) (f : TermFacts) (s : Source) where
   not_single : (t : Term) (u : Word) (x y : Symbol) → IsTypeOf m f s u t → u ++ (x ∷ []) ≡ y ∷ [] → ⊥
   not_single t u x y h e = let n = ap length e in let k = typed_length m f s t [] u h in omega (arith, length-append u (x ∷ []))
 
-  one_spoken : (v w : Term) (l : Word) → SpeaksOf m f s v l → SpeaksOf m f s w l → v ≡ w
+  pub one_spoken : (v w : Term) (l : Word) → SpeaksOf m f s v l → SpeaksOf m f s w l → v ≡ w
   one_spoken (Generic g) (Generic h) l i k = ap Generic (one_param (heads (sym i ∙ k)))
   one_spoken (Generic g) (Member t (Bound e)) l h (u, x, a, q, r, o, i) = absurd (not_single t u x (ParamSymbol g.depth g.index) r (sym q ∙ h))
   one_spoken (Generic g) (Member t (Name a)) l h k = absurd k

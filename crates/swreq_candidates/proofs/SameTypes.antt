@@ -52,7 +52,7 @@ use Rattle.swreq_candidates.proofs.Settled.{IsSettled, equal_spells, leads_of_te
 use Rattle.swreq_candidates.proofs.ShorterTypes.{principal_follows, shorter_reduces}
 
 -- a word is empty or has a last symbol
-by_last : (w : Word) → (w ≡ []) ⊎ ((s : Word) × (x : Symbol) × (w ≡ s ++ (x ∷ [])))
+pub by_last : (w : Word) → (w ≡ []) ⊎ ((s : Word) × (x : Symbol) × (w ≡ s ++ (x ∷ [])))
 by_last [] = inl refl
 by_last (x ∷ w) = elim (by_last w) [ inl e ↦ inr ([], x, ap (λ z. x ∷ z) e) | inr (s, y, e) ↦ inr (x ∷ s, y, ap (λ z. x ∷ z) e) ]
 
