@@ -15,3 +15,4 @@ pub mod ReadOff
 pub mod Deciding
 pub mod Completions
 pub mod CandidateLists
+pub mod RulesGive

@@ -1,5 +1,5 @@
 //! Laws on blocks and candidates, over the definitions alone.
-ghost use Rattle.std.specs.Prelude.{◌≡◌, ◌↔◌, List, [], ◌∷◌};
+ghost use Rattle.std.specs.Prelude.{◌≡◌, ◌↔◌, List, [], ◌∷◌, ℕ, Some, slice_get};
 ghost use Rattle.swreq_param.specs.declared.ids.ParamId.{ParamId};
 ghost use Rattle.swreq_derive.specs.Derivation.{TermRequirement, TermStatement, TermFacts, Source, Derivable};
 ghost use Rattle.swreq_derive.specs.Derivation.Source.{Written};
@@ -8,13 +8,19 @@ ghost use Rattle.swreq_canonical.specs.Canonical.{IsCanonical, HasReducedTypes};
 ghost use Rattle.swreq_canonical.specs.Generators.{IsGenerator, IsGeneratorList, AreEnough, AreDecided};
 ghost use Rattle.swreq_canonical.specs.Minimised.{IsMinimised};
 ghost use Rattle.swreq_word.specs.Least.{IsLeast, IsMinimal};
+ghost use Rattle.swreq_word.specs.Relations.{Linked};
+ghost use Rattle.swreq_rule.specs.declared.rules.Rule.{Rule};
+ghost use Rattle.swreq_rule.specs.Steps.{Step};
+ghost use Rattle.swreq_pair.specs.CriticalPairs.{PairsMeet};
+ghost use Rattle.swreq_complete.specs.Reduced.{IsReducedSystem};
+ghost use Rattle.swreq_rounds.specs.Presents.{ProtocolEquation, AreProtocolRules, AreListRules};
 ghost use Rattle.swreq_reading.specs.Symbols.{Word, Symbols, AreSymbolsOf};
-ghost use Rattle.swreq_reading.specs.Equations.{AreCongruent};
+ghost use Rattle.swreq_reading.specs.Equations.{AreCongruent, UsableEquation};
 ghost use Rattle.swreq_reading.specs.Types.{HasFirsts};
 ghost use Rattle.swreq_candidates.specs.Blocks.{Cut, Pairwise, All, AreMembersNamed, blocks, joined_words};
 ghost use Rattle.swreq_candidates.specs.Blocks.Place.{Outside};
 ghost use Rattle.swreq_candidates.specs.Candidates.{IsCandidate, IsCandidateList, IsReadOff};
-ghost use Rattle.swreq_candidates.specs.Completed.{IsCompleted, IsWordOfText};
+ghost use Rattle.swreq_candidates.specs.Completed.{HasLeastWords, IsCompleted, IsWordOfText};
 
 /// A word is cut into blocks in one way, and its blocks make the word. Two words are congruent exactly where they have as many blocks, which
 /// are congruent one by one. So a word is least exactly where its blocks are, and a minimal word is one block.
@@ -33,6 +39,17 @@ pub fn congruence_goes_by_blocks()
         → AreSymbolsOf m f → AreMembersNamed m f
         → (u : Word) (k : Cut m f (Written params list) Outside u)
         → IsMinimal (AreCongruent m f (Written params list)) u → blocks k ≡ u ∷ [] }
+{}
+
+/// Rules of the protocols, and of a list, whose pairs meet, give the least words, and their reduced system is that of the congruence.
+pub fn complete_rules_give_least_words()
+    ensures protocols { (m : Symbols) (f : TermFacts) (rules : List Rule)
+        → PairsMeet rules → AreProtocolRules m f rules → HasLeastWords (ProtocolEquation m f) }
+    ensures list { (m : Symbols) (f : TermFacts) (params : List ParamId) (list : List TermRequirement) (rules : List Rule)
+        → PairsMeet rules → AreListRules m f params list rules → HasLeastWords (UsableEquation m f (Written params list)) }
+    ensures system { (m : Symbols) (f : TermFacts) (params : List ParamId) (list : List TermRequirement) (rules system : List Rule)
+        → AreListRules m f params list rules → IsReducedSystem (Linked (Step rules)) system
+        → IsReducedSystem (AreCongruent m f (Written params list)) system }
 {}
 
 /// Where the completions of the protocols and of a list have ended, each valid type parameter of the list has a reduced type, each statement
@@ -59,6 +76,17 @@ pub fn generators_are_candidates()
         → IsReadOff m f s left right r → IsReadOff m f s left right q → r ≡ q }
     ensures enough { (m : Symbols) (f : TermFacts) (params : List ParamId) (list candidates : List TermRequirement)
         → IsCompleted m f params list → IsCandidateList m f (Written params list) candidates → AreEnough f params list candidates }
+{}
+
+/// The candidates are read off the rules of the reduced system. Where the completions have ended, there is a list of them.
+pub fn candidates_are_read_off()
+    ensures rules { (m : Symbols) (f : TermFacts) (s : Source) (system : List Rule) (r : TermRequirement)
+        → IsReducedSystem (AreCongruent m f s) system
+        → IsCandidate m f s r
+        ↔ ((k : ℕ) × (rule : Rule) × (slice_get system k ≡ Some rule) × IsReadOff m f s rule.left rule.right r) }
+    ensures list { (m : Symbols) (f : TermFacts) (params : List ParamId) (list : List TermRequirement) (system : List Rule)
+        → IsCompleted m f params list → IsReducedSystem (AreCongruent m f (Written params list)) system
+        → (candidates : List TermRequirement) × IsCandidateList m f (Written params list) candidates }
 {}
 
 /// Where it is decided, too, what lists of candidates derive, there is a list of generators, and a minimised list, which derives just what
