@@ -1,5 +1,5 @@
 -- The candidates are read off the rules of the reduced system, one after the other.
-use Rattle.std.proofs.Common.{◌≡◌, ◌⊎◌, ◌↔◌, ◌<◌, ℕ, List, [], ◌∷◌, ◌++◌, Contains, Some, length, length-append, refl, ap, subst, sym, ◌∙◌, inl, inr, arith}
+use Rattle.std.proofs.Common.{◌≡◌, ◌↔◌, ℕ, List, [], ◌∷◌, ◌++◌, Contains, Some, length, length-append, refl, ap, subst, sym, ◌∙◌, inl, inr, arith}
 use Rattle.std.specs.List.{slice_get}
 use Rattle.std.proofs.Math.Decide.{dec_lt}
 use Rattle.swreq_param.specs.declared.ids.NameId.{NameId}
@@ -31,7 +31,6 @@ use Rattle.swreq_reading.proofs.Chained.{turn_all}
 use Rattle.swreq_reading.proofs.OneType.{one_param, one_type}
 use Rattle.swreq_reading.proofs.Orders.{has_type}
 use Rattle.swreq_reading.proofs.Readings.{sides_of, valid_base, valid_generic}
-use Rattle.swreq_canonical.specs.Canonical.{IsCanonical}
 use Rattle.swreq_canonical.proofs.ReducedLemmas.{same_or_not}
 use Rattle.swreq_canonical.proofs.Sorting.{some_sorted}
 use Rattle.swreq_rounds.proofs.Presented.{contains_get, get_contains}
@@ -54,8 +53,8 @@ module _ (m : Symbols) (f : TermFacts) (s : Source) (rules : List Rule) (system 
         let (k, rule, g, e) = system.all l minimal in
         let (_, d, also) = system.each k rule g in
         let same : r ≡ rule.right = one_least (AreCongruent m f s) r rule.right
-            (joined (turn_all c) (subst (λ x. AreCongruent m f s x rule.right) e d))
-            (joined (turn_all (subst (λ x. AreCongruent m f s x rule.right) e d)) c) least also in
+        (joined (turn_all c) (subst (λ x. AreCongruent m f s x rule.right) e d))
+        (joined (turn_all (subst (λ x. AreCongruent m f s x rule.right) e d)) c) least also in
         (k, rule, g, subst (λ x. IsReadOff m f s x rule.right q) (sym e) (subst (λ x. IsReadOff m f s l x q) same off))),
     λ h. let (k, rule, g, off) = h in (rule.left, rule.right, system.each k rule g, off),
   )
@@ -229,7 +228,7 @@ module _ (m : Symbols) (f : TermFacts) (ps : List ParamId) (list : List TermRequ
           | yes (w, vw, s) ↦ elim (same_or_not t w) [
             | no differ ↦ yes (Equals t w, (v, vw, differ, h, s))
             | yes same ↦ no (λ k. none_read_off l r no_p no_l
-              (λ u z differ i vz o. differ (one_type m f L u t r i h ∙ (same ∙ one_spoken m f L w z l s o))) k.0 k.1)
+                (λ u z differ i vz o. differ (one_type m f L u t r i h ∙ (same ∙ one_spoken m f L w z l s o))) k.0 k.1)
           ]
         ]
       ]
@@ -247,24 +246,30 @@ module _ (m : Symbols) (f : TermFacts) (ps : List ParamId) (list : List TermRequ
   collected (rule ∷ rs) each =
       let (qs, all) = collected rs (λ x h. each x (later_member rule x rs h)) in
       elim (read_off_decided rule.left rule.right (each rule (first_member rule rs))) [
-        | no n ↦ (qs, λ q. (
-          (λ h. let (x, i, o) = (all q).0 h in (x, later_member rule x rs i, o)),
-          λ h. let (x, i, o) = h in elim (member_cases rule x rs i) [
-            | inl e ↦ absurd (n (q, subst (λ z. IsReadOff m f L z.left z.right q) e o))
-            | inr k ↦ (all q).1 (x, k, o)
-          ],
-        ))
-        | yes (r, off) ↦ (r ∷ qs, λ q. (
-          (λ h. elim (member_cases r q qs h) [
-            | inl e ↦ (rule, first_member rule rs, subst (λ z. IsReadOff m f L rule.left rule.right z) (sym e) off)
-            | inr k ↦ (let (x, i, o) = (all q).0 k in (x, later_member rule x rs i, o))
-          ]),
-          λ h. let (x, i, o) = h in elim (member_cases rule x rs i) [
-            | inl e ↦ subst (λ z. Contains (r ∷ qs) z)
-              (one_read_off m f L rule.left rule.right r q off (subst (λ z. IsReadOff m f L z.left z.right q) e o)) (first_member r qs)
-            | inr k ↦ later_member r q qs ((all q).1 (x, k, o))
-          ],
-        ))
+        | no n ↦ (
+          qs,
+          λ q. (
+            (λ h. let (x, i, o) = (all q).0 h in (x, later_member rule x rs i, o)),
+            λ h. let (x, i, o) = h in elim (member_cases rule x rs i) [
+              | inl e ↦ absurd (n (q, subst (λ z. IsReadOff m f L z.left z.right q) e o))
+              | inr k ↦ (all q).1 (x, k, o)
+            ],
+          ),
+        )
+        | yes (r, off) ↦ (
+          r ∷ qs,
+          λ q. (
+            (λ h. elim (member_cases r q qs h) [
+              | inl e ↦ (rule, first_member rule rs, subst (λ z. IsReadOff m f L rule.left rule.right z) (sym e) off)
+              | inr k ↦ (let (x, i, o) = (all q).0 k in (x, later_member rule x rs i, o))
+            ]),
+            λ h. let (x, i, o) = h in elim (member_cases rule x rs i) [
+              | inl e ↦ subst (λ z. Contains (r ∷ qs) z)
+                  (one_read_off m f L rule.left rule.right r q off (subst (λ z. IsReadOff m f L z.left z.right q) e o)) (first_member r qs)
+              | inr k ↦ later_member r q qs ((all q).1 (x, k, o))
+            ],
+          ),
+        )
       ]
 
   pub some_candidates : (rules : List Rule) → IsReducedSystem C rules → (candidates : List TermRequirement) × IsCandidateList m f L candidates

@@ -1,5 +1,5 @@
 -- What ended completions give the laws on candidates.
-use Rattle.std.proofs.Common.{◌≡◌, ◌⊎◌, ◌↔◌, ◌<◌, List, [], ◌∷◌, Contains, length, refl, subst, subst₂, sym, inl, inr}
+use Rattle.std.proofs.Common.{◌≡◌, ◌⊎◌, ◌↔◌, List, [], ◌∷◌, Contains, length, refl, subst, subst₂, sym, inl, inr}
 use Rattle.std.proofs.Math.Decide.{dec_lt}
 use Rattle.swreq_param.specs.declared.ids.ParamId.{ParamId}
 use Rattle.swreq_param.specs.Terms.{Term}

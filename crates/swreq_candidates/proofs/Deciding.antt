@@ -1,14 +1,13 @@
 -- Least words decide congruence, and so what is derivable.
-use Rattle.std.proofs.Common.{◌≡◌, ◌⊎◌, ◌<◌, List, [], ◌∷◌, Contains, length, refl, subst, sym, inl, inr}
+use Rattle.std.proofs.Common.{◌≡◌, [], ◌∷◌, Contains, length, refl, subst, sym, inl, inr}
 use Rattle.std.proofs.Math.Decide.{dec_lt}
-use Rattle.swreq_param.specs.declared.ids.AssocId.{AssocId}
 use Rattle.swreq_param.specs.declared.ids.NameId.{NameId}
 use Rattle.swreq_param.specs.declared.ids.ParamId.{ParamId}
 use Rattle.swreq_param.specs.declared.ids.ProtoId.{ProtoId}
 use Rattle.swreq_param.specs.declared.ids.Step.TheVariants.{Bound, Name}
 use Rattle.swreq_param.specs.Terms.{Term, self_param}
 use Rattle.swreq_param.specs.Terms.Term.{Generic, Member}
-use Rattle.swreq_derive.specs.Derivation.{AssociatedType, Declares, Derivable, HasParam, Source, TermFacts, TermRequirement, TermStatement}
+use Rattle.swreq_derive.specs.Derivation.{AssociatedType, Declares, Derivable, HasParam, Source, TermFacts, TermStatement}
 use Rattle.swreq_derive.specs.Derivation.Derives.{assoc_decl, assoc_name, generic}
 use Rattle.swreq_derive.specs.Derivation.Source.{SelfOf, Written}
 use Rattle.swreq_derive.specs.Derivation.TermRequirement.{Conforms, Equals, IsAnyObject}

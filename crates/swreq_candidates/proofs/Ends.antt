@@ -1,6 +1,6 @@
 -- Where a word is least and the word with one more symbol is not, a minimal word ends the longer one. `[P]` alone and the layout alone are
 -- least.
-use Rattle.std.proofs.Common.{◌≡◌, ◌⊎◌, ℕ, ◌-◌, ◌<◌, List, [], ◌∷◌, ◌++◌, length, length-append, take, drop, append-nil, refl, ap, subst, sym, ◌∙◌, inl, inr, arith}
+use Rattle.std.proofs.Common.{◌≡◌, ◌⊎◌, ℕ, ◌-◌, ◌<◌, List, [], ◌∷◌, ◌++◌, length, length-append, take, append-nil, refl, ap, subst, sym, ◌∙◌, inl, inr, arith}
 use Rattle.std.proofs.Math.Seq.{take-append_seam}
 use Rattle.swreq_param.specs.declared.ids.ParamId.{ParamId}
 use Rattle.swreq_param.specs.declared.ids.ProtoId.{ProtoId}
@@ -11,8 +11,9 @@ use Rattle.swreq_word.specs.declared.symbols.Symbol.{Symbol}
 use Rattle.swreq_word.specs.declared.symbols.Symbol.TheVariants.{Layout as LayoutSymbol, Member as MemberSymbol, Name as NameSymbol, Param as ParamSymbol, Proto as ProtoSymbol}
 use Rattle.swreq_word.specs.Least.{EachFactor, IsLeast, IsMinimal}
 use Rattle.swreq_word.specs.Order.{WordLess, symbol_cmp}
-use Rattle.swreq_word.specs.OrderLaws.{nat_less}
+use Rattle.swreq_word.specs.OrderLaws.{nat_less, then_less}
 use Rattle.std.specs.declared.cmp.Ordering.TheVariants.{Less}
+use Rattle.std.specs.Ordering.{nat_cmp}
 use Rattle.swreq_word.specs.Relations.Chain.{done, more}
 use Rattle.swreq_word.proofs.Comparing.{less_cases}
 use Rattle.swreq_word.proofs.LeastWords.{each_by_ends}
@@ -20,7 +21,7 @@ use Rattle.swreq_reading.specs.Equations.{AreCongruent, Equation, Link, Linking,
 use Rattle.swreq_reading.specs.Equations.Equation.{member, of_protocol, of_source, twice}
 use Rattle.swreq_reading.specs.Equations.Link.{back, forth, there}
 use Rattle.swreq_reading.specs.Symbols.{Symbols, Word, proto_of}
-use Rattle.swreq_candidates.proofs.LessParts.{SymbolsLess, less_at, nothing_less}
+use Rattle.swreq_candidates.proofs.LessParts.{less_at, nothing_less}
 use Rattle.swreq_candidates.proofs.Longer.{factor_least, least_by_none}
 
 no_symbol : (u : Word) → length u < 1 → u ≡ []
@@ -39,7 +40,7 @@ module _ (E : Word → Word → Type 0) where
   single_factors x before u after e l = subst Least (sym (no_symbol u l)) empty_least
 
   -- the proper factors of y·u·x are least where y·u and u·x are
-  factors_by_ends : (x y : Symbol) (u : Word) → Least (y ∷ u) → Least (u ++ (x ∷ [])) → EachFactor ((y ∷ u) ++ (x ∷ [])) Least
+  pub factors_by_ends : (x y : Symbol) (u : Word) → Least (y ∷ u) → Least (u ++ (x ∷ [])) → EachFactor ((y ∷ u) ++ (x ∷ [])) Least
   factors_by_ends x y u front rest =
       each_by_ends Least (λ before w after l. factor_least E (before ++ (w ++ after)) before w after l refl) ((y ∷ u) ++ (x ∷ [])) (omega arith) rest
       (subst Least (sym ends) front)
@@ -141,3 +142,17 @@ module _ (m : Symbols) (f : TermFacts) (ps : List ParamId) (list : List TermRequ
 
   pub layout_least : IsLeast (AreCongruent m f L) (LayoutSymbol ∷ [])
   layout_least = single_least LayoutSymbol no_less_layout
+
+  -- so is the first generic parameter
+  no_less_param : (x : Symbol) → symbol_cmp x (ParamSymbol 0 0) ≡ Less → ParamSymbol 0 0 ∷ [] ≡ group m x ∷ [] → ⊥
+  no_less_param (ProtoSymbol q) h e = cc
+  no_less_param (MemberSymbol k) h e = cc
+  no_less_param (ParamSymbol d i) h e = elim (then_less (nat_cmp d 0) (nat_cmp i 0) h) [
+    | inl l ↦ (let k : d < 0 = nat_less d 0 l in omega arith)
+    | inr l ↦ (let k : i < 0 = nat_less i 0 l.1 in omega arith)
+  ]
+  no_less_param (NameSymbol a) h e = cc
+  no_less_param LayoutSymbol h e = cc
+
+  pub param_least : IsLeast (AreCongruent m f L) (ParamSymbol 0 0 ∷ [])
+  param_least = single_least (ParamSymbol 0 0) no_less_param

@@ -1,6 +1,5 @@
 -- Congruence goes on in longer words, so the factors of least words are least.
-use Rattle.std.proofs.Common.{◌≡◌, ◌⊎◌, [], ◌∷◌, ◌++◌, append_assoc, subst, subst₂, sym, inl, inr}
-use Rattle.swreq_word.specs.declared.symbols.Symbol.{Symbol}
+use Rattle.std.proofs.Common.{◌≡◌, [], ◌∷◌, ◌++◌, append_assoc, subst, subst₂, sym, inl, inr}
 use Rattle.swreq_word.specs.Least.{IsLeast}
 use Rattle.swreq_word.specs.Order.{WordLess}
 use Rattle.swreq_word.specs.Relations.Chain.{done, more}

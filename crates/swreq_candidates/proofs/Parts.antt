@@ -11,7 +11,7 @@ use Rattle.swreq_derive.specs.Derivation.{Derivable, Source, TermFacts, TermRequ
 use Rattle.swreq_derive.specs.Derivation.Derives.{assoc_bind, reflex, same_conf, same_layout, same_name, symm, trans}
 use Rattle.swreq_derive.specs.Derivation.Source.{SelfOf, Written}
 use Rattle.swreq_derive.specs.Derivation.TermRequirement.{Conforms, Equals, IsAnyObject}
-use Rattle.swreq_derive.specs.Derivation.TermStatement.{IsValid, Requires}
+use Rattle.swreq_derive.specs.Derivation.TermStatement.{Requires}
 use Rattle.swreq_derive.specs.Reduced.{IsReduced}
 use Rattle.swreq_derive.proofs.Substitution.{stands_for_self}
 use Rattle.swreq_word.specs.declared.symbols.Symbol.{Symbol}

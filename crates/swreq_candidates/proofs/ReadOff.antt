@@ -1,5 +1,5 @@
 -- What is read off a rule of the reduced system is canonical, so a sorted list of all candidates is enough. A rule says at most one thing.
-use Rattle.std.proofs.Common.{◌≡◌, ◌⊎◌, ◌↔◌, ℕ, ◌<◌, List, [], ◌∷◌, ◌++◌, Contains, length, length-append, refl, ap, ap₂, subst, sym, ◌∙◌, inl, inr, arith}
+use Rattle.std.proofs.Common.{◌≡◌, ◌⊎◌, ℕ, List, [], ◌∷◌, ◌++◌, length, length-append, ap, ap₂, subst, sym, ◌∙◌, inl, inr, arith}
 use Rattle.swreq_param.specs.declared.ids.NameId.{NameId}
 use Rattle.swreq_param.specs.declared.ids.ParamId.{ParamId}
 use Rattle.swreq_param.specs.declared.ids.ProtoId.{ProtoId}
@@ -18,9 +18,9 @@ use Rattle.swreq_word.specs.Least.{IsLeast}
 use Rattle.swreq_word.proofs.Chains.{joined}
 use Rattle.swreq_word.proofs.Cuts.{same_cut}
 use Rattle.swreq_reading.specs.Equations.{AreCongruent}
-use Rattle.swreq_reading.specs.Readings.{CanRead, HasName, HasReading, after, first, read_on, reading}
+use Rattle.swreq_reading.specs.Readings.{CanRead, HasName, HasReading, after, first, reading}
 use Rattle.swreq_reading.specs.Symbols.{AreOfText, AreSymbolsOf, IsInText, Symbols, Word, spell}
-use Rattle.swreq_reading.specs.Types.{AreRanked, BeginsAs, IsFirstFor, IsTypeOf}
+use Rattle.swreq_reading.specs.Types.{AreRanked, IsFirstFor, IsTypeOf}
 use Rattle.swreq_reading.proofs.Chained.{turn_all}
 use Rattle.swreq_reading.proofs.Correspondence.{chain_leads, conforming_words, layout_words, word_is_read}
 use Rattle.swreq_reading.proofs.OneType.{one_first, one_param, one_type, typed_length}

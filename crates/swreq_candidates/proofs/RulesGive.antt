@@ -1,7 +1,5 @@
 -- Complete rules give the least word of each class, and their reduced system is that of the congruence for which they stand.
-use Rattle.std.proofs.Common.{◌⊎◌, ◌↔◌, ℕ, List, inl, inr}
-use Rattle.swreq_word.specs.declared.symbols.Symbol.{Symbol}
-use Rattle.swreq_word.specs.Least.{IsLeast}
+use Rattle.std.proofs.Common.{◌⊎◌, List, inl, inr}
 use Rattle.swreq_word.specs.Relations.{IsIrreducible, Linked}
 use Rattle.swreq_word.proofs.Chains.{linked_chain}
 use Rattle.swreq_word.proofs.LeastWords.{least_along, minimal_along}

@@ -1,5 +1,5 @@
 -- A canonical same-type requirement is read off a rule of the reduced system, or follows from canonical requirements of earlier types.
-use Rattle.std.proofs.Common.{◌≡◌, ◌⊎◌, ◌<◌, ◌≤◌, ◌+◌, ℕ, suc, List, [], ◌∷◌, ◌++◌, length, length-append, append-nil, refl, ap, subst, subst₂, sym, ◌∙◌, inl, inr, arith}
+use Rattle.std.proofs.Common.{◌≡◌, ◌⊎◌, ◌<◌, ◌≤◌, ◌+◌, ℕ, List, [], ◌∷◌, ◌++◌, length, length-append, append-nil, refl, ap, subst, subst₂, sym, inl, inr, arith}
 use Rattle.std.specs.declared.cmp.Ordering.TheVariants.{Less}
 use Rattle.swreq_param.specs.declared.ids.AssocId.{AssocId}
 use Rattle.swreq_param.specs.declared.ids.NameId.{NameId}
@@ -11,7 +11,7 @@ use Rattle.swreq_param.specs.Order.{TermBefore}
 use Rattle.swreq_param.specs.Terms.{Term, member_count, self}
 use Rattle.swreq_param.specs.Terms.Term.{Generic, Member}
 use Rattle.swreq_param.proofs.TotalOrder.{total, transitive}
-use Rattle.swreq_derive.specs.Derivation.{Declares, Derivable, Source, TermFacts, TermRequirement, TermStatement, for_self}
+use Rattle.swreq_derive.specs.Derivation.{Declares, Derivable, Source, TermFacts, TermRequirement, TermStatement}
 use Rattle.swreq_derive.specs.Derivation.Derives.{assoc_bind, assoc_decl, reflex, same_conf, same_name, symm, trans}
 use Rattle.swreq_derive.specs.Derivation.Source.{SelfOf, Written}
 use Rattle.swreq_derive.specs.Derivation.TermRequirement.{Conforms, Equals}
@@ -34,7 +34,7 @@ use Rattle.swreq_reading.proofs.Chained.{chained_usable, turn_all}
 use Rattle.swreq_reading.proofs.Correspondence.{chain_leads, to_self}
 use Rattle.swreq_reading.proofs.Orders.{Stands, as_name, conf_chain, front, none_less, type_order}
 use Rattle.swreq_reading.proofs.Readings.{read_same, sides_of, valid_reading}
-use Rattle.swreq_canonical.specs.Canonical.{HasReducedTypes, IsCanonical, principal}
+use Rattle.swreq_canonical.specs.Canonical.{HasReducedTypes, principal}
 use Rattle.swreq_canonical.specs.Generators.{Follows}
 use Rattle.swreq_canonical.proofs.Covering.{follows_in_list}
 use Rattle.swreq_canonical.proofs.Following.{by_one, by_two}

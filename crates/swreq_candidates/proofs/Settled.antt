@@ -1,6 +1,5 @@
 -- A canonical conformance or layout is read off a rule of the reduced system, or follows from canonical requirements of earlier types.
-use Rattle.std.proofs.Common.{◌≡◌, ◌⊎◌, ◌<◌, ℕ, List, [], ◌∷◌, ◌++◌, length, length-append, append-nil, refl, ap, subst, sym, ◌∙◌, inl, inr, arith}
-use Rattle.swreq_param.specs.declared.ids.AssocId.{AssocId}
+use Rattle.std.proofs.Common.{◌≡◌, ◌⊎◌, ◌<◌, ℕ, List, [], ◌∷◌, ◌++◌, length, length-append, append-nil, refl, subst, sym, ◌∙◌, inl, inr, arith}
 use Rattle.swreq_param.specs.declared.ids.ParamId.{ParamId}
 use Rattle.swreq_param.specs.declared.ids.ProtoId.{ProtoId}
 use Rattle.swreq_param.specs.declared.ids.Step.TheVariants.{Bound}
@@ -16,16 +15,15 @@ use Rattle.swreq_derive.proofs.ReducedTypes.{reduced_is_one}
 use Rattle.swreq_word.specs.declared.symbols.Symbol.{Symbol}
 use Rattle.swreq_word.specs.declared.symbols.Symbol.TheVariants.{Layout as LayoutSymbol, Member as MemberSymbol, Name as NameSymbol, Param as ParamSymbol, Proto as ProtoSymbol}
 use Rattle.swreq_word.specs.Least.{IsLeast, IsMinimal}
-use Rattle.swreq_word.specs.Order.{WordLess}
 use Rattle.swreq_word.proofs.Chains.{joined}
 use Rattle.swreq_word.proofs.Comparing.{by_length}
 use Rattle.swreq_reading.specs.Equations.{AreCongruent, UsableEquation}
 use Rattle.swreq_reading.specs.Readings.{CanRead, CanReadAll, HasReading}
 use Rattle.swreq_reading.specs.Symbols.{AreOfText, AreSymbolsOf, IsInText, IsRank, Symbols, Word, proto_of, spell}
-use Rattle.swreq_reading.specs.Types.{AreRanked, BeginsAs, HasFirsts, IsTypeOf}
+use Rattle.swreq_reading.specs.Types.{AreRanked, HasFirsts, IsTypeOf}
 use Rattle.swreq_reading.proofs.Chained.{chained_usable, turn_all}
 use Rattle.swreq_reading.proofs.Correspondence.{to_self}
-use Rattle.swreq_reading.proofs.Orders.{Stands, conf_chain, front, none_less, some_type, type_is_least, type_is_reduced}
+use Rattle.swreq_reading.proofs.Orders.{Stands, conf_chain, front, none_less, some_type, type_is_reduced}
 use Rattle.swreq_reading.proofs.Readings.{sides_of}
 use Rattle.swreq_canonical.specs.Canonical.{HasReducedTypes, principal}
 use Rattle.swreq_canonical.specs.Generators.{Follows}

@@ -1,3 +1,4 @@
 pub mod Blocks
 pub mod Candidates
 pub mod Completed
+pub mod Worked

@@ -1,5 +1,5 @@
 -- Canonical requirements can be sorted.
-use Rattle.std.proofs.Common.{◌≡◌, ◌⊎◌, ◌↔◌, List, [], ◌∷◌, Contains, subst, sym, ◌∙◌, inl, inr}
+use Rattle.std.proofs.Common.{◌↔◌, List, [], ◌∷◌, Contains, subst, sym, ◌∙◌, inl, inr}
 use Rattle.swreq_derive.specs.Derivation.{Source, TermFacts, TermRequirement}
 use Rattle.swreq_derive.proofs.Members.{first_member, later_member, member_cases, no_member}
 use Rattle.swreq_canonical.specs.Canonical.{IsCanonical}
@@ -15,10 +15,17 @@ module _ (f : TermFacts) (s : Source) where
   insert x [] c each sorted = (x ∷ [], ((λ q h. no_member q h), tt), λ r. ((λ h. h), λ h. h))
   insert x (y ∷ ys) c each sorted = elim (canonical_total f s x y c (each y (first_member y ys))) [
     | inl b ↦ (x ∷ y ∷ ys, (first b, sorted), λ r. ((λ h. h), λ h. h))
-    | inr (inl e) ↦ (y ∷ ys, sorted, λ r. (later_member x r (y ∷ ys), λ h. elim (member_cases x r (y ∷ ys) h) [
-      | inl i ↦ subst (λ z. Contains (y ∷ ys) z) (sym e ∙ sym i) (first_member y ys)
-      | inr i ↦ i
-    ]))
+    | inr (inl e) ↦ (
+      y ∷ ys,
+      sorted,
+      λ r. (
+        later_member x r (y ∷ ys),
+        λ h. elim (member_cases x r (y ∷ ys) h) [
+          | inl i ↦ subst (λ z. Contains (y ∷ ys) z) (sym e ∙ sym i) (first_member y ys)
+          | inr i ↦ i
+        ],
+      ),
+    )
     | inr (inr b) ↦ behind b (insert x ys c (λ r h. each r (later_member y r ys h)) sorted.1)
   ]
     where
