@@ -16,3 +16,4 @@ pub mod Deciding
 pub mod Completions
 pub mod CandidateLists
 pub mod RulesGive
+pub mod EvidenceDrops

@@ -19,7 +19,7 @@ module _ {E : Word → Word → Type 0} where
   chain_after z done = done
   chain_after z (more l c) = more (link_after z l) (chain_after z c)
 
-  link_before : (x : Word) {u v : Word} → Link E u v → Link E (x ++ u) (x ++ v)
+  pub link_before : (x : Word) {u v : Word} → Link E u v → Link E (x ++ u) (x ++ v)
   link_before [] l = l
   link_before (a ∷ x) l = there a (link_before x l)
 

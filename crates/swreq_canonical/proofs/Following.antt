@@ -38,7 +38,7 @@ module _ {f : TermFacts} {ps : List ParamId} where
 
 -- requirements of the kind S
 module _ (f : TermFacts) (ps : List ParamId) (S : TermRequirement → Type 0) where
-  valid_by_more : (rs qs : List TermRequirement) (r : TermRequirement) → ((q : TermRequirement) → Contains rs q → Contains qs q)
+  pub valid_by_more : (rs qs : List TermRequirement) (r : TermRequirement) → ((q : TermRequirement) → Contains rs q → Contains qs q)
       → HasValidSides f (Written ps rs) r → HasValidSides f (Written ps qs) r
   valid_by_more rs qs (Conforms t p) sub h = weaken sub h
   valid_by_more rs qs (IsAnyObject t) sub h = weaken sub h
@@ -64,7 +64,7 @@ module _ (f : TermFacts) (ps : List ParamId) (S : TermRequirement → Type 0) wh
   HasFollowingSides (IsAnyObject t) = Follows f ps S (IsValid t)
   HasFollowingSides (Equals t u) = Follows f ps S (IsValid t) × Follows f ps S (IsValid u)
 
-  with_sides : (r : TermRequirement) → HasFollowingSides r
+  pub with_sides : (r : TermRequirement) → HasFollowingSides r
       → (rs : List TermRequirement) × ((q : TermRequirement) → Contains rs q → S q) × HasValidSides f (Written ps rs) r
   with_sides (Conforms t p) h = h
   with_sides (IsAnyObject t) h = h
