@@ -126,7 +126,7 @@ module _ (f : TermFacts) (ps : List ParamId) (list generators : List TermRequire
   sides_from rest r c sub =
       let S : TermRequirement → Type 0 = λ q. Contains generators q × RequirementBefore q r in
       let (qs, k, v) = with_sides f ps S r (cut_sides f ps (IsOfEarlierType f ps list (principal r)) S r
-          (λ q b. earlier_follows f ps list generators covers r q (b.0, inl b.1)) (sides_by_earlier f ps list r c)) in
+      (λ q b. earlier_follows f ps list generators covers r q (b.0, inl b.1)) (sides_by_earlier f ps list r c)) in
       valid_by_more f ps S qs rest r (λ q h. sub q (k q h).0 (k q h).1) v
 
   sorted_end : (front rest : List TermRequirement) → IsStrictlySorted (front ++ rest) → IsStrictlySorted rest

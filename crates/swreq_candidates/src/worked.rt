@@ -1,7 +1,7 @@
-//! Worked texts: blocks of words, and candidates.
+//! Worked texts: blocks of words, candidates and evidence.
 //!
-//! Each function is one text, whose facts and lists stand in `swreq_derive`, and whose symbols in `swreq_reading` or in
-//! `specs/Worked.antt`. Nothing is computed: the clauses are theorems.
+//! Each function is one text, whose facts and lists stand in `swreq_derive` or `swreq_canonical`, and whose symbols in `swreq_reading` or
+//! in `specs/Worked.antt`. Nothing is computed: the clauses are theorems.
 ghost use Rattle.std.specs.Prelude.{◌≡◌, [], ◌∷◌};
 ghost use Rattle.swreq_word.specs.declared.symbols.Symbol.TheVariants.{Proto, Member, Name};
 ghost use Rattle.swreq_derive.specs.Derivation.{TermRequirement};
@@ -11,7 +11,9 @@ ghost use Rattle.swreq_reading.specs.Worked.{first_param, endless_symbols, share
 ghost use Rattle.swreq_candidates.specs.Blocks.{Cut, AreMembersNamed, blocks};
 ghost use Rattle.swreq_candidates.specs.Blocks.Place.{Outside};
 ghost use Rattle.swreq_candidates.specs.Candidates.{IsCandidate, IsReadOff};
-ghost use Rattle.swreq_candidates.specs.Worked.{read_word, broken_word, layouts_symbols};
+ghost use Rattle.swreq_canonical.specs.Worked.{one, Base, inherited, inherited_g};
+ghost use Rattle.swreq_candidates.specs.Evidence.{IsPlain, HasEvidence};
+ghost use Rattle.swreq_candidates.specs.Worked.{read_word, broken_word, layouts_symbols, inherited_symbols};
 
 /// `protocol N { associatedtype Next: N }` and `func f<T: N>()`: a word that is read is one block. Where a name is not read, it stands alone,
 /// and a protocol behind it begins a block of its own. The conformance of T is a candidate.
@@ -36,4 +38,11 @@ pub fn equal_parameters()
 pub fn one_name_in_two_protocols()
     ensures nothing { (r : TermRequirement)
         → IsReadOff shared_symbols shared (of_one shared_f) (first_param ∷ Member 1 ∷ []) (first_param ∷ Member 0 ∷ []) r → ⊥ }
+{}
+
+/// `protocol Base { }`, `protocol Derived: Base { }` and `func g<T: Derived>()`: evidence that the conformance of T to `Base` follows leads by
+/// way of `T.[Derived].[Base]`.
+pub fn conformance_by_inheritance()
+    ensures plain { IsPlain inherited one inherited_g }
+    ensures evidence { HasEvidence inherited_symbols inherited one inherited_g (Conforms τ_0_0 Base) }
 {}
