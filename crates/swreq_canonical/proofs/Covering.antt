@@ -65,6 +65,9 @@ module _ (f : TermFacts) (ps : List ParamId) (list : List TermRequirement) where
       → Derivable f (Written ps rs) st → Derivable f L st
   derived_by_list rs canonical st e = derives_members f ps rs list (λ r h. (canonical r h).0) st e
 
+  pub follows_in_list : (S : TermRequirement → Type 0) (st : TermStatement) → ((r : TermRequirement) → S r → IsCanonical f L r) → Follows f ps S st → Derivable f L st
+  follows_in_list S st canonical (rs, k, e) = derived_by_list rs (λ r h. canonical r (k r h)) st e
+
   -- ---- the generators
 
   pub one_generator_list : (gs hs : List TermRequirement) → IsGeneratorList f ps list gs → IsGeneratorList f ps list hs → gs ≡ hs

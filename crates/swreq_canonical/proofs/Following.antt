@@ -38,7 +38,7 @@ module _ {f : TermFacts} {ps : List ParamId} where
 
 -- requirements of the kind S
 module _ (f : TermFacts) (ps : List ParamId) (S : TermRequirement → Type 0) where
-  valid_by_more : (rs qs : List TermRequirement) (r : TermRequirement) → ((q : TermRequirement) → Contains rs q → Contains qs q)
+  pub valid_by_more : (rs qs : List TermRequirement) (r : TermRequirement) → ((q : TermRequirement) → Contains rs q → Contains qs q)
       → HasValidSides f (Written ps rs) r → HasValidSides f (Written ps qs) r
   valid_by_more rs qs (Conforms t p) sub h = weaken sub h
   valid_by_more rs qs (IsAnyObject t) sub h = weaken sub h
@@ -64,7 +64,7 @@ module _ (f : TermFacts) (ps : List ParamId) (S : TermRequirement → Type 0) wh
   HasFollowingSides (IsAnyObject t) = Follows f ps S (IsValid t)
   HasFollowingSides (Equals t u) = Follows f ps S (IsValid t) × Follows f ps S (IsValid u)
 
-  with_sides : (r : TermRequirement) → HasFollowingSides r
+  pub with_sides : (r : TermRequirement) → HasFollowingSides r
       → (rs : List TermRequirement) × ((q : TermRequirement) → Contains rs q → S q) × HasValidSides f (Written ps rs) r
   with_sides (Conforms t p) h = h
   with_sides (IsAnyObject t) h = h
@@ -113,6 +113,11 @@ module _ (f : TermFacts) (ps : List ParamId) (S T : TermRequirement → Type 0) 
   -- what is of the one kind is of the other
   pub wider : {st : TermStatement} → ((r : TermRequirement) → S r → T r) → Follows f ps S st → Follows f ps T st
   wider sub (rs, s, e) = (rs, (λ r h. sub r (s r h)), e)
+
+  pub wider_sides : (r : TermRequirement) → ((q : TermRequirement) → S q → T q) → HasFollowingSides f ps S r → HasFollowingSides f ps T r
+  wider_sides (Conforms t p) sub h = wider sub h
+  wider_sides (IsAnyObject t) sub h = wider sub h
+  wider_sides (Equals t u) sub (h, k) = (wider sub h, wider sub k)
 
 pub by_members : {f : TermFacts} {ps : List ParamId} {rs : List TermRequirement} {st : TermStatement} → Follows f ps (λ r. Contains rs r) st
     → Derivable f (Written ps rs) st

@@ -1,5 +1,6 @@
 pub mod ReducedLemmas
 pub mod Ordered
+pub mod Sorting
 pub mod Following
 pub mod Sides
 pub mod Sufficing

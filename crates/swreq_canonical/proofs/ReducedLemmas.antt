@@ -37,6 +37,9 @@ module _ {f : TermFacts} {s : Source} where
   pub not_reduced : {t r : Term} → IsReducedTypeOf f s t r → (t ≡ r → ⊥) → IsReduced f s t → ⊥
   not_reduced {t = t} {r = r} q n h = n (reduced_is_one f s t t r h q)
 
+  pub not_itself : {t r : Term} → IsReducedTypeOf f s t r → (IsReduced f s t → ⊥) → t ≡ r → ⊥
+  not_itself q n e = n (subst (IsReduced f s) (sym e) (result_reduced q))
+
   -- no unbound member is reduced: a bound one comes before it
   pub not_unbound : (t : Term) (a : NameId) → IsReduced f s (Member t (Name a)) → ⊥
   not_unbound t a r =

@@ -44,14 +44,14 @@ module _ (f : TermFacts) (ps : List ParamId) (list : List TermRequirement) where
   abbrev pub IsOfEarlierType : Term → TermRequirement → Type 0
   IsOfEarlierType t r = IsCanonical f L r × TermBefore (principal r) t
 
-  by_earlier : (t : Term) {st : TermStatement} → Follows f ps (IsShorter (member_count t)) st → Follows f ps (IsOfEarlierType t) st
-  by_earlier t h = wider f ps (IsShorter (member_count t)) (IsOfEarlierType t) (λ r i. (i.0, inl i.1)) h
+  pub shorter_is_earlier : (t : Term) (n : ℕ) {st : TermStatement} → n ≤ member_count t → Follows f ps (IsShorter n) st → Follows f ps (IsOfEarlierType t) st
+  shorter_is_earlier t n g h = wider f ps (IsShorter n) (IsOfEarlierType t) (λ r i. (i.0, inl (let x = i.1 in omega arith))) h
 
   reduced_by_earlier : (t r : Term) → IsReduced f L r → member_count r ≤ member_count t → Follows f ps (IsOfEarlierType t) (IsValid r)
-  reduced_by_earlier t r h n = by_earlier t (valid_by_shorter (member_count t) r h n)
+  reduced_by_earlier t r h n = shorter_is_earlier t (member_count t) (omega arith) (valid_by_shorter (member_count t) r h n)
 
   -- a reduced type has no more members than what it is the reduced type of
-  no_longer : (v u : Term) → IsReducedTypeOf f L v u → member_count u ≤ member_count v
+  pub no_longer : (v u : Term) → IsReducedTypeOf f L v u → member_count u ≤ member_count v
   no_longer v u q =
       let s : member_count v < member_count u → ⊥ = λ b. q.least v (reflex (sides_of q.equal).0) (inl b) in
       omega arith
@@ -67,7 +67,7 @@ module _ (f : TermFacts) (ps : List ParamId) (list : List TermRequirement) where
       let n : ℕ = member_count (Member t (Bound d)) in
       let (p, a, c, h) = valid_bound (sides_of q.equal).0 in (
         reduced_by_earlier (Member t (Bound d)) u (result_reduced q) (no_longer (Member t (Bound d)) u q),
-        by_earlier (Member t (Bound d))
+        shorter_is_earlier (Member t (Bound d)) n (omega arith)
             (by_one f ps (IsShorter n) (shorter_conformance n t p b c (omega arith) (valid_by_shorter n t b (omega arith))) (λ rs e. assoc_decl e h)),
       )
   sides_by_earlier (Equals u (Member t (Name a))) (_, (b, x, q)) = absurd b

@@ -13,7 +13,8 @@ ghost use Rattle.swreq_canonical.specs.Generators.{Follows, IsGenerator, IsGener
 ghost use Rattle.swreq_canonical.specs.Minimised.{Leaves, IsMinimised, IsIndependent};
 
 /// The order of requirements is strict and transitive, and nothing goes down in it for ever. It is total on the canonical requirements of a
-/// list, of which a same-type requirement shares its principal type with no other. A strictly sorted list is fixed by its members.
+/// list, of which a same-type requirement shares its principal type with no other. Such requirements can be sorted strictly, and a strictly
+/// sorted list is fixed by its members.
 pub fn canonical_requirements_are_ordered()
     ensures strict { (r : TermRequirement) → RequirementBefore r r → ⊥ }
     ensures transitive { (r q t : TermRequirement) → RequirementBefore r q → RequirementBefore q t → RequirementBefore r t }
@@ -22,6 +23,9 @@ pub fn canonical_requirements_are_ordered()
         → RequirementBefore r q ⊎ ((r ≡ q) ⊎ RequirementBefore q r) }
     ensures alone { (f : TermFacts) (s : Source) (u v : Term) (q : TermRequirement)
         → IsCanonical f s (Equals u v) → IsCanonical f s q → v ≡ principal q → Equals u v ≡ q }
+    ensures sorted { (f : TermFacts) (s : Source) (list : List TermRequirement)
+        → ((r : TermRequirement) → Contains list r → IsCanonical f s r)
+        → (out : List TermRequirement) × IsStrictlySorted out × ((r : TermRequirement) → Contains out r ↔ Contains list r) }
     ensures one_list { (list others : List TermRequirement) → IsStrictlySorted list → IsStrictlySorted others
         → ((r : TermRequirement) → Contains list r ↔ Contains others r) → list ≡ others }
 {}

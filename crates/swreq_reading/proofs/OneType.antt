@@ -18,7 +18,7 @@ heads e = cc
 tails : {x y : Symbol} {u v : Word} → x ∷ u ≡ y ∷ v → u ≡ v
 tails e = cc
 
-one_param : {g h : ParamId} → ParamSymbol g.depth g.index ≡ ParamSymbol h.depth h.index → g ≡ h
+pub one_param : {g h : ParamId} → ParamSymbol g.depth g.index ≡ ParamSymbol h.depth h.index → g ≡ h
 one_param {g = g} {h = h} e = λ j. record { depth = depths e j; index = indices e j }
   where
     depths : ParamSymbol g.depth g.index ≡ ParamSymbol h.depth h.index → g.depth ≡ h.depth
@@ -34,7 +34,7 @@ one_assoc : {d e : AssocId} → d.rank ≡ e.rank → d ≡ e
 one_assoc e = λ j. record { rank = e j }
 
 module _ (m : Symbols) (f : TermFacts) (s : Source) where
-  one_first : (t : Term) (a : NameId) (d e : AssocId) → IsFirstFor f s t a d → IsFirstFor f s t a e → d ≡ e
+  pub one_first : (t : Term) (a : NameId) (d e : AssocId) → IsFirstFor f s t a d → IsFirstFor f s t a e → d ≡ e
   one_first t a d e i j =
       let x : d.rank ≤ e.rank = i.first j.proto e j.declares j.conforms in
       let y : e.rank ≤ d.rank = j.first i.proto d i.declares i.conforms in

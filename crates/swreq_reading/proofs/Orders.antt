@@ -58,7 +58,7 @@ before_param i j (inl h) = rw (nat_cmp_less i.depth j.depth h) refl
 before_param i j (inr (e, h)) = rw (e, tied_itself nat_cmp_total j.depth) (nat_cmp_less i.index j.index h)
 
 -- a least word has no lesser one in its class
-none_less : (Class : Word → Word → Type 0) (u v : Word) → IsLeast Class u → Class u v → WordLess v u → ⊥
+pub none_less : (Class : Word → Word → Type 0) (u v : Word) → IsLeast Class u → Class u v → WordLess v u → ⊥
 none_less Class u v l c h = elim (l v c) [
   | inl e ↦ not_below_itself u (subst (λ w. WordLess w u) e h)
   | inr k ↦ not_both_below u v k h

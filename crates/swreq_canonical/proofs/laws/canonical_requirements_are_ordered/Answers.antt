@@ -1,4 +1,5 @@
 use Rattle.swreq_canonical.proofs.Ordered.{alone, canonical_total, one_list, requirements_founded, strict_requirements, transitive_requirements}
+use Rattle.swreq_canonical.proofs.Sorting.{some_sorted}
 use Rattle.swreq_canonical.proofs.laws.canonical_requirements_are_ordered.Goals as goal
 
 pub returns-clause-strict : goal.returns-clause-strict
@@ -18,3 +19,6 @@ returns-clause-alone c = alone
 
 pub returns-clause-one_list : goal.returns-clause-one_list
 returns-clause-one_list c = one_list
+
+pub returns-clause-sorted : goal.returns-clause-sorted
+returns-clause-sorted c = some_sorted

@@ -1,0 +1,49 @@
+-- Complete rules give the least word of each class, and their reduced system is that of the congruence for which they stand.
+use Rattle.std.proofs.Common.{◌⊎◌, List, inl, inr}
+use Rattle.swreq_word.specs.Relations.{IsIrreducible, Linked}
+use Rattle.swreq_word.proofs.Chains.{linked_chain}
+use Rattle.swreq_word.proofs.LeastWords.{least_along, minimal_along}
+use Rattle.swreq_word.proofs.Newman.{normal}
+use Rattle.swreq_word.proofs.WordsFounded.{words_founded}
+use Rattle.swreq_rule.specs.declared.rules.Rule.{Rule}
+use Rattle.swreq_rule.specs.Steps.{Step}
+use Rattle.swreq_rule.proofs.Downward.{step_down}
+use Rattle.swreq_rule.proofs.Search.{a_step, reduction_step}
+use Rattle.swreq_pair.specs.CriticalPairs.{PairsMeet}
+use Rattle.swreq_pair.proofs.CriticalPairs.{locally}
+use Rattle.swreq_complete.specs.Reduced.{IsReducedSystem}
+use Rattle.swreq_complete.proofs.ReducedSystem.{irreducible_least}
+use Rattle.swreq_reading.specs.Equations.{Linking}
+use Rattle.swreq_reading.specs.Symbols.{Word}
+use Rattle.swreq_rounds.specs.Presents.{Presents}
+use Rattle.swreq_candidates.specs.Completed.{HasLeastWords}
+
+-- a step leads on from a word, or none does
+some_step : (rules : List Rule) (w : Word) → ((v : Word) × Step rules w v) ⊎ IsIrreducible (Step rules) w
+some_step rules w = elim (reduction_step rules w) [ inl s ↦ inl (s.0, a_step rules w s.0 s.1) | inr i ↦ inr i ]
+
+module _ (rules : List Rule) (E : Word → Word → Type 0) (present : Presents rules E) where
+  there : (u v : Word) → Linked (Step rules) u v → Linking E u v
+  there u v = (present u v).0
+
+  back : (u v : Word) → Linking E u v → Linked (Step rules) u v
+  back u v = (present u v).1
+
+  pub least_words : PairsMeet rules → HasLeastWords E
+  least_words meet w =
+      let (n, c, i) = normal (step_down rules) words_founded (some_step rules) w in (
+        n,
+        there w n (linked_chain c),
+        least_along (Linked (Step rules)) (Linking E) there back n (irreducible_least rules (locally rules meet) n i),
+      )
+
+  pub reduced_system : (system : List Rule) → IsReducedSystem (Linked (Step rules)) system → IsReducedSystem (Linking E) system
+  reduced_system system h = record {
+    each = λ k rule e. let (m, c, l) = h.each k rule e in (
+      minimal_along (Linked (Step rules)) (Linking E) there back rule.left m,
+      there rule.left rule.right c,
+      least_along (Linked (Step rules)) (Linking E) there back rule.right l,
+    );
+    all = λ w m. h.all w (minimal_along (Linking E) (Linked (Step rules)) back there w m);
+    sorted = h.sorted;
+  }

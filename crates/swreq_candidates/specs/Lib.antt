@@ -1,0 +1,5 @@
+pub mod Blocks
+pub mod Candidates
+pub mod Completed
+pub mod Worked
+pub mod Evidence

@@ -1,0 +1,110 @@
+//! Laws on blocks and candidates, over the definitions alone.
+ghost use Rattle.std.specs.Prelude.{◌≡◌, ◌↔◌, List, [], ◌∷◌, ℕ, Some, slice_get};
+ghost use Rattle.swreq_param.specs.declared.ids.ParamId.{ParamId};
+ghost use Rattle.swreq_derive.specs.Derivation.{TermRequirement, TermStatement, TermFacts, Source, Derivable};
+ghost use Rattle.swreq_derive.specs.Derivation.Source.{Written};
+ghost use Rattle.swreq_derive.specs.Equivalence.{AreEquivalent};
+ghost use Rattle.swreq_canonical.specs.Canonical.{IsCanonical, HasReducedTypes};
+ghost use Rattle.swreq_canonical.specs.Generators.{IsGenerator, IsGeneratorList, AreEnough, AreDecided};
+ghost use Rattle.swreq_canonical.specs.Minimised.{IsMinimised};
+ghost use Rattle.swreq_word.specs.Least.{IsLeast, IsMinimal};
+ghost use Rattle.swreq_word.specs.Relations.{Linked};
+ghost use Rattle.swreq_rule.specs.declared.rules.Rule.{Rule};
+ghost use Rattle.swreq_rule.specs.Steps.{Step};
+ghost use Rattle.swreq_pair.specs.CriticalPairs.{PairsMeet};
+ghost use Rattle.swreq_complete.specs.Reduced.{IsReducedSystem};
+ghost use Rattle.swreq_rounds.specs.Presents.{ProtocolEquation, AreProtocolRules, AreListRules};
+ghost use Rattle.swreq_reading.specs.Symbols.{Word, Symbols, AreSymbolsOf};
+ghost use Rattle.swreq_reading.specs.Equations.{AreCongruent, UsableEquation};
+ghost use Rattle.swreq_reading.specs.Types.{HasFirsts};
+ghost use Rattle.swreq_candidates.specs.Blocks.{Cut, Pairwise, All, AreMembersNamed, blocks, joined_words};
+ghost use Rattle.swreq_candidates.specs.Blocks.Place.{Outside};
+ghost use Rattle.swreq_candidates.specs.Candidates.{IsCandidate, IsCandidateList, IsReadOff};
+ghost use Rattle.swreq_candidates.specs.Completed.{HasLeastWords, IsCompleted, IsWordOfText};
+
+/// A word is cut into blocks in one way, and its blocks make the word. Two words are congruent exactly where they have as many blocks, which
+/// are congruent one by one. So a word is least exactly where its blocks are, and a minimal word is one block.
+pub fn congruence_goes_by_blocks()
+    ensures one { (m : Symbols) (f : TermFacts) (s : Source) (u : Word) (k l : Cut m f s Outside u) → blocks k ≡ blocks l }
+    ensures whole { (m : Symbols) (f : TermFacts) (s : Source) (u : Word) (k : Cut m f s Outside u) → joined_words (blocks k) ≡ u }
+    ensures congruent { (m : Symbols) (f : TermFacts) (params : List ParamId) (list : List TermRequirement)
+        → AreSymbolsOf m f → AreMembersNamed m f
+        → (u v : Word) (k : Cut m f (Written params list) Outside u) (l : Cut m f (Written params list) Outside v)
+        → AreCongruent m f (Written params list) u v ↔ Pairwise (AreCongruent m f (Written params list)) (blocks k) (blocks l) }
+    ensures least { (m : Symbols) (f : TermFacts) (params : List ParamId) (list : List TermRequirement)
+        → AreSymbolsOf m f → AreMembersNamed m f
+        → (u : Word) (k : Cut m f (Written params list) Outside u)
+        → IsLeast (AreCongruent m f (Written params list)) u ↔ All (IsLeast (AreCongruent m f (Written params list))) (blocks k) }
+    ensures minimal { (m : Symbols) (f : TermFacts) (params : List ParamId) (list : List TermRequirement)
+        → AreSymbolsOf m f → AreMembersNamed m f
+        → (u : Word) (k : Cut m f (Written params list) Outside u)
+        → IsMinimal (AreCongruent m f (Written params list)) u → blocks k ≡ u ∷ [] }
+{}
+
+/// Rules of the protocols, and of a list, whose pairs meet, give the least words, and their reduced system is that of the congruence.
+pub fn complete_rules_give_least_words()
+    ensures protocols { (m : Symbols) (f : TermFacts) (rules : List Rule)
+        → PairsMeet rules → AreProtocolRules m f rules → HasLeastWords (ProtocolEquation m f) }
+    ensures list { (m : Symbols) (f : TermFacts) (params : List ParamId) (list : List TermRequirement) (rules : List Rule)
+        → PairsMeet rules → AreListRules m f params list rules → HasLeastWords (UsableEquation m f (Written params list)) }
+    ensures system { (m : Symbols) (f : TermFacts) (params : List ParamId) (list : List TermRequirement) (rules system : List Rule)
+        → AreListRules m f params list rules → IsReducedSystem (Linked (Step rules)) system
+        → IsReducedSystem (AreCongruent m f (Written params list)) system }
+{}
+
+/// Where the completions of the protocols and of a list have ended, each valid type parameter of the list has a reduced type, each statement
+/// is derivable or not, and each word of the text is cut into blocks.
+pub fn ended_completions_decide()
+    ensures reduced { (m : Symbols) (f : TermFacts) (params : List ParamId) (list : List TermRequirement)
+        → IsCompleted m f params list → HasReducedTypes f (Written params list) }
+    ensures first { (m : Symbols) (f : TermFacts) (params : List ParamId) (list : List TermRequirement)
+        → IsCompleted m f params list → HasFirsts f (Written params list) }
+    ensures decided { (m : Symbols) (f : TermFacts) (params : List ParamId) (list : List TermRequirement)
+        → IsCompleted m f params list → (st : TermStatement) → Dec (Derivable f (Written params list) st) }
+    ensures cut { (m : Symbols) (f : TermFacts) (params : List ParamId) (list : List TermRequirement)
+        → IsCompleted m f params list → (u : Word) → IsWordOfText m u → Cut m f (Written params list) Outside u }
+{}
+
+/// Where they have ended, each generator is a candidate, which is read off a rule of the reduced system, and each candidate is canonical. A
+/// rule says at most one thing.
+pub fn generators_are_candidates()
+    ensures generator { (m : Symbols) (f : TermFacts) (params : List ParamId) (list : List TermRequirement) (r : TermRequirement)
+        → IsCompleted m f params list → IsGenerator f params list r → IsCandidate m f (Written params list) r }
+    ensures canonical { (m : Symbols) (f : TermFacts) (params : List ParamId) (list : List TermRequirement) (r : TermRequirement)
+        → IsCompleted m f params list → IsCandidate m f (Written params list) r → IsCanonical f (Written params list) r }
+    ensures one { (m : Symbols) (f : TermFacts) (s : Source) (left right : Word) (r q : TermRequirement)
+        → IsReadOff m f s left right r → IsReadOff m f s left right q → r ≡ q }
+    ensures enough { (m : Symbols) (f : TermFacts) (params : List ParamId) (list candidates : List TermRequirement)
+        → IsCompleted m f params list → IsCandidateList m f (Written params list) candidates → AreEnough f params list candidates }
+{}
+
+/// The candidates are read off the rules of the reduced system. Where the completions have ended, there is a list of them.
+pub fn candidates_are_read_off()
+    ensures rules { (m : Symbols) (f : TermFacts) (s : Source) (system : List Rule) (r : TermRequirement)
+        → IsReducedSystem (AreCongruent m f s) system
+        → IsCandidate m f s r
+        ↔ ((k : ℕ) × (rule : Rule) × (slice_get system k ≡ Some rule) × IsReadOff m f s rule.left rule.right r) }
+    ensures list { (m : Symbols) (f : TermFacts) (params : List ParamId) (list : List TermRequirement) (system : List Rule)
+        → IsCompleted m f params list → IsReducedSystem (AreCongruent m f (Written params list)) system
+        → (candidates : List TermRequirement) × IsCandidateList m f (Written params list) candidates }
+{}
+
+/// Where it is decided, too, what lists of candidates derive, there is a list of generators, and a minimised list, which derives just what
+/// the list derives. Two such lists are equivalent exactly where they have one minimised list.
+pub fn minimised_lists_exist()
+    ensures generators { (m : Symbols) (f : TermFacts) (params : List ParamId) (list candidates : List TermRequirement)
+        → IsCompleted m f params list → IsCandidateList m f (Written params list) candidates → AreDecided f params candidates
+        → (generators : List TermRequirement) × IsGeneratorList f params list generators }
+    ensures minimised { (m : Symbols) (f : TermFacts) (params : List ParamId) (list candidates : List TermRequirement)
+        → IsCompleted m f params list → IsCandidateList m f (Written params list) candidates → AreDecided f params candidates
+        → (minimised : List TermRequirement) × IsMinimised f params list minimised }
+    ensures same { (m : Symbols) (f : TermFacts) (params : List ParamId) (list candidates minimised : List TermRequirement)
+        → IsCompleted m f params list → IsCandidateList m f (Written params list) candidates → AreDecided f params candidates
+        → IsMinimised f params list minimised → AreEquivalent f params list minimised }
+    ensures equivalent { (m : Symbols) (f : TermFacts) (params : List ParamId) (list candidates minimised : List TermRequirement)
+        (others candidates_too minimised_too : List TermRequirement)
+        → IsCompleted m f params list → IsCandidateList m f (Written params list) candidates → AreDecided f params candidates
+        → IsCompleted m f params others → IsCandidateList m f (Written params others) candidates_too → AreDecided f params candidates_too
+        → IsMinimised f params list minimised → IsMinimised f params others minimised_too
+        → AreEquivalent f params list others ↔ (minimised ≡ minimised_too) }
+{}
