@@ -83,7 +83,8 @@ outers text s w is =
     one : All (λ g. HasOuter w (signature_in (words_of text s w) (in_order s) g)) (in_order s)
     one k g l f e = let h = outer_within (in_order s) (get_or (in_order s) k g) f (omega arith) e in omega (arith, h, count)
 
-pub closed : (text : Bytes) (s : Skeleton) (w : TextWorld) (from : ℕ) → AreRising name_start from s.protocols → IsWorldOf text s w → Resolve text s → IsClosed w
+pub closed : (text : Bytes) (s : Skeleton) (w : TextWorld) (from : ℕ) → AreRising name_start from s.protocols
+    → IsWorldOf text s w → Resolve text s → IsClosed w
 closed text s w from rising is resolve =
     let words = words_of text s w in
     let tells = resolve.names.inherits in
