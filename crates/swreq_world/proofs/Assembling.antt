@@ -1,17 +1,16 @@
 -- The world of a skeleton from its lists.
-use Rattle.std.proofs.Common.{◌≡◌, ℕ, zero, suc, ◌≤◌, ◌<◌, List, [], ◌∷◌, length, get_or, map, refl, sym, ap, subst, ◌∙◌, arith}
+use Rattle.std.proofs.Common.{◌≡◌, ℕ, zero, suc, ◌≤◌, List, [], ◌∷◌, length, get_or, map, refl, sym, ap, subst, ◌∙◌, arith}
 use Rattle.std.specs.List.{All}
 use Rattle.swreq_decl.specs.declared.skeleton.Skeleton.{Skeleton}
 use Rattle.swreq_names.specs.declared.signature.Signature.{Signature}
 use Rattle.swreq_names.specs.Spaces.{Spaces}
 use Rattle.swreq_param.specs.Terms.{Term}
-use Rattle.swreq_param.specs.Tables.{Extends}
 use Rattle.swreq_ranks.specs.Texts.{IsLexiconOf}
 use Rattle.swreq_ranks.specs.Views.{LexiconView, assoc_cmp, inherits}
 use Rattle.swreq_ranks.proofs.RankLaws.{one_to_one, assoc_total}
 use Rattle.swreq_written.specs.declared.ids.Query.{Query}
 use Rattle.swreq_written.specs.declared.ids.Written.{Written}
-use Rattle.swreq_written.specs.ByTable.{placed, query_by, AreOf, HasQueryIdsOf}
+use Rattle.swreq_written.specs.ByTable.{placed, AreOf}
 use Rattle.swreq_written.specs.Queries.{query_of}
 use Rattle.swreq_written.specs.Signatures.{in_order}
 use Rattle.swreq_written.specs.Short.{HasShortLists}
@@ -25,7 +24,7 @@ use Rattle.swreq_world.specs.declared.made.Lists.{Lists}
 use Rattle.swreq_world.specs.Made.{AreListsOf}
 use Rattle.swreq_world.specs.Ready.{IsReady}
 use Rattle.swreq_world.specs.Filling.{FillsLists, FillsQueries}
-use Rattle.swreq_world.specs.Text.{requirements_named, signature_in, signatures}
+use Rattle.swreq_world.specs.Text.{requirements_named, signature_in}
 use Rattle.swreq_world.specs.WorldOf.{IsWorldOf}
 use Rattle.swreq_world.specs.Worlds.{IdWorld}
 use Rattle.swreq_world.proofs.Filled.{fills_later, entry_of_stay, entry_stays}

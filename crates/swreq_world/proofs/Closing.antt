@@ -3,13 +3,12 @@ use Rattle.std.proofs.Common.{◌≡◌, ℕ, cond, List, Some, length, get_or, 
 use Rattle.std.proofs.lemmas.Cmp.{then_total, on_total, back_total, nat_cmp_total}
 use Rattle.std.proofs.lemmas.List.{length-map}
 use Rattle.std.proofs.lemmas.List.Elements.{All-map}
-use Rattle.std.proofs.lemmas.Option.{slice_get-get_or, slice_get_within}
+use Rattle.std.proofs.lemmas.Option.{slice_get-get_or}
 use Rattle.std.specs.Cmp.{IsTotalOrder}
 use Rattle.std.specs.List.{All, IsDistinct}
 use Rattle.std.specs.Ordering.{nat_cmp, then_cmp, on}
 use Rattle.std.specs.Str.{bytes_eq}
 use Rattle.swreq_decl.specs.declared.skeleton.AssocDecl.{AssocDecl}
-use Rattle.swreq_decl.specs.declared.skeleton.ProtocolDecl.{ProtocolDecl}
 use Rattle.swreq_decl.specs.declared.skeleton.Skeleton.{Skeleton}
 use Rattle.swreq_names.specs.Names.{Resolve}
 use Rattle.swreq_names.specs.Spaces.{word}
@@ -17,19 +16,19 @@ use Rattle.swreq_param.specs.declared.ids.ProtoId.{ProtoId}
 use Rattle.swreq_ranks.specs.declared.pair.ProtocolName.{ProtocolName}
 use Rattle.swreq_ranks.specs.Associated.{is_root, depth, order_cmp}
 use Rattle.swreq_ranks.specs.Lexicons.{pair, proto_by, name_by}
-use Rattle.swreq_ranks.specs.Ranks.{Bytes, rank}
+use Rattle.swreq_ranks.specs.Ranks.{Bytes}
 use Rattle.swreq_ranks.specs.Texts.{IsLexiconOf, protocol_names, declared_by}
 use Rattle.swreq_ranks.specs.Views.{LexiconView, IsProtocol, place_of, inherits, assoc_cmp, symbol_cmp}
 use Rattle.swreq_ranks.proofs.Declared.{from_pieces, named_within}
 use Rattle.swreq_ranks.proofs.Places.{there}
-use Rattle.swreq_ranks.proofs.RankLaws.{rank_is, one_to_one, assoc_total, by_name, written_at, written_protocol, written_once}
+use Rattle.swreq_ranks.proofs.RankLaws.{one_to_one, assoc_total, by_name, written_at, written_protocol, written_once}
 use Rattle.swreq_ranks.proofs.Rising.{rising_from_sorted, one_place}
 use Rattle.swreq_written.specs.Signatures.{in_order}
 use Rattle.swreq_world.specs.Closed.{IsClosed, AreIds, IsOfProtocol, HasOwn, HasOuter, IsQueryOf}
 use Rattle.swreq_world.specs.Text.{requirements_named, signature_in, signatures}
 use Rattle.swreq_world.specs.WorldOf.{IsWorldOf, words_of}
 use Rattle.swreq_world.specs.Worlds.{TextWorld}
-use Rattle.swreq_world.proofs.Everywhere.{stands_mapped, mapped_from}
+use Rattle.swreq_world.proofs.Everywhere.{mapped_from}
 use Rattle.swreq_world.proofs.InProtocols.{protocols_are}
 use Rattle.swreq_world.proofs.InQueries.{queries_are}
 use Rattle.swreq_world.proofs.InSignatures.{signatures_are}
@@ -84,7 +83,8 @@ outers text s w is =
     one : All (λ g. HasOuter w (signature_in (words_of text s w) (in_order s) g)) (in_order s)
     one k g l f e = let h = outer_within (in_order s) (get_or (in_order s) k g) f (omega arith) e in omega (arith, h, count)
 
-pub closed : (text : Bytes) (s : Skeleton) (w : TextWorld) (from : ℕ) → AreRising name_start from s.protocols → IsWorldOf text s w → Resolve text s → IsClosed w
+pub closed : (text : Bytes) (s : Skeleton) (w : TextWorld) (from : ℕ) → AreRising name_start from s.protocols
+    → IsWorldOf text s w → Resolve text s → IsClosed w
 closed text s w from rising is resolve =
     let words = words_of text s w in
     let tells = resolve.names.inherits in

@@ -1,5 +1,5 @@
 -- Where the names of a text resolve, the names of its protocols differ.
-use Rattle.std.proofs.Common.{◌≡◌, ℕ, ◌≤◌, ◌<◌, ⊎_elim, true, false, List, [], ◌++◌, length, get_or, map, slice_get, Some, None, nat_lt, refl, sym, ap, subst, ◌∙◌, arith}
+use Rattle.std.proofs.Common.{◌≡◌, ℕ, ◌≤◌, ◌<◌, ⊎_elim, true, false, List, ◌++◌, length, get_or, map, slice_get, Some, None, nat_lt, sym, ap, subst, ◌∙◌, arith}
 use Rattle.std.proofs.lemmas.Bool.{cases_lt, lt-ltb}
 use Rattle.std.proofs.lemmas.Iterator.Adapters.{position_from-zero}
 use Rattle.std.proofs.lemmas.List.Elements.{All-nil}
@@ -27,7 +27,8 @@ use Rattle.swreq_world.proofs.ProtocolOffsets.{AreRising, starts_before, name_st
 use Rattle.swreq_world.proofs.Resolving.{Never, refused, declared_at}
 
 -- A name's first place is the least.
-first_place : (names : List Bytes) (name : Bytes) (k i : ℕ) → position_from (bytes_eq name) 0 names ≡ Some k → slice_get names i ≡ Some name → k ≤ i
+first_place : (names : List Bytes) (name : Bytes) (k i : ℕ) → position_from (bytes_eq name) 0 names ≡ Some k
+    → slice_get names i ≡ Some name → k ≤ i
 first_place names name k i e at = ⊎_elim (λ l. absurd (passed l)) (λ h. h) (cases_lt i k)
   where
     passed : i < k → ⊥
@@ -44,24 +45,32 @@ module _ (text : Bytes) (ps : List ProtocolDecl) where
   abbrev name_of : ProtocolDecl → Bytes
   name_of p = word text p.name
 
+  abbrev names : List Bytes
+  names = protocol_names text ps
+
   stands : (i : ℕ) (p : ProtocolDecl) → slice_get ps i ≡ Some p → slice_get declared i ≡ Some (declaration text p.name)
-  stands i p e = stands_mapped (declaration text) (map (λ (q : ProtocolDecl). q.name) ps) i p.name (stands_mapped (λ (q : ProtocolDecl). q.name) ps i p e)
+  stands i p e =
+      let span = λ (q : ProtocolDecl). q.name in
+      stands_mapped (declaration text) (map span ps) i p.name (stands_mapped span ps i p e)
 
   module _ (from : ℕ) (rising : AreRising name_start from ps) (none : All Never (duplicates declared declared)) where
     -- A later protocol of the same name would be refused.
     not_again : (i j : ℕ) (p q : ProtocolDecl) → slice_get ps i ≡ Some p → slice_get ps j ≡ Some q → i < j → name_of p ≡ name_of q → ⊥
-    not_again i j p q e f l same = refused Duplicate q.name.start (subst (λ b. All Never (when b Duplicate q.name.start)) before one)
+    not_again i j p q e f l same =
+        refused Duplicate q.name.start (subst (λ b. All Never (when b Duplicate q.name.start)) before one)
       where
-        named : slice_get (protocol_names text ps) i ≡ Some (name_of q)
+        named : slice_get names i ≡ Some (name_of q)
         named = stands_mapped name_of ps i p e ∙ ap Some same
 
         first : (k : ℕ) × (place declared (name_of q) ≡ Some k)
         first =
-            let k = some_place (protocol_names text ps) (name_of q) (there (protocol_names text ps) i (name_of q) named) in
+            let k = some_place names (name_of q) (there names i (name_of q) named) in
             (k.0, ap (position_from (bytes_eq (name_of q)) 0) (declared_names text ps) ∙ k.1)
 
         no_later : first.0 ≤ i
-        no_later = first_place (protocol_names text ps) (name_of q) first.0 i (ap (position_from (bytes_eq (name_of q)) 0) (sym (declared_names text ps)) ∙ first.1) named
+        no_later =
+            let at = ap (position_from (bytes_eq (name_of q)) 0) (sym (declared_names text ps)) ∙ first.1 in
+            first_place names (name_of q) first.0 i at named
 
         before : is_declared_before declared (name_of q) q.name.start ≡ true
         before =
@@ -72,24 +81,27 @@ module _ (text : Bytes) (ps : List ProtocolDecl) where
             ∙ lt-ltb r.0.name.start q.name.start less
 
         one : All Never (duplicate_of declared (declaration text q.name))
-        one = all_at (λ d. All Never (duplicate_of declared d)) declared j (declaration text q.name) (each_piece Never (duplicate_of declared) declared none) (stands j q f)
+        one =
+            let each = each_piece Never (duplicate_of declared) declared none in
+            all_at (λ d. All Never (duplicate_of declared d)) declared j (declaration text q.name) each (stands j q f)
 
-    distinct : IsDistinct bytes_eq (protocol_names text ps)
-    distinct = IsDistinct-from_apart bytes_eq (protocol_names text ps) (λ i j d h l. fails (bytes_eq (get_or (protocol_names text ps) i d) (get_or (protocol_names text ps) j d)) (apart i j d h l))
+    distinct : IsDistinct bytes_eq names
+    distinct = IsDistinct-from_apart bytes_eq names (λ i j d h l. fails (bytes_eq (get_or names i d) (get_or names j d)) (apart i j d h l))
       where
-        apart : (i j : ℕ) (d : Bytes) → i < j → j < length (protocol_names text ps) → bytes_eq (get_or (protocol_names text ps) i d) (get_or (protocol_names text ps) j d) ≡ true → ⊥
+        apart : (i j : ℕ) (d : Bytes) → i < j → j < length names → bytes_eq (get_or names i d) (get_or names j d) ≡ true → ⊥
         apart i j d h l t =
-            let names = protocol_names text ps in
             let p = mapped_from name_of ps i (get_or names i d) (slice_get-get_or names i d (omega arith)) in
             let q = mapped_from name_of ps j (get_or names j d) (slice_get-get_or names j d l) in
             not_again i j p.0 q.0 p.1 q.1 h (p.2 ∙ (bytes_eq-Decides (get_or names i d) (get_or names j d)).0 t ∙ sym q.2)
 
-pub protocols_differ : (text : Bytes) (s : Skeleton) → HasNames text s → (from : ℕ) → AreRising name_start from s.protocols → IsDistinct bytes_eq (protocol_names text s.protocols)
+pub protocols_differ : (text : Bytes) (s : Skeleton) → HasNames text s → (from : ℕ) → AreRising name_start from s.protocols
+    → IsDistinct bytes_eq (protocol_names text s.protocols)
 protocols_differ text s names from rising =
     let d = spaces text s in
     let ps = d.protocols in
     let ss = d.structs in
-    let after : List Refusal = by_place (of_protocol text d names.inherits) 0 s.protocols ++ (of_signatures text d s ++ flat_map (of_query text d) s.queries) in
+    let after : List Refusal =
+    by_place (of_protocol text d names.inherits) 0 s.protocols ++ (of_signatures text d s ++ flat_map (of_query text d) s.queries) in
     let none : All Never (of_spaces d ++ after) = subst (All Never) (sym names.none) (All-nil Never) in
     distinct text s.protocols from rising
     (all_left Never (duplicates ps ps) (duplicates ss ps ++ (duplicates ps ss ++ duplicates ss ss))

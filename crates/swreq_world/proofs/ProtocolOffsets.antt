@@ -33,17 +33,20 @@ module _ {A : Type 0} (start : A → ℕ) where
 
   rising_after : (from : ℕ) (xs ys : List A) → AreRising from (xs ++ ys) → AreRising from ys
   rising_after from [] ys r = r
-  rising_after from (x ∷ xs) ys r = rising_sooner from (suc (start x)) (let k = r.0 in omega arith) ys (rising_after (suc (start x)) xs ys r.1)
+  rising_after from (x ∷ xs) ys r =
+      let k = r.0 in rising_sooner from (suc (start x)) (omega arith) ys (rising_after (suc (start x)) xs ys r.1)
 
   starts_from : (from : ℕ) (xs : List A) → AreRising from xs → (j : ℕ) (y : A) → slice_get xs j ≡ Some y → from ≤ start y
   starts_from from [] r j y e = absurd cc
   starts_from from (x ∷ xs) r zero y e = let k = r.0 in let s = ap start (same_Some x y e) in omega (arith, k, s)
   starts_from from (x ∷ xs) r (suc j) y e = let k = r.0 in let l = starts_from (suc (start x)) xs r.1 j y e in omega arith
 
-  pub starts_before : (from : ℕ) (xs : List A) → AreRising from xs → (i j : ℕ) (x y : A) → slice_get xs i ≡ Some x → slice_get xs j ≡ Some y → i < j → start x < start y
+  pub starts_before : (from : ℕ) (xs : List A) → AreRising from xs → (i j : ℕ) (x y : A) → slice_get xs i ≡ Some x → slice_get xs j ≡ Some y
+      → i < j → start x < start y
   starts_before from [] r i j x y e f l = absurd cc
   starts_before from (z ∷ zs) r i zero x y e f l = absurd (omega arith)
-  starts_before from (z ∷ zs) r zero (suc j) x y e f l = let s = ap start (same_Some z x e) in let k = starts_from (suc (start z)) zs r.1 j y f in omega (arith, s, k)
+  starts_before from (z ∷ zs) r zero (suc j) x y e f l =
+      let s = ap start (same_Some z x e) in let k = starts_from (suc (start z)) zs r.1 j y f in omega (arith, s, k)
   starts_before from (z ∷ zs) r (suc i) (suc j) x y e f l = starts_before (suc (start z)) zs r.1 i j x y e f (omega arith)
 
 -- ---- tokens
@@ -51,9 +54,11 @@ module _ {A : Type 0} (start : A → ℕ) where
 abbrev start_of : Token Terminal → ℕ
 start_of t = t.start
 
-slices_rising : (text : List ℕ) (from : ℕ) (ts : List lexed.Token) → AreSlices text from ts → AreRising start_of from (with_terminals text ts)
+slices_rising : (text : List ℕ) (from : ℕ) (ts : List lexed.Token) → AreSlices text from ts
+    → AreRising start_of from (with_terminals text ts)
 slices_rising text from [] s = tt
-slices_rising text from (t ∷ ts) (next a b c d e s) = (a, rising_sooner start_of (suc t.start) t.end (omega arith) (with_terminals text ts) (slices_rising text t.end ts s))
+slices_rising text from (t ∷ ts) (next a b c d e s) =
+    (a, rising_sooner start_of (suc t.start) t.end (omega arith) (with_terminals text ts) (slices_rising text t.end ts s))
 
 -- a token starts there
 abbrev Starts : ℕ → Tokens → Type 0
@@ -75,21 +80,23 @@ rising_past from n [] ys r h = absurd h
 rising_past from n (t ∷ xs) ys r (inl e) =
     let k = r.0 in
     (omega arith, rising_sooner start_of (suc n) (suc t.start) (omega arith) ys (rising_after start_of (suc t.start) xs ys r.1))
-rising_past from n (t ∷ xs) ys r (inr h) = let k = r.0 in let p = rising_past (suc t.start) n xs ys r.1 h in let l = p.0 in (omega arith, p.1)
+rising_past from n (t ∷ xs) ys r (inr h) =
+    let k = r.0 in let p = rising_past (suc t.start) n xs ys r.1 h in let l = p.0 in (omega arith, p.1)
 
 -- ---- the name of a protocol is one of its tokens
 
 name_starts : (ts : Tokens) (s : Span) → Matches number lines.name ts s → Starts s.start ts
 unfolding lines.name
-name_starts ts s (t, (e, h), k) = subst (λ (us : Tokens). Starts s.start us) (sym e) (inl (sym (ap (λ (x : Span). x.start) k)))
+name_starts ts s (t, (e, h), k) = subst (Starts s.start) (sym e) (inl (sym (ap (λ (x : Span). x.start) k)))
 
 protocol_starts : (ts : Tokens) (p : ProtocolDecl) → Matches number lines.protocol ts p → Starts p.name.start ts
 unfolding lines.protocol
 protocol_starts ts p (v, (q, (a, b, s, m, (c, d, r, n, l)), e), k) =
-    let here : Starts q.1.0.start (a ++ (c ++ d)) = starts_right q.1.0.start a (c ++ d) (starts_left q.1.0.start c d (name_starts c q.1.0 n)) in
+    let name = q.1.0 in
+    let here : Starts name.start (a ++ (c ++ d)) = starts_right name.start a (c ++ d) (starts_left name.start c d (name_starts c name n)) in
     let whole : a ++ (c ++ d) ≡ ts = sym (s ∙ ap (λ (us : Tokens). a ++ us) r) in
-    let is : q.1.0 ≡ p.name = ap (λ x. x.0) e ∙ ap (λ (x : ProtocolDecl). x.name) k in
-    subst (λ (us : Tokens). Starts p.name.start us) whole (subst (λ (x : Span). Starts x.start (a ++ (c ++ d))) is here)
+    let is : name ≡ p.name = ap (λ x. x.0) e ∙ ap (λ (x : ProtocolDecl). x.name) k in
+    subst (Starts p.name.start) whole (subst (λ (x : Span). Starts x.start (a ++ (c ++ d))) is here)
 
 -- where the part is a protocol, its name is one of the tokens
 abbrev Stands : Item → Tokens → Type 0
@@ -97,7 +104,8 @@ Stands v ts = (p : ProtocolDecl) → protocol_of v ≡ Some p → Starts p.name.
 
 declaration_stands : (ts : Tokens) (v : Item) → Matches number lines.declaration ts v → Stands v ts
 unfolding lines.declaration
-declaration_stands ts v (inl (p, m, e)) = subst (λ x. Stands x ts) e (λ q f. subst (λ (r : ProtocolDecl). Starts r.name.start ts) (same_Some p q f) (protocol_starts ts p m))
+declaration_stands ts v (inl (p, m, e)) =
+    subst (λ x. Stands x ts) e (λ q f. subst (λ (r : ProtocolDecl). Starts r.name.start ts) (same_Some p q f) (protocol_starts ts p m))
 declaration_stands ts v (inr (inl (f, m, e))) = subst (λ x. Stands x ts) e (λ p n. absurd cc)
 declaration_stands ts v (inr (inr (s, m, e))) = subst (λ x. Stands x ts) e (λ p n. absurd cc)
 
@@ -118,18 +126,25 @@ item_stands ts v (w, (a, b, s, m, n), e) =
 abbrev pub name_start : ProtocolDecl → ℕ
 name_start p = p.name.start
 
-parts_rising : (from : ℕ) (vs : List Item) (ts : Tokens) → Parts (Matches number lines.item) ts vs → AreRising start_of from ts → AreRising name_start from (filter_map protocol_of vs)
+rising_rest : (from : ℕ) (ts a b : Tokens) → ts ≡ a ++ b → AreRising start_of from ts → AreRising start_of from b
+rising_rest from ts a b s r = rising_after start_of from a b (subst (AreRising start_of from) s r)
+
+parts_rising : (from : ℕ) (vs : List Item) (ts : Tokens) → Parts (Matches number lines.item) ts vs → AreRising start_of from ts
+    → AreRising name_start from (filter_map protocol_of vs)
 parts_rising from [] ts e r = tt
 parts_rising from (items.Protocol p ∷ vs) ts (a, b, s, m, ms) r =
     let q = rising_past from p.name.start a b (subst (AreRising start_of from) s r) (item_stands a (items.Protocol p) m p refl) in
     (q.0, parts_rising (suc p.name.start) vs b ms q.1)
-parts_rising from (items.Struct t ∷ vs) ts (a, b, s, m, ms) r = parts_rising from vs b ms (rising_after start_of from a b (subst (AreRising start_of from) s r))
-parts_rising from (items.Function f ∷ vs) ts (a, b, s, m, ms) r = parts_rising from vs b ms (rising_after start_of from a b (subst (AreRising start_of from) s r))
-parts_rising from (items.Query q ∷ vs) ts (a, b, s, m, ms) r = parts_rising from vs b ms (rising_after start_of from a b (subst (AreRising start_of from) s r))
+parts_rising from (items.Struct t ∷ vs) ts (a, b, s, m, ms) r = parts_rising from vs b ms (rising_rest from ts a b s r)
+parts_rising from (items.Function f ∷ vs) ts (a, b, s, m, ms) r = parts_rising from vs b ms (rising_rest from ts a b s r)
+parts_rising from (items.Query q ∷ vs) ts (a, b, s, m, ms) r = parts_rising from vs b ms (rising_rest from ts a b s r)
 
-pub protocols_rising : (text : List ℕ) (s : Skeleton) → ((ts : List lexed.Token) → HasTokens text ts → AreSlices text (first_offset (chars text)) ts) → StandsFor text s
+pub protocols_rising : (text : List ℕ) (s : Skeleton)
+    → ((ts : List lexed.Token) → HasTokens text ts → AreSlices text (first_offset (chars text)) ts) → StandsFor text s
     → AreRising name_start (first_offset (chars text)) s.protocols
 unfolding lines.source
 protocols_rising text s slices (found, tokens, (parts, m, e)) =
     let from = first_offset (chars text) in
-    subst (λ (u : Skeleton). AreRising name_start from u.protocols) (sym e) (parts_rising from parts (with_terminals text found) m.0 (slices_rising text from found (slices found tokens)))
+    let tokens_rising = slices_rising text from found (slices found tokens) in
+    subst (λ (u : Skeleton). AreRising name_start from u.protocols) (sym e)
+    (parts_rising from parts (with_terminals text found) m.0 tokens_rising)

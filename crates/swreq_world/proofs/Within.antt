@@ -1,11 +1,10 @@
 -- Places are within their lists.
-use Rattle.std.proofs.Common.{◌≡◌, ℕ, zero, suc, ◌+◌, ◌≤◌, ◌<◌, List, [], ◌∷◌, Option, Some, None, length, get_or, slice_get, unwrap_or, refl, sym, ap, subst, ◌∙◌, arith}
-use Rattle.std.specs.List.{position_from}
+use Rattle.std.proofs.Common.{◌≡◌, ℕ, zero, suc, ◌≤◌, ◌<◌, List, [], ◌∷◌, Option, Some, None, length, get_or, slice_get, unwrap_or, refl, subst, arith}
 use Rattle.std.specs.Option.{option_map}
 use Rattle.swreq_decl.specs.declared.skeleton.Span.{Span}
 use Rattle.swreq_names.specs.declared.signature.Signature.{Signature}
 use Rattle.swreq_names.specs.declared.signature.Signature.TheVariants.{Struct, Function, Nested}
-use Rattle.swreq_names.specs.Spaces.{Spaces, place, word, struct_of, function_of, signature_of, nested_in, nested_of}
+use Rattle.swreq_names.specs.Spaces.{Spaces, place, word, struct_of, function_of, nested_in, nested_of}
 use Rattle.swreq_written.specs.Queries.{asked_signature, signature_named}
 use Rattle.swreq_written.specs.Signatures.{is_signature, place_in}
 use Rattle.swreq_written.specs.Words.{WordsView, declared}

@@ -1,5 +1,5 @@
 -- What the look-ups of a world answer.
-use Rattle.std.specs.Prelude.{◌≡◌, ℕ, Bool, true, false, List, Option, Some, None, map}
+use Rattle.std.specs.Prelude.{ℕ, Bool, true, false, List, Option, Some, None, map}
 use Rattle.std.specs.Option.{option_map}
 use Rattle.swreq_param.specs.declared.ids.ParamId.{ParamId}
 use Rattle.swreq_names.specs.declared.signature.Signature.{Signature}
@@ -8,7 +8,7 @@ use Rattle.swreq_names.specs.Spaces.{Spaces, signature_of, nested_of, param_of}
 use Rattle.swreq_written.specs.declared.ids.FuncId.{FuncId}
 use Rattle.swreq_written.specs.Signatures.{func_id}
 use Rattle.swreq_written.specs.Types.{param_id}
-use Rattle.swreq_world.specs.Worlds.{WorldOver, SignatureOver, signature_at}
+use Rattle.swreq_world.specs.Worlds.{WorldOver, signature_at}
 
 abbrev pub is_struct : Signature → Bool
 is_struct (Struct i) = true

@@ -1,6 +1,5 @@
 -- The lists of a world, made over a table that grows.
 use Rattle.std.specs.Prelude.{◌≡◌, List, map}
-use Rattle.swreq_names.specs.declared.signature.Signature.{Signature}
 use Rattle.swreq_param.specs.Terms.{Term}
 use Rattle.swreq_written.specs.Queries.{query_of}
 use Rattle.swreq_written.specs.Signatures.{in_order}

@@ -1,5 +1,5 @@
 -- The lists of the world of a skeleton.
-use Rattle.std.specs.Prelude.{ℕ, List, [], ◌∷◌, Option, Some, None, map, slice_get}
+use Rattle.std.specs.Prelude.{ℕ, List, [], Option, Some, None, map, slice_get}
 use Rattle.swreq_decl.specs.declared.skeleton.FunctionDecl.{FunctionDecl}
 use Rattle.swreq_decl.specs.declared.skeleton.ProtocolDecl.{ProtocolDecl}
 use Rattle.swreq_decl.specs.declared.skeleton.StructDecl.{StructDecl}

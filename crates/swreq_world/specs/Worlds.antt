@@ -1,7 +1,7 @@
 -- What the world of a text has. Ids are ranks, that is places in its lists; signatures go by their places in the text.
 -- A world is over type parameters, as a text means it, or over the ids of a table, as the code keeps it: R are its requirements, and
 -- Q its queries.
-use Rattle.std.specs.Prelude.{ℕ, List, [], Option, Some, None, slice_get, slice_index_or}
+use Rattle.std.specs.Prelude.{ℕ, List, [], Option, None, slice_index_or}
 use Rattle.swreq_derive.specs.declared.known.Params.{Params}
 use Rattle.swreq_names.specs.declared.signature.Signature.{Signature}
 use Rattle.swreq_names.specs.declared.signature.Signature.TheVariants.{Function}

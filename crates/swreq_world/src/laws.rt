@@ -18,7 +18,8 @@ pub fn protocols_require_of_self()
 
 /// Where the names of a text resolve, all that is written in its world is of the world.
 pub fn worlds_are_closed(text: &[u8])
-    ensures closed { (s : Skeleton) (w : TextWorld) → StandsFor text.now s → IsWorldOf text.now s w → Resolve text.now s → IsClosed w }
+    ensures closed { (s : Skeleton) (w : TextWorld)
+        → StandsFor text.now s → IsWorldOf text.now s w → Resolve text.now s → IsClosed w }
 {
     tokens_are_slices(text);
 }

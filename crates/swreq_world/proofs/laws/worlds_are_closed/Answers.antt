@@ -5,4 +5,8 @@ use Rattle.swreq_world.proofs.ProtocolOffsets.{protocols_rising}
 use Rattle.swreq_world.proofs.laws.worlds_are_closed.Goals as goal
 
 pub returns : goal.returns
-returns c = record { closed = λ s w stands is resolve. closed c.args.text.now s w (first_offset (chars c.args.text.now)) (protocols_rising c.args.text.now s c.tokens_are_slices.ensures stands) is resolve }
+returns c = record {
+  closed = λ s w stands is resolve.
+      let text = c.args.text.now in
+      closed text s w (first_offset (chars text)) (protocols_rising text s c.tokens_are_slices.ensures stands) is resolve;
+}

@@ -1,4 +1,4 @@
-use Rattle.std.proofs.Common.{◌≡◌, ◌≤◌, ℕ, Some, None, refl, sym, subst, ap, ◌∙◌, [], length, get_or}
+use Rattle.std.proofs.Common.{◌≤◌, ℕ, Some, refl, sym, subst, ◌∙◌, [], length, get_or}
 use Rattle.swreq_names.specs.Names.{NamesView}
 use Rattle.swreq_world.specs.Inside.{view_of}
 use Rattle.swreq_world.proofs.Looking.{found}

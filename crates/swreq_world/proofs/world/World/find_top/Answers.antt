@@ -1,8 +1,6 @@
-use Rattle.std.proofs.Common.{◌≡◌, ◌≤◌, ℕ, Some, None, refl, sym, subst, ap, ◌∙◌, [], length, get_or}
-use Rattle.swreq_names.specs.Names.{NamesView}
+use Rattle.std.proofs.Common.{None, refl, sym, ◌∙◌}
 use Rattle.swreq_world.specs.Inside.{view_of}
 use Rattle.swreq_world.proofs.Looking.{found}
-use Rattle.swreq_world.proofs.Within.{found_small}
 use Rattle.swreq_world.proofs.world.World.find_top.Goals as goal
 
 pub returns-in-Some : goal.returns-in-Some

@@ -1,4 +1,4 @@
-use Rattle.std.proofs.Common.{◌≡◌, ◌⊎◌, ⊎_elim, inl, inr, refl}
+use Rattle.std.proofs.Common.{⊎_elim, inl, inr, refl}
 use Rattle.swreq_world.proofs.world.World.resolve.Goals as goal
 
 pub with_names-requires : goal.with_names-requires
