@@ -3,7 +3,6 @@
 ghost use Rattle.std.specs.Prelude.{◌≡◌, ◌<◌, ◌≤◌, IsTrue, length, IfOk};
 ghost use Rattle.std.specs.List.{All};
 ghost use Rattle.swreq_decl.specs.Skeletons.{StandsFor};
-ghost use Rattle.swreq_word.specs.declared.words.Word.{Word};
 ghost use Rattle.swreq_written.specs.ByTable.{HasIdsOf};
 
 use crate::{
@@ -448,8 +447,10 @@ const REFUSALS: &[RefusalKind] = &[
     RefusalKind::NotATypeParameter { at: 85 },
     RefusalKind::LimitRules { max: 4000 },
     RefusalKind::LimitLength { max: 64 },
+    RefusalKind::NotBuilt,
     RefusalKind::ReadFault,
     RefusalKind::OutOfMemory,
+    RefusalKind::Usage,
 ];
 
 const LINES: &str = "error: text longer than 1048576 bytes
@@ -468,8 +469,10 @@ error: circular inheritance at 9
 error: not a type parameter at 85
 error: more than 4000 rules
 error: rule longer than 64 symbols
+error: not built
 error: read fault
 error: out of memory
+usage: genreq answer
 ";
 
 #[test]
