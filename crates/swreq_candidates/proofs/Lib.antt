@@ -1,5 +1,6 @@
 pub mod Longer
 pub mod LessParts
+pub mod InsideBlocks
 pub mod Blocks
 pub mod Cuts
 pub mod OneBlock
