@@ -1,0 +1,6 @@
+pub mod Flags
+pub mod Plans
+pub mod Answers
+pub mod Rounds
+pub mod Machines
+pub mod Sides
