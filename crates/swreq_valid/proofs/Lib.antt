@@ -3,3 +3,8 @@ pub mod Planning
 pub mod Running
 pub mod FirstSide
 pub mod Deriving
+pub mod Listing
+pub mod OfProtocols
+pub mod Building
+pub mod Valid
+pub mod Made

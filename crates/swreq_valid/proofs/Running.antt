@@ -161,7 +161,7 @@ module _ (limits : Limits) (plan : Plan) (old : Option (List Event)) where
           pub is_next : IsBefore limits plan old flags (rounds ++ ended ∷ []) new
           is_next =
               let (later, r, g) = goes_on limits plan (chosen plan.all used) is.before old mid new is.round is.grew rules ends told
-                (chosen plan.all flags) (tells_selects plan.all flags t) (others_chosen plan.all used flags is.flags t shows_used n) in
+              (chosen plan.all flags) (tells_selects plan.all flags t) (others_chosen plan.all used flags is.flags t shows_used n) in
               record {
                 flags = tells_length (AreShown plan rules) plan.all flags t;
                 before = later;

@@ -4,3 +4,4 @@ pub mod Answers
 pub mod Rounds
 pub mod Machines
 pub mod Sides
+pub mod Built
