@@ -1,5 +1,5 @@
 -- What building answers of a text.
-use Rattle.std.proofs.Common.{◌≡◌, sym, ap, subst, List, Contains, Option, Result, Ok, Err, IfOk}
+use Rattle.std.proofs.Common.{◌≡◌, sym, subst, List, Contains, Option, Result, Ok, Err}
 use Rattle.swreq_param.specs.Terms.{Term}
 use Rattle.swreq_derive.specs.declared.known.Params.{Params}
 use Rattle.swreq_derive.specs.declared.requirements.Requirement.{Requirement}
