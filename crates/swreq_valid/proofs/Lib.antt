@@ -1,0 +1,16 @@
+pub mod Flagged
+pub mod Planning
+pub mod Running
+pub mod FirstSide
+pub mod Deriving
+pub mod Listing
+pub mod OfProtocols
+pub mod Building
+pub mod Valid
+pub mod Made
+pub mod Answering
+pub mod Deciding
+pub mod Firsts
+pub mod Giving
+pub mod Typed
+pub mod Reducing
