@@ -17,13 +17,13 @@ ghost use Rattle.swreq_rounds.specs.Presents.{ProtocolEquation, AreProtocolRules
 ghost use Rattle.swreq_reading.specs.Symbols.{Word, Symbols, AreSymbolsOf};
 ghost use Rattle.swreq_reading.specs.Equations.{AreCongruent, UsableEquation};
 ghost use Rattle.swreq_reading.specs.Types.{HasFirsts};
-ghost use Rattle.swreq_candidates.specs.Blocks.{Cut, Pairwise, All, AreMembersNamed, blocks, joined_words};
+ghost use Rattle.swreq_candidates.specs.Blocks.{Cut, Pairwise, All, AreMembersDeclared, AreMembersNamed, blocks, joined_words};
 ghost use Rattle.swreq_candidates.specs.Blocks.Place.{Outside};
 ghost use Rattle.swreq_candidates.specs.Candidates.{IsCandidate, IsCandidateList, IsReadOff};
 ghost use Rattle.swreq_candidates.specs.Completed.{HasLeastWords, IsCompleted, IsWordOfText};
 
-/// A word is cut into blocks in one way, and its blocks make the word. Two words are congruent exactly where they have as many blocks, which
-/// are congruent one by one. So a word is least exactly where its blocks are, and a minimal word is one block.
+/// A word is cut into blocks in one way, and its blocks make the word. Two words are congruent exactly where they have as many blocks,
+/// which are congruent one by one. So a word is least exactly where its blocks are, and a minimal word is one block.
 pub fn congruence_goes_by_blocks()
     ensures one { (m : Symbols) (f : TermFacts) (s : Source) (u : Word) (k l : Cut m f s Outside u) → blocks k ≡ blocks l }
     ensures whole { (m : Symbols) (f : TermFacts) (s : Source) (u : Word) (k : Cut m f s Outside u) → joined_words (blocks k) ≡ u }
@@ -41,6 +41,12 @@ pub fn congruence_goes_by_blocks()
         → IsMinimal (AreCongruent m f (Written params list)) u → blocks k ≡ u ∷ [] }
 {}
 
+/// Where each member symbol is of a name that its protocol or an inherited one declares, `Self` of the protocol conforms to a protocol
+/// that declares it.
+pub fn inherited_members_are_named()
+    ensures { (m : Symbols) (f : TermFacts) → AreMembersDeclared m f → AreMembersNamed m f }
+{}
+
 /// Rules of the protocols, and of a list, whose pairs meet, give the least words, and their reduced system is that of the congruence.
 pub fn complete_rules_give_least_words()
     ensures protocols { (m : Symbols) (f : TermFacts) (rules : List Rule)
@@ -52,8 +58,8 @@ pub fn complete_rules_give_least_words()
         → IsReducedSystem (AreCongruent m f (Written params list)) system }
 {}
 
-/// Where the completions of the protocols and of a list have ended, each valid type parameter of the list has a reduced type, each statement
-/// is derivable or not, and each word of the text is cut into blocks.
+/// Where the completions of the protocols and of a list have ended, each valid type parameter of the list has a reduced type, each
+/// statement is derivable or not, and each word of the text is cut into blocks.
 pub fn ended_completions_decide()
     ensures reduced { (m : Symbols) (f : TermFacts) (params : List ParamId) (list : List TermRequirement)
         → IsCompleted m f params list → HasReducedTypes f (Written params list) }
