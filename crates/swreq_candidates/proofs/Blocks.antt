@@ -25,8 +25,8 @@ use Rattle.swreq_reading.proofs.Correspondence.{own, read, root_param, self_conf
 use Rattle.swreq_reading.proofs.Links.{of_self}
 use Rattle.swreq_reading.proofs.Readings.{unbound, valid_after}
 use Rattle.swreq_reading.proofs.Spelling.{spell-append}
-use Rattle.swreq_candidates.specs.Blocks.{AreMembersNamed, Cut, GoesOn, Opens, Pairwise, Place, blocks, current, over}
-use Rattle.swreq_candidates.specs.Blocks.Cut.{alone, at_end, on, opened}
+use Rattle.swreq_candidates.specs.Blocks.{AreMembersNamed, Cut, GoesOn, Pairwise, Place, blocks, current, over}
+use Rattle.swreq_candidates.specs.Blocks.Cut.{alone, on, opened}
 use Rattle.swreq_candidates.specs.Blocks.Pairwise.{no_pair, pair}
 use Rattle.swreq_candidates.specs.Blocks.Place.{Inside, Outside}
 use Rattle.swreq_candidates.proofs.InsideBlocks.{AreStepsRead, Changes, HasCut, all_same, appears, equal_steps, goes_on, no_steps_read, steps_read, vanishes}

@@ -1,5 +1,5 @@
 //! Laws on blocks and candidates, over the definitions alone.
-ghost use Rattle.std.specs.Prelude.{◌≡◌, ◌↔◌, List, [], ◌∷◌, ℕ, Some, slice_get};
+ghost use Rattle.std.specs.Prelude.{◌≡◌, ◌↔◌, ℕ, List, [], ◌∷◌, Some, Contains, slice_get};
 ghost use Rattle.swreq_param.specs.declared.ids.ParamId.{ParamId};
 ghost use Rattle.swreq_derive.specs.Derivation.{TermRequirement, TermStatement, TermFacts, Source, Derivable};
 ghost use Rattle.swreq_derive.specs.Derivation.Source.{Written};
@@ -59,7 +59,8 @@ pub fn complete_rules_give_least_words()
 {}
 
 /// Where the completions of the protocols and of a list have ended, each valid type parameter of the list has a reduced type, each
-/// statement is derivable or not, and each word of the text is cut into blocks.
+/// statement is derivable or not, and each word of the text is cut into blocks. Where those of all lists of some requirements have ended, it
+/// is decided what these lists derive.
 pub fn ended_completions_decide()
     ensures reduced { (m : Symbols) (f : TermFacts) (params : List ParamId) (list : List TermRequirement)
         → IsCompleted m f params list → HasReducedTypes f (Written params list) }
@@ -69,6 +70,9 @@ pub fn ended_completions_decide()
         → IsCompleted m f params list → (st : TermStatement) → Dec (Derivable f (Written params list) st) }
     ensures cut { (m : Symbols) (f : TermFacts) (params : List ParamId) (list : List TermRequirement)
         → IsCompleted m f params list → (u : Word) → IsWordOfText m u → Cut m f (Written params list) Outside u }
+    ensures lists { (m : Symbols) (f : TermFacts) (params : List ParamId) (candidates : List TermRequirement)
+        → ((some : List TermRequirement) → ((r : TermRequirement) → Contains some r → Contains candidates r) → IsCompleted m f params some)
+        → AreDecided f params candidates }
 {}
 
 /// Where they have ended, each generator is a candidate, which is read off a rule of the reduced system, and each candidate is canonical. A

@@ -6,15 +6,16 @@ ghost use Rattle.std.specs.Prelude.{◌≡◌, [], ◌∷◌};
 ghost use Rattle.swreq_word.specs.declared.symbols.Symbol.TheVariants.{Proto, Member, Name};
 ghost use Rattle.swreq_derive.specs.Derivation.{TermRequirement};
 ghost use Rattle.swreq_derive.specs.Derivation.TermRequirement.{Conforms, IsAnyObject, Equals};
-ghost use Rattle.swreq_derive.specs.Worked.{of_one, of_two, τ_0_0, τ_0_1, N};
+ghost use Rattle.swreq_derive.specs.Worked.{of_one, of_two, τ_0_0, τ_0_1, bound, N, Q, A_of_P};
 ghost use Rattle.swreq_derive.specs.Worked.{endless, endless_f, shared, shared_f, layouts, layouts_f};
 ghost use Rattle.swreq_reading.specs.Worked.{first_param, endless_symbols, shared_symbols};
 ghost use Rattle.swreq_candidates.specs.Blocks.{Cut, AreMembersNamed, blocks};
 ghost use Rattle.swreq_candidates.specs.Blocks.Place.{Outside};
 ghost use Rattle.swreq_candidates.specs.Candidates.{IsCandidate, IsReadOff};
-ghost use Rattle.swreq_canonical.specs.Worked.{one, Base, inherited, inherited_g};
+ghost use Rattle.swreq_canonical.specs.Worked.{one, two, Base, inherited, inherited_g};
 ghost use Rattle.swreq_candidates.specs.Evidence.{IsPlain, HasEvidence};
 ghost use Rattle.swreq_candidates.specs.Worked.{read_word, broken_word, layouts_symbols, inherited_symbols};
+ghost use Rattle.swreq_candidates.specs.Worked.{implied, implied_symbols, implied_rest};
 
 /// `protocol N { associatedtype Next: N }` and `func f<T: N>()`: a word that is read is one block. Where a name is not read, it stands
 /// alone, and a protocol behind it begins a block of its own. The conformance of T is a candidate.
@@ -46,4 +47,12 @@ pub fn one_name_in_two_protocols()
 pub fn conformance_by_inheritance()
     ensures plain { IsPlain inherited one inherited_g }
     ensures evidence { HasEvidence inherited_symbols inherited one inherited_g (Conforms τ_0_0 Base) }
+{}
+
+/// `protocol Q { }`, `protocol P { associatedtype A: Q }` and `func f<T: P, U: Q>() where T.A == U`: evidence that the conformance of U
+/// follows from that of T and the equality leads by way of `T.[P:A].[Q]`. Without the conformance of T the member is not plain.
+pub fn requirement_that_two_others_imply()
+    ensures plain { IsPlain implied two implied_rest }
+    ensures evidence { HasEvidence implied_symbols implied two implied_rest (Conforms τ_0_1 Q) }
+    ensures not_plain { IsPlain implied two (Equals τ_0_1 (bound τ_0_0 A_of_P) ∷ []) → ⊥ }
 {}
