@@ -5,8 +5,8 @@ ghost use Rattle.swreq_derive.specs.Derivation.{TermRequirement, TermStatement, 
 ghost use Rattle.swreq_derive.specs.Derivation.Source.{Written};
 ghost use Rattle.swreq_derive.specs.Equivalence.{AreEquivalent};
 ghost use Rattle.swreq_canonical.specs.Canonical.{IsCanonical, HasReducedTypes};
-ghost use Rattle.swreq_canonical.specs.Generators.{IsGenerator, IsGeneratorList, AreEnough, AreDecided};
-ghost use Rattle.swreq_canonical.specs.Minimised.{IsMinimised};
+ghost use Rattle.swreq_canonical.specs.Generators.{IsGenerator, IsGeneratorList, AreEnough, Takes, AreDecided};
+ghost use Rattle.swreq_canonical.specs.Minimised.{Leaves, IsMinimised};
 ghost use Rattle.swreq_word.specs.Least.{IsLeast, IsMinimal};
 ghost use Rattle.swreq_word.specs.Relations.{Linked};
 ghost use Rattle.swreq_rule.specs.declared.rules.Rule.{Rule};
@@ -59,8 +59,8 @@ pub fn complete_rules_give_least_words()
 {}
 
 /// Where the completions of the protocols and of a list have ended, each valid type parameter of the list has a reduced type, each
-/// statement is derivable or not, and each word of the text is cut into blocks. Where those of all lists of some requirements have ended, it
-/// is decided what these lists derive.
+/// statement is derivable or not, and each word of the text is cut into blocks. Where those of all lists of some requirements have ended,
+/// it is decided what these lists derive.
 pub fn ended_completions_decide()
     ensures reduced { (m : Symbols) (f : TermFacts) (params : List ParamId) (list : List TermRequirement)
         → IsCompleted m f params list → HasReducedTypes f (Written params list) }
@@ -99,22 +99,34 @@ pub fn candidates_are_read_off()
         → (candidates : List TermRequirement) × IsCandidateList m f (Written params list) candidates }
 {}
 
-/// Where it is decided, too, what lists of candidates derive, there is a list of generators, and a minimised list, which derives just what
-/// the list derives. Two such lists are equivalent exactly where they have one minimised list.
-pub fn minimised_lists_exist()
-    ensures generators { (m : Symbols) (f : TermFacts) (params : List ParamId) (list candidates : List TermRequirement)
+/// Where the completions have ended, what one takes going through the list of candidates in order is the list of generators, and what is
+/// then left of it after dropping is the minimised list. So, where it is decided what lists of candidates derive, there are both.
+pub fn generators_are_taken_from_candidates()
+    ensures generators { (m : Symbols) (f : TermFacts) (params : List ParamId) (list candidates taken : List TermRequirement)
+        → IsCompleted m f params list → IsCandidateList m f (Written params list) candidates → Takes f params [] candidates taken
+        → IsGeneratorList f params list taken }
+    ensures minimised { (m : Symbols) (f : TermFacts) (params : List ParamId) (list candidates taken left : List TermRequirement)
+        → IsCompleted m f params list → IsCandidateList m f (Written params list) candidates → Takes f params [] candidates taken
+        → Leaves f params [] taken left → IsMinimised f params list left }
+    ensures some_generators { (m : Symbols) (f : TermFacts) (params : List ParamId) (list candidates : List TermRequirement)
         → IsCompleted m f params list → IsCandidateList m f (Written params list) candidates → AreDecided f params candidates
         → (generators : List TermRequirement) × IsGeneratorList f params list generators }
-    ensures minimised { (m : Symbols) (f : TermFacts) (params : List ParamId) (list candidates : List TermRequirement)
+    ensures some_minimised { (m : Symbols) (f : TermFacts) (params : List ParamId) (list candidates : List TermRequirement)
         → IsCompleted m f params list → IsCandidateList m f (Written params list) candidates → AreDecided f params candidates
         → (minimised : List TermRequirement) × IsMinimised f params list minimised }
-    ensures same { (m : Symbols) (f : TermFacts) (params : List ParamId) (list candidates minimised : List TermRequirement)
-        → IsCompleted m f params list → IsCandidateList m f (Written params list) candidates → AreDecided f params candidates
+{}
+
+/// Where the completions have ended and one has gone through the list of candidates, the minimised list derives just what the list derives.
+/// Two such lists are equivalent exactly where they have one minimised list.
+pub fn minimised_lists_stand_for_lists()
+    ensures same { (m : Symbols) (f : TermFacts) (params : List ParamId) (list candidates taken minimised : List TermRequirement)
+        → IsCompleted m f params list → IsCandidateList m f (Written params list) candidates → Takes f params [] candidates taken
         → IsMinimised f params list minimised → AreEquivalent f params list minimised }
-    ensures equivalent { (m : Symbols) (f : TermFacts) (params : List ParamId) (list candidates minimised : List TermRequirement)
-        (others candidates_too minimised_too : List TermRequirement)
-        → IsCompleted m f params list → IsCandidateList m f (Written params list) candidates → AreDecided f params candidates
-        → IsCompleted m f params others → IsCandidateList m f (Written params others) candidates_too → AreDecided f params candidates_too
+    ensures equivalent { (m : Symbols) (f : TermFacts) (params : List ParamId) (list candidates taken minimised : List TermRequirement)
+        (others candidates_too taken_too minimised_too : List TermRequirement)
+        → IsCompleted m f params list → IsCandidateList m f (Written params list) candidates → Takes f params [] candidates taken
+        → IsCompleted m f params others → IsCandidateList m f (Written params others) candidates_too
+        → Takes f params [] candidates_too taken_too
         → IsMinimised f params list minimised → IsMinimised f params others minimised_too
         → AreEquivalent f params list others ↔ (minimised ≡ minimised_too) }
 {}
