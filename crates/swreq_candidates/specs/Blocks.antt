@@ -63,16 +63,6 @@ abbrev pub joined_words : List Word → Word
 joined_words [] = []
 joined_words (u ∷ us) = u ++ joined_words us
 
--- The two lists have as many words, which are related one by one.
-pub data Pairwise (R : Word → Word → Type 0) : List Word → List Word → Type 0 where
-  no_pair : Pairwise R [] []
-  pair : {u v : Word} {us vs : List Word} → R u v → Pairwise R us vs → Pairwise R (u ∷ us) (v ∷ vs)
-
--- each of the words is such
-abbrev pub All : (Word → Type 0) → List Word → Type 0
-All P [] = Unit {0}
-All P (u ∷ us) = P u × All P us
-
 -- In each protocol, `Self` conforms to a protocol that declares the name of a member symbol.
 abbrev pub AreMembersNamed : Symbols → TermFacts → Type 0
 AreMembersNamed m f = (k : ℕ) → IsRank m k → HasName f (SelfOf (proto_of m k)) self (name_of m k)

@@ -1,5 +1,6 @@
 //! Laws on blocks and candidates, over the definitions alone.
 ghost use Rattle.std.specs.Prelude.{◌≡◌, ◌↔◌, ℕ, List, [], ◌∷◌, Some, Contains, slice_get};
+ghost use Rattle.std.specs.List.{All, AllZip};
 ghost use Rattle.swreq_param.specs.declared.ids.ParamId.{ParamId};
 ghost use Rattle.swreq_derive.specs.Derivation.{TermRequirement, TermStatement, TermFacts, Source, Derivable};
 ghost use Rattle.swreq_derive.specs.Derivation.Source.{Written};
@@ -17,7 +18,7 @@ ghost use Rattle.swreq_rounds.specs.Presents.{ProtocolEquation, AreProtocolRules
 ghost use Rattle.swreq_reading.specs.Symbols.{Word, Symbols, AreSymbolsOf};
 ghost use Rattle.swreq_reading.specs.Equations.{AreCongruent, UsableEquation};
 ghost use Rattle.swreq_reading.specs.Types.{HasFirsts};
-ghost use Rattle.swreq_candidates.specs.Blocks.{Cut, Pairwise, All, AreMembersDeclared, AreMembersNamed, blocks, joined_words};
+ghost use Rattle.swreq_candidates.specs.Blocks.{Cut, AreMembersDeclared, AreMembersNamed, blocks, joined_words};
 ghost use Rattle.swreq_candidates.specs.Blocks.Place.{Outside};
 ghost use Rattle.swreq_candidates.specs.Candidates.{IsCandidate, IsCandidateList, IsReadOff};
 ghost use Rattle.swreq_candidates.specs.Completed.{HasLeastWords, IsCompleted, IsWordOfText};
@@ -30,7 +31,7 @@ pub fn congruence_goes_by_blocks()
     ensures congruent { (m : Symbols) (f : TermFacts) (params : List ParamId) (list : List TermRequirement)
         → AreSymbolsOf m f → AreMembersNamed m f
         → (u v : Word) (k : Cut m f (Written params list) Outside u) (l : Cut m f (Written params list) Outside v)
-        → AreCongruent m f (Written params list) u v ↔ Pairwise (AreCongruent m f (Written params list)) (blocks k) (blocks l) }
+        → AreCongruent m f (Written params list) u v ↔ AllZip (AreCongruent m f (Written params list)) (blocks k) (blocks l) }
     ensures least { (m : Symbols) (f : TermFacts) (params : List ParamId) (list : List TermRequirement)
         → AreSymbolsOf m f → AreMembersNamed m f
         → (u : Word) (k : Cut m f (Written params list) Outside u)
