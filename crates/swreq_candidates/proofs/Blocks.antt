@@ -1,5 +1,6 @@
 -- A link leaves the number of blocks, and changes one block to a congruent one.
 use Rattle.std.proofs.Common.{◌≡◌, ℕ, List, [], ◌∷◌, ◌++◌, Contains, refl, subst, subst₂, sym}
+use Rattle.std.specs.List.{AllZip}
 use Rattle.swreq_param.specs.declared.ids.ParamId.{ParamId}
 use Rattle.swreq_param.specs.declared.ids.ProtoId.{ProtoId}
 use Rattle.swreq_param.specs.Terms.{Term, head, self}
@@ -25,9 +26,8 @@ use Rattle.swreq_reading.proofs.Correspondence.{own, read, root_param, self_conf
 use Rattle.swreq_reading.proofs.Links.{of_self}
 use Rattle.swreq_reading.proofs.Readings.{unbound, valid_after}
 use Rattle.swreq_reading.proofs.Spelling.{spell-append}
-use Rattle.swreq_candidates.specs.Blocks.{AreMembersNamed, Cut, GoesOn, Opens, Pairwise, Place, blocks, current, over}
-use Rattle.swreq_candidates.specs.Blocks.Cut.{alone, at_end, on, opened}
-use Rattle.swreq_candidates.specs.Blocks.Pairwise.{no_pair, pair}
+use Rattle.swreq_candidates.specs.Blocks.{AreMembersNamed, Cut, GoesOn, Place, blocks, current, over}
+use Rattle.swreq_candidates.specs.Blocks.Cut.{alone, on, opened}
 use Rattle.swreq_candidates.specs.Blocks.Place.{Inside, Outside}
 use Rattle.swreq_candidates.proofs.InsideBlocks.{AreStepsRead, Changes, HasCut, all_same, appears, equal_steps, goes_on, no_steps_read, steps_read, vanishes}
 use Rattle.swreq_candidates.proofs.Longer.{chain_before}
@@ -56,7 +56,7 @@ module _ (m : Symbols) (f : TermFacts) (s : Source) (fit : AreSymbolsOf m f) whe
       → (o : Place) → IsValidPlace o → (k : Cut m f s o (ProtoSymbol p.rank ∷ u)) → HasCut m f s o (ProtoSymbol p.rank ∷ v) (current k) (blocks k)
   unfolding IsValidPlace
   at_proto p u v changes (Inside b t) valid (on c r) = let (k, h, q) = changes b t valid c r in (on c k, h, q)
-  at_proto p u v changes o valid (opened n c r) = let (k, h, q) = changes (SelfOf p) self (generic refl) (self_conforms m f p fit) r in (opened n c k, done, pair h q)
+  at_proto p u v changes o valid (opened n c r) = let (k, h, q) = changes (SelfOf p) self (generic refl) (self_conforms m f p fit) r in (opened n c k, done, (h, q))
   at_proto p u v changes o valid (alone n c r) = absurd (c refl)
 
   -- what is valid from [τ_0_0 : P] is read behind a type that conforms to P, as an equal type
@@ -144,20 +144,22 @@ module _ (m : Symbols) (f : TermFacts) (s : Source) (fit : AreSymbolsOf m f) whe
         let (q, e, d) = goes_on m f s b t name y (named_here b t c) r in (
           on (h, c, named_here b t c) q,
           subst (λ w. C (proto ∷ w) (MemberSymbol k ∷ current q)) (sym e) (shorter (current q)),
-          subst (λ w. Pairwise C w (blocks q)) (sym d) (all_same m f s (blocks q)),
+          subst (λ w. AllZip C w (blocks q)) (sym d) (all_same m f s (blocks q)),
         )
     shorten o (opened n c r) =
         let (q, e, d) = goes_on m f s (SelfOf (proto_of m k)) self name y (named k h) r in (
           opened (no_member o n) (refl, h, named k h) q,
           done,
-          pair (subst (λ w. C (proto ∷ w) (MemberSymbol k ∷ current q)) (sym e) (shorter (current q)))
-              (subst (λ w. Pairwise C w (blocks q)) (sym d) (all_same m f s (blocks q))),
+          (
+            subst (λ w. C (proto ∷ w) (MemberSymbol k ∷ current q)) (sym e) (shorter (current q)),
+            subst (λ w. AllZip C w (blocks q)) (sym d) (all_same m f s (blocks q)),
+          ),
         )
     shorten o (alone n c r) = absurd (c refl)
 
     lengthen : (o : Place) → (c : Cut m f s o (MemberSymbol k ∷ y)) → HasCut m f s o (proto ∷ name ∷ y) (current c) (blocks c)
     lengthen (Inside b t) (on c r) = (on c.1 (on c.2 r), longer (current r), all_same m f s (blocks r))
-    lengthen o (opened n c r) = (opened (no_proto o n) refl (on (named k h) r), done, pair (longer (current r)) (all_same m f s (blocks r)))
+    lengthen o (opened n c r) = (opened (no_proto o n) refl (on (named k h) r), done, (longer (current r), all_same m f s (blocks r)))
     lengthen o (alone n c r) = absurd (c (refl, h, named k h))
 
   -- ---- links, where the equations of the source's own members leave the blocks
@@ -179,8 +181,8 @@ module _ (m : Symbols) (f : TermFacts) (s : Source) (fit : AreSymbolsOf m f) whe
     at_link (there x l) (Inside b t) v (on c r) =
         let (k, h, q) = at_link l (Inside b (after m t x)) (valid_after m f b t x v c) r in (on c k, chain_before (x ∷ []) h, q)
     at_link (there x l) o v (opened n c r) =
-        let (k, h, q) = at_link l (Inside (over m s x) (first m x)) (valid_first m f (over m s x) x c) r in (opened n c k, done, pair (chain_before (x ∷ []) h) q)
-    at_link (there x l) o v (alone n c r) = let (k, h, q) = at_link l Outside tt r in (alone n c k, done, pair done q)
+        let (k, h, q) = at_link l (Inside (over m s x) (first m x)) (valid_first m f (over m s x) x c) r in (opened n c k, done, (chain_before (x ∷ []) h, q))
+    at_link (there x l) o v (alone n c r) = let (k, h, q) = at_link l Outside tt r in (alone n c k, done, (done, q))
 
 -- ---- over a list
 
@@ -206,7 +208,7 @@ module _ (m : Symbols) (f : TermFacts) (ps : List ParamId) (list : List TermRequ
       → Changes m f L L (ParamSymbol g.depth g.index) (Generic g) u (ParamSymbol h.depth h.index) (Generic h) v
       → (o : Place) → (k : Cut m f L o (ParamSymbol g.depth g.index ∷ u)) → HasCut m f L o (ParamSymbol h.depth h.index ∷ v) (current k) (blocks k)
   at_param g h u v i j changes (Inside b t) (on c r) = absurd c
-  at_param g h u v i j changes o (opened n c r) = let (k, e, q) = changes r in (opened (not_inside o h) j k, done, pair e q)
+  at_param g h u v i j changes o (opened n c r) = let (k, e, q) = changes r in (opened (not_inside o h) j k, done, (e, q))
   at_param g h u v i j changes o (alone n c r) = absurd (c i)
 
   own_steps : (u : Term) → Derivable f L (IsValid u) → AreStepsRead m f L L (root u) u
@@ -243,14 +245,18 @@ module _ (m : Symbols) (f : TermFacts) (ps : List ParamId) (list : List TermRequ
 
   -- Along a chain the number of blocks stays, and each block is congruent to the one at its place.
   pub blocks_law : AreMembersNamed m f → {u v : Word} → AreCongruent m f L u v → (k : Cut m f L Outside u)
-      → (l : Cut m f L Outside v) × Pairwise (AreCongruent m f L) (blocks k) (blocks l)
+      → (l : Cut m f L Outside v) × AllZip (AreCongruent m f L) (blocks k) (blocks l)
   unfolding IsValidPlace
   blocks_law named done k = (k, all_same m f L (blocks k))
   blocks_law named (more l c) k =
       let (i, e, p) = at_link m f L fit named own_leave l Outside tt k in
       let (j, q) = blocks_law named c i in
-      (j, all_joined p q)
+      (j, all_joined (blocks k) (blocks i) (blocks j) p q)
     where
-      all_joined : {us vs ws : List Word} → Pairwise (AreCongruent m f L) us vs → Pairwise (AreCongruent m f L) vs ws → Pairwise (AreCongruent m f L) us ws
-      all_joined no_pair q = q
-      all_joined (pair x p) (pair y q) = pair (joined x y) (all_joined p q)
+      all_joined : (us vs ws : List Word) → AllZip (AreCongruent m f L) us vs → AllZip (AreCongruent m f L) vs ws → AllZip (AreCongruent m f L) us ws
+      all_joined [] [] [] p q = tt
+      all_joined [] [] (w ∷ ws) p q = absurd q
+      all_joined [] (v ∷ vs) ws p q = absurd p
+      all_joined (u ∷ us) [] ws p q = absurd p
+      all_joined (u ∷ us) (v ∷ vs) [] p q = absurd q
+      all_joined (u ∷ us) (v ∷ vs) (w ∷ ws) (x, p) (y, q) = (joined x y, all_joined us vs ws p q)

@@ -14,11 +14,11 @@ use Rattle.swreq_reading.specs.Symbols.{IsOfText, Symbols, Word}
 use Rattle.swreq_reading.specs.Types.{HasFirsts}
 use Rattle.swreq_reading.proofs.Chained.{self_in_range}
 use Rattle.swreq_canonical.specs.Canonical.{HasReducedTypes, IsCanonical, principal}
-use Rattle.swreq_canonical.specs.Generators.{AreDecided, AreEnough, AreGeneratorsTold, Follows, IsGenerator, IsGeneratorList}
-use Rattle.swreq_canonical.specs.Minimised.{IsMinimised}
+use Rattle.swreq_canonical.specs.Generators.{AreDecided, AreEnough, AreGeneratorsTold, Follows, IsGenerator, IsGeneratorList, Takes}
+use Rattle.swreq_canonical.specs.Minimised.{IsMinimised, Leaves}
 use Rattle.swreq_canonical.proofs.Agreement.{minimised_same, same_by_minimised, same_minimised, some_minimised}
 use Rattle.swreq_canonical.proofs.Sides.{IsOfEarlierType}
-use Rattle.swreq_canonical.proofs.Taking.{generators_told, some_generators}
+use Rattle.swreq_canonical.proofs.Taking.{generator_list, generators_told, some_generators}
 use Rattle.swreq_candidates.specs.Blocks.{Cut, GoesOn, Opens, Place, over}
 use Rattle.swreq_candidates.specs.Blocks.Cut.{alone, at_end, on, opened}
 use Rattle.swreq_candidates.specs.Blocks.Place.{Inside, Outside}
@@ -119,30 +119,36 @@ module _ (m : Symbols) (f : TermFacts) (ps : List ParamId) (list : List TermRequ
   pub enough_here : (candidates : List TermRequirement) → IsCandidateList m f L candidates → AreEnough f ps list candidates
   enough_here candidates all = candidates_are_enough m f ps list ended.symbols ended.of_text ended.in_text ended.ranked candidates all settled_here
 
-  -- ---- where it is decided what lists of candidates derive
+  -- ---- going through the list of candidates
+
+  module _ (candidates taken : List TermRequirement) (all : IsCandidateList m f L candidates) (takes : Takes f ps [] candidates taken) where
+    pub taken_here : IsGeneratorList f ps list taken
+    taken_here = generator_list f ps list candidates taken (enough_here candidates all) takes
+
+    told_here : AreGeneratorsTold f ps list
+    told_here = generators_told f ps list candidates taken (enough_here candidates all) takes
+
+    pub left_here : (left : List TermRequirement) → Leaves f ps [] taken left → IsMinimised f ps list left
+    left_here left leaves = record { generators = taken; are_generators = taken_here; leaves = leaves }
+
+    pub same_here : (minimised : List TermRequirement) → IsMinimised f ps list minimised → AreEquivalent f ps list minimised
+    same_here minimised h = minimised_same f ps list minimised reduced_here told_here h
 
   module _ (candidates : List TermRequirement) (all : IsCandidateList m f L candidates) (decided : AreDecided f ps candidates) where
     pub generators_here : (generators : List TermRequirement) × IsGeneratorList f ps list generators
     generators_here = let (out, t, g) = some_generators f ps list candidates (enough_here candidates all) decided in (out, g)
 
-    pub told_here : AreGeneratorsTold f ps list
-    told_here =
-        let (out, t, g) = some_generators f ps list candidates (enough_here candidates all) decided in
-        generators_told f ps list candidates out (enough_here candidates all) t
-
     pub minimised_here : (minimised : List TermRequirement) × IsMinimised f ps list minimised
     minimised_here = some_minimised f ps list candidates (enough_here candidates all) decided
 
-    pub same_here : (minimised : List TermRequirement) → IsMinimised f ps list minimised → AreEquivalent f ps list minimised
-    same_here minimised h = minimised_same f ps list minimised reduced_here told_here h
-
-pub one_minimised : (m : Symbols) (f : TermFacts) (ps : List ParamId) (list candidates minimised others candidates_too minimised_too : List TermRequirement)
-    → IsCompleted m f ps list → IsCandidateList m f (Written ps list) candidates → AreDecided f ps candidates
-    → IsCompleted m f ps others → IsCandidateList m f (Written ps others) candidates_too → AreDecided f ps candidates_too
+pub one_minimised : (m : Symbols) (f : TermFacts) (ps : List ParamId)
+    (list candidates taken minimised others candidates_too taken_too minimised_too : List TermRequirement)
+    → IsCompleted m f ps list → IsCandidateList m f (Written ps list) candidates → Takes f ps [] candidates taken
+    → IsCompleted m f ps others → IsCandidateList m f (Written ps others) candidates_too → Takes f ps [] candidates_too taken_too
     → IsMinimised f ps list minimised → IsMinimised f ps others minimised_too → AreEquivalent f ps list others ↔ (minimised ≡ minimised_too)
-one_minimised m f ps list candidates minimised others candidates_too minimised_too ended all decided ended_too all_too decided_too h k = (
+one_minimised m f ps list candidates taken minimised others candidates_too taken_too minimised_too ended all takes ended_too all_too takes_too h k = (
   (λ same. same_minimised f ps list others minimised minimised_too same h k),
-  λ e. same_by_minimised f ps list others minimised (reduced_here m f ps list ended) (told_here m f ps list ended candidates all decided)
-      (reduced_here m f ps others ended_too) (told_here m f ps others ended_too candidates_too all_too decided_too) h
+  λ e. same_by_minimised f ps list others minimised (reduced_here m f ps list ended) (told_here m f ps list ended candidates taken all takes)
+      (reduced_here m f ps others ended_too) (told_here m f ps others ended_too candidates_too taken_too all_too takes_too) h
       (subst (λ x. IsMinimised f ps others x) (sym e) k),
 )

@@ -1,15 +1,15 @@
 -- A word is cut in one way, its blocks make the word, and words are congruent just where their blocks are.
 use Rattle.std.proofs.Common.{◌≡◌, ◌↔◌, List, [], ◌∷◌, ◌++◌, refl, ap, ap₂, subst, subst₂}
+use Rattle.std.specs.List.{AllZip}
 use Rattle.swreq_param.specs.declared.ids.ParamId.{ParamId}
 use Rattle.swreq_derive.specs.Derivation.{Source, TermFacts, TermRequirement}
 use Rattle.swreq_derive.specs.Derivation.Source.{Written}
 use Rattle.swreq_word.specs.Relations.Chain.{done}
 use Rattle.swreq_word.proofs.Chains.{joined}
-use Rattle.swreq_reading.specs.Equations.{AreCongruent, Linking}
+use Rattle.swreq_reading.specs.Equations.{AreCongruent, Linking, UsableEquation}
 use Rattle.swreq_reading.specs.Symbols.{AreSymbolsOf, Symbols, Word}
-use Rattle.swreq_candidates.specs.Blocks.{AreMembersNamed, Cut, Pairwise, Place, blocks, current, joined_words}
+use Rattle.swreq_candidates.specs.Blocks.{AreMembersNamed, Cut, Place, blocks, current, joined_words}
 use Rattle.swreq_candidates.specs.Blocks.Cut.{alone, at_end, on, opened}
-use Rattle.swreq_candidates.specs.Blocks.Pairwise.{no_pair, pair}
 use Rattle.swreq_candidates.specs.Blocks.Place.{Outside}
 use Rattle.swreq_candidates.proofs.Blocks.{blocks_law}
 use Rattle.swreq_candidates.proofs.Longer.{chain_after, chain_before}
@@ -44,17 +44,19 @@ same_blocks m f s u k l = (one_cut k l).1
 pub whole_word : (m : Symbols) (f : TermFacts) (s : Source) (u : Word) (k : Cut m f s Outside u) → joined_words (blocks k) ≡ u
 whole_word m f s u k = subst (λ v. v ++ joined_words (blocks k) ≡ u) (none_current k) (all_joined k)
 
-chain_joined : {E : Word → Word → Type 0} {us vs : List Word} → Pairwise (Linking E) us vs → Linking E (joined_words us) (joined_words vs)
-chain_joined no_pair = done
-chain_joined (pair {u = u} {v = v} {us = us} {vs = vs} c p) = joined (chain_after (joined_words us) c) (chain_before v (chain_joined p))
+chain_joined : (E : Word → Word → Type 0) (us vs : List Word) → AllZip (Linking E) us vs → Linking E (joined_words us) (joined_words vs)
+chain_joined E [] [] p = done
+chain_joined E [] (v ∷ vs) p = absurd p
+chain_joined E (u ∷ us) [] p = absurd p
+chain_joined E (u ∷ us) (v ∷ vs) (c, p) = joined (chain_after (joined_words us) c) (chain_before v (chain_joined E us vs p))
 
 module _ (m : Symbols) (f : TermFacts) (ps : List ParamId) (list : List TermRequirement) (fit : AreSymbolsOf m f) (named : AreMembersNamed m f) where
   abbrev C : Word → Word → Type 0
   C = AreCongruent m f (Written ps list)
 
   pub congruent_by_blocks : (u v : Word) (k : Cut m f (Written ps list) Outside u) (l : Cut m f (Written ps list) Outside v)
-      → C u v ↔ Pairwise C (blocks k) (blocks l)
+      → C u v ↔ AllZip C (blocks k) (blocks l)
   congruent_by_blocks u v k l = (
-    (λ c. let z = blocks_law m f ps list fit named c k in subst (λ us. Pairwise C (blocks k) us) (same_blocks m f (Written ps list) v z.0 l) z.1),
-    λ p. subst₂ C (whole_word m f (Written ps list) u k) (whole_word m f (Written ps list) v l) (chain_joined p),
+    (λ c. let z = blocks_law m f ps list fit named c k in subst (λ us. AllZip C (blocks k) us) (same_blocks m f (Written ps list) v z.0 l) z.1),
+    λ p. subst₂ C (whole_word m f (Written ps list) u k) (whole_word m f (Written ps list) v l) (chain_joined (UsableEquation m f (Written ps list)) (blocks k) (blocks l) p),
   )

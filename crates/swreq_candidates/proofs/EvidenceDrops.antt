@@ -1,18 +1,15 @@
 -- Evidence by a list whose types are plain in it is a derivation.
-use Rattle.std.proofs.Common.{◌≡◌, ◌⊎◌, ℕ, List, [], ◌∷◌, ◌++◌, Contains, append-nil, refl, subst, subst₂, sym, inl, inr}
+use Rattle.std.proofs.Common.{◌≡◌, ◌⊎◌, List, [], ◌∷◌, ◌++◌, Contains, append-nil, subst, subst₂, sym, inl, inr}
 use Rattle.std.proofs.lemmas.List.Elements.{Contains-append_left, Contains-append_right, Contains-append_cases}
 use Rattle.swreq_param.specs.declared.ids.ParamId.{ParamId}
-use Rattle.swreq_param.specs.declared.ids.ProtoId.{ProtoId}
 use Rattle.swreq_param.specs.declared.ids.Step.TheVariants.{Bound, Name}
-use Rattle.swreq_param.specs.Terms.{Term, self}
+use Rattle.swreq_param.specs.Terms.{Term}
 use Rattle.swreq_param.specs.Terms.Term.{Generic, Member}
 use Rattle.swreq_derive.specs.Derivation.{Derivable, Source, TermFacts, TermRequirement}
-use Rattle.swreq_derive.specs.Derivation.Derives.{assoc_conf, assoc_decl, conf, generic}
+use Rattle.swreq_derive.specs.Derivation.Derives.{assoc_decl, conf, generic}
 use Rattle.swreq_derive.specs.Derivation.Source.{Written}
 use Rattle.swreq_derive.specs.Derivation.TermRequirement.{Conforms, Equals, IsAnyObject}
 use Rattle.swreq_derive.specs.Derivation.TermStatement.{IsValid, Requires}
-use Rattle.swreq_derive.specs.Inheritance.{LeadsTo}
-use Rattle.swreq_derive.specs.Inheritance.LeadsTo.{further, here}
 use Rattle.swreq_derive.specs.WellFormed.{HasValidSides}
 use Rattle.swreq_derive.proofs.Members.{first_member, later_member, member_cases}
 use Rattle.swreq_word.specs.Relations.{Linked}
@@ -37,6 +34,7 @@ use Rattle.swreq_canonical.proofs.Following.{cut_sides, valid_by_more, with_side
 use Rattle.swreq_canonical.proofs.Ordered.{strict_requirements, transitive_requirements}
 use Rattle.swreq_canonical.proofs.Sides.{IsOfEarlierType, sides_by_earlier}
 use Rattle.swreq_candidates.specs.Evidence.{AreRulesOfRest, HasEvidence, HasPlainTypes, IsPlain, IsPlainIn, RestEquation}
+use Rattle.swreq_candidates.proofs.Inherited.{reached}
 use Rattle.swreq_candidates.proofs.Longer.{chain_after, chain_before, link_before}
 
 -- ---- steps by rules
@@ -59,10 +57,6 @@ module _ (m : Symbols) (f : TermFacts) (ps : List ParamId) (rest : List TermRequ
   links (step_back {a = u} {b = v} s c) = more (turn (a_link v u s)) (links c)
 
 -- ---- plain types are valid
-
-reached : {f : TermFacts} {s : Source} {t : Term} {p q : ProtoId} → Derivable f s (Requires (Conforms t q)) → LeadsTo f q p → Derivable f s (Requires (Conforms t p))
-reached c here = c
-reached c (further r h) = assoc_conf {u = self} (reached c r) h (λ _. generic refl)
 
 module _ (m : Symbols) (f : TermFacts) (ps : List ParamId) (rest : List TermRequirement) where
   abbrev R : Source

@@ -1,5 +1,6 @@
 -- What is cut inside a block, and how it changes where the words behind a type change.
 use Rattle.std.proofs.Common.{◌≡◌, List, [], ◌∷◌, refl, ap, subst, subst₂, sym, ◌∙◌, arith}
+use Rattle.std.specs.List.{AllZip}
 use Rattle.swreq_param.specs.Terms.{Term, member_count}
 use Rattle.swreq_param.specs.Terms.Term.{Generic, Member}
 use Rattle.swreq_derive.specs.Derivation.{Derivable, Source, TermFacts}
@@ -14,9 +15,8 @@ use Rattle.swreq_reading.specs.Readings.{CanRead, CanReadAll, after}
 use Rattle.swreq_reading.specs.Symbols.{Symbols, Word, steps, symbol}
 use Rattle.swreq_reading.proofs.Chained.{behind}
 use Rattle.swreq_reading.proofs.Readings.{read_same, rest_is_read, unbound}
-use Rattle.swreq_candidates.specs.Blocks.{Cut, Pairwise, Place, blocks, current}
+use Rattle.swreq_candidates.specs.Blocks.{Cut, Place, blocks, current}
 use Rattle.swreq_candidates.specs.Blocks.Cut.{alone, at_end, on, opened}
-use Rattle.swreq_candidates.specs.Blocks.Pairwise.{no_pair, pair}
 use Rattle.swreq_candidates.specs.Blocks.Place.{Inside}
 use Rattle.swreq_candidates.proofs.Longer.{chain_before}
 
@@ -24,23 +24,23 @@ module _ (m : Symbols) (f : TermFacts) (s : Source) where
   abbrev C : Word → Word → Type 0
   C = AreCongruent m f s
 
-  pub all_same : (us : List Word) → Pairwise C us us
-  all_same [] = no_pair
-  all_same (u ∷ us) = pair done (all_same us)
+  pub all_same : (us : List Word) → AllZip C us us
+  all_same [] = tt
+  all_same (u ∷ us) = (done, all_same us)
 
   -- w is cut from the place o, into a rest of the block that is congruent to u, and blocks that are congruent to us
   abbrev pub HasCut : Place → Word → Word → List Word → Type 0
-  HasCut o w u us = (k : Cut m f s o w) × C u (current k) × Pairwise C us (blocks k)
+  HasCut o w u us = (k : Cut m f s o w) × C u (current k) × AllZip C us (blocks k)
 
   -- behind an equal type the cut is the same
   pub behind_equal : (b : Source) (t u : Term) (w : Word) → Derivable f b (Requires (Equals t u)) → (k : Cut m f s (Inside b t) w) → HasCut (Inside b u) w (current k) (blocks k)
-  behind_equal b t u [] e at_end = (at_end, done, no_pair)
+  behind_equal b t u [] e at_end = (at_end, done, tt)
   behind_equal b t u (x ∷ w) e (on c r) =
       let (d, g) = read_same m f b t u x e c in
       let (k, h, p) = behind_equal b (after m t x) (after m u x) w g r in
       (on d k, chain_before (x ∷ []) h, p)
-  behind_equal b t u (x ∷ w) e (opened n c r) = (opened (λ h. n (read_same m f b u t x (symm e) h).0) c r, done, pair done (all_same (blocks r)))
-  behind_equal b t u (x ∷ w) e (alone n c r) = (alone (λ h. n (read_same m f b u t x (symm e) h).0) c r, done, pair done (all_same (blocks r)))
+  behind_equal b t u (x ∷ w) e (opened n c r) = (opened (λ h. n (read_same m f b u t x (symm e) h).0) c r, done, (done, all_same (blocks r)))
+  behind_equal b t u (x ∷ w) e (alone n c r) = (alone (λ h. n (read_same m f b u t x (symm e) h).0) c r, done, (done, all_same (blocks r)))
 
   -- ---- the steps of a type parameter, read behind another
 
@@ -90,18 +90,18 @@ module _ (m : Symbols) (f : TermFacts) (s : Source) where
   -- Where the block is read as t up to v, behind the symbol x, v may be changed to w, behind y where it is read as u: the block stays congruent,
   -- and so do those after it.
   abbrev pub Changes : Source → Symbol → Term → Word → Symbol → Term → Word → Type 0
-  Changes b x t v y u w = (k : Cut m f s (Inside b t) v) → (l : Cut m f s (Inside b u) w) × C (x ∷ current k) (y ∷ current l) × Pairwise C (blocks k) (blocks l)
+  Changes b x t v y u w = (k : Cut m f s (Inside b t) v) → (l : Cut m f s (Inside b u) w) × C (x ∷ current k) (y ∷ current l) × AllZip C (blocks k) (blocks l)
 
   -- a change behind steps that are read
   behind_steps : (b : Source) (x y : Symbol) (t u p q : Term) (v w : Word) → AreStepsRead b t p → AreStepsRead b u q
       → ((k : Cut m f s (Inside b (unbound m t p)) v) → (l : Cut m f s (Inside b (unbound m u q)) w)
-      × C (x ∷ steps m p (current k)) (y ∷ steps m q (current l)) × Pairwise C (blocks k) (blocks l))
+      × C (x ∷ steps m p (current k)) (y ∷ steps m q (current l)) × AllZip C (blocks k) (blocks l))
       → Changes b x t (steps m p v) y u (steps m q w)
   behind_steps b x y t u p q v w h i inner k =
       let (r, e, d) = without_steps b t p v h k in
       let (l, c, a) = inner r in
       let (z, g, j) = with_steps b u q w i l in
-      (z, subst₂ (λ c d. C (x ∷ c) (y ∷ d)) (sym e) (sym g) c, subst₂ (Pairwise C) (sym d) (sym j) a)
+      (z, subst₂ (λ c d. C (x ∷ c) (y ∷ d)) (sym e) (sym g) c, subst₂ (λ a b. AllZip C a b) (sym d) (sym j) a)
 
   placed : (b : Source) (w : Word) {t u : Term} → t ≡ u → (k : Cut m f s (Inside b t) w) → (l : Cut m f s (Inside b u) w) × (current l ≡ current k) × (blocks l ≡ blocks k)
   placed b w e k = subst (λ z. (l : Cut m f s (Inside b z) w) × (current l ≡ current k) × (blocks l ≡ blocks k)) e (k, refl, refl)
@@ -113,12 +113,12 @@ module _ (m : Symbols) (f : TermFacts) (s : Source) where
     vanishes link = behind_steps b x x t t p p (z ∷ w) w h h (λ k.
         let (r, e, d) = goes_on b (unbound m t p) z w c k in
         let (l, g, j) = placed b w stays r in
-        (l, subst₂ (λ u v. C (x ∷ steps m p u) (x ∷ steps m p v)) (sym e) (sym g) (link (current r)), subst₂ (Pairwise C) (sym d) (sym j) (all_same (blocks r))))
+        (l, subst₂ (λ u v. C (x ∷ steps m p u) (x ∷ steps m p v)) (sym e) (sym g) (link (current r)), subst₂ (λ a b. AllZip C a b) (sym d) (sym j) (all_same (blocks r))))
 
     pub appears : ((r : Word) → C (x ∷ steps m p r) (x ∷ steps m p (z ∷ r))) → Changes b x t (steps m p w) x t (steps m p (z ∷ w))
     appears link = behind_steps b x x t t p p w (z ∷ w) h h (λ k.
         let (l, g, j) = placed b w (sym stays) k in
-        (on c l, subst (λ u. C (x ∷ steps m p (current k)) (x ∷ steps m p (z ∷ u))) (sym g) (link (current k)), subst (Pairwise C (blocks k)) (sym j) (all_same (blocks k))))
+        (on c l, subst (λ u. C (x ∷ steps m p (current k)) (x ∷ steps m p (z ∷ u))) (sym g) (link (current k)), subst (λ a. AllZip C (blocks k) a) (sym j) (all_same (blocks k))))
 
   -- steps of equal types
   pub equal_steps : (b : Source) (x y : Symbol) (t u p q : Term) (w : Word) → AreStepsRead b t p → AreStepsRead b u q

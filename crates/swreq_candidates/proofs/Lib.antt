@@ -1,5 +1,7 @@
 pub mod Longer
 pub mod LessParts
+pub mod Searches
+pub mod Inherited
 pub mod InsideBlocks
 pub mod Blocks
 pub mod Cuts
@@ -10,7 +12,6 @@ pub mod Settled
 pub mod ReadOver
 pub mod ShorterTypes
 pub mod SameTypes
-pub mod Searches
 pub mod AllSettled
 pub mod ReadOff
 pub mod Deciding

@@ -5,7 +5,6 @@ use Rattle.swreq_param.specs.declared.ids.AssocId.{AssocId}
 use Rattle.swreq_param.specs.declared.ids.NameId.{NameId}
 use Rattle.swreq_param.specs.declared.ids.ParamId.{ParamId}
 use Rattle.swreq_param.specs.declared.ids.ProtoId.{ProtoId}
-use Rattle.swreq_param.specs.declared.ids.Step.{Step}
 use Rattle.swreq_param.specs.declared.ids.Step.TheVariants.{Bound, Name}
 use Rattle.swreq_param.specs.Order.{TermBefore}
 use Rattle.swreq_param.specs.Terms.{Term, member_count, self}
@@ -38,7 +37,7 @@ use Rattle.swreq_canonical.specs.Canonical.{HasReducedTypes, principal}
 use Rattle.swreq_canonical.specs.Generators.{Follows}
 use Rattle.swreq_canonical.proofs.Covering.{follows_in_list}
 use Rattle.swreq_canonical.proofs.Following.{by_one, by_two}
-use Rattle.swreq_canonical.proofs.ReducedLemmas.{reduced_valid, result_reduced}
+use Rattle.swreq_canonical.proofs.ReducedLemmas.{member_before, reduced_valid, result_reduced}
 use Rattle.swreq_canonical.proofs.Sides.{IsOfEarlierType, IsShorter, no_longer, shorter_is_earlier, valid_by_shorter}
 use Rattle.swreq_candidates.specs.Blocks.{AreMembersNamed, Cut}
 use Rattle.swreq_candidates.specs.Blocks.Place.{Outside}
@@ -63,10 +62,6 @@ no_more_members m t (MemberSymbol k ∷ w) = let h = no_more_members m (Member t
 no_more_members m t (ParamSymbol d i ∷ w) = let h = no_more_members m t w in omega arith
 no_more_members m t (NameSymbol a ∷ w) = let h = no_more_members m (Member t (Name (record { rank = a }))) w in omega arith
 no_more_members m t (LayoutSymbol ∷ w) = let h = no_more_members m t w in omega arith
-
-member_before : (t u : Term) (x y : Step) → TermBefore t u → TermBefore (Member t x) (Member u y)
-member_before t u x y (inl h) = inl (omega arith)
-member_before t u x y (inr h) = inr (ap (λ n. n + 1) h.0, inl h.1)
 
 module _ (m : Symbols) (f : TermFacts) (ps : List ParamId) (list : List TermRequirement) (fit : AreSymbolsOf m f) (ranges : AreOfText m f)
     (n : IsInText m (Written ps list)) (ranked : AreRanked m f) where

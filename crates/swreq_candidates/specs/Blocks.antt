@@ -1,8 +1,11 @@
 -- How a word is cut into blocks, from the left. A block is the longest stretch that has a reading, and a symbol that begins no reading is a
 -- block by itself.
 use Rattle.std.specs.Prelude.{ℕ, List, [], ◌∷◌, ◌++◌}
+use Rattle.swreq_param.specs.declared.ids.AssocId.{AssocId}
+use Rattle.swreq_param.specs.declared.ids.ProtoId.{ProtoId}
 use Rattle.swreq_param.specs.Terms.{Term, self}
-use Rattle.swreq_derive.specs.Derivation.{TermFacts, Source}
+use Rattle.swreq_derive.specs.Derivation.{TermFacts, Source, Declares}
+use Rattle.swreq_derive.specs.Inheritance.{LeadsTo}
 use Rattle.swreq_derive.specs.Derivation.Source.{SelfOf}
 use Rattle.swreq_word.specs.declared.symbols.Symbol.{Symbol}
 use Rattle.swreq_word.specs.declared.symbols.Symbol.TheVariants.{Proto as ProtoSymbol, Member as MemberSymbol, Param as ParamSymbol, Name as NameSymbol, Layout as LayoutSymbol}
@@ -34,9 +37,12 @@ Opens m f s x = CanBegin m f (over m s x) x
 -- The rest of a word, cut: each symbol goes on with the block if it can, or else opens the next block if it can, or else stands alone.
 pub data Cut (m : Symbols) (f : TermFacts) (s : Source) : Place → Word → Type 0 where
   at_end : {o : Place} → Cut m f s o []
-  on : {b : Source} {t : Term} {x : Symbol} {w : Word} → CanRead m f b t x → Cut m f s (Inside b (after m t x)) w → Cut m f s (Inside b t) (x ∷ w)
-  opened : {o : Place} {x : Symbol} {w : Word} → (GoesOn m f o x → ⊥) → Opens m f s x → Cut m f s (Inside (over m s x) (first m x)) w → Cut m f s o (x ∷ w)
-  alone : {o : Place} {x : Symbol} {w : Word} → (GoesOn m f o x → ⊥) → (Opens m f s x → ⊥) → Cut m f s Outside w → Cut m f s o (x ∷ w)
+  on : {b : Source} {t : Term} {x : Symbol} {w : Word}
+      → CanRead m f b t x → Cut m f s (Inside b (after m t x)) w → Cut m f s (Inside b t) (x ∷ w)
+  opened : {o : Place} {x : Symbol} {w : Word}
+      → (GoesOn m f o x → ⊥) → Opens m f s x → Cut m f s (Inside (over m s x) (first m x)) w → Cut m f s o (x ∷ w)
+  alone : {o : Place} {x : Symbol} {w : Word}
+      → (GoesOn m f o x → ⊥) → (Opens m f s x → ⊥) → Cut m f s Outside w → Cut m f s o (x ∷ w)
 
 -- what is left of the block in which one stands
 abbrev pub current : {m : Symbols} {f : TermFacts} {s : Source} {o : Place} {w : Word} → Cut m f s o w → Word
@@ -57,16 +63,11 @@ abbrev pub joined_words : List Word → Word
 joined_words [] = []
 joined_words (u ∷ us) = u ++ joined_words us
 
--- The two lists have as many words, which are related one by one.
-pub data Pairwise (R : Word → Word → Type 0) : List Word → List Word → Type 0 where
-  no_pair : Pairwise R [] []
-  pair : {u v : Word} {us vs : List Word} → R u v → Pairwise R us vs → Pairwise R (u ∷ us) (v ∷ vs)
-
--- each of the words is such
-abbrev pub All : (Word → Type 0) → List Word → Type 0
-All P [] = Unit {0}
-All P (u ∷ us) = P u × All P us
-
 -- In each protocol, `Self` conforms to a protocol that declares the name of a member symbol.
 abbrev pub AreMembersNamed : Symbols → TermFacts → Type 0
 AreMembersNamed m f = (k : ℕ) → IsRank m k → HasName f (SelfOf (proto_of m k)) self (name_of m k)
+
+-- Each member symbol is of a name that its protocol declares, or a protocol that this one inherits.
+abbrev pub AreMembersDeclared : Symbols → TermFacts → Type 0
+AreMembersDeclared m f =
+    (k : ℕ) → IsRank m k → (p : ProtoId) × (d : AssocId) × LeadsTo f (proto_of m k) p × Declares f p (name_of m k) d

@@ -33,8 +33,9 @@ SpeaksOf m f s (Member t (Bound d)) l =
     (u : Word) × (x : Symbol) × (a : NameId) × (l ≡ u ++ x ∷ []) × IsTypeOf m f s u t × IsNamed m x a × IsFirstFor f s t a d
 SpeaksOf m f s (Member t (Name a)) l = ⊥
 
--- What a rule says: `u·[P] => u` says [R : P] and `u·[layout: AnyObject] => u` says [R : AnyObject], where R is the type of u; a rule whose
--- left side speaks of V says [U == V], where U is the type of the right side, unless they are the same. The sides are valid type parameters.
+-- What a rule says: `u·[P] => u` says [R : P] and `u·[layout: AnyObject] => u` says [R : AnyObject], where R is the type of u; a rule
+-- whose left side speaks of V says [U == V], where U is the type of the right side, unless they are the same. The sides are valid type
+-- parameters.
 abbrev pub IsReadOff : Symbols → TermFacts → Source → Word → Word → TermRequirement → Type 0
 IsReadOff m f s l r (Conforms t p) = Derivable f s (IsValid t) × IsTypeOf m f s r t × (l ≡ r ++ ProtoSymbol p.rank ∷ [])
 IsReadOff m f s l r (IsAnyObject t) = Derivable f s (IsValid t) × IsTypeOf m f s r t × (l ≡ r ++ LayoutSymbol ∷ [])

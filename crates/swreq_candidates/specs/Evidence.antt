@@ -1,5 +1,5 @@
 -- When a requirement may be dropped on evidence, without completing a list.
-use Rattle.std.specs.Prelude.{◌≡◌, ◌⊎◌, ℕ, List, [], ◌∷◌, Some, Contains, slice_get}
+use Rattle.std.specs.Prelude.{◌≡◌, ◌⊎◌, ℕ, List, Some, Contains, slice_get}
 use Rattle.swreq_param.specs.declared.ids.NameId.{NameId}
 use Rattle.swreq_param.specs.declared.ids.ParamId.{ParamId}
 use Rattle.swreq_param.specs.declared.ids.ProtoId.{ProtoId}
@@ -15,8 +15,8 @@ use Rattle.swreq_reading.specs.Symbols.{Word, Symbols, left_side, right_side}
 use Rattle.swreq_reading.specs.Equations.{Linking}
 use Rattle.swreq_rounds.specs.Presents.{ProtocolEquation}
 
--- A type is plain in a list: it is a generic parameter, or a bound member [P]A of a plain type of which the list holds a conformance to P or
--- to a protocol that inherits P.
+-- A type is plain in a list: it is a generic parameter, or a bound member [P]A of a plain type of which the list holds a conformance to P
+-- or to a protocol that inherits P.
 abbrev pub IsPlainIn : TermFacts → List ParamId → List TermRequirement → Term → Type 0
 IsPlainIn f params list (Generic g) = Contains params g
 IsPlainIn f params list (Member t (Bound d)) =

@@ -1,12 +1,13 @@
 //! Laws on blocks and candidates, over the definitions alone.
-ghost use Rattle.std.specs.Prelude.{◌≡◌, ◌↔◌, List, [], ◌∷◌, ℕ, Some, slice_get};
+ghost use Rattle.std.specs.Prelude.{◌≡◌, ◌↔◌, ℕ, List, [], ◌∷◌, Some, Contains, slice_get};
+ghost use Rattle.std.specs.List.{All, AllZip};
 ghost use Rattle.swreq_param.specs.declared.ids.ParamId.{ParamId};
 ghost use Rattle.swreq_derive.specs.Derivation.{TermRequirement, TermStatement, TermFacts, Source, Derivable};
 ghost use Rattle.swreq_derive.specs.Derivation.Source.{Written};
 ghost use Rattle.swreq_derive.specs.Equivalence.{AreEquivalent};
 ghost use Rattle.swreq_canonical.specs.Canonical.{IsCanonical, HasReducedTypes};
-ghost use Rattle.swreq_canonical.specs.Generators.{IsGenerator, IsGeneratorList, AreEnough, AreDecided};
-ghost use Rattle.swreq_canonical.specs.Minimised.{IsMinimised};
+ghost use Rattle.swreq_canonical.specs.Generators.{IsGenerator, IsGeneratorList, AreEnough, Takes, AreDecided};
+ghost use Rattle.swreq_canonical.specs.Minimised.{Leaves, IsMinimised};
 ghost use Rattle.swreq_word.specs.Least.{IsLeast, IsMinimal};
 ghost use Rattle.swreq_word.specs.Relations.{Linked};
 ghost use Rattle.swreq_rule.specs.declared.rules.Rule.{Rule};
@@ -17,20 +18,20 @@ ghost use Rattle.swreq_rounds.specs.Presents.{ProtocolEquation, AreProtocolRules
 ghost use Rattle.swreq_reading.specs.Symbols.{Word, Symbols, AreSymbolsOf};
 ghost use Rattle.swreq_reading.specs.Equations.{AreCongruent, UsableEquation};
 ghost use Rattle.swreq_reading.specs.Types.{HasFirsts};
-ghost use Rattle.swreq_candidates.specs.Blocks.{Cut, Pairwise, All, AreMembersNamed, blocks, joined_words};
+ghost use Rattle.swreq_candidates.specs.Blocks.{Cut, AreMembersDeclared, AreMembersNamed, blocks, joined_words};
 ghost use Rattle.swreq_candidates.specs.Blocks.Place.{Outside};
 ghost use Rattle.swreq_candidates.specs.Candidates.{IsCandidate, IsCandidateList, IsReadOff};
 ghost use Rattle.swreq_candidates.specs.Completed.{HasLeastWords, IsCompleted, IsWordOfText};
 
-/// A word is cut into blocks in one way, and its blocks make the word. Two words are congruent exactly where they have as many blocks, which
-/// are congruent one by one. So a word is least exactly where its blocks are, and a minimal word is one block.
+/// A word is cut into blocks in one way, and its blocks make the word. Two words are congruent exactly where they have as many blocks,
+/// which are congruent one by one. So a word is least exactly where its blocks are, and a minimal word is one block.
 pub fn congruence_goes_by_blocks()
     ensures one { (m : Symbols) (f : TermFacts) (s : Source) (u : Word) (k l : Cut m f s Outside u) → blocks k ≡ blocks l }
     ensures whole { (m : Symbols) (f : TermFacts) (s : Source) (u : Word) (k : Cut m f s Outside u) → joined_words (blocks k) ≡ u }
     ensures congruent { (m : Symbols) (f : TermFacts) (params : List ParamId) (list : List TermRequirement)
         → AreSymbolsOf m f → AreMembersNamed m f
         → (u v : Word) (k : Cut m f (Written params list) Outside u) (l : Cut m f (Written params list) Outside v)
-        → AreCongruent m f (Written params list) u v ↔ Pairwise (AreCongruent m f (Written params list)) (blocks k) (blocks l) }
+        → AreCongruent m f (Written params list) u v ↔ AllZip (AreCongruent m f (Written params list)) (blocks k) (blocks l) }
     ensures least { (m : Symbols) (f : TermFacts) (params : List ParamId) (list : List TermRequirement)
         → AreSymbolsOf m f → AreMembersNamed m f
         → (u : Word) (k : Cut m f (Written params list) Outside u)
@@ -39,6 +40,12 @@ pub fn congruence_goes_by_blocks()
         → AreSymbolsOf m f → AreMembersNamed m f
         → (u : Word) (k : Cut m f (Written params list) Outside u)
         → IsMinimal (AreCongruent m f (Written params list)) u → blocks k ≡ u ∷ [] }
+{}
+
+/// Where each member symbol is of a name that its protocol or an inherited one declares, `Self` of the protocol conforms to a protocol
+/// that declares it.
+pub fn inherited_members_are_named()
+    ensures { (m : Symbols) (f : TermFacts) → AreMembersDeclared m f → AreMembersNamed m f }
 {}
 
 /// Rules of the protocols, and of a list, whose pairs meet, give the least words, and their reduced system is that of the congruence.
@@ -52,8 +59,9 @@ pub fn complete_rules_give_least_words()
         → IsReducedSystem (AreCongruent m f (Written params list)) system }
 {}
 
-/// Where the completions of the protocols and of a list have ended, each valid type parameter of the list has a reduced type, each statement
-/// is derivable or not, and each word of the text is cut into blocks.
+/// Where the completions of the protocols and of a list have ended, each valid type parameter of the list has a reduced type, each
+/// statement is derivable or not, and each word of the text is cut into blocks. Where those of all lists of some requirements have ended,
+/// it is decided what these lists derive.
 pub fn ended_completions_decide()
     ensures reduced { (m : Symbols) (f : TermFacts) (params : List ParamId) (list : List TermRequirement)
         → IsCompleted m f params list → HasReducedTypes f (Written params list) }
@@ -63,6 +71,9 @@ pub fn ended_completions_decide()
         → IsCompleted m f params list → (st : TermStatement) → Dec (Derivable f (Written params list) st) }
     ensures cut { (m : Symbols) (f : TermFacts) (params : List ParamId) (list : List TermRequirement)
         → IsCompleted m f params list → (u : Word) → IsWordOfText m u → Cut m f (Written params list) Outside u }
+    ensures lists { (m : Symbols) (f : TermFacts) (params : List ParamId) (candidates : List TermRequirement)
+        → ((some : List TermRequirement) → ((r : TermRequirement) → Contains some r → Contains candidates r) → IsCompleted m f params some)
+        → AreDecided f params candidates }
 {}
 
 /// Where they have ended, each generator is a candidate, which is read off a rule of the reduced system, and each candidate is canonical. A
@@ -89,22 +100,34 @@ pub fn candidates_are_read_off()
         → (candidates : List TermRequirement) × IsCandidateList m f (Written params list) candidates }
 {}
 
-/// Where it is decided, too, what lists of candidates derive, there is a list of generators, and a minimised list, which derives just what
-/// the list derives. Two such lists are equivalent exactly where they have one minimised list.
-pub fn minimised_lists_exist()
-    ensures generators { (m : Symbols) (f : TermFacts) (params : List ParamId) (list candidates : List TermRequirement)
+/// Where the completions have ended, what one takes going through the list of candidates in order is the list of generators, and what is
+/// then left of it after dropping is the minimised list. So, where it is decided what lists of candidates derive, there are both.
+pub fn generators_are_taken_from_candidates()
+    ensures generators { (m : Symbols) (f : TermFacts) (params : List ParamId) (list candidates taken : List TermRequirement)
+        → IsCompleted m f params list → IsCandidateList m f (Written params list) candidates → Takes f params [] candidates taken
+        → IsGeneratorList f params list taken }
+    ensures minimised { (m : Symbols) (f : TermFacts) (params : List ParamId) (list candidates taken left : List TermRequirement)
+        → IsCompleted m f params list → IsCandidateList m f (Written params list) candidates → Takes f params [] candidates taken
+        → Leaves f params [] taken left → IsMinimised f params list left }
+    ensures some_generators { (m : Symbols) (f : TermFacts) (params : List ParamId) (list candidates : List TermRequirement)
         → IsCompleted m f params list → IsCandidateList m f (Written params list) candidates → AreDecided f params candidates
         → (generators : List TermRequirement) × IsGeneratorList f params list generators }
-    ensures minimised { (m : Symbols) (f : TermFacts) (params : List ParamId) (list candidates : List TermRequirement)
+    ensures some_minimised { (m : Symbols) (f : TermFacts) (params : List ParamId) (list candidates : List TermRequirement)
         → IsCompleted m f params list → IsCandidateList m f (Written params list) candidates → AreDecided f params candidates
         → (minimised : List TermRequirement) × IsMinimised f params list minimised }
-    ensures same { (m : Symbols) (f : TermFacts) (params : List ParamId) (list candidates minimised : List TermRequirement)
-        → IsCompleted m f params list → IsCandidateList m f (Written params list) candidates → AreDecided f params candidates
+{}
+
+/// Where the completions have ended and one has gone through the list of candidates, the minimised list derives just what the list derives.
+/// Two such lists are equivalent exactly where they have one minimised list.
+pub fn minimised_lists_stand_for_lists()
+    ensures same { (m : Symbols) (f : TermFacts) (params : List ParamId) (list candidates taken minimised : List TermRequirement)
+        → IsCompleted m f params list → IsCandidateList m f (Written params list) candidates → Takes f params [] candidates taken
         → IsMinimised f params list minimised → AreEquivalent f params list minimised }
-    ensures equivalent { (m : Symbols) (f : TermFacts) (params : List ParamId) (list candidates minimised : List TermRequirement)
-        (others candidates_too minimised_too : List TermRequirement)
-        → IsCompleted m f params list → IsCandidateList m f (Written params list) candidates → AreDecided f params candidates
-        → IsCompleted m f params others → IsCandidateList m f (Written params others) candidates_too → AreDecided f params candidates_too
+    ensures equivalent { (m : Symbols) (f : TermFacts) (params : List ParamId) (list candidates taken minimised : List TermRequirement)
+        (others candidates_too taken_too minimised_too : List TermRequirement)
+        → IsCompleted m f params list → IsCandidateList m f (Written params list) candidates → Takes f params [] candidates taken
+        → IsCompleted m f params others → IsCandidateList m f (Written params others) candidates_too
+        → Takes f params [] candidates_too taken_too
         → IsMinimised f params list minimised → IsMinimised f params others minimised_too
         → AreEquivalent f params list others ↔ (minimised ≡ minimised_too) }
 {}

@@ -6,17 +6,19 @@ ghost use Rattle.std.specs.Prelude.{◌≡◌, [], ◌∷◌};
 ghost use Rattle.swreq_word.specs.declared.symbols.Symbol.TheVariants.{Proto, Member, Name};
 ghost use Rattle.swreq_derive.specs.Derivation.{TermRequirement};
 ghost use Rattle.swreq_derive.specs.Derivation.TermRequirement.{Conforms, IsAnyObject, Equals};
-ghost use Rattle.swreq_derive.specs.Worked.{of_one, of_two, τ_0_0, τ_0_1, N, endless, endless_f, shared, shared_f, layouts, layouts_f};
+ghost use Rattle.swreq_derive.specs.Worked.{of_one, of_two, τ_0_0, τ_0_1, bound, N, Q, A_of_P};
+ghost use Rattle.swreq_derive.specs.Worked.{endless, endless_f, shared, shared_f, layouts, layouts_f};
 ghost use Rattle.swreq_reading.specs.Worked.{first_param, endless_symbols, shared_symbols};
 ghost use Rattle.swreq_candidates.specs.Blocks.{Cut, AreMembersNamed, blocks};
 ghost use Rattle.swreq_candidates.specs.Blocks.Place.{Outside};
 ghost use Rattle.swreq_candidates.specs.Candidates.{IsCandidate, IsReadOff};
-ghost use Rattle.swreq_canonical.specs.Worked.{one, Base, inherited, inherited_g};
+ghost use Rattle.swreq_canonical.specs.Worked.{one, two, Base, inherited, inherited_g};
 ghost use Rattle.swreq_candidates.specs.Evidence.{IsPlain, HasEvidence};
 ghost use Rattle.swreq_candidates.specs.Worked.{read_word, broken_word, layouts_symbols, inherited_symbols};
+ghost use Rattle.swreq_candidates.specs.Worked.{implied, implied_symbols, implied_rest};
 
-/// `protocol N { associatedtype Next: N }` and `func f<T: N>()`: a word that is read is one block. Where a name is not read, it stands alone,
-/// and a protocol behind it begins a block of its own. The conformance of T is a candidate.
+/// `protocol N { associatedtype Next: N }` and `func f<T: N>()`: a word that is read is one block. Where a name is not read, it stands
+/// alone, and a protocol behind it begins a block of its own. The conformance of T is a candidate.
 pub fn members_without_end()
     ensures named { AreMembersNamed endless_symbols endless }
     ensures one { (k : Cut endless_symbols endless (of_one endless_f) Outside read_word) × (blocks k ≡ read_word ∷ []) }
@@ -25,24 +27,32 @@ pub fn members_without_end()
     ensures conformance { IsCandidate endless_symbols endless (of_one endless_f) (Conforms τ_0_0 N) }
 {}
 
-/// `protocol P: AnyObject { }` and `func f<T: P, U>() where U == T`: the layout of T is a candidate, and so is the equality with the greater
-/// side on its right alone.
+/// `protocol P: AnyObject { }` and `func f<T: P, U>() where U == T`: the layout of T is a candidate, and so is the equality with the
+/// greater side on its right, and it alone.
 pub fn equal_parameters()
     ensures layout { IsCandidate layouts_symbols layouts (of_two layouts_f) (IsAnyObject τ_0_0) }
     ensures equality { IsCandidate layouts_symbols layouts (of_two layouts_f) (Equals τ_0_0 τ_0_1) }
     ensures turned { IsCandidate layouts_symbols layouts (of_two layouts_f) (Equals τ_0_1 τ_0_0) → ⊥ }
 {}
 
-/// `protocol P { associatedtype A }`, `protocol Q { associatedtype A }` and `func f<T: P & Q>()`: the rule `T.[Q:A] => T.[P:A]` says nothing,
-/// since the bound member of its left side has the least associated type, which is that of its right side.
+/// `protocol P { associatedtype A }`, `protocol Q { associatedtype A }` and `func f<T: P & Q>()`: the rule `T.[Q:A] => T.[P:A]` says
+/// nothing, since the bound member of its left side has the least associated type, which is that of its right side.
 pub fn one_name_in_two_protocols()
     ensures nothing { (r : TermRequirement)
         → IsReadOff shared_symbols shared (of_one shared_f) (first_param ∷ Member 1 ∷ []) (first_param ∷ Member 0 ∷ []) r → ⊥ }
 {}
 
-/// `protocol Base { }`, `protocol Derived: Base { }` and `func g<T: Derived>()`: evidence that the conformance of T to `Base` follows leads by
-/// way of `T.[Derived].[Base]`.
+/// `protocol Base { }`, `protocol Derived: Base { }` and `func g<T: Derived>()`: evidence that the conformance of T to `Base` follows
+/// leads by way of `T.[Derived].[Base]`.
 pub fn conformance_by_inheritance()
     ensures plain { IsPlain inherited one inherited_g }
     ensures evidence { HasEvidence inherited_symbols inherited one inherited_g (Conforms τ_0_0 Base) }
+{}
+
+/// `protocol Q { }`, `protocol P { associatedtype A: Q }` and `func f<T: P, U: Q>() where T.A == U`: evidence that the conformance of U
+/// follows from that of T and the equality leads by way of `T.[P:A].[Q]`. Without the conformance of T the member is not plain.
+pub fn requirement_that_two_others_imply()
+    ensures plain { IsPlain implied two implied_rest }
+    ensures evidence { HasEvidence implied_symbols implied two implied_rest (Conforms τ_0_1 Q) }
+    ensures not_plain { IsPlain implied two (Equals τ_0_1 (bound τ_0_0 A_of_P) ∷ []) → ⊥ }
 {}

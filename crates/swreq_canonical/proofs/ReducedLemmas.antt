@@ -22,9 +22,10 @@ same_or_not t u = elim (total t u) [
   | inr (inr h) ↦ no (λ e. strict u (subst (λ x. TermBefore u x) e h))
 ]
 
-member_before : (t u : Term) (x : Step) → TermBefore u t → TermBefore (Member u x) (Member t x)
-member_before t u x (inl h) = inl (omega arith)
-member_before t u x (inr h) = inr (ap (λ n. n + 1) h.0, inl h.1)
+-- a member of a type parameter that comes before another comes before each member of that one
+pub member_before : (t u : Term) (x y : Step) → TermBefore t u → TermBefore (Member t x) (Member u y)
+member_before t u x y (inl h) = inl (omega arith)
+member_before t u x y (inr h) = inr (ap (λ n. n + 1) h.0, inl h.1)
 
 module _ {f : TermFacts} {s : Source} where
   pub reduced_valid : {t : Term} → IsReduced f s t → Derivable f s (IsValid t)
@@ -51,5 +52,5 @@ module _ {f : TermFacts} {s : Source} where
       let (p, a, c, h) = valid_bound (reduced_valid r) in
       record {
         equal = reflex (sides_of c);
-        least = λ u e b. r.least (Member u (Bound d)) (same_decl (same_conf c (symm e)) e h) (member_before t u (Bound d) b);
+        least = λ u e b. r.least (Member u (Bound d)) (same_decl (same_conf c (symm e)) e h) (member_before u t (Bound d) (Bound d) b);
       }

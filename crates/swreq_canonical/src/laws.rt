@@ -37,8 +37,8 @@ pub fn canonical_requirements_suffice()
         → (st : TermStatement) → Derivable f (Written params list) st → Follows f params (IsCanonical f (Written params list)) st }
 {}
 
-/// A list has at most one list of generators. Where it is told which canonical requirements are generators, these derive just what the list
-/// derives.
+/// A list has at most one list of generators. Where it is told which canonical requirements are generators, these derive just what the
+/// list derives.
 pub fn generators_suffice()
     ensures one { (f : TermFacts) (params : List ParamId) (list generators others : List TermRequirement)
         → IsGeneratorList f params list generators → IsGeneratorList f params list others → generators ≡ others }
@@ -47,8 +47,8 @@ pub fn generators_suffice()
         → AreEquivalent f params list generators }
 {}
 
-/// Of candidates that are enough, those that one takes going through them in order are exactly the generators. So, where it is decided what
-/// lists of candidates derive, there is a list of generators.
+/// Of candidates that are enough, those that one takes going through them in order are exactly the generators. So, where it is decided
+/// what lists of candidates derive, there is a list of generators.
 pub fn generators_are_taken()
     ensures taken { (f : TermFacts) (params : List ParamId) (list candidates out : List TermRequirement)
         → AreEnough f params list candidates → Takes f params [] candidates out → IsGeneratorList f params list out }
@@ -59,8 +59,8 @@ pub fn generators_are_taken()
         → (out : List TermRequirement) × Takes f params [] candidates out × IsGeneratorList f params list out }
 {}
 
-/// Dropping, from the last to the first, keeps what is derivable and the order, and leaves one list, of which no member is derivable from the
-/// others.
+/// Dropping, from the last to the first, keeps what is derivable and the order, and leaves one list, of which no member is derivable
+/// from the others.
 pub fn dropping_keeps()
     ensures same { (f : TermFacts) (params : List ParamId) (all left : List TermRequirement)
         → Leaves f params [] all left → AreEquivalent f params all left }
@@ -72,8 +72,8 @@ pub fn dropping_keeps()
         → Leaves f params [] all left → Leaves f params [] all other → left ≡ other }
 {}
 
-/// The minimised list has canonical members, strictly sorted, none of which is derivable from the others; it derives the list and is derived
-/// from it. There is one where there are candidates that are enough, and it is decided what lists of them derive.
+/// The minimised list has canonical members, strictly sorted, none of which is derivable from the others; it derives the list and is
+/// derived from it. There is one where there are candidates that are enough, and it is decided what lists of them derive.
 pub fn minimised_list_is_minimal()
     ensures canonical { (f : TermFacts) (params : List ParamId) (list minimised : List TermRequirement)
         → IsMinimised f params list minimised

@@ -6,7 +6,8 @@ ghost use Rattle.std.specs.Prelude.{[], Contains};
 ghost use Rattle.swreq_derive.specs.Derivation.{TermRequirement};
 ghost use Rattle.swreq_derive.specs.Derivation.TermRequirement.{Conforms, IsAnyObject, Equals};
 ghost use Rattle.swreq_derive.specs.Equivalence.{AreEquivalent};
-ghost use Rattle.swreq_derive.specs.Worked.{◌·◌, bound, of_one, of_two, τ_0_0, τ_0_1, P, A, A_of_P, A_of_Q, shared, shared_f, layouts, layouts_f, members};
+ghost use Rattle.swreq_derive.specs.Worked.{◌·◌, bound, of_one, of_two, τ_0_0, τ_0_1, P, A, A_of_P, A_of_Q};
+ghost use Rattle.swreq_derive.specs.Worked.{shared, shared_f, layouts, layouts_f, members};
 ghost use Rattle.swreq_canonical.specs.Canonical.{IsCanonical};
 ghost use Rattle.swreq_canonical.specs.CanonicalOrder.{IsStrictlySorted};
 ghost use Rattle.swreq_canonical.specs.Generators.{IsGenerator, IsGeneratorList};
@@ -44,8 +45,8 @@ pub fn one_name_in_two_protocols()
     swreq_derive::worked::one_name_in_two_protocols();
 }
 
-/// `protocol P { associatedtype A }` and `func h<T: P, U: P>() where T == U`: each conformance is derivable from the other and the equality,
-/// and only the later one is dropped.
+/// `protocol P { associatedtype A }` and `func h<T: P, U: P>() where T == U`: each conformance is derivable from the other and the
+/// equality, and only the later one is dropped.
 pub fn later_one_is_dropped()
     ensures { Leaves members two [] members_h members_left }
 {}

@@ -1,3 +1,4 @@
+use Rattle.swreq_derive.specs.Derivation.TermStatement.{Requires}
 use Rattle.swreq_candidates.proofs.Completions.{cuts, derivable_here, firsts_here, reduced_here}
 use Rattle.swreq_candidates.proofs.laws.ended_completions_decide.Goals as goal
 
@@ -9,6 +10,9 @@ returns-clause-first c = firsts_here
 
 pub returns-clause-decided : goal.returns-clause-decided
 returns-clause-decided c = derivable_here
+
+pub returns-clause-lists : goal.returns-clause-lists
+returns-clause-lists c m f params candidates ended rs r sub = derivable_here m f params rs (ended rs sub) (Requires r)
 
 pub returns-clause-cut : goal.returns-clause-cut
 returns-clause-cut c = cuts
