@@ -13,8 +13,8 @@ ghost use Rattle.swreq_valid.specs.Machines.{IsMachineOf};
 
 use crate::machine::Machine;
 use crate::scratch::Scratch;
-use swreq_param::{ParamTable, ProtoId, TermId};
 use swreq_map::vanishes;
+use swreq_param::{ParamTable, ProtoId, TermId};
 use swreq_shown::{Over, least_word};
 use swreq_word::Symbol;
 use swreq_world::World;

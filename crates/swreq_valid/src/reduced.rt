@@ -21,8 +21,8 @@ ghost use Rattle.swreq_valid.specs.Machines.{IsMachineOf};
 use crate::machine::Machine;
 use crate::scratch::Scratch;
 use swreq_complete::CompleteRules;
-use swreq_param::{AssocId, NameId, ParamId, ParamTable, Step, TermId};
 use swreq_map::vanishes;
+use swreq_param::{AssocId, NameId, ParamId, ParamTable, Step, TermId};
 use swreq_word::Symbol;
 use swreq_world::World;
 
