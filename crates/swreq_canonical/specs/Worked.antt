@@ -46,6 +46,10 @@ inherited_g = Conforms τ_0_0 Derived ∷ []
 abbrev pub layouts_canonical : List TermRequirement
 layouts_canonical = Conforms τ_0_0 P ∷ IsAnyObject τ_0_0 ∷ Equals τ_0_0 τ_0_1 ∷ []
 
+-- its generators, which are its minimised list
+abbrev pub layouts_minimised : List TermRequirement
+layouts_minimised = Conforms τ_0_0 P ∷ Equals τ_0_0 τ_0_1 ∷ []
+
 -- ---- two conformances that derive one another
 -- protocol P { associatedtype A }
 -- func h<T: P, U: P>() where T == U

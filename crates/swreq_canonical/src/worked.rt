@@ -12,7 +12,8 @@ ghost use Rattle.swreq_canonical.specs.Canonical.{IsCanonical};
 ghost use Rattle.swreq_canonical.specs.CanonicalOrder.{IsStrictlySorted};
 ghost use Rattle.swreq_canonical.specs.Generators.{IsGenerator, IsGeneratorList};
 ghost use Rattle.swreq_canonical.specs.Minimised.{Leaves, IsMinimised};
-ghost use Rattle.swreq_canonical.specs.Worked.{one, two, inherited, inherited_f, inherited_g, layouts_canonical, members_h, members_left};
+ghost use Rattle.swreq_canonical.specs.Worked.{one, two, inherited, inherited_f, inherited_g, members_h, members_left};
+ghost use Rattle.swreq_canonical.specs.Worked.{layouts_canonical, layouts_minimised};
 
 /// `protocol Base { }`, `protocol Derived: Base { }`, `func f<T: Base & Derived>()` and `func g<T: Derived>()`: equivalent lists. Both
 /// conformances are generators, since the one to `Base` comes first, and then that one is dropped.
@@ -24,7 +25,8 @@ pub fn conformance_by_inheritance()
 {}
 
 /// `protocol P: AnyObject { }` and `func f<T: P, U>() where U == T`: a conformance of U and the equality with the greater side on its left
-/// are not canonical. The layout is, but it is no generator, since it follows from the conformance.
+/// are not canonical. The layout is, but it is no generator, since it follows from the conformance. The conformance and the equality are
+/// the generators, and both are left.
 pub fn equal_parameters()
     ensures canonical { (r : TermRequirement) → Contains layouts_canonical r → IsCanonical layouts (of_two layouts_f) r }
     ensures sorted { IsStrictlySorted layouts_canonical }
@@ -33,6 +35,8 @@ pub fn equal_parameters()
     ensures to_itself { IsCanonical layouts (of_two layouts_f) (Equals τ_0_0 τ_0_0) → ⊥ }
     ensures generator { IsGenerator layouts two layouts_f (Conforms τ_0_0 P) }
     ensures no_generator { IsGenerator layouts two layouts_f (IsAnyObject τ_0_0) → ⊥ }
+    ensures generators { IsGeneratorList layouts two layouts_f layouts_minimised }
+    ensures minimised { IsMinimised layouts two layouts_f layouts_minimised }
 {}
 
 /// `protocol P { associatedtype A }`, `protocol Q { associatedtype A }` and `func f<T: P & Q>()`: the equality of the two bound members is
