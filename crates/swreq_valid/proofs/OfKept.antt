@@ -1,5 +1,5 @@
 -- The plan of the protocols with the kept requirements, and which requirements are usable.
-use Rattle.std.proofs.Common.{◌≡◌, ◌↔◌, ◌∙◌, inl, inr, refl, sym, ap, ap₂, subst, ℕ, zero, suc, ◌<◌, ◌≤◌, ◌+◌, arith, Bool, true, false, List, [], ◌∷◌, ◌++◌, length, map, take, drop, append_assoc, get_or, slice_get, Some, Contains, subst₂, IsTrue, Option, Result, Ok, Err, IfOk}
+use Rattle.std.proofs.Common.{◌≡◌, ◌∙◌, inl, inr, refl, sym, ap, ap₂, subst, ℕ, zero, suc, ◌<◌, ◌≤◌, ◌+◌, arith, Bool, true, false, List, [], ◌∷◌, ◌++◌, length, map, take, drop, append_assoc, get_or, slice_get, Some, Contains, subst₂, Option, Result, Ok, Err, IfOk}
 use Rattle.std.specs.Bool.{Decides, if◌then◌else◌}
 use Rattle.std.proofs.lemmas.Bool.{cases_eq}
 use Rattle.std.proofs.lemmas.List.{append-nil, map-append}
@@ -37,7 +37,7 @@ use Rattle.swreq_valid.specs.declared.wanted.Start.{Start}
 use Rattle.swreq_valid.specs.declared.wanted.Wanted.{Wanted}
 use Rattle.swreq_valid.specs.Answers.{Answers}
 use Rattle.swreq_valid.specs.Flags.{Tells, chosen}
-use Rattle.swreq_valid.specs.Keeping.{AreFlags, IsUsableBy, TellEach, TellUsable, flag_at, flags_of, kept_facts, kept_in, kept_plan}
+use Rattle.swreq_valid.specs.Keeping.{AreFlags, IsUsableBy, TellEach, TellUsable, flags_of, kept_facts, kept_in, kept_plan}
 use Rattle.swreq_valid.specs.Plans.{AreWanted, bare, in_protocol, item_of, items_of, plan_of, says}
 use Rattle.swreq_valid.specs.Rounds.{RoundView, last_rules, rules_of}
 use Rattle.swreq_valid.proofs.Deriving.{self_derivable, self_shown}

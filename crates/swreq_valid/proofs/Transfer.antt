@@ -1,5 +1,5 @@
 -- Rounds look at the associated types alone of the facts.
-use Rattle.std.proofs.Common.{◌≡◌, inl, inr, sym, subst, List, [], Contains, Option, Result, Ok, Err, IfOk}
+use Rattle.std.proofs.Common.{◌≡◌, sym, subst, List, Contains, Option, Result, Ok, Err, IfOk}
 use Rattle.swreq_param.specs.declared.ids.Step.TheVariants.{Bound, Name}
 use Rattle.swreq_param.specs.Terms.{Term}
 use Rattle.swreq_param.specs.Terms.Term.{Generic, Member}
@@ -15,7 +15,7 @@ use Rattle.swreq_complete.specs.declared.limit.Limits.{Limits}
 use Rattle.swreq_reading.specs.Shown.{ShowsUsable, ShowsValid}
 use Rattle.swreq_reading.specs.Symbols.{Symbols, Word}
 use Rattle.swreq_rounds.specs.Plan.{AreShown, Item, Plan}
-use Rattle.swreq_rounds.specs.Rounds.{ComesTo, IsLastRound, IsOutcome, IsRound, IsStoppedRound, LeavesUsable, Selects}
+use Rattle.swreq_rounds.specs.Rounds.{ComesTo, IsLastRound, IsOutcome, IsRound, LeavesUsable, Selects}
 use Rattle.swreq_rounds.specs.Rounds.IsRound.{first, next}
 use Rattle.swreq_rounds.specs.Rounds.Selects.{none, takes, leaves}
 use Rattle.swreq_valid.specs.Answers.{Answers, IsOnlyOutcome}

@@ -5,7 +5,6 @@ use Rattle.swreq_world.specs.ByTable.{world_by}
 use Rattle.swreq_valid.specs.Answers.{Answers, IsOnlyOutcome}
 use Rattle.swreq_valid.specs.Keeping.{kept_facts, kept_plan}
 use Rattle.swreq_valid.specs.Rounds.{AreRounds, RoundView, last_rules}
-use Rattle.swreq_valid.proofs.Building.{memory_at_end}
 use Rattle.swreq_valid.proofs.Made.{kept_usable}
 use Rattle.swreq_valid.proofs.protocols.Protocols.build_kept.Goals as goal
 
