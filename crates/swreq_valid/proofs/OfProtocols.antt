@@ -132,7 +132,7 @@ module _ (w : IdWorld) (terms : List Term) where
   abbrev f : TermFacts
   f = facts_of (world_by terms w)
 
-  own_requirements : (p : ProtoId) → f.of_protocol p ≡ map (requirement_of terms) (bare (requirements_of w p))
+  pub own_requirements : (p : ProtoId) → f.of_protocol p ≡ map (requirement_of terms) (bare (requirements_of w p))
   own_requirements p =
       ap (map (λ (r : PlacedRequirement). r.requirement)) (requirements_by w terms p)
       ∙ map_map (λ (r : PlacedRequirement). r.requirement) (placed_by terms) (requirements_of w p)

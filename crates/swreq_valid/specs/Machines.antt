@@ -1,5 +1,5 @@
 -- What is said of machines and of the rules of the protocols.
-use Rattle.std.specs.Prelude.{List, Result, Ok, Err}
+use Rattle.std.specs.Prelude.{Bool, List, Result, Ok, Err}
 use Rattle.swreq_derive.specs.declared.known.Params.{Params}
 use Rattle.swreq_derive.specs.Derivation.{TermRequirement}
 use Rattle.swreq_derive.specs.Derivation.Source.{Written}
@@ -22,6 +22,8 @@ pub record MachineView : Type 0 where
 -- what contracts see of the rules of the protocols
 pub record ProtocolsView : Type 0 where
   pub rounds : List RoundView
+  -- for each protocol, by rank, a flag for each of its requirements, set where it is usable
+  pub usable : List (List Bool)
 
 -- the answer of a machine with the rules of its last round
 abbrev pub machine_rules : Result MachineView Failed → Result (List Rule) Failed
