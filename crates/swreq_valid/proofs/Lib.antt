@@ -1,0 +1,10 @@
+pub mod Flagged
+pub mod Planning
+pub mod Running
+pub mod FirstSide
+pub mod Deriving
+pub mod Listing
+pub mod OfProtocols
+pub mod Building
+pub mod Valid
+pub mod Made

@@ -1,0 +1,102 @@
+-- The plan of a list, and the requirements that stand in it.
+use Rattle.std.proofs.Common.{◌≡◌, refl, sym, ap, ap₂, subst, ◌∙◌, ℕ, zero, suc, ◌<◌, ◌≤◌, ◌+◌, arith, List, [], ◌∷◌, ◌++◌, length, map, take, drop, get_or, append_assoc, Contains, Option, Result, Ok, Err, IfOk}
+use Rattle.std.specs.List.{All}
+use Rattle.std.proofs.lemmas.List.{append-nil, drop_more, map-append}
+use Rattle.std.proofs.lemmas.List.Elements.{All-from_get_or, Contains-get_or}
+use Rattle.std.proofs.lemmas.Option.{slice_get-get_or}
+use Rattle.swreq_word.proofs.Lists.{take_one}
+use Rattle.swreq_param.specs.Terms.{Term}
+use Rattle.swreq_derive.specs.declared.known.Params.{Params}
+use Rattle.swreq_derive.specs.declared.requirements.Requirement.{Requirement}
+use Rattle.swreq_derive.specs.Derivation.{TermRequirement}
+use Rattle.swreq_derive.specs.Derivation.Source.{Written}
+use Rattle.swreq_derive.specs.Facts.{generic_params, requirement_of}
+use Rattle.swreq_rule.specs.declared.rules.Rule.{Rule}
+use Rattle.swreq_watch.specs.declared.events.Event.{Event}
+use Rattle.swreq_complete.specs.declared.limit.Failed.{Failed}
+use Rattle.swreq_complete.specs.declared.limit.Limits.{Limits}
+use Rattle.swreq_reading.specs.Symbols.{IsInText}
+use Rattle.swreq_rounds.specs.Given.{of_list}
+use Rattle.swreq_rounds.specs.Plan.{Item, Plan}
+use Rattle.swreq_rounds.proofs.LastRound.{list_law}
+use Rattle.swreq_rounds.proofs.Members.{contains_of_map}
+use Rattle.swreq_ranks.specs.Views.{LexiconView}
+use Rattle.swreq_world.specs.ByTable.{world_by}
+use Rattle.swreq_world.specs.Closed.{AreIds, IsClosed, IsRequirementOf}
+use Rattle.swreq_world.specs.Worlds.{IdWorld, TextWorld}
+use Rattle.swreq_shown.specs.Known.{IsRequirementIn}
+use Rattle.swreq_shown.specs.Meaning.{facts_of, symbols_of}
+use Rattle.swreq_shown.proofs.Symbols as shown
+use Rattle.swreq_valid.specs.declared.wanted.Start.{Start}
+use Rattle.swreq_valid.specs.declared.wanted.Wanted.{Wanted}
+use Rattle.swreq_valid.specs.Answers.{Answers, IsOnlyOutcome}
+use Rattle.swreq_valid.specs.Machines.{AreRulesOf, IsMachineOf, MachineView, list_of}
+use Rattle.swreq_valid.specs.Plans.{AreKnown, AreWanted, in_signature, item_of, items_of, listed, plan_of, says}
+use Rattle.swreq_valid.specs.Rounds.{AreRounds, RoundView, last_rules}
+use Rattle.swreq_valid.proofs.Flagged.{map_map}
+
+-- ---- lists that are made item by item
+
+pub past_drop : {A : Type 0} (xs : List A) (n : ℕ) → length xs ≤ n → drop n xs ≡ []
+past_drop [] zero h = refl
+past_drop [] (suc n) h = refl
+past_drop (y ∷ xs) zero h = absurd (omega (arith, h))
+past_drop (y ∷ xs) (suc n) h = past_drop xs n (omega (arith, h))
+
+-- one more part of a list that is made front to back
+module _ {A B : Type 0} (of : List A → List B) (part : A → List B) (none : of [] ≡ []) (one : (x : A) (xs : List A) → of (x ∷ xs) ≡ part x ++ of xs) where
+  pub part_more : (xs : List A) (k : ℕ) (d : A) (v w all : List B) → k < length xs → w ≡ v ++ part (get_or xs k d) → v ++ of (drop k xs) ≡ all
+      → w ++ of (drop (k + 1) xs) ≡ all
+  part_more xs k d v w all l f h =
+      ap (λ z. z ++ of (drop (k + 1) xs)) f
+      ∙ append_assoc v (part (get_or xs k d)) (of (drop (k + 1) xs))
+      ∙ ap (λ z. v ++ z) (sym (one (get_or xs k d) (drop (k + 1) xs)) ∙ ap of (sym (drop_more xs k d l)))
+      ∙ h
+
+  pub parts_all : (xs : List A) (k : ℕ) (v all : List B) → length xs ≤ k → v ++ of (drop k xs) ≡ all → v ≡ all
+  parts_all xs k v all l h = sym (append-nil v) ∙ ap (λ z. v ++ z) (sym (ap of (past_drop xs k l) ∙ none)) ∙ h
+
+-- ---- the plan of a list
+
+module _ (w : IdWorld) (terms : List Term) (base : List Rule) (start : Start) (params : Params) (list : List Requirement)
+    (basic_is : start.basic.items ≡ []) (all_is : start.all.items ≡ map (in_signature params) list) where
+  abbrev rs : List TermRequirement
+  rs = listed terms list
+
+  says_list : says terms start.all.items ≡ rs
+  says_list = ap (says terms) all_is ∙ map_map (λ (x : Wanted). requirement_of terms x.requirement) (in_signature params) list
+
+  items_list : items_of terms start.all.items ≡ map (of_list (generic_params params) rs) rs
+  items_list =
+      ap₂ (λ s xs. map (item_of terms s) xs) says_list all_is
+      ∙ map_map (item_of terms rs) (in_signature params) list
+      ∙ sym (map_map (of_list (generic_params params) rs) (requirement_of terms) list)
+
+  pub list_plan_is : plan_of w terms base start ≡ list_of (world_by terms w) base params rs
+  list_plan_is = λ i. record { symbols = symbols_of w.lexicon; facts = facts_of (world_by terms w); base = base; basic = basic_is i; all = items_list i }
+
+  pub list_plan_over : (other : List Rule) → base ≡ other → plan_of w terms base start ≡ list_of (world_by terms w) other params rs
+  list_plan_over other same = list_plan_is ∙ ap (λ z. list_of (world_by terms w) z params rs) same
+
+  pub list_wanted : AreKnown terms w.lexicon list → AreWanted terms w.lexicon start.all.items
+  list_wanted h x k =
+      let r = contains_of_map (in_signature params) list x (subst (λ z. Contains z x) all_is k) in
+      subst (λ (z : Wanted). IsRequirementIn terms w.lexicon z.requirement) (sym r.2) (h r.0 r.1)
+
+-- ---- the machine of a list
+
+pub list_in_text : (terms : List Term) (x : LexiconView) → AreIds x → (params : Params) (list : List Requirement) → AreKnown terms x list
+    → IsInText (symbols_of x) (Written (generic_params params) (listed terms list))
+list_in_text terms x ids params list h = λ t p c.
+    let r = contains_of_map (requirement_of terms) list _ c in
+    (ids.written_order p).1 (subst (IsRequirementOf x) (sym r.2) (h r.0 r.1).1).1
+
+module _ (w : TextWorld) (closed : IsClosed w) (limits : Limits) (base : List Rule) (params : Params) (list : List TermRequirement)
+    (over : AreRulesOf w base) (n : IsInText (symbols_of w.lexicon) (Written (generic_params params) list)) where
+  pub list_machine : (old new : Option (List Event)) (rounds : List RoundView) → Answers limits (list_of w base params list) old new (Ok (last_rules rounds))
+      → IsMachineOf w list (record { params = params; rounds = rounds })
+  list_machine old new rounds a = record {
+    rules = list_law (symbols_of w.lexicon) (facts_of w) (shown.symbols_law w closed) (shown.text_law w closed) limits base over (generic_params params) list n
+        a.1.0 (last_rules rounds) a.0 a.1.1;
+    in_text = n;
+  }

@@ -1,0 +1,127 @@
+-- From what the code has of a plan to the plan.
+use Rattle.std.proofs.lemmas.Option.{slice_get_read}
+use Rattle.swreq_word.proofs.Lists.{take_one}
+use Rattle.std.proofs.Common.{◌≡◌, zero, suc, subst₂, refl, sym, ap, ap₂, subst, ◌∙◌, ℕ, ◌<◌, ◌≤◌, ◌+◌, arith, Bool, List, [], ◌∷◌, ◌++◌, length, map, take, drop, get_or, append_assoc}
+use Rattle.std.specs.Bool.{if◌then◌else◌, Decides}
+use Rattle.std.proofs.lemmas.List.{append-nil, map-append}
+use Rattle.swreq_param.specs.Terms.{Term}
+use Rattle.swreq_rule.specs.declared.rules.Rule.{Rule}
+use Rattle.swreq_derive.specs.Derivation.{TermRequirement, TermFacts}
+use Rattle.swreq_derive.specs.Facts.{generic_params, requirement_of}
+use Rattle.swreq_reading.specs.Symbols.{Word, Symbols}
+use Rattle.swreq_reading.specs.Shown.{ShowsUsable, ShowsValid}
+use Rattle.swreq_reading.proofs.Shown.{shown_by_params, usable_by_params}
+use Rattle.swreq_rounds.specs.Plan.{Item, equation_of, given, AreShown}
+use Rattle.swreq_shown.specs.declared.over.Over.{Over}
+use Rattle.swreq_shown.specs.declared.over.Over.TheVariants.{Signature, Protocol}
+use Rattle.swreq_shown.specs.Meaning.{facts_of, symbols_of}
+use Rattle.swreq_shown.specs.Overs.{source_of}
+use Rattle.swreq_shown.specs.Vanishing.{Links}
+use Rattle.swreq_world.specs.ByTable.{world_by}
+use Rattle.swreq_world.specs.Worlds.{IdWorld}
+use Rattle.swreq_valid.specs.declared.wanted.Start.{Start}
+use Rattle.swreq_valid.specs.declared.wanted.Wanted.{Wanted}
+use Rattle.swreq_valid.specs.Flags.{chosen, Tells}
+use Rattle.swreq_valid.specs.Plans.{item_of, items_of, plan_of, says, within}
+use Rattle.swreq_valid.proofs.Flagged.{chosen_from, chosen_map, map_map, map_one_if, tells_to, tells_map, tells_one_more}
+
+module _ (m : Symbols) (f : TermFacts) (rs : List TermRequirement) (C : Word → Word → Type 0) (r : TermRequirement) where
+  pub to_list : (over : Over) → ShowsUsable m f (source_of over) C r → ShowsUsable m f (within rs over) C r
+  to_list (Signature params) h = usable_by_params m f (generic_params params) [] rs C r h
+  to_list (Protocol p) h = h
+
+  pub from_list : (over : Over) → ShowsUsable m f (within rs over) C r → ShowsUsable m f (source_of over) C r
+  from_list (Signature params) h = usable_by_params m f (generic_params params) rs [] C r h
+  from_list (Protocol p) h = h
+
+module _ (m : Symbols) (f : TermFacts) (rs : List TermRequirement) (C : Word → Word → Type 0) (t : Term) where
+  pub valid_to_list : (over : Over) → ShowsValid m f (source_of over) C t → ShowsValid m f (within rs over) C t
+  valid_to_list (Signature params) h = shown_by_params m f (generic_params params) [] rs C t h
+  valid_to_list (Protocol p) h = h
+
+  pub valid_from_list : (over : Over) → ShowsValid m f (within rs over) C t → ShowsValid m f (source_of over) C t
+  valid_from_list (Signature params) h = shown_by_params m f (generic_params params) rs [] C t h
+  valid_from_list (Protocol p) h = h
+
+module _ (w : IdWorld) (terms : List Term) where
+  abbrev m : Symbols
+  m = symbols_of w.lexicon
+
+  abbrev f : TermFacts
+  f = facts_of (world_by terms w)
+
+  -- the rules show the requirement usable
+  abbrev pub IsTold : List Rule → Wanted → Type 0
+  IsTold rules x = ShowsUsable m f (source_of x.over) (Links rules) (requirement_of terms x.requirement)
+
+  pub told_shown : (start : Start) (rules base : List Rule) (bs : List Bool) → Tells (IsTold rules) start.all.items bs
+      → Tells (AreShown (plan_of w terms base start) rules) (items_of terms start.all.items) bs
+  told_shown start rules base bs t =
+      let rs = says terms start.all.items in
+      tells_map (AreShown (plan_of w terms base start) rules) (item_of terms rs) start.all.items bs
+      (tells_to (IsTold rules) (λ x. AreShown (plan_of w terms base start) rules (item_of terms rs x))
+      (λ x h. to_list m f rs (Links rules) (requirement_of terms x.requirement) x.over h)
+      (λ x h. from_list m f rs (Links rules) (requirement_of terms x.requirement) x.over h)
+      start.all.items bs t)
+
+  -- the equation of what the code has of a requirement
+  abbrev pub equation_for : Start → Wanted → Word × Word
+  equation_for start x = equation_of m (item_of terms (says terms start.all.items) x)
+
+  -- the equations of those that are left from a place on
+  abbrev pub left_from : Start → List Bool → ℕ → List (Word × Word)
+  left_from start used k = map (equation_for start) (chosen (drop k start.all.items) (drop k used))
+
+  pub joined_one : (start : Start) (used : List Bool) (k : ℕ) (x d : Wanted) (b c : Bool) (v v' : List (Word × Word))
+      → k < length start.all.items → k < length used → get_or start.all.items k d ≡ x → get_or used k c ≡ b
+      → v' ≡ v ++ (if b then equation_for start x ∷ [] else []) → v' ++ left_from start used (k + 1) ≡ v ++ left_from start used k
+  joined_one start used k x d b c v v' l n e h g =
+      ap (λ z. z ++ left_from start used (k + 1)) g
+      ∙ append_assoc v (if b then equation_for start x ∷ [] else []) (left_from start used (k + 1))
+      ∙ ap (λ z. v ++ z)
+      (ap (λ z. z ++ left_from start used (k + 1)) (sym (map_one_if (equation_for start) b x))
+      ∙ sym (map-append (equation_for start) (if b then x ∷ [] else []) (chosen (drop (k + 1) start.all.items) (drop (k + 1) used)))
+      ∙ ap (map (equation_for start)) (sym (chosen_from start.all.items used k x d b c l n e h)))
+
+  pub given_is : (start : Start) (base : List Rule) (used : List Bool)
+      → given (plan_of w terms base start) (chosen (items_of terms start.all.items) used) ≡ start.basic.items ++ left_from start used 0
+  given_is start base used =
+      let rs = says terms start.all.items in
+      ap (λ z. start.basic.items ++ z)
+      (ap (map (equation_of m)) (chosen_map (item_of terms rs) start.all.items used)
+      ∙ map_map (equation_of m) (item_of terms rs) (chosen start.all.items used))
+
+  -- past the end nothing is left
+  pub none_left : (start : Start) (used : List Bool) (k : ℕ) (v : List (Word × Word)) → length start.all.items ≤ k → v ≡ v ++ left_from start used k
+  none_left start used k v l =
+      sym (ap (λ z. v ++ map (equation_for start) (chosen z (drop k used))) (past start.all.items k l) ∙ append-nil v)
+    where
+      past : (ys : List Wanted) (n : ℕ) → length ys ≤ n → drop n ys ≡ []
+      past [] zero h = refl
+      past [] (suc n) h = refl
+      past (y ∷ ys) zero h = absurd (omega (arith, h))
+      past (y ∷ ys) (suc n) h = past ys n (omega (arith, h))
+
+-- flags of one more, and of all
+pub told_more : (P : Wanted → Type 0) (xs : List Wanted) (k : ℕ) (x : Wanted) (bs cs : List Bool) (b : Bool) → k < length xs → x ≡ get_or xs k x
+    → cs ≡ bs ++ b ∷ [] → Tells P (take k xs) bs → Decides b (P x) → Tells P (take (k + 1) xs) cs
+told_more P xs k x bs cs b l e f t d =
+    let one : suc k ≡ k + 1 = omega arith in
+    let g : take (k + 1) xs ≡ take k xs ++ x ∷ [] = subst (λ n. take n xs ≡ take k xs ++ x ∷ []) one (take_one xs k x (slice_get_read xs (length xs) k x refl l e)) in
+    subst₂ (Tells P) (sym g) (sym f) (tells_one_more P (take k xs) bs x b t d)
+
+pub told_all : (P : Wanted → Type 0) (xs : List Wanted) (k : ℕ) (bs : List Bool) → length xs ≤ k → Tells P (take k xs) bs → Tells P xs bs
+told_all P xs k bs l t = subst (λ z. Tells P z bs) (take_past xs k l) t
+  where
+    take_past : (ys : List Wanted) (n : ℕ) → length ys ≤ n → take n ys ≡ ys
+    take_past [] zero h = refl
+    take_past [] (suc n) h = refl
+    take_past (y ∷ ys) zero h = absurd (omega (arith, h))
+    take_past (y ∷ ys) (suc n) h = ap (λ z. y ∷ z) (take_past ys n (omega (arith, h)))
+
+pub items_length : (terms : List Term) (xs : List Wanted) → length (items_of terms xs) ≡ length xs
+items_length terms xs = go xs
+  where
+    go : (ys : List Wanted) → length (map (item_of terms (says terms xs)) ys) ≡ length ys
+    go [] = refl
+    go (y ∷ ys) = ap suc (go ys)

@@ -1,0 +1,92 @@
+-- The sides that the rules of a last round show valid are the valid ones.
+use Rattle.std.proofs.Common.{◌≡◌, refl, ap, sym, subst, ℕ, List, [], ◌∷◌, ◌++◌, Contains, inl, inr}
+use Rattle.std.proofs.lemmas.List.Elements.{Contains-append_cases}
+use Rattle.swreq_param.specs.declared.ids.ProtoId.{ProtoId}
+use Rattle.swreq_param.specs.Terms.{Term}
+use Rattle.swreq_derive.specs.declared.known.Params.{Params}
+use Rattle.swreq_derive.specs.Derivation.{Derivable, Source, TermRequirement}
+use Rattle.swreq_derive.specs.Derivation.Source.{SelfOf, Written}
+use Rattle.swreq_derive.specs.Derivation.TermRequirement.{Conforms, IsAnyObject, Equals}
+use Rattle.swreq_derive.specs.Derivation.TermStatement.{IsValid}
+use Rattle.swreq_derive.specs.Facts.{generic_params}
+use Rattle.swreq_derive.proofs.Members.{later_member, first_member, member_cases, no_member, only_member}
+use Rattle.swreq_reading.specs.Shown.{ShowsValid}
+use Rattle.swreq_written.specs.Requirements.{PlacedRequirement}
+use Rattle.swreq_rule.specs.declared.rules.Rule.{Rule}
+use Rattle.swreq_world.specs.Closed.{IsClosed}
+use Rattle.swreq_world.specs.Worlds.{TextWorld, requirements_of}
+use Rattle.swreq_shown.specs.Meaning.{facts_of, symbols_of}
+use Rattle.swreq_shown.specs.Vanishing.{Links}
+use Rattle.swreq_shown.proofs.Symbols.{symbols_law, text_law}
+use Rattle.swreq_valid.specs.Machines.{AreRulesOf, IsMachineOf, MachineView}
+use Rattle.swreq_valid.specs.Rounds.{last_rules}
+use Rattle.swreq_valid.specs.Sides.{IsShownSide, IsValidSide, Side, protocol_sides, sides, sides_at, sides_in, sides_of}
+use Rattle.swreq_valid.proofs.Deriving.{derivable_shown, self_derivable, self_shown, shown_derivable}
+
+-- ---- over what the sides are read
+
+at_source : (s : Source) (r : TermRequirement) (left right : ℕ) (x : Side) → Contains (sides_at s r left right) x → x.source ≡ s
+at_source s (Conforms t p) left right x c = ap (λ z. z.source) (only_member (record { source = s; term = t; at = left }) x c)
+at_source s (IsAnyObject t) left right x c = ap (λ z. z.source) (only_member (record { source = s; term = t; at = left }) x c)
+at_source s (Equals t u) left right x c = elim (member_cases (record { source = s; term = t; at = left }) x (record { source = s; term = u; at = right } ∷ []) c) [
+  | inl e ↦ ap (λ z. z.source) e
+  | inr k ↦ ap (λ z. z.source) (only_member (record { source = s; term = u; at = right }) x k)
+]
+
+pub list_source : (s : Source) (rs : List PlacedRequirement) (x : Side) → Contains (sides s rs) x → x.source ≡ s
+list_source s [] x c = no_member x c
+list_source s (r ∷ rs) x c = elim (Contains-append_cases (sides_of s r) (sides s rs) x c) [
+  | inl k ↦ at_source s r.requirement r.left_at r.right_at x k
+  | inr k ↦ list_source s rs x k
+]
+
+protocol_source : (w : TextWorld) (ps : List ProtoId) (x : Side) → Contains (sides_in w ps) x → (p : ProtoId) × Contains ps p × (x.source ≡ SelfOf p)
+protocol_source w [] x c = no_member x c
+protocol_source w (p ∷ ps) x c = elim (Contains-append_cases (sides (SelfOf p) (requirements_of w p)) (sides_in w ps) x c) [
+  | inl k ↦ (p, first_member p ps, list_source (SelfOf p) (requirements_of w p) x k)
+  | inr k ↦ (let (q, m, e) = protocol_source w ps x k in (q, later_member p q ps m, e))
+]
+
+-- ---- a list
+
+module _ (w : TextWorld) (closed : IsClosed w) (m : MachineView) (list : List TermRequirement) (is : IsMachineOf w list m) where
+  abbrev L : Source
+  L = Written (generic_params m.params) list
+
+  pub list_derivable : (t : Term) → ShowsValid (symbols_of w.lexicon) (facts_of w) L (Links (last_rules m.rounds)) t → Derivable (facts_of w) L (IsValid t)
+  list_derivable t h =
+      shown_derivable (symbols_of w.lexicon) (facts_of w) (symbols_law w closed) (text_law w closed) (last_rules m.rounds) (generic_params m.params) list is.rules is.in_text t h
+
+  pub list_shown : (t : Term) → Derivable (facts_of w) L (IsValid t) → ShowsValid (symbols_of w.lexicon) (facts_of w) L (Links (last_rules m.rounds)) t
+  list_shown t e =
+      derivable_shown (symbols_of w.lexicon) (facts_of w) (symbols_law w closed) (text_law w closed) (last_rules m.rounds) (generic_params m.params) list is.rules is.in_text t e
+
+  module _ (rs : List PlacedRequirement) (s : Side) (c : Contains (sides L rs) s) where
+    pub side_valid : IsShownSide (symbols_of w.lexicon) (facts_of w) (last_rules m.rounds) s → IsValidSide (facts_of w) s
+    side_valid h =
+        let e = list_source L rs s c in
+        subst (λ z. Derivable (facts_of w) z (IsValid s.term)) (sym e)
+        (list_derivable s.term (subst (λ z. ShowsValid (symbols_of w.lexicon) (facts_of w) z (Links (last_rules m.rounds)) s.term) e h))
+
+    pub side_shown : IsValidSide (facts_of w) s → IsShownSide (symbols_of w.lexicon) (facts_of w) (last_rules m.rounds) s
+    side_shown h =
+        let e = list_source L rs s c in
+        subst (λ z. ShowsValid (symbols_of w.lexicon) (facts_of w) z (Links (last_rules m.rounds)) s.term) (sym e)
+        (list_shown s.term (subst (λ z. Derivable (facts_of w) z (IsValid s.term)) e h))
+
+-- ---- the protocols
+
+module _ (w : TextWorld) (closed : IsClosed w) (rules : List Rule) (are : AreRulesOf w rules) (s : Side) (c : Contains (protocol_sides w) s) where
+  pub protocol_valid : IsShownSide (symbols_of w.lexicon) (facts_of w) rules s → IsValidSide (facts_of w) s
+  protocol_valid h =
+      let (p, k, e) = protocol_source w w.lexicon.written_order s c in
+      subst (λ z. Derivable (facts_of w) z (IsValid s.term)) (sym e)
+      (self_derivable (symbols_of w.lexicon) (facts_of w) (symbols_law w closed) (text_law w closed) rules are p k s.term
+      (subst (λ z. ShowsValid (symbols_of w.lexicon) (facts_of w) z (Links rules) s.term) e h))
+
+  pub protocol_shown : IsValidSide (facts_of w) s → IsShownSide (symbols_of w.lexicon) (facts_of w) rules s
+  protocol_shown h =
+      let (p, k, e) = protocol_source w w.lexicon.written_order s c in
+      subst (λ z. ShowsValid (symbols_of w.lexicon) (facts_of w) z (Links rules) s.term) (sym e)
+      (self_shown (symbols_of w.lexicon) (facts_of w) (symbols_law w closed) (text_law w closed) rules are p k s.term
+      (subst (λ z. Derivable (facts_of w) z (IsValid s.term)) e h))

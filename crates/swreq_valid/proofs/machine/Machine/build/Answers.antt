@@ -1,0 +1,41 @@
+use Rattle.std.proofs.Common.{◌∙◌, Err}
+use Rattle.swreq_derive.specs.Derivation.Source.{Written as WrittenList}
+use Rattle.swreq_derive.specs.Facts.{generic_params}
+use Rattle.swreq_shown.specs.Meaning.{facts_of}
+use Rattle.swreq_world.specs.ByTable.{world_by}
+use Rattle.swreq_written.specs.ByTable.{placed}
+use Rattle.swreq_valid.specs.Built.{built_rules}
+use Rattle.swreq_valid.specs.Machines.{list_of}
+use Rattle.swreq_valid.specs.Plans.{bare, listed}
+use Rattle.swreq_valid.specs.Rounds.{last_rules}
+use Rattle.swreq_valid.specs.Sides.{sides}
+use Rattle.swreq_valid.proofs.Building.{only_built}
+use Rattle.swreq_valid.proofs.Made.{machine_failed, machine_judged, written_known}
+use Rattle.swreq_valid.proofs.Running.{nothing_told}
+use Rattle.swreq_valid.proofs.machine.Machine.build.Goals as goal
+
+pub returns-in-Err-clause-answer : goal.returns-in-Err-clause-answer
+returns-in-Err-clause-answer g c = nothing_told c.args.limits (list_of (world_by c.args.table.now c.args.world.now) (last_rules c.args.protocols.now.rounds) c.args.params (listed c.args.table.now (bare c.args.written.now))) (g.W.Watch.told c.args.watch.now)
+
+pub core-requires-clause-list : goal.core-requires-clause-list
+core-requires-clause-list g c = written_known c.args.table.now c.args.world.now.lexicon c.args.written.now c.deref.result.now (c.deref.ensures.value ∙ c.in-Ok.ensures) c.requires.written
+
+pub returns-in-Err-core-clause-answer : goal.returns-in-Err-core-clause-answer
+returns-in-Err-core-clause-answer g c =
+    machine_failed c.args.world.now c.args.table.now c.requires.text.closed (last_rules c.args.protocols.now.rounds) c.args.params c.args.written.now c.deref.result.now (c.deref.ensures.value ∙ c.in-Ok.ensures) c.args.limits (g.W.Watch.told c.args.watch.now) (g.W.Watch.told c.core.new.watch) c.in-Err-core.failed c.refusal.result c.refusal.ensures c.in-Err-core.ensures.answer
+
+pub returns-in-Err-core-clause-only : goal.returns-in-Err-core-clause-only
+returns-in-Err-core-clause-only g c =
+    only_built c.args.limits (list_of (world_by c.args.table.now c.args.world.now) (last_rules c.args.protocols.now.rounds) c.args.params (listed c.args.table.now (bare c.args.written.now))) (facts_of (world_by c.args.table.now c.args.world.now))
+    (sides (WrittenList (generic_params c.args.params) (listed c.args.table.now (bare c.args.written.now))) (placed c.args.table.now c.args.written.now)) (Err c.refusal.result) (g.W.Watch.told c.args.watch.now) (g.W.Watch.told c.core.new.watch)
+    (machine_failed c.args.world.now c.args.table.now c.requires.text.closed (last_rules c.args.protocols.now.rounds) c.args.params c.args.written.now c.deref.result.now (c.deref.ensures.value ∙ c.in-Ok.ensures) c.args.limits (g.W.Watch.told c.args.watch.now) (g.W.Watch.told c.core.new.watch) c.in-Err-core.failed c.refusal.result c.refusal.ensures c.in-Err-core.ensures.answer)
+
+pub returns-clause-answer : goal.returns-clause-answer
+returns-clause-answer g c =
+    machine_judged c.args.world.now c.args.table.now c.requires.text.closed (last_rules c.args.protocols.now.rounds) c.args.params c.args.written.now c.deref.result.now (c.deref.ensures.value ∙ c.in-Ok.ensures) c.args.limits (g.W.Watch.told c.args.watch.now) (g.W.Watch.told c.core.new.watch) c.in-Ok-core.machine c.judge_machine.result c.in-Ok-core.ensures.params c.in-Ok-core.ensures.answer c.in-Ok-core.ensures.machine c.judge_machine.ensures.judged
+
+pub returns-clause-only : goal.returns-clause-only
+returns-clause-only g c =
+    only_built c.args.limits (list_of (world_by c.args.table.now c.args.world.now) (last_rules c.args.protocols.now.rounds) c.args.params (listed c.args.table.now (bare c.args.written.now))) (facts_of (world_by c.args.table.now c.args.world.now))
+    (sides (WrittenList (generic_params c.args.params) (listed c.args.table.now (bare c.args.written.now))) (placed c.args.table.now c.args.written.now)) (built_rules c.judge_machine.result) (g.W.Watch.told c.args.watch.now) (g.W.Watch.told c.core.new.watch)
+    (machine_judged c.args.world.now c.args.table.now c.requires.text.closed (last_rules c.args.protocols.now.rounds) c.args.params c.args.written.now c.deref.result.now (c.deref.ensures.value ∙ c.in-Ok.ensures) c.args.limits (g.W.Watch.told c.args.watch.now) (g.W.Watch.told c.core.new.watch) c.in-Ok-core.machine c.judge_machine.result c.in-Ok-core.ensures.params c.in-Ok-core.ensures.answer c.in-Ok-core.ensures.machine c.judge_machine.ensures.judged)

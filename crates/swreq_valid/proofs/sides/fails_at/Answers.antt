@@ -1,0 +1,22 @@
+use Rattle.std.proofs.Common.{refl}
+use Rattle.swreq_param.specs.Tables.{term_at}
+use Rattle.swreq_shown.specs.Meaning.{facts_of, symbols_of}
+use Rattle.swreq_shown.specs.Vanishing.{Links}
+use Rattle.swreq_world.specs.ByTable.{world_by}
+use Rattle.swreq_valid.proofs.Planning.{valid_from_list, valid_to_list}
+use Rattle.swreq_valid.proofs.sides.fails_at.Goals as goal
+
+pub returns-then-shown : goal.returns-then-shown
+returns-then-shown c rs =
+    valid_to_list (symbols_of c.args.world.now.lexicon) (facts_of (world_by c.args.table.now c.args.world.now)) rs (Links c.args.rules.now) (term_at c.args.table.now c.args.t)
+    c.args.over (c.in_ok-shown.ensures.0 c.if-shown.true)
+
+pub returns-else-shown : goal.returns-else-shown
+returns-else-shown c rs = (
+  (λ h.
+      let e = c.in_ok-shown.ensures.1
+      (valid_from_list (symbols_of c.args.world.now.lexicon) (facts_of (world_by c.args.table.now c.args.world.now)) rs (Links c.args.rules.now) (term_at c.args.table.now c.args.t)
+      c.args.over h) in
+      let f = c.if-shown.false in cc),
+  refl,
+)

@@ -1,0 +1,13 @@
+use Rattle.std.proofs.Common.{List, drop}
+use Rattle.swreq_derive.specs.Derivation.{TermRequirement}
+use Rattle.swreq_shown.specs.Meaning.{facts_of, symbols_of}
+use Rattle.swreq_world.specs.ByTable.{world_by}
+use Rattle.swreq_written.specs.ByTable.{placed}
+use Rattle.swreq_valid.specs.Plans.{within}
+use Rattle.swreq_valid.specs.Sides.{IsShownSide, sides}
+use Rattle.swreq_valid.proofs.FirstSide.{SoFar}
+use Rattle.swreq_valid.proofs.sides.first_invalid.Given as goal
+
+abbrev pub invariant-loop-k : goal.invariant-loop-k
+invariant-loop-k l = (rs : List TermRequirement) → SoFar (IsShownSide (symbols_of l.world.lexicon) (facts_of (world_by l.table l.world)) l.rules)
+    (sides (within rs l.over) (placed l.table l.list)) (sides (within rs l.over) (placed l.table (drop l.k l.list)))

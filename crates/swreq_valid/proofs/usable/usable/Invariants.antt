@@ -1,0 +1,7 @@
+use Rattle.std.proofs.Common.{take}
+use Rattle.swreq_valid.specs.Flags.{Tells}
+use Rattle.swreq_valid.proofs.Planning.{IsTold}
+use Rattle.swreq_valid.proofs.usable.usable.Given as goal
+
+abbrev pub invariant-loop-k : goal.invariant-loop-k
+invariant-loop-k l = Tells (IsTold l.world l.table l.rules) (take l.k l.start.all.items) l.flags.items

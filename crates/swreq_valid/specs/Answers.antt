@@ -1,0 +1,23 @@
+-- What the rounds of a plan come to and tell.
+use Rattle.std.specs.Prelude.{◌≡◌, ◌⊎◌, List, [], ◌∷◌, ◌++◌, Option, Result, Ok, Err}
+use Rattle.swreq_rule.specs.declared.rules.Rule.{Rule}
+use Rattle.swreq_watch.specs.declared.events.Event.{Event}
+use Rattle.swreq_watch.specs.Told.{GrewBy}
+use Rattle.swreq_complete.specs.declared.limit.Limits.{Limits}
+use Rattle.swreq_complete.specs.declared.limit.Failed.{Failed}
+use Rattle.swreq_complete.specs.declared.limit.Failed.TheVariants.{Limit, Memory}
+use Rattle.swreq_complete.specs.Answers.{IsMemory}
+use Rattle.swreq_rounds.specs.Plan.{Item, Plan}
+use Rattle.swreq_rounds.specs.Rounds.{ComesTo, Ends, IsOutcome, LeavesUsable}
+use Rattle.swreq_valid.specs.Flags.{chosen}
+
+-- The rounds come out so, and the watcher was told what they tell: in all, or for want of memory so far as they came.
+abbrev pub Answers : Limits → Plan → Option (List Event) → Option (List Event) → Result (List Rule) Failed → Type 0
+Answers limits plan old new (Ok rules) = (told : List Event) × IsOutcome limits plan (Ok rules) told × GrewBy old new told
+Answers limits plan old new (Err (Limit which trace)) = (told : List Event) × IsOutcome limits plan (Err (Limit which trace)) told × GrewBy old new told
+Answers limits plan old new (Err Memory) = (told : List Event) × ComesTo limits plan told × GrewBy old new told
+
+-- But for want of memory the rounds come out in no other way.
+abbrev pub IsOnlyOutcome : Limits → Plan → Result (List Rule) Failed → Type 0
+IsOnlyOutcome limits plan answer = (other : Result (List Rule) Failed) (told : List Event) → IsOutcome limits plan other told
+    → (answer ≡ other) ⊎ (IsMemory answer ⊎ IsMemory other)

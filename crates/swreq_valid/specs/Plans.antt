@@ -1,0 +1,71 @@
+-- The plan of the rounds that the code starts from a world and a table.
+use Rattle.std.specs.Prelude.{List, [], ◌∷◌, ◌++◌, map, Contains}
+use Rattle.swreq_param.specs.declared.ids.ProtoId.{ProtoId}
+use Rattle.swreq_param.specs.Terms.{Term}
+use Rattle.swreq_derive.specs.declared.known.Params.{Params}
+use Rattle.swreq_derive.specs.declared.requirements.Requirement.{Requirement}
+use Rattle.swreq_derive.specs.Derivation.{Source, TermRequirement}
+use Rattle.swreq_derive.specs.Derivation.Source.{Written as WrittenList, SelfOf}
+use Rattle.swreq_derive.specs.Facts.{generic_params, requirement_of}
+use Rattle.swreq_ranks.specs.Views.{LexiconView}
+use Rattle.swreq_rule.specs.declared.rules.Rule.{Rule}
+use Rattle.swreq_rounds.specs.Plan.{Item, Plan}
+use Rattle.swreq_shown.specs.declared.over.Over.{Over}
+use Rattle.swreq_shown.specs.declared.over.Over.TheVariants.{Signature, Protocol}
+use Rattle.swreq_shown.specs.Known.{IsRequirementIn}
+use Rattle.swreq_shown.specs.Meaning.{facts_of, symbols_of}
+use Rattle.swreq_world.specs.ByTable.{world_by}
+use Rattle.swreq_world.specs.Worlds.{IdWorld, requirements_of}
+use Rattle.swreq_written.specs.declared.ids.Written.{Written}
+use Rattle.swreq_valid.specs.declared.wanted.Start.{Start}
+use Rattle.swreq_valid.specs.declared.wanted.Wanted.{Wanted}
+
+-- what the requirements say
+abbrev pub says : List Term → List Wanted → List TermRequirement
+says terms xs = map (λ (x : Wanted). requirement_of terms x.requirement) xs
+
+-- the list of a signature with these requirements, or [τ_0_0 : P]
+abbrev pub within : List TermRequirement → Over → Source
+within rs (Signature params) = WrittenList (generic_params params) rs
+within rs (Protocol p) = SelfOf p
+
+abbrev pub item_of : List Term → List TermRequirement → Wanted → Item
+item_of terms rs x = record { source = within rs x.over; requirement = requirement_of terms x.requirement }
+
+abbrev pub items_of : List Term → List Wanted → List Item
+items_of terms xs = map (item_of terms (says terms xs)) xs
+
+abbrev pub plan_of : IdWorld → List Term → List Rule → Start → Plan
+plan_of w terms base start = record { symbols = symbols_of w.lexicon; facts = facts_of (world_by terms w); base = base; basic = start.basic.items; all = items_of terms start.all.items }
+
+-- The requirements are of the table and of the text.
+abbrev pub AreWanted : List Term → LexiconView → List Wanted → Type 0
+AreWanted terms x wants = (want : Wanted) → Contains wants want → IsRequirementIn terms x want.requirement
+
+-- Written requirements of the table and of the text.
+abbrev pub AreWritten : List Term → LexiconView → List Written → Type 0
+AreWritten terms x list = (r : Written) → Contains list r → IsRequirementIn terms x r.requirement
+
+-- Requirements of the table and of the text.
+abbrev pub AreKnown : List Term → LexiconView → List Requirement → Type 0
+AreKnown terms x list = (r : Requirement) → Contains list r → IsRequirementIn terms x r
+
+-- ---- what the code keeps of requirements
+
+abbrev pub in_signature : Params → Requirement → Wanted
+in_signature params r = record { over = Signature params; requirement = r }
+
+abbrev pub in_protocol : ProtoId → Requirement → Wanted
+in_protocol p r = record { over = Protocol p; requirement = r }
+
+-- the requirements of these protocols
+abbrev pub in_protocols : IdWorld → List ProtoId → List Wanted
+in_protocols w [] = []
+in_protocols w (p ∷ ps) = map (in_protocol p) (map (λ (r : Written). r.requirement) (requirements_of w p)) ++ in_protocols w ps
+
+-- what a list says
+abbrev pub listed : List Term → List Requirement → List TermRequirement
+listed terms rs = map (requirement_of terms) rs
+
+abbrev pub bare : List Written → List Requirement
+bare rs = map (λ (r : Written). r.requirement) rs

@@ -1,0 +1,131 @@
+//! The basic equations of a text, and the requirements of its protocols.
+ghost use Rattle.std.specs.Prelude.{◌≡◌, ◌++◌, ◌∷◌, [], map, IfOk, OnOk};
+ghost use Rattle.std.specs.Bool.{if◌then◌else◌, nat_eq};
+ghost use Rattle.swreq_rounds.specs.Given as given;
+ghost use Rattle.swreq_shown.specs.Meaning.{member_name, symbols_of};
+ghost use Rattle.swreq_world.specs.Closed.{AreIds};
+ghost use Rattle.swreq_valid.specs.Plans.{in_protocol, in_protocols};
+
+use crate::wanted::Wanted;
+use std::alloc::{AllocError, Global};
+use swreq_derive::Requirement;
+use swreq_param::{NameId, ProtoId};
+use swreq_ranks::ProtocolName;
+use swreq_shown::Over;
+use swreq_word::{Symbol, Word};
+use swreq_world::World;
+
+/// The word of these symbols.
+fn word_of(alloc: Global, symbols: &[Symbol]) -> Result<Word, AllocError>
+    ensures { IfOk result (λ w. w ≡ symbols.now) }
+{
+    let symbols = Vec::from_slice(alloc, symbols)?;
+    Ok(Word::new(symbols))
+}
+
+/// `[P][P] = [P]`
+fn doubled(alloc: Global, p: ProtoId) -> Result<(Word, Word), AllocError>
+    ensures left { IfOk result (λ e. e.0 ≡ (given.doubled p).0) }
+    ensures right { IfOk result (λ e. e.1 ≡ (given.doubled p).1) }
+{
+    let left = word_of(alloc, &[Symbol::Proto(p.rank), Symbol::Proto(p.rank)])?;
+    let right = word_of(alloc, &[Symbol::Proto(p.rank)])?;
+    Ok((left, right))
+}
+
+/// `[P]·A = [P:A]`, where `[P:A]` has this rank.
+fn named(alloc: Global, p: ProtoId, a: NameId, rank: u64) -> Result<(Word, Word), AllocError>
+    ensures left { IfOk result (λ e. e.0 ≡ (given.named p (record { proto = p; name = a }) rank).0) }
+    ensures right { IfOk result (λ e. e.1 ≡ (given.named p (record { proto = p; name = a }) rank).1) }
+{
+    let left = word_of(alloc, &[Symbol::Proto(p.rank), Symbol::Name(a.rank)])?;
+    let right = word_of(alloc, &[Symbol::Member(rank)])?;
+    Ok((left, right))
+}
+
+/// Puts the equation of the member symbol with this rank last, where it is of this protocol.
+fn add_name(
+    alloc: Global,
+    p: ProtoId,
+    symbol: ProtocolName,
+    rank: u64,
+    v: &mut Vec<(Word, Word)>,
+) -> Result<(), AllocError>
+    ensures { OnOk result (v.new.items ≡ v.old.items ++ (if nat_eq symbol.proto.rank p.rank then given.named p (member_name symbol) rank ∷ [] else [])) }
+{
+    if symbol.proto.rank == p.rank {
+        let e = named(alloc, p, symbol.name, rank)?;
+        v.push(e)?;
+    }
+    Ok(())
+}
+
+/// Puts the equations of the member names of the protocol last, by the ranks of their symbols.
+fn add_names(
+    alloc: Global,
+    world: &World,
+    p: ProtoId,
+    v: &mut Vec<(Word, Word)>,
+) -> Result<(), AllocError>
+    ensures { OnOk result (v.new.items ≡ v.old.items ++ given.named_from p 0 (symbols_of world.now.lexicon).members) }
+{
+    for k in 0..world.members() {
+        let symbol = world.member_at(k);
+        add_name(alloc, p, symbol, k, v)?;
+    }
+    Ok(())
+}
+
+/// Puts the basic equations of the protocol last.
+fn add_protocol(
+    alloc: Global,
+    world: &World,
+    p: ProtoId,
+    v: &mut Vec<(Word, Word)>,
+) -> Result<(), AllocError>
+    ensures { OnOk result (v.new.items ≡ v.old.items ++ (given.doubled p ∷ given.named_from p 0 (symbols_of world.now.lexicon).members)) }
+{
+    let e = doubled(alloc, p)?;
+    v.push(e)?;
+    add_names(alloc, world, p, v)
+}
+
+/// The basic equations: for each protocol in written order the one of its symbol, and then those of its member names.
+pub(crate) fn basic(alloc: Global, world: &World) -> Result<Vec<(Word, Word)>, AllocError>
+    requires { AreIds world.now.lexicon }
+    ensures { IfOk result (λ v. v.items ≡ given.basic_equations (symbols_of world.now.lexicon)) }
+{
+    let mut v = Vec::new(alloc);
+    for k in 0..world.protocols() {
+        let p = world.proto_at(k);
+        add_protocol(alloc, world, p, &mut v)?;
+    }
+    Ok(v)
+}
+
+/// Puts the requirements of the protocol last.
+fn add_requirements(p: ProtoId, list: &[Requirement], v: &mut Vec<Wanted>) -> Result<(), AllocError>
+    ensures { OnOk result (v.new.items ≡ v.old.items ++ map (in_protocol p) list.now) }
+{
+    for k in 0..list.len() {
+        let requirement = list[k];
+        v.push(Wanted {
+            over: Over::Protocol(p),
+            requirement,
+        })?;
+    }
+    Ok(())
+}
+
+/// The requirements of the protocols, protocols and requirements in written order.
+pub(crate) fn requirements(alloc: Global, world: &World) -> Result<Vec<Wanted>, AllocError>
+    requires { AreIds world.now.lexicon }
+    ensures { IfOk result (λ v. v.items ≡ in_protocols world.now world.now.lexicon.written_order) }
+{
+    let mut v = Vec::new(alloc);
+    for k in 0..world.protocols() {
+        let p = world.proto_at(k);
+        add_requirements(p, world.bare_requirements(p), &mut v)?;
+    }
+    Ok(v)
+}

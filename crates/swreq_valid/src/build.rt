@@ -1,0 +1,154 @@
+//! The rules of the protocols, and the machine of a written list, where all that is written is a type parameter.
+ghost use Rattle.std.specs.Prelude.{◌≡◌, IfOk, List};
+ghost use Rattle.swreq_derive.specs.Derivation.{TermRequirement};
+ghost use Rattle.swreq_derive.specs.Derivation.Source.{Written as WrittenList};
+ghost use Rattle.swreq_derive.specs.Facts.{generic_params};
+ghost use Rattle.swreq_complete.specs.Limits.{AreInRange};
+ghost use Rattle.swreq_shown.specs.Known.{IsTextOver};
+ghost use Rattle.swreq_shown.specs.Meaning.{facts_of, symbols_of};
+ghost use Rattle.swreq_world.specs.ByTable.{world_by};
+ghost use Rattle.swreq_written.specs.ByTable.{placed};
+ghost use Rattle.swreq_valid.specs.Built.{Builds, IsOnlyBuilt, Judges, built_rules, protocol_rules};
+ghost use Rattle.swreq_valid.specs.Machines.{AreRulesOf, IsMachineOf, list_of, protocols_of};
+ghost use Rattle.swreq_valid.specs.Plans.{AreWritten, bare, listed};
+ghost use Rattle.swreq_valid.specs.Rounds.{AreRounds, last_rules};
+ghost use Rattle.swreq_valid.specs.Sides.{IsShownSide, protocol_sides, sides};
+
+use crate::machine::{Machine, core};
+use crate::protocols::{Protocols, complete_protocols};
+use crate::refused::{Refused, refusal};
+use crate::round::Rounds;
+use crate::sides::{first_in_protocols, first_invalid};
+use std::alloc::{AllocError, Global};
+use swreq_complete::Limits;
+use swreq_derive::{Params, Requirement};
+use swreq_param::ParamTable;
+use swreq_shown::Over;
+use swreq_watch::Watch;
+use swreq_world::{World, Written};
+
+/// The requirements without the places of their sides.
+fn bare(alloc: Global, written: &[Written]) -> Result<Vec<Requirement>, AllocError>
+    ensures { IfOk result (λ v. v.items ≡ bare written.now) }
+{
+    let mut list = Vec::new(alloc);
+    for k in 0..written.len() {
+        let requirement = written[k].requirement;
+        list.push(requirement)?;
+    }
+    Ok(list)
+}
+
+/// The rules of the protocols that these rounds found, if they show each side valid.
+fn judge_protocols(
+    alloc: Global,
+    world: &World,
+    table: &ParamTable,
+    rounds: Rounds,
+) -> Result<Protocols, Refused>
+    requires { IsTextOver table.now world.now }
+    ensures judged { Judges (IsShownSide (symbols_of world.now.lexicon) (facts_of (world_by table.now world.now)) (last_rules rounds)) (protocol_sides (world_by table.now world.now))
+        (last_rules rounds) (protocol_rules result) }
+    ensures same { IfOk result (λ p. p.rounds ≡ rounds) }
+{
+    match first_in_protocols(alloc, world, table, rounds.last()) {
+        Err(_) => Err(Refused::Memory),
+        Ok(Some(at)) => Err(Refused::NotATypeParameter { at }),
+        Ok(None) => Ok(Protocols::new(rounds)),
+    }
+}
+
+/// The machine, if its rules show each side valid.
+fn judge_machine(
+    alloc: Global,
+    world: &World,
+    table: &ParamTable,
+    machine: Machine,
+    written: &[Written],
+) -> Result<Machine, Refused>
+    requires text { IsTextOver table.now world.now }
+    requires written { AreWritten table.now world.now.lexicon written.now }
+    ensures judged { (rs : List TermRequirement) → Judges (IsShownSide (symbols_of world.now.lexicon) (facts_of (world_by table.now world.now)) (last_rules machine.rounds))
+        (sides (WrittenList (generic_params machine.params) rs) (placed table.now written.now)) (last_rules machine.rounds) (built_rules result) }
+    ensures same { IfOk result (λ m. m ≡ machine) }
+{
+    match first_invalid(
+        alloc,
+        world,
+        table,
+        machine.rules(),
+        Over::Signature(machine.params()),
+        written,
+    ) {
+        Err(_) => Err(Refused::Memory),
+        Ok(Some(at)) => Err(Refused::NotATypeParameter { at }),
+        Ok(None) => Ok(machine),
+    }
+}
+
+impl Protocols {
+    /// The rules of the protocols of a text.
+    ///
+    /// It is `Refused::Limit` exactly where a round passes a limit, with that limit and the trace of that round, and
+    /// `Refused::NotATypeParameter` exactly where no round does and a side of a requirement is no type parameter, at the first such
+    /// side, protocols in written order. The watcher is told the events of the rounds.
+    pub fn build<W: Watch>(
+        alloc: Global,
+        world: &World,
+        table: &ParamTable,
+        limits: Limits,
+        watch: &mut W,
+    ) -> Result<Protocols, Refused>
+        requires text { IsTextOver table.now world.now }
+        requires limits { AreInRange limits }
+        ensures answer { Builds limits (protocols_of (world_by table.now world.now)) (facts_of (world_by table.now world.now)) (protocol_sides (world_by table.now world.now))
+            (W.told watch.old) (W.told watch.new) (protocol_rules result) }
+        ensures only { IsOnlyBuilt limits (protocols_of (world_by table.now world.now)) (facts_of (world_by table.now world.now)) (protocol_sides (world_by table.now world.now))
+            (protocol_rules result) }
+        ensures rounds { IfOk result (λ p. AreRounds limits (protocols_of (world_by table.now world.now)) p.rounds) }
+        ensures rules { IfOk result (λ p. AreRulesOf (world_by table.now world.now) (last_rules p.rounds)) }
+    {
+        match complete_protocols(alloc, world, table, limits, watch) {
+            Err(failed) => Err(refusal(failed)),
+            Ok(rounds) => judge_protocols(alloc, world, table, rounds),
+        }
+    }
+}
+
+impl Machine {
+    /// The machine of a written list, over the rules of the protocols.
+    ///
+    /// It is `Refused::Limit` exactly where a round of the list passes a limit, with that limit and the trace of that round, and
+    /// `Refused::NotATypeParameter` exactly where no round does and a side is no type parameter, at the first such side. The watcher is
+    /// told the events of the rounds.
+    pub fn build<W: Watch>(
+        alloc: Global,
+        world: &World,
+        table: &ParamTable,
+        protocols: &Protocols,
+        params: Params,
+        written: &[Written],
+        limits: Limits,
+        watch: &mut W,
+    ) -> Result<Machine, Refused>
+        requires text { IsTextOver table.now world.now }
+        requires protocols { AreRulesOf (world_by table.now world.now) (last_rules protocols.now.rounds) }
+        requires written { AreWritten table.now world.now.lexicon written.now }
+        requires limits { AreInRange limits }
+        ensures answer { Builds limits (list_of (world_by table.now world.now) (last_rules protocols.now.rounds) params (listed table.now (bare written.now))) (facts_of (world_by table.now world.now))
+            (sides (WrittenList (generic_params params) (listed table.now (bare written.now))) (placed table.now written.now)) (W.told watch.old) (W.told watch.new) (built_rules result) }
+        ensures only { IsOnlyBuilt limits (list_of (world_by table.now world.now) (last_rules protocols.now.rounds) params (listed table.now (bare written.now))) (facts_of (world_by table.now world.now))
+            (sides (WrittenList (generic_params params) (listed table.now (bare written.now))) (placed table.now written.now)) (built_rules result) }
+        ensures rounds { IfOk result (λ m. AreRounds limits (list_of (world_by table.now world.now) (last_rules protocols.now.rounds) params (listed table.now (bare written.now))) m.rounds) }
+        ensures machine { IfOk result (IsMachineOf (world_by table.now world.now) (listed table.now (bare written.now))) }
+        ensures params { IfOk result (λ m. m.params ≡ params) }
+    {
+        match bare(alloc, written) {
+            Err(_) => Err(Refused::Memory),
+            Ok(list) => match core(alloc, world, table, protocols, params, &list, limits, watch) {
+                Err(failed) => Err(refusal(failed)),
+                Ok(machine) => judge_machine(alloc, world, table, machine, written),
+            },
+        }
+    }
+}

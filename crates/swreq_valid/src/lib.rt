@@ -1,0 +1,18 @@
+//! Machines: the rules of a list and of the protocols, found by rounds, and what they answer.
+#![tactic(auto)]
+
+mod basic;
+mod build;
+mod machine;
+mod protocols;
+mod refused;
+mod round;
+mod rounds;
+mod sides;
+mod usable;
+mod wanted;
+
+pub use machine::{Machine, core};
+pub use protocols::Protocols;
+pub use refused::Refused;
+pub use round::Round;

@@ -1,0 +1,125 @@
+//! Machines of lists.
+ghost use Rattle.std.specs.Prelude.{◌≡◌, map, IfOk};
+ghost use Rattle.swreq_complete.specs.Limits.{AreInRange};
+ghost use Rattle.swreq_shown.specs.Known.{IsTextOver};
+ghost use Rattle.swreq_world.specs.ByTable.{world_by};
+ghost use Rattle.swreq_valid.specs.Answers.{Answers, IsOnlyOutcome};
+ghost use Rattle.swreq_valid.specs.Machines.{AreRulesOf, IsMachineOf, list_of, machine_rules};
+ghost use Rattle.swreq_valid.specs.Plans.{AreKnown, in_signature, listed};
+ghost use Rattle.swreq_valid.specs.Rounds.{AreRounds, last_rules};
+
+use crate::protocols::Protocols;
+use crate::round::{Round, Rounds};
+use crate::rounds::run;
+use crate::wanted::{Start, Wanted};
+use std::alloc::{AllocError, Global};
+use std::marker::Model;
+use swreq_complete::{CompleteRules, Failed, Limits};
+use swreq_derive::{Params, Requirement};
+use swreq_param::ParamTable;
+use swreq_shown::Over;
+use swreq_watch::Watch;
+use swreq_world::World;
+
+/// The machine of a list: its generic parameters, and the rounds that found its rules.
+#[derive(Drop)]
+pub struct Machine {
+    params: Params,
+    rounds: Rounds,
+}
+
+impl Model for Machine {
+    ghost use Rattle.swreq_valid.specs.Machines.{MachineView};
+
+    ghost Value = { MachineView };
+
+    ghost view = { λ m. record { params = m.params; rounds = m.rounds } };
+}
+
+impl Machine {
+    /// The machine with these generic parameters and these rounds.
+    pub(crate) fn new(params: Params, rounds: Rounds) -> Machine
+        ensures { result ≡ record { params = params; rounds = rounds } }
+    {
+        Machine { params, rounds }
+    }
+
+    /// The generic parameters with which it was made.
+    pub fn params(&self) -> Params
+        ensures { result ≡ self.now.params }
+    {
+        self.params
+    }
+
+    /// The rounds that found its rules.
+    pub fn rounds(&self) -> &[Round]
+        ensures { result.now ≡ self.now.rounds }
+    {
+        self.rounds.items()
+    }
+
+    /// The rules of its last round.
+    pub fn rules(&self) -> &CompleteRules
+        ensures { result.now ≡ last_rules self.now.rounds }
+    {
+        self.rounds.last()
+    }
+}
+
+/// The requirements of a list with these generic parameters.
+fn in_signature(
+    alloc: Global,
+    params: Params,
+    list: &[Requirement],
+) -> Result<Vec<Wanted>, AllocError>
+    ensures { IfOk result (λ v. v.items ≡ map (in_signature params) list.now) }
+{
+    let mut wanted: Vec<Wanted> = Vec::new(alloc);
+    for k in 0..list.len() {
+        let requirement = list[k];
+        wanted.push(Wanted {
+            over: Over::Signature(params),
+            requirement,
+        })?;
+    }
+    Ok(wanted)
+}
+
+/// The machine of the usable part of a list, over the rules of the protocols.
+///
+/// `Failed::Limit` comes exactly where a round of the list passes a limit, with that limit and the trace of that round.
+pub fn core<W: Watch>(
+    alloc: Global,
+    world: &World,
+    table: &ParamTable,
+    protocols: &Protocols,
+    params: Params,
+    list: &[Requirement],
+    limits: Limits,
+    watch: &mut W,
+) -> Result<Machine, Failed>
+    requires text { IsTextOver table.now world.now }
+    requires protocols { AreRulesOf (world_by table.now world.now) (last_rules protocols.now.rounds) }
+    requires list { AreKnown table.now world.now.lexicon list.now }
+    requires limits { AreInRange limits }
+    ensures answer { Answers limits (list_of (world_by table.now world.now) (last_rules protocols.now.rounds) params (listed table.now list.now)) (W.told watch.old) (W.told watch.new) (machine_rules result) }
+    ensures only { IsOnlyOutcome limits (list_of (world_by table.now world.now) (last_rules protocols.now.rounds) params (listed table.now list.now)) (machine_rules result) }
+    ensures rounds { IfOk result (λ m. AreRounds limits (list_of (world_by table.now world.now) (last_rules protocols.now.rounds) params (listed table.now list.now)) m.rounds) }
+    ensures machine { IfOk result (IsMachineOf (world_by table.now world.now) (listed table.now list.now)) }
+    ensures params { IfOk result (λ m. m.params ≡ params) }
+{
+    match in_signature(alloc, params, list) {
+        Err(_) => Err(Failed::Memory),
+        Ok(all) => {
+            let start = Start {
+                basic: Vec::new(alloc),
+                all,
+                limits,
+            };
+            match run(alloc, world, table, protocols.rules(), &start, watch) {
+                Ok(rounds) => Ok(Machine::new(params, rounds)),
+                Err(failed) => Err(failed),
+            }
+        }
+    }
+}

@@ -1,0 +1,90 @@
+//! The rules of the protocols of a text.
+ghost use Rattle.std.specs.Prelude.{◌≡◌, IfOk};
+ghost use Rattle.swreq_complete.specs.Limits.{AreInRange};
+ghost use Rattle.swreq_shown.specs.Known.{IsTextOver};
+ghost use Rattle.swreq_world.specs.ByTable.{world_by};
+ghost use Rattle.swreq_valid.specs.Answers.{Answers, IsOnlyOutcome};
+ghost use Rattle.swreq_valid.specs.Machines.{AreRulesOf, protocols_of};
+ghost use Rattle.swreq_valid.specs.Rounds.{AreRounds, last_rules, rules_of};
+
+use crate::basic::{basic, requirements};
+use crate::round::{Round, Rounds};
+use crate::rounds::run;
+use crate::wanted::Start;
+use std::alloc::{AllocError, Global};
+use std::marker::Model;
+use swreq_complete::{CompleteRules, Failed, Limits};
+use swreq_param::ParamTable;
+use swreq_watch::Watch;
+use swreq_world::World;
+
+/// The rules of the protocols of a text, and the rounds that found them.
+#[derive(Drop)]
+pub struct Protocols {
+    rounds: Rounds,
+}
+
+impl Model for Protocols {
+    ghost use Rattle.swreq_valid.specs.Machines.{ProtocolsView};
+
+    ghost Value = { ProtocolsView };
+
+    ghost view = { λ p. record { rounds = p.rounds } };
+}
+
+impl Protocols {
+    /// The rules that these rounds found.
+    pub(crate) fn new(rounds: Rounds) -> Protocols
+        ensures { result.rounds ≡ rounds }
+    {
+        Protocols { rounds }
+    }
+
+    /// The rounds that found the rules.
+    pub fn rounds(&self) -> &[Round]
+        ensures { result.now ≡ self.now.rounds }
+    {
+        self.rounds.items()
+    }
+
+    /// The rules of the last round.
+    pub fn rules(&self) -> &CompleteRules
+        ensures { result.now ≡ last_rules self.now.rounds }
+    {
+        self.rounds.last()
+    }
+}
+
+/// Runs the rounds of the protocols.
+pub(crate) fn complete_protocols<W: Watch>(
+    alloc: Global,
+    world: &World,
+    table: &ParamTable,
+    limits: Limits,
+    watch: &mut W,
+) -> Result<Rounds, Failed>
+    requires text { IsTextOver table.now world.now }
+    requires limits { AreInRange limits }
+    ensures answer { Answers limits (protocols_of (world_by table.now world.now)) (W.told watch.old) (W.told watch.new) (rules_of result) }
+    ensures only { IsOnlyOutcome limits (protocols_of (world_by table.now world.now)) (rules_of result) }
+    ensures rounds { IfOk result (AreRounds limits (protocols_of (world_by table.now world.now))) }
+    ensures rules { IfOk result (λ rounds. AreRulesOf (world_by table.now world.now) (last_rules rounds)) }
+{
+    match basic(alloc, world) {
+        Err(_) => Err(Failed::Memory),
+        Ok(basic) => match requirements(alloc, world) {
+            Err(_) => Err(Failed::Memory),
+            Ok(all) => {
+                let start = Start { basic, all, limits };
+                run(
+                    alloc,
+                    world,
+                    table,
+                    &CompleteRules::empty(alloc),
+                    &start,
+                    watch,
+                )
+            }
+        },
+    }
+}

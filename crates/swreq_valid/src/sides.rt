@@ -1,0 +1,119 @@
+//! The first side of written requirements that is no type parameter.
+ghost use Rattle.std.specs.Prelude.{◌≡◌, IfOk, List, MatchOption};
+ghost use Rattle.swreq_param.specs.Tables.{term_at};
+ghost use Rattle.swreq_derive.specs.Derivation.{TermRequirement};
+ghost use Rattle.swreq_shown.specs.Known.{IsRequirementIn, IsTextOver, IsTypeIn};
+ghost use Rattle.swreq_shown.specs.Meaning.{facts_of, symbols_of};
+ghost use Rattle.swreq_world.specs.ByTable.{world_by};
+ghost use Rattle.swreq_written.specs.ByTable.{placed, placed_by};
+ghost use Rattle.swreq_valid.specs.Plans.{AreWritten, within};
+ghost use Rattle.swreq_valid.specs.Sides.{FailsFirst, HoldsOfEach, IsShownSide, protocol_sides, sides, sides_of};
+
+use crate::usable::is_shown;
+use std::alloc::{AllocError, Global};
+use swreq_complete::CompleteRules;
+use swreq_derive::Requirement;
+use swreq_param::{ParamTable, TermId};
+use swreq_shown::Over;
+use swreq_world::{World, Written};
+
+/// The place of a side, where the rules do not show it valid.
+fn fails_at(
+    alloc: Global,
+    world: &World,
+    table: &ParamTable,
+    rules: &CompleteRules,
+    over: Over,
+    t: TermId,
+    at: u32,
+) -> Result<Option<u32>, AllocError>
+    requires text { IsTextOver table.now world.now }
+    requires t { IsTypeIn table.now world.now.lexicon t }
+    ensures { (rs : List TermRequirement) → IfOk result (λ r. MatchOption r
+        (IsShownSide (symbols_of world.now.lexicon) (facts_of (world_by table.now world.now)) rules.now (record { source = within rs over; term = term_at table.now t; at = at }))
+        (λ a. (IsShownSide (symbols_of world.now.lexicon) (facts_of (world_by table.now world.now)) rules.now (record { source = within rs over; term = term_at table.now t; at = at }) → ⊥) × (a ≡ at))) }
+{
+    let shown = is_shown(alloc, world, table, rules, over, t)?;
+    if shown { Ok(None) } else { Ok(Some(at)) }
+}
+
+/// The place of the first side of a requirement that the rules do not show valid, the left side before the right.
+fn first_of(
+    alloc: Global,
+    world: &World,
+    table: &ParamTable,
+    rules: &CompleteRules,
+    over: Over,
+    r: &Written,
+) -> Result<Option<u32>, AllocError>
+    requires text { IsTextOver table.now world.now }
+    requires r { IsRequirementIn table.now world.now.lexicon r.now.requirement }
+    ensures { (rs : List TermRequirement) → IfOk result (λ first. MatchOption first
+        (HoldsOfEach (IsShownSide (symbols_of world.now.lexicon) (facts_of (world_by table.now world.now)) rules.now) (sides_of (within rs over) (placed_by table.now r.now)))
+        (FailsFirst (IsShownSide (symbols_of world.now.lexicon) (facts_of (world_by table.now world.now)) rules.now) (sides_of (within rs over) (placed_by table.now r.now)))) }
+{
+    match r.requirement {
+        Requirement::Conf { subject, .. } => fails_at(
+            alloc, world, table, rules, over, subject, r.left_at,
+        ),
+        Requirement::Layout { subject } => fails_at(
+            alloc, world, table, rules, over, subject, r.left_at,
+        ),
+        Requirement::Same { left, right } => match fails_at(
+            alloc, world, table, rules, over, left, r.left_at,
+        )? {
+            Some(at) => Ok(Some(at)),
+            None => fails_at(alloc, world, table, rules, over, right, r.right_at),
+        },
+    }
+}
+
+/// The place of the first side in a list that the rules do not show valid, in list order.
+pub(crate) fn first_invalid(
+    alloc: Global,
+    world: &World,
+    table: &ParamTable,
+    rules: &CompleteRules,
+    over: Over,
+    list: &[Written],
+) -> Result<Option<u32>, AllocError>
+    requires text { IsTextOver table.now world.now }
+    requires list { AreWritten table.now world.now.lexicon list.now }
+    ensures { (rs : List TermRequirement) → IfOk result (λ first. MatchOption first
+        (HoldsOfEach (IsShownSide (symbols_of world.now.lexicon) (facts_of (world_by table.now world.now)) rules.now) (sides (within rs over) (placed table.now list.now)))
+        (FailsFirst (IsShownSide (symbols_of world.now.lexicon) (facts_of (world_by table.now world.now)) rules.now) (sides (within rs over) (placed table.now list.now)))) }
+{
+    for k in 0..list.len() {
+        let r = &list[k];
+        let first = first_of(alloc, world, table, rules, over, r)?;
+        match first {
+            Some(at) => return Ok(Some(at)),
+            None => {}
+        }
+    }
+    Ok(None)
+}
+
+/// The place of the first side in the protocols that the rules do not show valid, protocols in written order.
+pub(crate) fn first_in_protocols(
+    alloc: Global,
+    world: &World,
+    table: &ParamTable,
+    rules: &CompleteRules,
+) -> Result<Option<u32>, AllocError>
+    requires text { IsTextOver table.now world.now }
+    ensures { IfOk result (λ first. MatchOption first
+        (HoldsOfEach (IsShownSide (symbols_of world.now.lexicon) (facts_of (world_by table.now world.now)) rules.now) (protocol_sides (world_by table.now world.now)))
+        (FailsFirst (IsShownSide (symbols_of world.now.lexicon) (facts_of (world_by table.now world.now)) rules.now) (protocol_sides (world_by table.now world.now)))) }
+{
+    for k in 0..world.protocols() {
+        let p = world.proto_at(k);
+        let list = world.requirements(p);
+        let first = first_invalid(alloc, world, table, rules, Over::Protocol(p), list)?;
+        match first {
+            Some(at) => return Ok(Some(at)),
+            None => {}
+        }
+    }
+    Ok(None)
+}

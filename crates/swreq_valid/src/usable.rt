@@ -1,0 +1,91 @@
+//! Which requirements the rules show usable.
+ghost use Rattle.std.specs.Prelude.{◌≡◌, ◌↔◌, IfOk, IsTrue, List};
+ghost use Rattle.swreq_param.specs.Tables.{term_at};
+ghost use Rattle.swreq_derive.specs.Facts.{requirement_of};
+ghost use Rattle.swreq_rule.specs.declared.rules.Rule.{Rule};
+ghost use Rattle.swreq_reading.specs.Shown.{ShowsUsable, ShowsValid};
+ghost use Rattle.swreq_rounds.specs.Plan.{AreShown};
+ghost use Rattle.swreq_shown.specs.Known.{IsRequirementIn, IsTextOver, IsTypeIn};
+ghost use Rattle.swreq_shown.specs.Meaning.{facts_of, symbols_of};
+ghost use Rattle.swreq_shown.specs.Overs.{source_of};
+ghost use Rattle.swreq_shown.specs.Vanishing.{Links};
+ghost use Rattle.swreq_world.specs.ByTable.{world_by};
+ghost use Rattle.swreq_valid.specs.Flags.{Tells};
+ghost use Rattle.swreq_valid.specs.Plans.{AreWanted, items_of, plan_of};
+
+use crate::wanted::{Start, Wanted};
+use std::alloc::{AllocError, Global};
+use swreq_complete::CompleteRules;
+use swreq_derive::Requirement;
+use swreq_param::{ParamTable, TermId};
+use swreq_shown::{Over, least_word};
+use swreq_word::Symbol;
+use swreq_world::World;
+
+/// Whether the rules show that a type parameter is valid.
+pub(crate) fn is_shown(
+    alloc: Global,
+    world: &World,
+    table: &ParamTable,
+    rules: &CompleteRules,
+    over: Over,
+    t: TermId,
+) -> Result<bool, AllocError>
+    requires text { IsTextOver table.now world.now }
+    requires t { IsTypeIn table.now world.now.lexicon t }
+    ensures { IfOk result (λ b. IsTrue b ↔ ShowsValid (symbols_of world.now.lexicon) (facts_of (world_by table.now world.now)) (source_of over) (Links rules.now) (term_at table.now t)) }
+{
+    let room = table.members(t).checked_add(2).ok_or(AllocError)?;
+    let mut word: Vec<Symbol> = Vec::with_capacity(alloc, room)?;
+    let mut test: Vec<Symbol> = Vec::with_capacity(alloc, room)?;
+    Ok(least_word(world, table, rules, over, t, &mut word, &mut test))
+}
+
+/// Whether the rules show that the type parameters of a requirement are valid.
+fn is_usable(
+    alloc: Global,
+    world: &World,
+    table: &ParamTable,
+    rules: &CompleteRules,
+    want: &Wanted,
+) -> Result<bool, AllocError>
+    requires text { IsTextOver table.now world.now }
+    requires want { IsRequirementIn table.now world.now.lexicon want.now.requirement }
+    ensures { IfOk result (λ b. IsTrue b ↔ ShowsUsable (symbols_of world.now.lexicon) (facts_of (world_by table.now world.now)) (source_of want.now.over) (Links rules.now)
+        (requirement_of table.now want.now.requirement)) }
+{
+    match want.requirement {
+        Requirement::Conf { subject, .. } => is_shown(
+            alloc, world, table, rules, want.over, subject,
+        ),
+        Requirement::Layout { subject } => is_shown(alloc, world, table, rules, want.over, subject),
+        Requirement::Same { left, right } => {
+            if is_shown(alloc, world, table, rules, want.over, left)? {
+                is_shown(alloc, world, table, rules, want.over, right)
+            } else {
+                Ok(false)
+            }
+        }
+    }
+}
+
+/// Which requirements the rules show usable, by a flag for each.
+pub(crate) fn usable(
+    alloc: Global,
+    world: &World,
+    table: &ParamTable,
+    start: &Start,
+    rules: &CompleteRules,
+) -> Result<Vec<bool>, AllocError>
+    requires text { IsTextOver table.now world.now }
+    requires wanted { AreWanted table.now world.now.lexicon start.now.all.items }
+    ensures { (base : List Rule) → IfOk result (λ v. Tells (AreShown (plan_of world.now table.now base start.now) rules.now) (items_of table.now start.now.all.items) v.items) }
+{
+    let mut flags = Vec::new(alloc);
+    for k in 0..start.all.len() {
+        let want = &start.all[k];
+        let shown = is_usable(alloc, world, table, rules, want)?;
+        flags.push(shown)?;
+    }
+    Ok(flags)
+}

@@ -1,0 +1,20 @@
+//! What the rounds of a machine start from.
+use swreq_complete::Limits;
+use swreq_derive::Requirement;
+use swreq_shown::Over;
+use swreq_word::Word;
+
+/// A requirement that rounds may use, and over what its type parameters are read.
+#[derive(Clone, Copy, Debug, PartialEq, Eq)]
+pub(crate) struct Wanted {
+    pub over: Over,
+    pub requirement: Requirement,
+}
+
+/// What rounds start from beside their base: the equations of every round, the requirements that may join them, in order, and the limits.
+#[derive(Drop)]
+pub(crate) struct Start {
+    pub basic: Vec<(Word, Word)>,
+    pub all: Vec<Wanted>,
+    pub limits: Limits,
+}
