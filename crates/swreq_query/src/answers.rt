@@ -22,7 +22,7 @@ use swreq_written::Query;
 
 /// Appends the line that answers a query of a requirement or a type, from every list of which m is the machine.
 ///
-/// The map is that of the rules of m. For want of memory `out` is as before.
+/// The map is that of the rules of m, and the scratch has room for each side. For want of memory `out` is as before.
 pub fn answer(
     alloc: Global,
     world: &World,
