@@ -1,0 +1,4 @@
+pub mod Along
+pub mod Appending
+pub mod Judging
+pub mod OneAnswer
