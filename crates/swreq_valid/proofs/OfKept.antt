@@ -217,9 +217,9 @@ one_kept g xs bs k d c v w all l m f h =
     ap (λ z. z ++ map g rest) f
     ∙ append_assoc v (if b then g x ∷ [] else []) (map g rest)
     ∙ ap (λ z. v ++ z)
-    ( ap (λ z. z ++ map g rest) (sym (map_one_if g b x))
+    (ap (λ z. z ++ map g rest) (sym (map_one_if g b x))
     ∙ sym (map-append g (if b then x ∷ [] else []) rest)
-    ∙ ap (map g) (sym (chosen_from xs bs k x d b c l m refl refl)) )
+    ∙ ap (map g) (sym (chosen_from xs bs k x d b c l m refl refl)))
     ∙ h
 
 pub all_kept : {A B : Type 0} (g : A → B) (xs : List A) (bs : List Bool) (k : ℕ) (v all : List B) → length xs ≤ k → v ++ map g (chosen (drop k xs) (drop k bs)) ≡ all → v ≡ all

@@ -15,8 +15,8 @@ loop-k-preserved c =
     let w = c.args.world.now in
     let lists : List (List Bool) = c.items-lists.result.now in
     let within : c.loop-k.k < length lists =
-        (let a = c.loop-k-test.true in let b = c.protocols-k-end.ensures in let e = c.requires.ids.each_once in let f = c.requires.keep.protocols in
-        let g = ap length c.items-lists.ensures in omega (arith, a, b, e, f, g)) in
+    (let a = c.loop-k-test.true in let b = c.protocols-k-end.ensures in let e = c.requires.ids.each_once in let f = c.requires.keep.protocols in
+    let g = ap length c.items-lists.ensures in omega (arith, a, b, e, f, g)) in
     let at : slice_get lists c.loop-k.k ≡ Some c.index-lists-k.result = slice_get_read lists (length lists) c.loop-k.k c.index-lists-k.result refl within c.index-lists-k.is in
     one_list w w.lexicon.written_order c.args.keep.now.lists c.loop-k.k c.proto_at-p.result c.items.result.now c.loop-k.v.items c.add_kept.new.v.items
     (kept_in w w.lexicon.written_order c.args.keep.now.lists) c.proto_at-p.ensures

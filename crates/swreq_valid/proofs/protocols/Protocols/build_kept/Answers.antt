@@ -11,7 +11,7 @@ use Rattle.swreq_valid.proofs.protocols.Protocols.build_kept.Goals as goal
 pub returns-in-Ok-with_usable-clause-answer : goal.returns-in-Ok-with_usable-clause-answer
 returns-in-Ok-with_usable-clause-answer g c =
     subst (λ (z : List RoundView). Answers c.args.limits (kept_plan (world_by c.args.table.now c.args.world.now) c.args.keep.now.lists)
-        (g.W.Watch.told c.args.watch.now) (g.W.Watch.told c.complete_kept.new.watch) (Ok (last_rules z)))
+    (g.W.Watch.told c.args.watch.now) (g.W.Watch.told c.complete_kept.new.watch) (Ok (last_rules z)))
     (sym c.in-Ok-with_usable.ensures.same) c.in-Ok.ensures.answer
 
 pub returns-in-Ok-with_usable-clause-only : goal.returns-in-Ok-with_usable-clause-only
