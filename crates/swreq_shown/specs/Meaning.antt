@@ -21,8 +21,15 @@ associated_at x d = slice_index_or x.associated d.rank (pair (record { rank = 0 
 
 -- the protocols in written order, the member symbols by rank, and the symbol of each associated type
 abbrev pub symbols_of : LexiconView → Symbols
-symbols_of x = record { protocols = x.written_order; members = map member_name x.symbols; rank_of = λ d. rank_in x.symbols (associated_at x d) }
+symbols_of x = record {
+  protocols = x.written_order;
+  members = map member_name x.symbols;
+  rank_of = λ d. rank_in x.symbols (associated_at x d);
+}
 
 -- the associated types, and the requirements of each protocol
 abbrev pub facts_of : TextWorld → TermFacts
-facts_of w = record { associated_types = associated_types w.lexicon.associated; of_protocol = λ p. map (λ r. r.requirement) (requirements_of w p) }
+facts_of w = record {
+  associated_types = associated_types w.lexicon.associated;
+  of_protocol = λ p. map (λ r. r.requirement) (requirements_of w p);
+}

@@ -144,9 +144,11 @@ pub fn least_word(
     requires t { IsTypeIn table.now world.now.lexicon t }
     requires fits { member_count (term_at table.now t) + 2 ≤ vec_capacity word.old }
     requires fits_test { member_count (term_at table.now t) + 2 ≤ vec_capacity test.old }
-    ensures valid { IsTrue result ↔ ShowsValid (symbols_of world.now.lexicon) (facts_of (world_by table.now world.now)) (source_of over) (Links rules.now) (term_at table.now t) }
+    ensures valid { IsTrue result ↔ ShowsValid (symbols_of world.now.lexicon) (facts_of (world_by table.now world.now))
+        (source_of over) (Links rules.now) (term_at table.now t) }
     ensures least { OnTrue result (IsLeastBy rules.now word.new.items) }
-    ensures linked { OnTrue result (Links rules.now (word_of (symbols_of world.now.lexicon) (source_of over) (term_at table.now t)) word.new.items) }
+    ensures linked { OnTrue result (Links rules.now (word_of (symbols_of world.now.lexicon) (source_of over)
+        (term_at table.now t)) word.new.items) }
     ensures short { OnTrue result (vec_len word.new ≤ member_count (term_at table.now t) + 1) }
     ensures room { vec_capacity word.old ≤ vec_capacity word.new }
     ensures room_test { vec_capacity test.old ≤ vec_capacity test.new }

@@ -13,7 +13,8 @@ use Rattle.swreq_rounds.specs.Rounds.{ComesTo, IsOutcome}
 -- The rounds come out so, and the watcher was told what they tell: in all, or for want of memory so far as they came.
 abbrev pub Answers : Limits → Plan → Option (List Event) → Option (List Event) → Result (List Rule) Failed → Type 0
 Answers limits plan old new (Ok rules) = (told : List Event) × IsOutcome limits plan (Ok rules) told × GrewBy old new told
-Answers limits plan old new (Err (Limit which trace)) = (told : List Event) × IsOutcome limits plan (Err (Limit which trace)) told × GrewBy old new told
+Answers limits plan old new (Err (Limit which trace)) =
+    (told : List Event) × IsOutcome limits plan (Err (Limit which trace)) told × GrewBy old new told
 Answers limits plan old new (Err Memory) = (told : List Event) × ComesTo limits plan told × GrewBy old new told
 
 -- But for want of memory the rounds come out in no other way.

@@ -19,12 +19,13 @@ abbrev pub refusal : Failed → Refused
 refusal (failed.Limit which trace) = Limit which trace
 refusal failed.Memory = Memory
 
--- Building comes to the rules of the last round where no round passes a limit and each side is valid; else to the limit and the trace of the
--- round that passes one; else to the place of the first side that is not valid. What it tells in all are the events of the rounds.
+-- Building comes to the rules of the last round where no round passes a limit and each side is valid; else to the limit and the trace of
+-- the round that passes one; else to the place of the first side that is not valid. What it tells in all are the events of the rounds.
 abbrev pub IsBuilt : Limits → Plan → TermFacts → List Side → Result (List Rule) Refused → List Event → Type 0
 IsBuilt limits plan f sides (Ok rules) told = IsOutcome limits plan (Ok rules) told × HoldsOfEach (IsValidSide f) sides
 IsBuilt limits plan f sides (Err (Limit which trace)) told = IsOutcome limits plan (Err (failed.Limit which trace)) told
-IsBuilt limits plan f sides (Err (NotATypeParameter at)) told = (rules : List Rule) × IsOutcome limits plan (Ok rules) told × FailsFirst (IsValidSide f) sides at
+IsBuilt limits plan f sides (Err (NotATypeParameter at)) told =
+    (rules : List Rule) × IsOutcome limits plan (Ok rules) told × FailsFirst (IsValidSide f) sides at
 IsBuilt limits plan f sides (Err Memory) told = Unit {0}
 
 abbrev pub IsForMemory : Result (List Rule) Refused → Type 0
@@ -33,8 +34,10 @@ IsForMemory answer = answer ≡ Err Memory
 -- It comes to this, and the watcher was told what is told: in all, or for want of memory so far as the rounds came.
 abbrev pub Builds : Limits → Plan → TermFacts → List Side → Option (List Event) → Option (List Event) → Result (List Rule) Refused → Type 0
 Builds limits plan f sides old new (Ok rules) = (told : List Event) × IsBuilt limits plan f sides (Ok rules) told × GrewBy old new told
-Builds limits plan f sides old new (Err (Limit which trace)) = (told : List Event) × IsBuilt limits plan f sides (Err (Limit which trace)) told × GrewBy old new told
-Builds limits plan f sides old new (Err (NotATypeParameter at)) = (told : List Event) × IsBuilt limits plan f sides (Err (NotATypeParameter at)) told × GrewBy old new told
+Builds limits plan f sides old new (Err (Limit which trace)) =
+    (told : List Event) × IsBuilt limits plan f sides (Err (Limit which trace)) told × GrewBy old new told
+Builds limits plan f sides old new (Err (NotATypeParameter at)) =
+    (told : List Event) × IsBuilt limits plan f sides (Err (NotATypeParameter at)) told × GrewBy old new told
 Builds limits plan f sides old new (Err Memory) = (told : List Event) × ComesTo limits plan told × GrewBy old new told
 
 -- But for want of memory it comes to nothing else.

@@ -35,8 +35,8 @@ kept_facts w keep = record {
 -- There is a list for each protocol, in written order, with a flag for each of its requirements.
 pub record AreFlags (w : IdWorld) (keep : List (List Bool)) : Type 0 where
   pub protocols : length keep ≡ length w.lexicon.written_order
-  pub requirements : (k : ℕ) (p : ProtoId) (flags : List Bool) → slice_get w.lexicon.written_order k ≡ Some p → slice_get keep k ≡ Some flags
-      → length flags ≡ length (requirements_of w p)
+  pub requirements : (k : ℕ) (p : ProtoId) (flags : List Bool) → slice_get w.lexicon.written_order k ≡ Some p
+      → slice_get keep k ≡ Some flags → length flags ≡ length (requirements_of w p)
 
 -- the rounds of the protocols of the world with the kept requirements, over the symbols and the basic equations of the whole world
 abbrev pub kept_plan : TextWorld → List (List Bool) → Plan

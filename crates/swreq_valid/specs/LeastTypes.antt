@@ -23,11 +23,11 @@ pub record IsFirstBehind (x : LexiconView) (rules : List Rule) (w : Word) (a : N
   pub given : IsGiven x rules w a d
   pub first : (e : AssocId) → IsGiven x rules w a e → d.rank ≤ e.rank
 
--- The word begins with a word of type T, behind which stands `rest`: with a generic parameter, and a member symbol for each member, which is
+-- The word begins with a word of type T, behind which stands `rest`: with a generic parameter, and a member symbol for each member. That is
 -- the bound member with the first associated type of that name whose protocol vanishes behind the word before it.
 abbrev pub BeginsBy : LexiconView → List Rule → Term → Word → Word → Type 0
 BeginsBy x rules (Generic g) rest u = u ≡ Param g.depth g.index ∷ rest
 BeginsBy x rules (Member t (Bound d)) rest u =
-    (k : ℕ) × (front : Word) × (u ≡ front ++ (MemberSymbol k ∷ rest)) × IsRank (symbols_of x) k × IsFirstBehind x rules front (name_of (symbols_of x) k) d
-    × BeginsBy x rules t (MemberSymbol k ∷ rest) u
+    (k : ℕ) × (front : Word) × (u ≡ front ++ (MemberSymbol k ∷ rest)) × IsRank (symbols_of x) k
+    × IsFirstBehind x rules front (name_of (symbols_of x) k) d × BeginsBy x rules t (MemberSymbol k ∷ rest) u
 BeginsBy x rules (Member t (Name a)) rest u = ⊥

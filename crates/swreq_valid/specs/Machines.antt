@@ -11,8 +11,12 @@ use Rattle.swreq_rounds.specs.Given.{list_plan, protocols_plan}
 use Rattle.swreq_rounds.specs.Plan.{Plan}
 use Rattle.swreq_rounds.specs.Presents.{AreListRules, AreProtocolRules}
 use Rattle.swreq_shown.specs.Meaning.{facts_of, symbols_of}
-use Rattle.swreq_world.specs.Worlds.{TextWorld}
+use Rattle.swreq_world.specs.Worlds.{IdWorld, TextWorld}
 use Rattle.swreq_valid.specs.Rounds.{RoundView, last_rules}
+use Rattle.swreq_param.specs.Terms.{Term}
+use Rattle.swreq_derive.specs.declared.requirements.Requirement.{Requirement}
+use Rattle.swreq_world.specs.ByTable.{world_by}
+use Rattle.swreq_valid.specs.Plans.{listed}
 
 -- what contracts see of a machine
 pub record MachineView : Type 0 where
@@ -46,3 +50,7 @@ protocols_of w = protocols_plan (symbols_of w.lexicon) (facts_of w)
 -- the rounds of a list, over the rules of the protocols
 abbrev pub list_of : TextWorld → List Rule → Params → List TermRequirement → Plan
 list_of w rules params list = list_plan (symbols_of w.lexicon) (facts_of w) rules (generic_params params) list
+
+-- the same over the ids of a table
+abbrev pub machine_plan : List Term → IdWorld → List Rule → Params → List Requirement → Plan
+machine_plan terms w rules params list = list_of (world_by terms w) rules params (listed terms list)

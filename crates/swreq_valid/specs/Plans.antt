@@ -36,7 +36,13 @@ abbrev pub items_of : List Term → List Wanted → List Item
 items_of terms xs = map (item_of terms (says terms xs)) xs
 
 abbrev pub plan_of : IdWorld → List Term → List Rule → Start → Plan
-plan_of w terms base start = record { symbols = symbols_of w.lexicon; facts = facts_of (world_by terms w); base = base; basic = start.basic.items; all = items_of terms start.all.items }
+plan_of w terms base start = record {
+  symbols = symbols_of w.lexicon;
+  facts = facts_of (world_by terms w);
+  base = base;
+  basic = start.basic.items;
+  all = items_of terms start.all.items;
+}
 
 -- The requirements are of the table and of the text.
 abbrev pub AreWanted : List Term → LexiconView → List Wanted → Type 0

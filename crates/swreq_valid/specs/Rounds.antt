@@ -12,8 +12,8 @@ pub record RoundView : Type 0 where
   pub used : List Bool
   pub rules : List Rule
 
--- The rounds, from the first on, lead to these usable requirements: the first uses none, each other one uses what the rules of the one before
--- it show usable, and so do these after the last.
+-- The rounds, from the first on, lead to these usable requirements: the first uses none, each other one uses what the rules of the one
+-- before it show usable, and so do these after the last.
 pub data LeadTo (limits : Limits) (plan : Plan) : List RoundView → List Item → Type 0 where
   no_round : LeadTo limits plan [] []
   a_round : {before all : List RoundView} {usable : List Item} (round : RoundView)

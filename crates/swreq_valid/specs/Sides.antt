@@ -3,15 +3,21 @@ use Rattle.std.specs.Prelude.{◌≡◌, ℕ, List, [], ◌∷◌, ◌++◌, Con
 use Rattle.swreq_param.specs.declared.ids.ProtoId.{ProtoId}
 use Rattle.swreq_param.specs.Terms.{Term}
 use Rattle.swreq_derive.specs.Derivation.{Derivable, Source, TermFacts, TermRequirement}
-use Rattle.swreq_derive.specs.Derivation.Source.{SelfOf}
+use Rattle.swreq_derive.specs.declared.known.Params.{Params}
+use Rattle.swreq_derive.specs.Derivation.Source.{SelfOf, Written as WrittenList}
+use Rattle.swreq_derive.specs.Facts.{generic_params}
 use Rattle.swreq_derive.specs.Derivation.TermRequirement.{Conforms, IsAnyObject, Equals}
 use Rattle.swreq_derive.specs.Derivation.TermStatement.{IsValid}
 use Rattle.swreq_rule.specs.declared.rules.Rule.{Rule}
 use Rattle.swreq_reading.specs.Shown.{ShowsValid}
 use Rattle.swreq_reading.specs.Symbols.{Symbols}
+use Rattle.swreq_written.specs.declared.ids.Written.{Written}
+use Rattle.swreq_written.specs.ByTable.{placed}
 use Rattle.swreq_written.specs.Requirements.{PlacedRequirement}
 use Rattle.swreq_world.specs.Worlds.{TextWorld, requirements_of}
+use Rattle.swreq_shown.specs.Meaning.{facts_of, symbols_of}
 use Rattle.swreq_shown.specs.Vanishing.{Links}
+use Rattle.swreq_valid.specs.Plans.{bare, listed}
 
 -- A type parameter where it is written, and the source over which it is read.
 pub record Side : Type 0 where
@@ -42,6 +48,10 @@ sides_in w (p ∷ ps) = sides (SelfOf p) (requirements_of w p) ++ sides_in w ps
 abbrev pub protocol_sides : TextWorld → List Side
 protocol_sides w = sides_in w w.lexicon.written_order
 
+-- the sides of a list with these generic parameters, over the ids of a table
+abbrev pub list_sides : List Term → Params → List Written → List Side
+list_sides terms params written = sides (WrittenList (generic_params params) (listed terms (bare written))) (placed terms written)
+
 -- ---- valid sides
 
 -- The side is a type parameter: it is derivable from its source.
@@ -51,6 +61,10 @@ IsValidSide f s = Derivable f s.source (IsValid s.term)
 -- The rules show it valid.
 abbrev pub IsShownSide : Symbols → TermFacts → List Rule → Side → Type 0
 IsShownSide m f rules s = ShowsValid m f s.source (Links rules) s.term
+
+-- the same of a world
+abbrev pub IsShownIn : TextWorld → List Rule → Side → Type 0
+IsShownIn w rules = IsShownSide (symbols_of w.lexicon) (facts_of w) rules
 
 -- P holds of each side.
 abbrev pub HoldsOfEach : (Side → Type 0) → List Side → Type 0

@@ -130,7 +130,8 @@ impl Machine {
         requires room_a { 4 * (member_count (term_at table.now a) + 2) ≤ s.old.room }
         requires room_b { 4 * (member_count (term_at table.now b) + 2) ≤ s.old.room }
         ensures answer { (list : List TermRequirement) → IsMachineOf (world_by table.now world.now) list self.now
-            → IsTrue result ↔ IsDerivable (world_by table.now world.now) self.now list (Requires (Equals (term_at table.now a) (term_at table.now b))) }
+            → IsTrue result ↔ IsDerivable (world_by table.now world.now) self.now list (Requires (Equals (term_at table.now a)
+            (term_at table.now b))) }
         ensures room { s.new.room ≡ s.old.room }
     {
         if !self.walk(world, table, a, &mut s.word, &mut s.test) {

@@ -51,7 +51,8 @@ fn add_name(
     rank: u64,
     v: &mut Vec<(Word, Word)>,
 ) -> Result<(), AllocError>
-    ensures { OnOk result (v.new.items ≡ v.old.items ++ (if nat_eq symbol.proto.rank p.rank then given.named p (member_name symbol) rank ∷ [] else [])) }
+    ensures { OnOk result (v.new.items ≡ v.old.items ++ (if nat_eq symbol.proto.rank p.rank then given.named p
+        (member_name symbol) rank ∷ [] else [])) }
 {
     if symbol.proto.rank == p.rank {
         let e = named(alloc, p, symbol.name, rank)?;

@@ -13,10 +13,10 @@ ghost use Rattle.swreq_valid.specs.declared.refused.Refused.TheVariants.{Memory 
 ghost use Rattle.swreq_valid.specs.Answers.{Answers, IsOnlyOutcome};
 ghost use Rattle.swreq_valid.specs.Keeping.{AreFlags, TellEach, TellUsable, kept_answer, kept_facts, kept_plan};
 ghost use Rattle.swreq_valid.specs.Built.{Builds, IsOnlyBuilt, Judges, built_rules, protocol_rules};
-ghost use Rattle.swreq_valid.specs.Machines.{AreRulesOf, IsMachineOf, list_of, protocols_of};
+ghost use Rattle.swreq_valid.specs.Machines.{AreRulesOf, IsMachineOf, machine_plan, protocols_of};
 ghost use Rattle.swreq_valid.specs.Plans.{AreWritten, bare, listed};
 ghost use Rattle.swreq_valid.specs.Rounds.{AreRounds, last_rules};
-ghost use Rattle.swreq_valid.specs.Sides.{IsShownSide, protocol_sides, sides};
+ghost use Rattle.swreq_valid.specs.Sides.{IsShownIn, list_sides, protocol_sides, sides};
 
 use crate::kept::{Kept, complete_kept, usable_lists};
 use crate::machine::{Machine, core};
@@ -53,7 +53,8 @@ fn with_usable(
 ) -> Result<Protocols, AllocError>
     requires { IsTextOver table.now world.now }
     ensures same { IfOk result (λ p. p.rounds ≡ rounds) }
-    ensures usable { IfOk result (λ p. TellEach (world_by table.now world.now) (last_rules rounds) p.usable (length world.now.lexicon.protocols)) }
+    ensures usable { IfOk result (λ p. TellEach (world_by table.now world.now) (last_rules rounds) p.usable
+        (length world.now.lexicon.protocols)) }
 {
     let usable = usable_lists(alloc, world, table, rounds.last())?;
     Ok(Protocols::new(rounds, usable))
@@ -68,7 +69,8 @@ fn protocols_or_memory(
 ) -> Result<Protocols, Refused>
     requires { IsTextOver table.now world.now }
     ensures same { IfOk result (λ p. p.rounds ≡ rounds) }
-    ensures usable { IfOk result (λ p. TellEach (world_by table.now world.now) (last_rules rounds) p.usable (length world.now.lexicon.protocols)) }
+    ensures usable { IfOk result (λ p. TellEach (world_by table.now world.now) (last_rules rounds) p.usable
+        (length world.now.lexicon.protocols)) }
     ensures err { IfErr result (λ e. e ≡ NoMemory) }
 {
     match with_usable(alloc, world, table, rounds) {
@@ -85,10 +87,11 @@ fn judge_protocols(
     rounds: Rounds,
 ) -> Result<Protocols, Refused>
     requires { IsTextOver table.now world.now }
-    ensures judged { Judges (IsShownSide (symbols_of world.now.lexicon) (facts_of (world_by table.now world.now)) (last_rules rounds)) (protocol_sides (world_by table.now world.now))
+    ensures judged { Judges (IsShownIn (world_by table.now world.now) (last_rules rounds)) (protocol_sides (world_by table.now world.now))
         (last_rules rounds) (protocol_rules result) }
     ensures same { IfOk result (λ p. p.rounds ≡ rounds) }
-    ensures usable { IfOk result (λ p. TellEach (world_by table.now world.now) (last_rules rounds) p.usable (length world.now.lexicon.protocols)) }
+    ensures usable { IfOk result (λ p. TellEach (world_by table.now world.now) (last_rules rounds) p.usable
+        (length world.now.lexicon.protocols)) }
 {
     match first_in_protocols(alloc, world, table, rounds.last()) {
         Err(_) => Err(Refused::Memory),
@@ -107,8 +110,9 @@ fn judge_machine(
 ) -> Result<Machine, Refused>
     requires text { IsTextOver table.now world.now }
     requires written { AreWritten table.now world.now.lexicon written.now }
-    ensures judged { (rs : List TermRequirement) → Judges (IsShownSide (symbols_of world.now.lexicon) (facts_of (world_by table.now world.now)) (last_rules machine.rounds))
-        (sides (WrittenList (generic_params machine.params) rs) (placed table.now written.now)) (last_rules machine.rounds) (built_rules result) }
+    ensures judged { (rs : List TermRequirement) → Judges (IsShownIn (world_by table.now world.now) (last_rules machine.rounds))
+        (sides (WrittenList (generic_params machine.params) rs) (placed table.now written.now)) (last_rules machine.rounds)
+        (built_rules result) }
     ensures same { IfOk result (λ m. m ≡ machine) }
 {
     match first_invalid(
@@ -140,9 +144,11 @@ impl Protocols {
     ) -> Result<Protocols, Refused>
         requires text { IsTextOver table.now world.now }
         requires limits { AreInRange limits }
-        ensures answer { Builds limits (protocols_of (world_by table.now world.now)) (facts_of (world_by table.now world.now)) (protocol_sides (world_by table.now world.now))
+        ensures answer { Builds limits (protocols_of (world_by table.now world.now)) (facts_of (world_by table.now world.now))
+            (protocol_sides (world_by table.now world.now))
             (W.told watch.old) (W.told watch.new) (protocol_rules result) }
-        ensures only { IsOnlyBuilt limits (protocols_of (world_by table.now world.now)) (facts_of (world_by table.now world.now)) (protocol_sides (world_by table.now world.now))
+        ensures only { IsOnlyBuilt limits (protocols_of (world_by table.now world.now)) (facts_of (world_by table.now world.now))
+            (protocol_sides (world_by table.now world.now))
             (protocol_rules result) }
         ensures rounds { IfOk result (λ p. AreRounds limits (protocols_of (world_by table.now world.now)) p.rounds) }
         ensures rules { IfOk result (λ p. AreRulesOf (world_by table.now world.now) (last_rules p.rounds)) }
@@ -171,11 +177,14 @@ impl Protocols {
         requires text { IsTextOver table.now world.now }
         requires keep { AreFlags world.now keep.now.lists }
         requires limits { AreInRange limits }
-        ensures answer { Answers limits (kept_plan (world_by table.now world.now) keep.now.lists) (W.told watch.old) (W.told watch.new) (kept_answer result) }
+        ensures answer { Answers limits (kept_plan (world_by table.now world.now) keep.now.lists) (W.told watch.old) (W.told watch.new)
+            (kept_answer result) }
         ensures only { IsOnlyOutcome limits (kept_plan (world_by table.now world.now) keep.now.lists) (kept_answer result) }
         ensures rounds { IfOk result (λ p. AreRounds limits (kept_plan (world_by table.now world.now) keep.now.lists) p.rounds) }
-        ensures rules { IfOk result (λ p. AreProtocolRules (symbols_of world.now.lexicon) (kept_facts (world_by table.now world.now) keep.now.lists) (last_rules p.rounds)) }
-        ensures usable { IfOk result (λ p. TellUsable (world_by table.now world.now) (kept_facts (world_by table.now world.now) keep.now.lists) p.usable) }
+        ensures rules { IfOk result (λ p. AreProtocolRules (symbols_of world.now.lexicon) (kept_facts
+            (world_by table.now world.now) keep.now.lists) (last_rules p.rounds)) }
+        ensures usable { IfOk result (λ p. TellUsable (world_by table.now world.now) (kept_facts
+            (world_by table.now world.now) keep.now.lists) p.usable) }
     {
         match complete_kept(alloc, world, table, keep, limits, watch) {
             Err(failed) => Err(failed),
@@ -207,11 +216,14 @@ impl Machine {
         requires protocols { AreRulesOf (world_by table.now world.now) (last_rules protocols.now.rounds) }
         requires written { AreWritten table.now world.now.lexicon written.now }
         requires limits { AreInRange limits }
-        ensures answer { Builds limits (list_of (world_by table.now world.now) (last_rules protocols.now.rounds) params (listed table.now (bare written.now))) (facts_of (world_by table.now world.now))
-            (sides (WrittenList (generic_params params) (listed table.now (bare written.now))) (placed table.now written.now)) (W.told watch.old) (W.told watch.new) (built_rules result) }
-        ensures only { IsOnlyBuilt limits (list_of (world_by table.now world.now) (last_rules protocols.now.rounds) params (listed table.now (bare written.now))) (facts_of (world_by table.now world.now))
-            (sides (WrittenList (generic_params params) (listed table.now (bare written.now))) (placed table.now written.now)) (built_rules result) }
-        ensures rounds { IfOk result (λ m. AreRounds limits (list_of (world_by table.now world.now) (last_rules protocols.now.rounds) params (listed table.now (bare written.now))) m.rounds) }
+        ensures answer { Builds limits (machine_plan table.now world.now (last_rules protocols.now.rounds) params (bare written.now))
+            (facts_of (world_by table.now world.now))
+            (list_sides table.now params written.now) (W.told watch.old) (W.told watch.new) (built_rules result) }
+        ensures only { IsOnlyBuilt limits (machine_plan table.now world.now (last_rules protocols.now.rounds) params
+            (bare written.now)) (facts_of (world_by table.now world.now))
+            (list_sides table.now params written.now) (built_rules result) }
+        ensures rounds { IfOk result (λ m. AreRounds limits (machine_plan table.now world.now (last_rules protocols.now.rounds) params
+            (bare written.now)) m.rounds) }
         ensures machine { IfOk result (IsMachineOf (world_by table.now world.now) (listed table.now (bare written.now))) }
         ensures params { IfOk result (λ m. m.params ≡ params) }
     {

@@ -97,10 +97,12 @@ pub(crate) fn complete_kept<W: Watch>(
     requires text { IsTextOver table.now world.now }
     requires keep { AreFlags world.now keep.now.lists }
     requires limits { AreInRange limits }
-    ensures answer { Answers limits (kept_plan (world_by table.now world.now) keep.now.lists) (W.told watch.old) (W.told watch.new) (rules_of result) }
+    ensures answer { Answers limits (kept_plan (world_by table.now world.now) keep.now.lists) (W.told watch.old) (W.told watch.new)
+        (rules_of result) }
     ensures only { IsOnlyOutcome limits (kept_plan (world_by table.now world.now) keep.now.lists) (rules_of result) }
     ensures rounds { IfOk result (AreRounds limits (kept_plan (world_by table.now world.now) keep.now.lists)) }
-    ensures rules { IfOk result (λ rounds. AreProtocolRules (symbols_of world.now.lexicon) (kept_facts (world_by table.now world.now) keep.now.lists) (last_rules rounds)) }
+    ensures rules { IfOk result (λ rounds. AreProtocolRules (symbols_of world.now.lexicon) (kept_facts
+        (world_by table.now world.now) keep.now.lists) (last_rules rounds)) }
 {
     match basic(alloc, world) {
         Err(_) => Err(Failed::Memory),
@@ -131,7 +133,8 @@ fn usable_of(
 ) -> Result<Vec<bool>, AllocError>
     requires text { IsTextOver table.now world.now }
     requires p { p.rank < length world.now.lexicon.protocols }
-    ensures { IfOk result (λ v. Tells (IsUsableBy (world_by table.now world.now) rules.now p) ((facts_of (world_by table.now world.now)).of_protocol p) v.items) }
+    ensures { IfOk result (λ v. Tells (IsUsableBy (world_by table.now world.now) rules.now p) ((facts_of
+        (world_by table.now world.now)).of_protocol p) v.items) }
 {
     let mut flags = Vec::new(alloc);
     let list = world.bare_requirements(p);

@@ -4,7 +4,7 @@ ghost use Rattle.swreq_complete.specs.Limits.{AreInRange};
 ghost use Rattle.swreq_shown.specs.Known.{IsTextOver};
 ghost use Rattle.swreq_world.specs.ByTable.{world_by};
 ghost use Rattle.swreq_valid.specs.Answers.{Answers, IsOnlyOutcome};
-ghost use Rattle.swreq_valid.specs.Machines.{AreRulesOf, IsMachineOf, list_of, machine_rules};
+ghost use Rattle.swreq_valid.specs.Machines.{AreRulesOf, IsMachineOf, machine_plan, machine_rules};
 ghost use Rattle.swreq_valid.specs.Plans.{AreKnown, in_signature, listed};
 ghost use Rattle.swreq_valid.specs.Rounds.{AreRounds, last_rules};
 
@@ -102,9 +102,12 @@ pub fn core<W: Watch>(
     requires protocols { AreRulesOf (world_by table.now world.now) (last_rules protocols.now.rounds) }
     requires list { AreKnown table.now world.now.lexicon list.now }
     requires limits { AreInRange limits }
-    ensures answer { Answers limits (list_of (world_by table.now world.now) (last_rules protocols.now.rounds) params (listed table.now list.now)) (W.told watch.old) (W.told watch.new) (machine_rules result) }
-    ensures only { IsOnlyOutcome limits (list_of (world_by table.now world.now) (last_rules protocols.now.rounds) params (listed table.now list.now)) (machine_rules result) }
-    ensures rounds { IfOk result (λ m. AreRounds limits (list_of (world_by table.now world.now) (last_rules protocols.now.rounds) params (listed table.now list.now)) m.rounds) }
+    ensures answer { Answers limits (machine_plan table.now world.now (last_rules protocols.now.rounds) params list.now)
+        (W.told watch.old) (W.told watch.new) (machine_rules result) }
+    ensures only { IsOnlyOutcome limits (machine_plan table.now world.now (last_rules protocols.now.rounds) params list.now)
+        (machine_rules result) }
+    ensures rounds { IfOk result (λ m. AreRounds limits (machine_plan table.now world.now
+        (last_rules protocols.now.rounds) params list.now) m.rounds) }
     ensures machine { IfOk result (IsMachineOf (world_by table.now world.now) (listed table.now list.now)) }
     ensures params { IfOk result (λ m. m.params ≡ params) }
 {

@@ -1,5 +1,6 @@
 //! The reduced type of a type parameter, without memory.
-ghost use Rattle.std.specs.Prelude.{◌≡◌, ◌↔◌, ◌+◌, ◌*◌, ◌≤◌, ◌<◌, ◌++◌, ◌∷◌, [], ℕ, IsTrue, List, length, vec_capacity, vec_len, MatchOption};
+ghost use Rattle.std.specs.Prelude.{◌≡◌, ◌↔◌, ◌+◌, ◌*◌, ◌≤◌, ◌<◌, ◌++◌, ◌∷◌};
+ghost use Rattle.std.specs.Prelude.{[], ℕ, IsTrue, List, length, vec_capacity, vec_len, MatchOption};
 ghost use Rattle.swreq_param.specs.declared.ids.AssocId.{AssocId};
 ghost use Rattle.swreq_param.specs.declared.ids.Step.TheVariants.{Bound};
 ghost use Rattle.swreq_param.specs.Tables.{term_at};
@@ -128,7 +129,8 @@ fn add_step(
     requires fits { length before.now + 1 ≤ vec_capacity test.old }
     requires fits_step { vec_len steps.old < vec_capacity steps.old }
     ensures step { (k : ℕ) (d : AssocId) → x ≡ MemberSymbol k → IsRank (symbols_of world.now.lexicon) k
-        → IsFirstBehind world.now.lexicon rules.now before.now (name_of (symbols_of world.now.lexicon) k) d → steps.new.items ≡ steps.old.items ++ Bound d ∷ [] }
+        → IsFirstBehind world.now.lexicon rules.now before.now (name_of (symbols_of world.now.lexicon) k) d → steps.new.items
+        ≡ steps.old.items ++ Bound d ∷ [] }
     ensures few { vec_len steps.new ≤ vec_len steps.old + 1 }
     ensures room { vec_capacity steps.old ≤ vec_capacity steps.new }
     ensures room_test { vec_capacity test.old ≤ vec_capacity test.new }
@@ -151,7 +153,8 @@ fn add_first(
     requires least { IsLeastBy rules.now before.now }
     requires fits { length before.now + 1 ≤ vec_capacity test.old }
     requires fits_step { vec_len steps.old < vec_capacity steps.old }
-    ensures step { (d : AssocId) → IsFirstBehind world.now.lexicon rules.now before.now name d → steps.new.items ≡ steps.old.items ++ Bound d ∷ [] }
+    ensures step { (d : AssocId) → IsFirstBehind world.now.lexicon rules.now before.now name d → steps.new.items
+        ≡ steps.old.items ++ Bound d ∷ [] }
     ensures few { vec_len steps.new ≤ vec_len steps.old + 1 }
     ensures room { vec_capacity steps.old ≤ vec_capacity steps.new }
     ensures room_test { vec_capacity test.old ≤ vec_capacity test.new }

@@ -71,7 +71,8 @@ fn given_by(
     requires text { IsTextOver table.now world.now }
     requires wanted { AreWanted table.now world.now.lexicon start.now.all.items }
     requires flags { length used.now ≡ vec_len start.now.all }
-    ensures { (base : List Rule) → IfOk result (λ v. v.items ≡ given (plan_of world.now table.now base start.now) (chosen (items_of table.now start.now.all.items) used.now)) }
+    ensures { (base : List Rule) → IfOk result (λ v. v.items ≡ given (plan_of world.now table.now base start.now) (chosen
+        (items_of table.now start.now.all.items) used.now)) }
 {
     let mut v = copies(alloc, &start.basic)?;
     for k in 0..start.all.len() {
@@ -95,8 +96,10 @@ fn complete<W: Watch>(
     requires limits { AreInRange start.now.limits }
     requires wanted { AreWanted table.now world.now.lexicon start.now.all.items }
     requires flags { length used.now ≡ vec_len start.now.all }
-    ensures answer { IsAnswer start.now.limits base.now (given (plan_of world.now table.now base.now start.now) (chosen (items_of table.now start.now.all.items) used.now)) result }
-    ensures told { TellsEvents start.now.limits base.now (given (plan_of world.now table.now base.now start.now) (chosen (items_of table.now start.now.all.items) used.now))
+    ensures answer { IsAnswer start.now.limits base.now (given (plan_of world.now table.now base.now start.now) (chosen
+        (items_of table.now start.now.all.items) used.now)) result }
+    ensures told { TellsEvents start.now.limits base.now (given (plan_of world.now table.now base.now start.now) (chosen
+        (items_of table.now start.now.all.items) used.now))
         (W.told watch.old) (W.told watch.new) result }
 {
     match given_by(alloc, world, table, start, used) {
@@ -147,10 +150,12 @@ fn next_used(
     requires text { IsTextOver table.now world.now }
     requires wanted { AreWanted table.now world.now.lexicon start.now.all.items }
     requires flags { length used.now ≡ vec_len start.now.all }
-    requires shown { (x : Item) → Contains (chosen (items_of table.now start.now.all.items) used.now) x → AreShown (plan_of world.now table.now [] start.now) rules.now x }
+    requires shown { (x : Item) → Contains (chosen (items_of table.now start.now.all.items) used.now) x → AreShown
+        (plan_of world.now table.now [] start.now) rules.now x }
     ensures { IfOk result (λ next. MatchOption next
         (Tells (AreShown (plan_of world.now table.now [] start.now) rules.now) (items_of table.now start.now.all.items) used.now)
-        (λ flags. Tells (AreShown (plan_of world.now table.now [] start.now) rules.now) (items_of table.now start.now.all.items) flags.items × (flags.items ≡ used.now → ⊥))) }
+        (λ flags. Tells (AreShown (plan_of world.now table.now [] start.now) rules.now)
+        (items_of table.now start.now.all.items) flags.items × (flags.items ≡ used.now → ⊥))) }
 {
     if are_set(used) {
         return Ok(None);
@@ -175,7 +180,8 @@ pub(crate) fn run<W: Watch>(
     requires text { IsTextOver table.now world.now }
     requires limits { AreInRange start.now.limits }
     requires wanted { AreWanted table.now world.now.lexicon start.now.all.items }
-    ensures answer { Answers start.now.limits (plan_of world.now table.now base.now start.now) (W.told watch.old) (W.told watch.new) (rules_of result) }
+    ensures answer { Answers start.now.limits (plan_of world.now table.now base.now start.now) (W.told watch.old) (W.told watch.new)
+        (rules_of result) }
     ensures only { IsOnlyOutcome start.now.limits (plan_of world.now table.now base.now start.now) (rules_of result) }
     ensures rounds { IfOk result (AreRounds start.now.limits (plan_of world.now table.now base.now start.now)) }
 {

@@ -25,7 +25,8 @@ impl Model for Scratch {
 
     ghost view = { λ s. record { room = s.room; head = s.head; steps = s.steps.items; word = s.word.items } };
 
-    ghost invariant = { λ s. (s.room ≤ vec_capacity s.word) × (s.room ≤ vec_capacity s.other) × (s.room ≤ vec_capacity s.test) × (s.room ≤ vec_capacity s.steps) };
+    ghost invariant = { λ s. (s.room ≤ vec_capacity s.word) × (s.room ≤ vec_capacity s.other) × (s.room ≤ vec_capacity s.test) ×
+        (s.room ≤ vec_capacity s.steps) };
 }
 
 impl Scratch {

@@ -7,7 +7,7 @@ ghost use Rattle.swreq_shown.specs.Meaning.{facts_of, symbols_of};
 ghost use Rattle.swreq_world.specs.ByTable.{world_by};
 ghost use Rattle.swreq_written.specs.ByTable.{placed, placed_by};
 ghost use Rattle.swreq_valid.specs.Plans.{AreWritten, within};
-ghost use Rattle.swreq_valid.specs.Sides.{FailsFirst, HoldsOfEach, IsShownSide, protocol_sides, sides, sides_of};
+ghost use Rattle.swreq_valid.specs.Sides.{FailsFirst, HoldsOfEach, IsShownIn, protocol_sides, sides, sides_of};
 
 use crate::usable::is_shown;
 use std::alloc::{AllocError, Global};
@@ -30,8 +30,9 @@ fn fails_at(
     requires text { IsTextOver table.now world.now }
     requires t { IsTypeIn table.now world.now.lexicon t }
     ensures { (rs : List TermRequirement) → IfOk result (λ r. MatchOption r
-        (IsShownSide (symbols_of world.now.lexicon) (facts_of (world_by table.now world.now)) rules.now (record { source = within rs over; term = term_at table.now t; at = at }))
-        (λ a. (IsShownSide (symbols_of world.now.lexicon) (facts_of (world_by table.now world.now)) rules.now (record { source = within rs over; term = term_at table.now t; at = at }) → ⊥) × (a ≡ at))) }
+        (IsShownIn (world_by table.now world.now) rules.now (record { source = within rs over; term = term_at table.now t; at = at }))
+        (λ a. (IsShownIn (world_by table.now world.now) rules.now
+        (record { source = within rs over; term = term_at table.now t; at = at }) → ⊥) × (a ≡ at))) }
 {
     let shown = is_shown(alloc, world, table, rules, over, t)?;
     if shown { Ok(None) } else { Ok(Some(at)) }
@@ -49,8 +50,8 @@ fn first_of(
     requires text { IsTextOver table.now world.now }
     requires r { IsRequirementIn table.now world.now.lexicon r.now.requirement }
     ensures { (rs : List TermRequirement) → IfOk result (λ first. MatchOption first
-        (HoldsOfEach (IsShownSide (symbols_of world.now.lexicon) (facts_of (world_by table.now world.now)) rules.now) (sides_of (within rs over) (placed_by table.now r.now)))
-        (FailsFirst (IsShownSide (symbols_of world.now.lexicon) (facts_of (world_by table.now world.now)) rules.now) (sides_of (within rs over) (placed_by table.now r.now)))) }
+        (HoldsOfEach (IsShownIn (world_by table.now world.now) rules.now) (sides_of (within rs over) (placed_by table.now r.now)))
+        (FailsFirst (IsShownIn (world_by table.now world.now) rules.now) (sides_of (within rs over) (placed_by table.now r.now)))) }
 {
     match r.requirement {
         Requirement::Conf { subject, .. } => fails_at(
@@ -80,8 +81,8 @@ pub(crate) fn first_invalid(
     requires text { IsTextOver table.now world.now }
     requires list { AreWritten table.now world.now.lexicon list.now }
     ensures { (rs : List TermRequirement) → IfOk result (λ first. MatchOption first
-        (HoldsOfEach (IsShownSide (symbols_of world.now.lexicon) (facts_of (world_by table.now world.now)) rules.now) (sides (within rs over) (placed table.now list.now)))
-        (FailsFirst (IsShownSide (symbols_of world.now.lexicon) (facts_of (world_by table.now world.now)) rules.now) (sides (within rs over) (placed table.now list.now)))) }
+        (HoldsOfEach (IsShownIn (world_by table.now world.now) rules.now) (sides (within rs over) (placed table.now list.now)))
+        (FailsFirst (IsShownIn (world_by table.now world.now) rules.now) (sides (within rs over) (placed table.now list.now)))) }
 {
     for k in 0..list.len() {
         let r = &list[k];
@@ -103,8 +104,8 @@ pub(crate) fn first_in_protocols(
 ) -> Result<Option<u32>, AllocError>
     requires text { IsTextOver table.now world.now }
     ensures { IfOk result (λ first. MatchOption first
-        (HoldsOfEach (IsShownSide (symbols_of world.now.lexicon) (facts_of (world_by table.now world.now)) rules.now) (protocol_sides (world_by table.now world.now)))
-        (FailsFirst (IsShownSide (symbols_of world.now.lexicon) (facts_of (world_by table.now world.now)) rules.now) (protocol_sides (world_by table.now world.now)))) }
+        (HoldsOfEach (IsShownIn (world_by table.now world.now) rules.now) (protocol_sides (world_by table.now world.now)))
+        (FailsFirst (IsShownIn (world_by table.now world.now) rules.now) (protocol_sides (world_by table.now world.now)))) }
 {
     for k in 0..world.protocols() {
         let p = world.proto_at(k);
