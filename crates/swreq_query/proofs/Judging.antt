@@ -1,16 +1,18 @@
 -- The answers to queries of requirements.
-use Rattle.std.proofs.Common.{◌≡◌, refl, sym, subst, inl, inr, Some}
+use Rattle.std.proofs.Common.{◌≡◌, refl, sym, subst, inl, inr, Bool, true, false, Option, Some, None}
+use Rattle.std.proofs.lemmas.Bool.{iff_false}
 use Rattle.swreq_param.specs.Terms.{Term}
 use Rattle.swreq_derive.specs.Derivation.{TermStatement}
 use Rattle.swreq_derive.specs.Derivation.TermRequirement.{Equals}
 use Rattle.swreq_derive.specs.Derivation.TermStatement.{IsValid, Requires}
 use Rattle.swreq_written.specs.Queries.TermQuery.{AsksEquals}
 use Rattle.swreq_written.specs.declared.ids.FuncId.{FuncId}
-use Rattle.swreq_query.specs.declared.verdict.Property.{Property}
-use Rattle.swreq_query.specs.declared.verdict.Property.TheVariants.{Protocol, Layout}
+use Rattle.swreq_valid.specs.declared.having.Property.{Property}
+use Rattle.swreq_valid.specs.declared.having.Property.TheVariants.{Protocol, Layout}
 use Rattle.swreq_query.specs.Answers.{IsAnswer, IsSide, asked}
 use Rattle.swreq_query.specs.Answers.Answer.{Invalid, Yes, No}
-use Rattle.swreq_query.specs.Asked.{asks, has}
+use Rattle.swreq_query.specs.Asked.{answer_of, asks, verdict_of}
+use Rattle.swreq_valid.specs.Having.{TellsIfHas, has}
 
 is_side : (f : FuncId) (t : Term) (property : Property) → IsSide (asks f t property) t
 is_side f t (Protocol p) = refl
@@ -25,17 +27,23 @@ is_asked f t (Protocol p) = refl
 is_asked f t Layout = refl
 
 module _ (derivable : TermStatement → Type 0) (f : FuncId) where
-  pub property_invalid : (t : Term) (property : Property) → (derivable (IsValid t) → ⊥) → IsAnswer derivable (asks f t property) Invalid
+  property_invalid : (t : Term) (property : Property) → (derivable (IsValid t) → ⊥) → IsAnswer derivable (asks f t property) Invalid
   property_invalid t property n = (t, is_side f t property, n)
 
   valid_side : (t : Term) (property : Property) → derivable (IsValid t) → (s : Term) → IsSide (asks f t property) s → derivable (IsValid s)
   valid_side t property v s i = subst (λ z. derivable (IsValid z)) (sym (only_side f t property s i)) v
 
-  pub property_yes : (t : Term) (property : Property) → derivable (IsValid t) → derivable (Requires (has t property)) → IsAnswer derivable (asks f t property) Yes
+  property_yes : (t : Term) (property : Property) → derivable (IsValid t) → derivable (Requires (has t property)) → IsAnswer derivable (asks f t property) Yes
   property_yes t property v h = (valid_side t property v, (has t property, is_asked f t property, h))
 
-  pub property_no : (t : Term) (property : Property) → derivable (IsValid t) → (derivable (Requires (has t property)) → ⊥) → IsAnswer derivable (asks f t property) No
+  property_no : (t : Term) (property : Property) → derivable (IsValid t) → (derivable (Requires (has t property)) → ⊥) → IsAnswer derivable (asks f t property) No
   property_no t property v n = (valid_side t property v, (has t property, is_asked f t property, n))
+
+  pub property_answer : (t : Term) (property : Property) (r : Option Bool) → TellsIfHas derivable t property r
+      → IsAnswer derivable (asks f t property) (answer_of (verdict_of r))
+  property_answer t property None h = property_invalid t property h
+  property_answer t property (Some true) h = property_yes t property h.0 (h.1.0 refl)
+  property_answer t property (Some false) h = property_no t property h.0 (iff_false h.1 refl)
 
   module _ (t u : Term) where
     pub left_invalid : (derivable (IsValid t) → ⊥) → IsAnswer derivable (AsksEquals f t u) Invalid

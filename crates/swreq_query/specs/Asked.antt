@@ -1,10 +1,9 @@
 -- With what a query is asked, and what comes of it.
-use Rattle.std.specs.Prelude.{◌≡◌, ℕ, ◌+◌, ◌*◌, ◌≤◌, List, ◌++◌}
+use Rattle.std.specs.Prelude.{◌≡◌, ℕ, ◌+◌, ◌*◌, ◌≤◌, List, ◌++◌, Bool, true, false, Option, Some, None}
 use Rattle.swreq_param.specs.Terms.{Term, member_count}
-use Rattle.swreq_derive.specs.Derivation.{TermRequirement, TermStatement}
-use Rattle.swreq_derive.specs.Derivation.TermRequirement.{Conforms, IsAnyObject}
+use Rattle.swreq_derive.specs.Derivation.{TermStatement}
 use Rattle.swreq_print.specs.Names.{Text}
-use Rattle.swreq_ranks.specs.Views.{IsProtocol, LexiconView}
+use Rattle.swreq_ranks.specs.Views.{LexiconView}
 use Rattle.swreq_world.specs.ByTable.{world_by}
 use Rattle.swreq_world.specs.Closed.{IsQueryOf}
 use Rattle.swreq_world.specs.Worlds.{IdWorld}
@@ -13,8 +12,8 @@ use Rattle.swreq_written.specs.Queries.{TermQuery}
 use Rattle.swreq_written.specs.Queries.TermQuery.{AsksAnyObject, AsksConforms, AsksSignature}
 use Rattle.swreq_written.specs.declared.ids.FuncId.{FuncId}
 use Rattle.swreq_written.specs.declared.ids.Query.{Query}
-use Rattle.swreq_query.specs.declared.verdict.Property.{Property}
-use Rattle.swreq_query.specs.declared.verdict.Property.TheVariants.{Protocol, Layout}
+use Rattle.swreq_valid.specs.declared.having.Property.{Property}
+use Rattle.swreq_valid.specs.declared.having.Property.TheVariants.{Protocol, Layout}
 use Rattle.swreq_query.specs.declared.verdict.Verdict.{Verdict}
 use Rattle.swreq_query.specs.declared.verdict.Verdict.TheVariants as verdicts
 use Rattle.swreq_query.specs.Answers.{Answer, IsAnswerLine, IsSide}
@@ -45,18 +44,13 @@ answer_of verdicts.Invalid = Invalid
 answer_of verdicts.Yes = Yes
 answer_of verdicts.No = No
 
--- ---- properties
+-- None where a side is not valid, and else whether the requirement is derivable
+abbrev pub verdict_of : Option Bool → Verdict
+verdict_of None = verdicts.Invalid
+verdict_of (Some true) = verdicts.Yes
+verdict_of (Some false) = verdicts.No
 
-abbrev pub IsPropertyOf : LexiconView → Property → Type 0
-IsPropertyOf x (Protocol p) = IsProtocol x p
-IsPropertyOf x Layout = Unit {0}
-
--- that T has the property: [T : P] or [T : AnyObject]
-abbrev pub has : Term → Property → TermRequirement
-has t (Protocol p) = Conforms t p
-has t Layout = IsAnyObject t
-
--- the query that asks it
+-- the query that asks whether T has the property
 abbrev pub asks : FuncId → Term → Property → TermQuery
 asks f t (Protocol p) = AsksConforms f t p
 asks f t Layout = AsksAnyObject f t

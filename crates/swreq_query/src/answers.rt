@@ -11,12 +11,12 @@ ghost use Rattle.swreq_written.specs.ByTable.{query_by};
 ghost use Rattle.swreq_query.specs.Asked.{AppendsAnswer, IsOfTypes, IsQueryIn, IsRoomFor};
 
 use crate::reduced::reduced_line;
-use crate::verdict::{Property, judge_equality, judge_property};
+use crate::verdict::{judge_equality, judge_property};
 use std::alloc::{AllocError, Global};
 use swreq_bytes::append_bytes;
 use swreq_map::PropertyMap;
 use swreq_param::ParamTable;
-use swreq_valid::{Machine, Scratch};
+use swreq_valid::{Machine, Property, Scratch};
 use swreq_world::World;
 use swreq_written::Query;
 

@@ -1,34 +1,25 @@
 //! Whether the requirement that a query asks is derivable.
-ghost use Rattle.std.specs.Prelude.{◌≡◌, ◌↔◌, ◌+◌, ◌*◌, ◌≤◌, IsTrue, List, length};
+ghost use Rattle.std.specs.Prelude.{◌≡◌, ◌+◌, ◌*◌, ◌≤◌, List};
 ghost use Rattle.swreq_param.specs.Tables.{term_at};
 ghost use Rattle.swreq_param.specs.Terms.{member_count};
 ghost use Rattle.swreq_derive.specs.Derivation.{TermRequirement};
-ghost use Rattle.swreq_derive.specs.Derivation.TermStatement.{Requires};
 ghost use Rattle.swreq_map.specs.Follows.{IsMapOf};
 ghost use Rattle.swreq_ranks.specs.Views.{LexiconView};
 ghost use Rattle.swreq_shown.specs.Known.{IsTextOver, IsTypeIn};
 ghost use Rattle.swreq_valid.specs.Asked.{IsDerivable};
+ghost use Rattle.swreq_valid.specs.Having.{IsBelow};
 ghost use Rattle.swreq_valid.specs.Machines.{IsMachineOf};
 ghost use Rattle.swreq_valid.specs.Rounds.{last_rules};
 ghost use Rattle.swreq_world.specs.ByTable.{world_by};
 ghost use Rattle.swreq_written.specs.Queries.TermQuery.{AsksEquals};
 ghost use Rattle.swreq_written.specs.declared.ids.FuncId.{FuncId};
 ghost use Rattle.swreq_query.specs.Answers.{IsAnswer, answer_line};
-ghost use Rattle.swreq_query.specs.Asked.{IsPropertyOf, answer_of, asks, has};
+ghost use Rattle.swreq_query.specs.Asked.{answer_of, asks, verdict_of};
 
 use swreq_map::PropertyMap;
-use swreq_param::{ParamTable, ProtoId, TermId};
-use swreq_valid::{Machine, Scratch};
+use swreq_param::{ParamTable, TermId};
+use swreq_valid::{Machine, Property, Scratch};
 use swreq_world::World;
-
-/// What is asked of one type parameter.
-#[derive(Clone, Copy)]
-pub(crate) enum Property {
-    /// That it conforms to this protocol.
-    Protocol(ProtoId),
-    /// That it is `AnyObject`.
-    Layout,
-}
 
 /// The answer to a query of a requirement.
 #[derive(Clone, Copy)]
@@ -54,29 +45,14 @@ impl Verdict {
     }
 }
 
-/// Whether a valid type parameter has the property.
-fn has(
-    world: &World,
-    table: &ParamTable,
-    m: &Machine,
-    _map: &PropertyMap,
-    t: TermId,
-    property: Property,
-    s: &mut Scratch,
-) -> bool
-    requires text { IsTextOver table.now world.now }
-    requires t { IsTypeIn table.now world.now.lexicon t }
-    requires property { IsPropertyOf world.now.lexicon property }
-    requires map { IsMapOf (last_rules m.now.rounds) _map.now }
-    requires protocols { _map.now.protocols ≡ length world.now.lexicon.protocols }
-    requires room { 4 * (member_count (term_at table.now t) + 2) ≤ s.old.room }
-    ensures answer { (list : List TermRequirement) → IsMachineOf (world_by table.now world.now) list m.now
-        → IsTrue result ↔ IsDerivable (world_by table.now world.now) m.now list (Requires (has (term_at table.now t) property)) }
-    ensures room { s.new.room ≡ s.old.room }
+/// The verdict where a side is not valid, or where the sides are and this is whether the requirement is derivable.
+fn verdict_of(derivable: Option<bool>) -> Verdict
+    ensures { result ≡ verdict_of derivable }
 {
-    match property {
-        Property::Protocol(p) => m.conforms(world, table, t, p, s),
-        Property::Layout => m.any_object(world, table, t, s),
+    match derivable {
+        None => Verdict::Invalid,
+        Some(true) => Verdict::Yes,
+        Some(false) => Verdict::No,
     }
 }
 
@@ -92,22 +68,14 @@ pub(crate) fn judge_property(
 ) -> Verdict
     requires text { IsTextOver table.now world.now }
     requires t { IsTypeIn table.now world.now.lexicon t }
-    requires property { IsPropertyOf world.now.lexicon property }
     requires map { IsMapOf (last_rules m.now.rounds) map.now }
-    requires protocols { map.now.protocols ≡ length world.now.lexicon.protocols }
+    requires property { IsBelow map.now.protocols property }
     requires room { 4 * (member_count (term_at table.now t) + 2) ≤ s.old.room }
     ensures answer { (f : FuncId) (list : List TermRequirement) → IsMachineOf (world_by table.now world.now) list m.now
         → IsAnswer (IsDerivable (world_by table.now world.now) m.now list) (asks f (term_at table.now t) property) (answer_of result) }
     ensures room { s.new.room ≡ s.old.room }
 {
-    if !m.is_valid(world, table, t, s) {
-        return Verdict::Invalid;
-    }
-    if has(world, table, m, map, t, property, s) {
-        Verdict::Yes
-    } else {
-        Verdict::No
-    }
+    verdict_of(m.has(world, table, map, t, property, s))
 }
 
 /// Whether a and b are valid and equal.

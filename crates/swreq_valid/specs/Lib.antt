@@ -8,3 +8,4 @@ pub mod Built
 pub mod Asked
 pub mod LeastTypes
 pub mod Keeping
+pub mod Having

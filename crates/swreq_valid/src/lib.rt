@@ -4,6 +4,7 @@
 mod answers;
 mod basic;
 mod build;
+mod having;
 mod kept;
 mod machine;
 mod protocols;
@@ -16,6 +17,7 @@ mod sides;
 mod usable;
 mod wanted;
 
+pub use having::Property;
 pub use kept::Kept;
 pub use machine::{Machine, core};
 pub use protocols::Protocols;

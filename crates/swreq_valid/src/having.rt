@@ -1,0 +1,93 @@
+//! What the property map of the rules of a machine answers of a type parameter, without memory.
+ghost use Rattle.std.specs.Prelude.{◌≡◌, ◌↔◌, ◌+◌, ◌*◌, ◌≤◌, IsTrue, List, MatchOption};
+ghost use Rattle.swreq_param.specs.Tables.{term_at};
+ghost use Rattle.swreq_param.specs.Terms.{member_count};
+ghost use Rattle.swreq_derive.specs.Derivation.{TermRequirement};
+ghost use Rattle.swreq_map.specs.Follows.{IsMapOf};
+ghost use Rattle.swreq_map.specs.Properties.{IsProperty};
+ghost use Rattle.swreq_shown.specs.Known.{IsTextOver, IsTypeIn};
+ghost use Rattle.swreq_world.specs.ByTable.{world_by};
+ghost use Rattle.swreq_valid.specs.Asked.{IsBehind, IsDerivable, IsShownBy};
+ghost use Rattle.swreq_valid.specs.Having.{IsBelow, TellsIfHas, symbol_of};
+ghost use Rattle.swreq_valid.specs.Machines.{IsMachineOf};
+ghost use Rattle.swreq_valid.specs.Rounds.{last_rules};
+
+use crate::machine::Machine;
+use crate::scratch::Scratch;
+use swreq_map::PropertyMap;
+use swreq_param::{ParamTable, ProtoId, TermId};
+use swreq_word::Symbol;
+use swreq_world::World;
+
+/// A property of a type parameter.
+#[derive(Clone, Copy)]
+pub enum Property {
+    /// That it conforms to this protocol.
+    Protocol(ProtoId),
+    /// That it is `AnyObject`.
+    Layout,
+}
+
+impl Property {
+    /// The symbol that vanishes behind the words of the type parameters that have it.
+    fn symbol(self) -> Symbol
+        ensures { result ≡ symbol_of self }
+    {
+        match self {
+            Property::Protocol(p) => Symbol::Proto(p.rank),
+            Property::Layout => Symbol::Layout,
+        }
+    }
+}
+
+impl Machine {
+    /// Whether a property's symbol vanishes behind the word of t, by the map of the rules; None exactly where t is not valid.
+    fn vanishing(
+        &self,
+        world: &World,
+        table: &ParamTable,
+        map: &PropertyMap,
+        t: TermId,
+        x: Symbol,
+        s: &mut Scratch,
+    ) -> Option<bool>
+        requires text { IsTextOver table.now world.now }
+        requires t { IsTypeIn table.now world.now.lexicon t }
+        requires map { IsMapOf (last_rules self.now.rounds) map.now }
+        requires property { IsProperty map.now.protocols x }
+        requires room { 4 * (member_count (term_at table.now t) + 2) ≤ s.old.room }
+        ensures answer { MatchOption result
+            (IsShownBy (world_by table.now world.now) self.now (term_at table.now t) → ⊥)
+            (λ b. IsShownBy (world_by table.now world.now) self.now (term_at table.now t)
+            × (IsTrue b ↔ IsBehind (world_by table.now world.now) self.now (term_at table.now t) x)) }
+        ensures room { s.new.room ≡ s.old.room }
+    {
+        if self.walk(world, table, t, &mut s.word, &mut s.test) {
+            Some(map.has(self.rules(), &s.word, x, &mut s.test))
+        } else {
+            None
+        }
+    }
+
+    /// Whether t has a property, by the property map of the rules of the machine; None exactly where t is not valid.
+    pub fn has(
+        &self,
+        world: &World,
+        table: &ParamTable,
+        map: &PropertyMap,
+        t: TermId,
+        property: Property,
+        s: &mut Scratch,
+    ) -> Option<bool>
+        requires text { IsTextOver table.now world.now }
+        requires t { IsTypeIn table.now world.now.lexicon t }
+        requires map { IsMapOf (last_rules self.now.rounds) map.now }
+        requires property { IsBelow map.now.protocols property }
+        requires room { 4 * (member_count (term_at table.now t) + 2) ≤ s.old.room }
+        ensures answer { (list : List TermRequirement) → IsMachineOf (world_by table.now world.now) list self.now
+            → TellsIfHas (IsDerivable (world_by table.now world.now) self.now list) (term_at table.now t) property result }
+        ensures room { s.new.room ≡ s.old.room }
+    {
+        self.vanishing(world, table, map, t, property.symbol(), s)
+    }
+}
