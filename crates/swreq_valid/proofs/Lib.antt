@@ -8,3 +8,9 @@ pub mod OfProtocols
 pub mod Building
 pub mod Valid
 pub mod Made
+pub mod Answering
+pub mod Deciding
+pub mod Firsts
+pub mod Giving
+pub mod Typed
+pub mod Reducing

@@ -47,7 +47,7 @@ use Rattle.swreq_valid.proofs.Listing.{past_drop}
 
 -- ---- lists that are made from the items at the places of another
 
-drop_at : {A : Type 0} (xs : List A) (k : ℕ) (x : A) → slice_get xs k ≡ Some x → drop k xs ≡ x ∷ drop (k + 1) xs
+pub drop_at : {A : Type 0} (xs : List A) (k : ℕ) (x : A) → slice_get xs k ≡ Some x → drop k xs ≡ x ∷ drop (k + 1) xs
 drop_at xs k x e = drop_more xs k x (slice_get_within xs k x e) ∙ ap (λ z. z ∷ drop (k + 1) xs) (get_or_from_slice_get xs k x x e)
 
 module _ {A B : Type 0} (of : List A → List B) (part : A → List B) (one : (x : A) (xs : List A) → of (x ∷ xs) ≡ part x ++ of xs) where

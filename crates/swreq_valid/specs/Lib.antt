@@ -5,3 +5,5 @@ pub mod Rounds
 pub mod Machines
 pub mod Sides
 pub mod Built
+pub mod Asked
+pub mod LeastTypes

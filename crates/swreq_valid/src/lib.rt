@@ -1,13 +1,16 @@
 //! Machines: the rules of a list and of the protocols, found by rounds, and what they answer.
 #![tactic(auto)]
 
+mod answers;
 mod basic;
 mod build;
 mod machine;
 mod protocols;
+mod reduced;
 mod refused;
 mod round;
 mod rounds;
+mod scratch;
 mod sides;
 mod usable;
 mod wanted;
@@ -16,3 +19,4 @@ pub use machine::{Machine, core};
 pub use protocols::Protocols;
 pub use refused::Refused;
 pub use round::Round;
+pub use scratch::Scratch;

@@ -12,5 +12,5 @@ returns-in-Ok-None-clause-judged c rs = (
   refl,
   subst₂ (λ r p. HoldsOfEach (IsShownSide (symbols_of c.args.world.now.lexicon) (facts_of (world_by c.args.table.now c.args.world.now)) r)
       (sides (Written (generic_params p) rs) (placed c.args.table.now c.args.written.now)))
-  c.rules.ensures c.params.ensures (rw c.in-Ok-None.field-0-is at (c.in-Ok-None.ensures rs)),
+      c.rules.ensures c.params.ensures (rw c.in-Ok-None.field-0-is at (c.in-Ok-None.ensures rs)),
 )

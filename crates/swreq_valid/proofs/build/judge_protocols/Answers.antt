@@ -10,5 +10,5 @@ returns-in-Ok-None-clause-judged c = (
   ap last_rules c.new.ensures,
   subst (λ r. HoldsOfEach (IsShownSide (symbols_of c.args.world.now.lexicon) (facts_of (world_by c.args.table.now c.args.world.now)) r)
       (protocol_sides (world_by c.args.table.now c.args.world.now)))
-  c.last.ensures (rw c.in-Ok-None.field-0-is at c.in-Ok-None.ensures),
+      c.last.ensures (rw c.in-Ok-None.field-0-is at c.in-Ok-None.ensures),
 )

@@ -1,0 +1,124 @@
+-- From what rules show to what is derivable.
+use Rattle.std.proofs.Common.{◌≡◌, sym, subst, ◌∙◌, ◌↔◌, Bool, true, false, List, [], ◌∷◌}
+use Rattle.std.specs.Bool.{Decides, OnTrue}
+use Rattle.swreq_param.specs.declared.ids.ProtoId.{ProtoId}
+use Rattle.swreq_param.specs.Terms.{Term}
+use Rattle.swreq_word.specs.declared.symbols.Symbol.{Symbol}
+use Rattle.swreq_word.specs.declared.symbols.Symbol.TheVariants.{Proto, Layout}
+use Rattle.swreq_word.proofs.Chains.{linked_back, linked_on}
+use Rattle.swreq_derive.specs.Derivation.{Source, TermFacts, TermRequirement}
+use Rattle.swreq_derive.specs.Derivation.TermRequirement.{Conforms, IsAnyObject, Equals}
+use Rattle.swreq_derive.specs.Derivation.TermStatement.{IsValid, Requires}
+use Rattle.swreq_derive.specs.Derivation.Source.{Written}
+use Rattle.swreq_derive.specs.Facts.{generic_params}
+use Rattle.swreq_derive.proofs.Substitution.{valid_sides}
+use Rattle.swreq_rule.specs.declared.rules.Rule.{Rule}
+use Rattle.swreq_reading.specs.Shown.{ShowsValid}
+use Rattle.swreq_reading.specs.Symbols.{Symbols, Word, spell, word_of}
+use Rattle.swreq_reading.proofs.Correspondence.{conforming_words, equal_words, layout_words}
+use Rattle.swreq_reading.proofs.Shown.{shown_by_params}
+use Rattle.swreq_reading.proofs.Spelling.{spell-append}
+use Rattle.swreq_shown.specs.Meaning.{facts_of, symbols_of}
+use Rattle.swreq_shown.specs.Overs.{source_of}
+use Rattle.swreq_shown.specs.declared.over.Over.TheVariants.{Signature}
+use Rattle.swreq_map.specs.Properties.{Vanishes}
+use Rattle.swreq_shown.specs.Vanishing.{IsLeastBy, Links}
+use Rattle.swreq_shown.proofs.Symbols.{symbols_law, text_law}
+use Rattle.swreq_shown.proofs.Walking.{one_least, vanishes_same}
+use Rattle.swreq_world.specs.Closed.{IsClosed}
+use Rattle.swreq_world.specs.Worlds.{TextWorld}
+use Rattle.swreq_valid.specs.Asked.{IsBehind, IsDerivable}
+use Rattle.swreq_valid.specs.Machines.{IsMachineOf, MachineView}
+use Rattle.swreq_valid.specs.Rounds.{last_rules}
+use Rattle.swreq_valid.proofs.Valid.{list_derivable, list_shown}
+
+pub both_true : (P Q : Type 0) (b : Bool) → OnTrue b P → OnTrue b Q → OnTrue b (P × Q)
+both_true P Q true h k = (h, k)
+both_true P Q false h k = tt
+
+module _ (w : TextWorld) (closed : IsClosed w) (machine : MachineView) (list : List TermRequirement) (is : IsMachineOf w list machine) where
+  abbrev m : Symbols
+  m = symbols_of w.lexicon
+
+  abbrev f : TermFacts
+  f = facts_of w
+
+  abbrev s : Source
+  s = Written (generic_params machine.params) list
+
+  abbrev rules : List Rule
+  rules = last_rules machine.rounds
+
+  -- the rules show it valid
+  abbrev Shown : Term → Type 0
+  Shown t = ShowsValid m f (source_of (Signature machine.params)) (Links rules) t
+
+  pub shown_derivable : (t : Term) → Shown t → IsDerivable w machine list (IsValid t)
+  shown_derivable t h = list_derivable w closed machine list is t (shown_by_params m f (generic_params machine.params) [] list (Links rules) t h)
+
+  pub derivable_shown : (t : Term) → IsDerivable w machine list (IsValid t) → Shown t
+  derivable_shown t e = shown_by_params m f (generic_params machine.params) list [] (Links rules) t (list_shown w closed machine list is t e)
+
+  pub valid_answer : (t : Term) (r : Bool) → Decides r (Shown t) → Decides r (IsDerivable w machine list (IsValid t))
+  valid_answer t r d = ((λ h. shown_derivable t (d.0 h)), λ e. d.1 (derivable_shown t e))
+
+  pub conforms_answer : (t : Term) (p : ProtoId) (r : Bool) → Decides r (IsBehind w machine t (Proto p.rank)) → Decides r (IsDerivable w machine list (Requires (Conforms t p)))
+  conforms_answer t p r d = (
+    (λ h. let b = d.0 h in
+        let law = conforming_words m f (symbols_law w closed) s (text_law w closed) is.in_text t p (shown_derivable t b.0) in
+        law.1 ((is.rules (spell m s t (Proto p.rank ∷ [])) (word_of m s t)).0
+        (subst (λ z. Links rules z (word_of m s t)) (spell-append m s t [] (Proto p.rank ∷ [])) b.1))),
+    λ e.
+        let v = valid_sides f s (Conforms t p) e in
+        let law = conforming_words m f (symbols_law w closed) s (text_law w closed) is.in_text t p v in
+        d.1 (
+          derivable_shown t v,
+          subst (λ z. Links rules z (word_of m s t)) (sym (spell-append m s t [] (Proto p.rank ∷ [])))
+              ((is.rules (spell m s t (Proto p.rank ∷ [])) (word_of m s t)).1 (law.0 e)),
+        ),
+  )
+
+  pub layout_answer : (t : Term) (r : Bool) → Decides r (IsBehind w machine t Layout) → Decides r (IsDerivable w machine list (Requires (IsAnyObject t)))
+  layout_answer t r d = (
+    (λ h. let b = d.0 h in
+        let law = layout_words m f (symbols_law w closed) s (text_law w closed) is.in_text t (shown_derivable t b.0) in
+        law.1 ((is.rules (spell m s t (Layout ∷ [])) (word_of m s t)).0
+        (subst (λ z. Links rules z (word_of m s t)) (spell-append m s t [] (Layout ∷ [])) b.1))),
+    λ e.
+        let v = valid_sides f s (IsAnyObject t) e in
+        let law = layout_words m f (symbols_law w closed) s (text_law w closed) is.in_text t v in
+        d.1 (
+          derivable_shown t v,
+          subst (λ z. Links rules z (word_of m s t)) (sym (spell-append m s t [] (Layout ∷ [])))
+              ((is.rules (spell m s t (Layout ∷ [])) (word_of m s t)).1 (law.0 e)),
+        ),
+  )
+
+  -- where a side is not shown valid no equality is derivable
+  pub not_left : (t u : Term) → (Shown t → ⊥) → IsDerivable w machine list (Requires (Equals t u)) → ⊥
+  not_left t u n e = n (derivable_shown t (valid_sides f s (Equals t u) e).0)
+
+  pub not_right : (t u : Term) → (Shown u → ⊥) → IsDerivable w machine list (Requires (Equals t u)) → ⊥
+  not_right t u n e = n (derivable_shown u (valid_sides f s (Equals t u) e).1)
+
+  -- the least words of the two sides tell
+  pub equal_answer : (t u : Term) (a b : Word) (r : Bool) → Shown t → Shown u → IsLeastBy rules a → IsLeastBy rules b
+      → Links rules (word_of m s t) a → Links rules (word_of m s u) b → Decides r (a ≡ b) → Decides r (IsDerivable w machine list (Requires (Equals t u)))
+  equal_answer t u a b r h k l n p q d =
+      let law = equal_words m f (symbols_law w closed) s (text_law w closed) is.in_text t u (shown_derivable t h) (shown_derivable u k) in (
+        (λ e. law.1 ((is.rules (word_of m s t) (word_of m s u)).0 (linked_on p (linked_back (subst (λ z. Links rules (word_of m s u) z) (sym (d.0 e)) q))))),
+        λ e. d.1 (one_least rules a b l n (linked_on (linked_back p) (linked_on ((is.rules (word_of m s t) (word_of m s u)).1 (law.0 e)) q))),
+      )
+
+-- what the test behind the least word tells
+pub behind_answer : (w : TextWorld) (machine : MachineView) (t : Term) (x : Symbol) (v seen : Word) (r : Bool)
+    → ShowsValid (symbols_of w.lexicon) (facts_of w) (source_of (Signature machine.params)) (Links (last_rules machine.rounds)) t
+    → Links (last_rules machine.rounds) (word_of (symbols_of w.lexicon) (source_of (Signature machine.params)) t) v → seen ≡ v
+    → Decides r (Vanishes (last_rules machine.rounds) seen x) → Decides r (IsBehind w machine t x)
+behind_answer w machine t x v seen r h l e d =
+    let rules = last_rules machine.rounds in
+    let k : Decides r (Vanishes rules v x) = subst (λ z. Decides r (Vanishes rules z x)) e d in
+    let u = word_of (symbols_of w.lexicon) (source_of (Signature machine.params)) t in (
+      (λ q. (h, vanishes_same rules v u x (linked_back l) (k.0 q))),
+      λ q. k.1 (vanishes_same rules u v x l q.1),
+    )

@@ -1,0 +1,144 @@
+//! The answers of a machine, without memory.
+ghost use Rattle.std.specs.Prelude.{◌≡◌, ◌↔◌, ◌+◌, ◌*◌, ◌≤◌, IsTrue, List, vec_capacity, vec_len};
+ghost use Rattle.std.specs.Bool.{OnTrue};
+ghost use Rattle.swreq_param.specs.Tables.{term_at};
+ghost use Rattle.swreq_param.specs.Terms.{member_count};
+ghost use Rattle.swreq_derive.specs.Derivation.{TermRequirement};
+ghost use Rattle.swreq_derive.specs.Derivation.TermRequirement.{Conforms, Equals, IsAnyObject};
+ghost use Rattle.swreq_derive.specs.Derivation.TermStatement.{IsValid, Requires};
+ghost use Rattle.swreq_shown.specs.Known.{IsTextOver, IsTypeIn};
+ghost use Rattle.swreq_world.specs.ByTable.{world_by};
+ghost use Rattle.swreq_valid.specs.Asked.{IsBehind, IsDerivable, IsLeastWord, IsShownBy};
+ghost use Rattle.swreq_valid.specs.Machines.{IsMachineOf};
+
+use crate::machine::Machine;
+use crate::scratch::Scratch;
+use swreq_param::{ParamTable, ProtoId, TermId};
+use swreq_map::vanishes;
+use swreq_shown::{Over, least_word};
+use swreq_word::Symbol;
+use swreq_world::World;
+
+impl Machine {
+    /// Whether the rules show that t is valid. Where they do, `word` becomes its least word. Both lists of symbols keep their room.
+    pub(crate) fn walk(
+        &self,
+        world: &World,
+        table: &ParamTable,
+        t: TermId,
+        word: &mut Vec<Symbol>,
+        test: &mut Vec<Symbol>,
+    ) -> bool
+        requires text { IsTextOver table.now world.now }
+        requires t { IsTypeIn table.now world.now.lexicon t }
+        requires fits { member_count (term_at table.now t) + 2 ≤ vec_capacity word.old }
+        requires fits_test { member_count (term_at table.now t) + 2 ≤ vec_capacity test.old }
+        ensures valid { IsTrue result ↔ IsShownBy (world_by table.now world.now) self.now (term_at table.now t) }
+        ensures least { OnTrue result (IsLeastWord (world_by table.now world.now) self.now (term_at table.now t) word.new.items) }
+        ensures short { OnTrue result (vec_len word.new ≤ member_count (term_at table.now t) + 1) }
+        ensures room { vec_capacity word.old ≤ vec_capacity word.new }
+        ensures room_test { vec_capacity test.old ≤ vec_capacity test.new }
+    {
+        least_word(
+            world,
+            table,
+            self.rules(),
+            Over::Signature(self.params()),
+            t,
+            word,
+            test,
+        )
+    }
+
+    /// Whether t is a type parameter: whether it is derivable from the list of the machine.
+    pub fn is_valid(&self, world: &World, table: &ParamTable, t: TermId, s: &mut Scratch) -> bool
+        requires text { IsTextOver table.now world.now }
+        requires t { IsTypeIn table.now world.now.lexicon t }
+        requires room { 4 * (member_count (term_at table.now t) + 2) ≤ s.old.room }
+        ensures answer { (list : List TermRequirement) → IsMachineOf (world_by table.now world.now) list self.now
+            → IsTrue result ↔ IsDerivable (world_by table.now world.now) self.now list (IsValid (term_at table.now t)) }
+        ensures room { s.new.room ≡ s.old.room }
+    {
+        self.walk(world, table, t, &mut s.word, &mut s.test)
+    }
+
+    /// Whether t is valid, and this symbol vanishes behind its word.
+    fn is_behind(
+        &self,
+        world: &World,
+        table: &ParamTable,
+        t: TermId,
+        x: Symbol,
+        s: &mut Scratch,
+    ) -> bool
+        requires text { IsTextOver table.now world.now }
+        requires t { IsTypeIn table.now world.now.lexicon t }
+        requires room { 4 * (member_count (term_at table.now t) + 2) ≤ s.old.room }
+        ensures answer { IsTrue result ↔ IsBehind (world_by table.now world.now) self.now (term_at table.now t) x }
+        ensures room { s.new.room ≡ s.old.room }
+    {
+        if self.walk(world, table, t, &mut s.word, &mut s.test) {
+            vanishes(self.rules(), &s.word, x, &mut s.test)
+        } else {
+            false
+        }
+    }
+
+    /// Whether `[t : p]` is derivable from the list of the machine.
+    pub fn conforms(
+        &self,
+        world: &World,
+        table: &ParamTable,
+        t: TermId,
+        p: ProtoId,
+        s: &mut Scratch,
+    ) -> bool
+        requires text { IsTextOver table.now world.now }
+        requires t { IsTypeIn table.now world.now.lexicon t }
+        requires room { 4 * (member_count (term_at table.now t) + 2) ≤ s.old.room }
+        ensures answer { (list : List TermRequirement) → IsMachineOf (world_by table.now world.now) list self.now
+            → IsTrue result ↔ IsDerivable (world_by table.now world.now) self.now list (Requires (Conforms (term_at table.now t) p)) }
+        ensures room { s.new.room ≡ s.old.room }
+    {
+        self.is_behind(world, table, t, Symbol::Proto(p.rank), s)
+    }
+
+    /// Whether `[t : AnyObject]` is derivable from the list of the machine.
+    pub fn any_object(&self, world: &World, table: &ParamTable, t: TermId, s: &mut Scratch) -> bool
+        requires text { IsTextOver table.now world.now }
+        requires t { IsTypeIn table.now world.now.lexicon t }
+        requires room { 4 * (member_count (term_at table.now t) + 2) ≤ s.old.room }
+        ensures answer { (list : List TermRequirement) → IsMachineOf (world_by table.now world.now) list self.now
+            → IsTrue result ↔ IsDerivable (world_by table.now world.now) self.now list (Requires (IsAnyObject (term_at table.now t))) }
+        ensures room { s.new.room ≡ s.old.room }
+    {
+        self.is_behind(world, table, t, Symbol::Layout, s)
+    }
+
+    /// Whether `[a == b]` is derivable from the list of the machine.
+    pub fn equal(
+        &self,
+        world: &World,
+        table: &ParamTable,
+        a: TermId,
+        b: TermId,
+        s: &mut Scratch,
+    ) -> bool
+        requires text { IsTextOver table.now world.now }
+        requires a { IsTypeIn table.now world.now.lexicon a }
+        requires b { IsTypeIn table.now world.now.lexicon b }
+        requires room_a { 4 * (member_count (term_at table.now a) + 2) ≤ s.old.room }
+        requires room_b { 4 * (member_count (term_at table.now b) + 2) ≤ s.old.room }
+        ensures answer { (list : List TermRequirement) → IsMachineOf (world_by table.now world.now) list self.now
+            → IsTrue result ↔ IsDerivable (world_by table.now world.now) self.now list (Requires (Equals (term_at table.now a) (term_at table.now b))) }
+        ensures room { s.new.room ≡ s.old.room }
+    {
+        if !self.walk(world, table, a, &mut s.word, &mut s.test) {
+            return false;
+        }
+        if !self.walk(world, table, b, &mut s.other, &mut s.test) {
+            return false;
+        }
+        s.word == s.other
+    }
+}

@@ -1,0 +1,221 @@
+//! The reduced type of a type parameter, without memory.
+ghost use Rattle.std.specs.Prelude.{◌≡◌, ◌↔◌, ◌+◌, ◌*◌, ◌≤◌, ◌<◌, ◌++◌, ◌∷◌, [], ℕ, IsTrue, List, length, vec_capacity, vec_len, MatchOption};
+ghost use Rattle.swreq_param.specs.declared.ids.AssocId.{AssocId};
+ghost use Rattle.swreq_param.specs.declared.ids.Step.TheVariants.{Bound};
+ghost use Rattle.swreq_param.specs.Tables.{term_at};
+ghost use Rattle.swreq_param.specs.Terms.{Term, head, member_count, with_steps};
+ghost use Rattle.swreq_param.specs.Terms.Term.{Generic};
+ghost use Rattle.swreq_derive.specs.Derivation.{TermRequirement};
+ghost use Rattle.swreq_derive.specs.Derivation.TermStatement.{IsValid};
+ghost use Rattle.swreq_word.specs.declared.symbols.Symbol.{Symbol};
+ghost use Rattle.swreq_word.specs.declared.symbols.Symbol.TheVariants.{Member as MemberSymbol, Param};
+ghost use Rattle.swreq_reading.specs.Symbols.{IsRank, name_of};
+ghost use Rattle.swreq_world.specs.ByTable.{world_by};
+ghost use Rattle.swreq_shown.specs.Known.{IsTextOver, IsTypeIn};
+ghost use Rattle.swreq_shown.specs.Meaning.{symbols_of};
+ghost use Rattle.swreq_shown.specs.Vanishing.{IsLeastBy};
+ghost use Rattle.swreq_valid.specs.Asked.{IsDerivable, IsLeastOf, IsReducedIn};
+ghost use Rattle.swreq_valid.specs.LeastTypes.{BeginsBy, IsFirstBehind, IsGiven};
+ghost use Rattle.swreq_valid.specs.Machines.{IsMachineOf};
+
+use crate::machine::Machine;
+use crate::scratch::Scratch;
+use swreq_complete::CompleteRules;
+use swreq_param::{AssocId, NameId, ParamId, ParamTable, Step, TermId};
+use swreq_map::vanishes;
+use swreq_word::Symbol;
+use swreq_world::World;
+
+/// The name of a member symbol, or None where it is none.
+fn member_name(world: &World, x: Symbol) -> Option<NameId>
+    ensures { MatchOption result
+        ((k : ℕ) → x ≡ MemberSymbol k → IsRank (symbols_of world.now.lexicon) k → ⊥)
+        (λ a. (k : ℕ) × (x ≡ MemberSymbol k) × IsRank (symbols_of world.now.lexicon) k × (name_of (symbols_of world.now.lexicon) k ≡ a)) }
+{
+    match x {
+        Symbol::Member(rank) => name_at(world, rank),
+        _ => None,
+    }
+}
+
+/// The name of the member symbol with this rank, or None where there is none.
+fn name_at(world: &World, rank: u64) -> Option<NameId>
+    ensures { MatchOption result
+        (IsRank (symbols_of world.now.lexicon) rank → ⊥)
+        (λ a. IsRank (symbols_of world.now.lexicon) rank × (name_of (symbols_of world.now.lexicon) rank ≡ a)) }
+{
+    if rank < world.members() {
+        let symbol = world.member_at(rank);
+        Some(symbol.name)
+    } else {
+        None
+    }
+}
+
+/// Whether it is an associated type with this name, and its protocol vanishes behind the word.
+fn is_given(
+    world: &World,
+    rules: &CompleteRules,
+    word: &[Symbol],
+    a: NameId,
+    d: AssocId,
+    test: &mut Vec<Symbol>,
+) -> bool
+    requires d { d.rank < length world.now.lexicon.associated }
+    requires least { IsLeastBy rules.now word.now }
+    requires fits { length word.now + 1 ≤ vec_capacity test.old }
+    ensures answer { IsTrue result ↔ IsGiven world.now.lexicon rules.now word.now a d }
+    ensures room { vec_capacity test.old ≤ vec_capacity test.new }
+{
+    let declared = world.assoc(d);
+    if declared.name.rank == a.rank {
+        vanishes(rules, word, Symbol::Proto(declared.proto.rank), test)
+    } else {
+        false
+    }
+}
+
+/// The number of associated types.
+fn associated(world: &World) -> u32
+    ensures { result ≡ length world.now.lexicon.associated }
+{
+    world.lexicon().associated()
+}
+
+/// The first associated type with this name whose protocol vanishes behind the word, or None where there is none.
+fn first_behind(
+    world: &World,
+    rules: &CompleteRules,
+    word: &[Symbol],
+    a: NameId,
+    test: &mut Vec<Symbol>,
+) -> Option<AssocId>
+    requires least { IsLeastBy rules.now word.now }
+    requires fits { length word.now + 1 ≤ vec_capacity test.old }
+    ensures answer { MatchOption result
+        ((d : AssocId) → IsGiven world.now.lexicon rules.now word.now a d → ⊥)
+        (IsFirstBehind world.now.lexicon rules.now word.now a) }
+    ensures room { vec_capacity test.old ≤ vec_capacity test.new }
+{
+    for rank in 0..associated(world) {
+        let d = AssocId { rank };
+        if is_given(world, rules, word, a, d, test) {
+            return Some(d);
+        }
+    }
+    None
+}
+
+/// Puts the step last, where there is room for it.
+fn put_step(steps: &mut Vec<Step>, step: Step)
+    requires { vec_len steps.old < vec_capacity steps.old }
+    ensures items { steps.new.items ≡ steps.old.items ++ step ∷ [] }
+    ensures room { vec_capacity steps.old ≤ vec_capacity steps.new }
+{
+    if let Err(_) = steps.push(step) {}
+}
+
+/// Adds the step of the type of the word before a member symbol with it: the first associated type with its name.
+fn add_step(
+    world: &World,
+    rules: &CompleteRules,
+    before: &[Symbol],
+    x: Symbol,
+    steps: &mut Vec<Step>,
+    test: &mut Vec<Symbol>,
+)
+    requires least { IsLeastBy rules.now before.now }
+    requires fits { length before.now + 1 ≤ vec_capacity test.old }
+    requires fits_step { vec_len steps.old < vec_capacity steps.old }
+    ensures step { (k : ℕ) (d : AssocId) → x ≡ MemberSymbol k → IsRank (symbols_of world.now.lexicon) k
+        → IsFirstBehind world.now.lexicon rules.now before.now (name_of (symbols_of world.now.lexicon) k) d → steps.new.items ≡ steps.old.items ++ Bound d ∷ [] }
+    ensures few { vec_len steps.new ≤ vec_len steps.old + 1 }
+    ensures room { vec_capacity steps.old ≤ vec_capacity steps.new }
+    ensures room_test { vec_capacity test.old ≤ vec_capacity test.new }
+{
+    match member_name(world, x) {
+        None => {}
+        Some(name) => add_first(world, rules, before, name, steps, test),
+    }
+}
+
+/// Adds the step of the first associated type with this name whose protocol vanishes behind the word, if there is one.
+fn add_first(
+    world: &World,
+    rules: &CompleteRules,
+    before: &[Symbol],
+    name: NameId,
+    steps: &mut Vec<Step>,
+    test: &mut Vec<Symbol>,
+)
+    requires least { IsLeastBy rules.now before.now }
+    requires fits { length before.now + 1 ≤ vec_capacity test.old }
+    requires fits_step { vec_len steps.old < vec_capacity steps.old }
+    ensures step { (d : AssocId) → IsFirstBehind world.now.lexicon rules.now before.now name d → steps.new.items ≡ steps.old.items ++ Bound d ∷ [] }
+    ensures few { vec_len steps.new ≤ vec_len steps.old + 1 }
+    ensures room { vec_capacity steps.old ≤ vec_capacity steps.new }
+    ensures room_test { vec_capacity test.old ≤ vec_capacity test.new }
+{
+    match first_behind(world, rules, before, name, test) {
+        None => {}
+        Some(d) => put_step(steps, Step::Bound(d)),
+    }
+}
+
+/// Makes the list that of the steps of the type of a least word.
+fn read_steps(
+    world: &World,
+    rules: &CompleteRules,
+    word: &[Symbol],
+    steps: &mut Vec<Step>,
+    test: &mut Vec<Symbol>,
+)
+    requires least { IsLeastBy rules.now word.now }
+    requires fits { length word.now ≤ vec_capacity test.old }
+    requires fits_steps { length word.now ≤ vec_capacity steps.old }
+    ensures steps { (r : Term) → BeginsBy world.now.lexicon rules.now r [] word.now → with_steps (Generic (head r)) steps.new.items ≡ r }
+    ensures room { vec_capacity steps.old ≤ vec_capacity steps.new }
+    ensures room_test { vec_capacity test.old ≤ vec_capacity test.new }
+{
+    steps.clear();
+    for k in 1..word.len() {
+        let before = &word[..k];
+        add_step(world, rules, before, word[k], steps, test);
+    }
+}
+
+/// The generic parameter with which a word begins.
+fn head_of(word: &[Symbol]) -> ParamId
+    ensures { (d i : ℕ) (rest : List Symbol) → word.now ≡ Param d i ∷ rest → result ≡ record { depth = d; index = i } }
+{
+    match word.first() {
+        Some(Symbol::Param(depth, index)) => ParamId {
+            depth: *depth,
+            index: *index,
+        },
+        _ => ParamId { depth: 0, index: 0 },
+    }
+}
+
+impl Machine {
+    /// Leaves the reduced type of a valid t, and the least word congruent to its word, in the scratch.
+    pub fn reduced(&self, world: &World, table: &ParamTable, t: TermId, s: &mut Scratch)
+        requires text { IsTextOver table.now world.now }
+        requires t { IsTypeIn table.now world.now.lexicon t }
+        requires room { 4 * (member_count (term_at table.now t) + 2) ≤ s.old.room }
+        ensures reduced { (list : List TermRequirement) → IsMachineOf (world_by table.now world.now) list self.now
+            → IsDerivable (world_by table.now world.now) self.now list (IsValid (term_at table.now t))
+            → IsReducedIn (world_by table.now world.now) self.now list (term_at table.now t) (with_steps (Generic s.new.head) s.new.steps) }
+        ensures word { (list : List TermRequirement) → IsMachineOf (world_by table.now world.now) list self.now
+            → IsDerivable (world_by table.now world.now) self.now list (IsValid (term_at table.now t))
+            → IsLeastOf (world_by table.now world.now) self.now list (term_at table.now t) s.new.word }
+        ensures room { s.new.room ≡ s.old.room }
+    {
+        let rules = self.rules();
+        let _complete = rules.rules().len();
+        if self.walk(world, table, t, &mut s.word, &mut s.test) {
+            s.head = head_of(&s.word);
+            read_steps(world, rules, &s.word, &mut s.steps, &mut s.test);
+        }
+    }
+}

@@ -1,0 +1,78 @@
+//! Room for the answers of machines.
+ghost use Rattle.std.specs.Prelude.{◌≡◌, IfOk};
+
+use std::alloc::{AllocError, Global};
+use std::marker::Model;
+use swreq_param::{ParamId, Step};
+use swreq_word::Symbol;
+
+/// Room for the words of the answers of machines, which take no memory, and the reduced type that the last of them left.
+#[derive(Drop)]
+pub struct Scratch {
+    pub(crate) word: Vec<Symbol>,
+    pub(crate) other: Vec<Symbol>,
+    pub(crate) test: Vec<Symbol>,
+    pub(crate) head: ParamId,
+    pub(crate) steps: Vec<Step>,
+    room: usize,
+}
+
+impl Model for Scratch {
+    ghost use Rattle.std.specs.Prelude.{◌≤◌, vec_capacity};
+    ghost use Rattle.swreq_valid.specs.Asked.{ScratchView};
+
+    ghost Value = { ScratchView };
+
+    ghost view = { λ s. record { room = s.room; head = s.head; steps = s.steps.items; word = s.word.items } };
+
+    ghost invariant = { λ s. (s.room ≤ vec_capacity s.word) × (s.room ≤ vec_capacity s.other) × (s.room ≤ vec_capacity s.test) × (s.room ≤ vec_capacity s.steps) };
+}
+
+impl Scratch {
+    /// Room for words of so many symbols.
+    pub fn with_room(alloc: Global, symbols: usize) -> Result<Scratch, AllocError>
+        ensures { IfOk result (λ s. s.room ≡ symbols) }
+    {
+        let word = Vec::with_capacity(alloc, symbols)?;
+        let other = Vec::with_capacity(alloc, symbols)?;
+        let test = Vec::with_capacity(alloc, symbols)?;
+        let steps = Vec::with_capacity(alloc, symbols)?;
+        let head = ParamId { depth: 0, index: 0 };
+        Ok(Scratch {
+            word,
+            other,
+            test,
+            head,
+            steps,
+            room: symbols,
+        })
+    }
+
+    /// The room that it was made with.
+    pub fn room(&self) -> usize
+        ensures { result ≡ self.now.room }
+    {
+        self.room
+    }
+
+    /// The generic parameter of the reduced type that the last call of `Machine::reduced` left.
+    pub fn param(&self) -> ParamId
+        ensures { result ≡ self.now.head }
+    {
+        self.head
+    }
+
+    /// The steps of that type.
+    pub fn steps(&self) -> &[Step]
+        ensures { result.now ≡ self.now.steps }
+    {
+        self.steps.as_slice()
+    }
+
+    /// The least word congruent to the word of the type parameter of which it is the reduced type.
+    pub fn word(&self) -> &[Symbol]
+        ensures { result.now ≡ self.now.word }
+    {
+        self.word.as_slice()
+    }
+}
