@@ -20,53 +20,75 @@ use Rattle.swreq_world.specs.Worlds.{IdWorld}
 use Rattle.swreq_top.specs.Answers.{answers}
 use Rattle.swreq_top.specs.Plain.{is_plain}
 
--- status 1, with the line of the refusal
+-- 3 where a completion passed a limit, and 1 of any other refusal
+abbrev pub status_of : RefusalKind → ℕ
+status_of (refusals.LimitRules max) = 3
+status_of (refusals.LimitLength max) = 3
+status_of _ = 1
+
+-- the status and the line of a refusal
 abbrev pub refused_with : RefusalKind → Outcome
-refused_with refusal = record { status = 1; output = refusal_line refusal }
+refused_with refusal = record { status = status_of refusal; output = refusal_line refusal }
 
 -- The text is not too long, a skeleton stands for it, and its names have this refusal.
 abbrev pub RefusesNames : List ℕ → NameErr → Type 0
 RefusesNames text e = (length text ≤ TEXT_LIMIT) × ((skeleton : Skeleton) × StandsFor text skeleton × Refuses text skeleton e)
 
+-- Of a text that has a world, its protocols or one of its signatures are refused so.
+abbrev pub RefusesMachines : Limits → List ℕ → Refused → Type 0
+RefusesMachines limits text refused = (w : TextWorld) × HasWorld text w × ((told : List Event) × IsChecked limits w (Some refused) told)
+
+-- A round of the protocols or of a signature passes this limit.
+abbrev pub PassesLimit : Limits → List ℕ → Which → Type 0
+PassesLimit limits text which = (trace : List Rule) × RefusesMachines limits text (Limit which trace)
+
+-- Of a text that has a world, neither its protocols nor a signature is refused.
+pub record IsWhole (limits : Limits) (text : List ℕ) (w : TextWorld) : Type 0 where
+  pub has_world : HasWorld text w
+  pub told : List Event
+  pub checked : IsChecked limits w None told
+
+-- Some query asks a signature, which cannot be answered yet.
+abbrev pub AsksSignatures : Limits → List ℕ → Type 0
+AsksSignatures limits text = (w : TextWorld) × IsWhole limits text w × ((f : FuncId) × Contains w.queries (AsksSignature f))
+
 -- The text is refused, in the order of these cases: at most one refusal is its.
-abbrev pub IsRefused : List ℕ → RefusalKind → Type 0
-IsRefused text refusals.TooLarge = TEXT_LIMIT < length text
-IsRefused text (refusals.NotUtf8 at) = (length text ≤ TEXT_LIMIT) × HasRefusal text (lexical.NotUtf8 at)
-IsRefused text (refusals.BadCharacter at) = (length text ≤ TEXT_LIMIT) × HasRefusal text (lexical.BadCharacter at)
-IsRefused text (refusals.OpenComment at) = (length text ≤ TEXT_LIMIT) × HasRefusal text (lexical.OpenComment at)
-IsRefused text (refusals.Syntax at) = (length text ≤ TEXT_LIMIT) × RefusedFor text at None
-IsRefused text (refusals.Unsupported at kind) = (length text ≤ TEXT_LIMIT) × RefusedFor text at (Some kind)
-IsRefused text (refusals.Duplicate at) = RefusesNames text (names.Duplicate at)
-IsRefused text (refusals.NotAProtocol at) = RefusesNames text (names.NotAProtocol at)
-IsRefused text (refusals.ConcreteType at) = RefusesNames text (names.ConcreteType at)
-IsRefused text (refusals.NoSuchMember at) = RefusesNames text (names.NoSuchMember at)
-IsRefused text (refusals.UnknownSignature at) = RefusesNames text (names.UnknownSignature at)
-IsRefused text (refusals.WrongArity at) = RefusesNames text (names.WrongArity at)
-IsRefused text (refusals.Cycle at) = RefusesNames text (names.Cycle at)
-IsRefused text (refusals.NotATypeParameter at) = ⊥
-IsRefused text (refusals.LimitRules max) = ⊥
-IsRefused text (refusals.LimitLength max) = ⊥
-IsRefused text refusals.NotBuilt = ⊥
-IsRefused text refusals.ReadFault = ⊥
-IsRefused text refusals.OutOfMemory = ⊥
-IsRefused text refusals.Usage = ⊥
+abbrev pub IsRefused : Limits → List ℕ → RefusalKind → Type 0
+IsRefused limits text refusals.TooLarge = TEXT_LIMIT < length text
+IsRefused limits text (refusals.NotUtf8 at) = (length text ≤ TEXT_LIMIT) × HasRefusal text (lexical.NotUtf8 at)
+IsRefused limits text (refusals.BadCharacter at) = (length text ≤ TEXT_LIMIT) × HasRefusal text (lexical.BadCharacter at)
+IsRefused limits text (refusals.OpenComment at) = (length text ≤ TEXT_LIMIT) × HasRefusal text (lexical.OpenComment at)
+IsRefused limits text (refusals.Syntax at) = (length text ≤ TEXT_LIMIT) × RefusedFor text at None
+IsRefused limits text (refusals.Unsupported at kind) = (length text ≤ TEXT_LIMIT) × RefusedFor text at (Some kind)
+IsRefused limits text (refusals.Duplicate at) = RefusesNames text (names.Duplicate at)
+IsRefused limits text (refusals.NotAProtocol at) = RefusesNames text (names.NotAProtocol at)
+IsRefused limits text (refusals.ConcreteType at) = RefusesNames text (names.ConcreteType at)
+IsRefused limits text (refusals.NoSuchMember at) = RefusesNames text (names.NoSuchMember at)
+IsRefused limits text (refusals.UnknownSignature at) = RefusesNames text (names.UnknownSignature at)
+IsRefused limits text (refusals.WrongArity at) = RefusesNames text (names.WrongArity at)
+IsRefused limits text (refusals.Cycle at) = RefusesNames text (names.Cycle at)
+IsRefused limits text (refusals.NotATypeParameter at) = RefusesMachines limits text (NotATypeParameter at)
+IsRefused limits text (refusals.LimitRules max) = (max ≡ limits.max_rules) × PassesLimit limits text Rules
+IsRefused limits text (refusals.LimitLength max) = (max ≡ limits.max_length) × PassesLimit limits text Length
+IsRefused limits text refusals.NotBuilt = AsksSignatures limits text
+IsRefused limits text refusals.ReadFault = ⊥
+IsRefused limits text refusals.OutOfMemory = ⊥
+IsRefused limits text refusals.Usage = ⊥
 
--- Status 0, with the answers of the queries of the text's world, whatever table of type parameters has its ids.
-pub record AnswersQueries (text : List ℕ) (skeleton : Skeleton) (o : Outcome) : Type 0 where
-  pub terms : List Term
-  pub distinct : AreDistinct terms
-  pub world : IdWorld
-  pub is_world : IsWorldOf text skeleton (world_by terms world)
+-- The lines of the queries, one after the other: each is that of the answer by the book's rules from the list of the signature that is asked.
+pub data AreAnswered (w : TextWorld) : List TermQuery → List ℕ → Type 0 where
+  none : AreAnswered w [] []
+  more : {q : TermQuery} {qs : List TermQuery} {line lines : List ℕ}
+      → IsAnswerLine w.lexicon (BookDerivable (facts_of w) (source_of (signature_at w (signature_of q)))) q line → AreAnswered w qs lines
+      → AreAnswered w (q ∷ qs) (line ++ lines)
+
+-- The text is answered: status 0, with a line for each query of its world.
+pub record IsAnswered (limits : Limits) (text : List ℕ) (o : Outcome) : Type 0 where
+  pub world : TextWorld
+  pub whole : IsWhole limits text world
   pub status : o.status ≡ 0
-  pub output : o.output ≡ answers world
+  pub answers : AreAnswered world world.queries o.output
 
--- A text with this skeleton, whose names resolve, is answered where it is plain, and else it cannot be answered yet.
-abbrev pub IsAnswered : List ℕ → Skeleton → Outcome → Type 0
-IsAnswered text skeleton o = MatchBool (is_plain skeleton) (AnswersQueries text skeleton o) (o ≡ refused_with refusals.NotBuilt)
-
--- A verdict on the text: it is refused with the line of its refusal, or it is not too long, a skeleton stands for it whose names
--- resolve, and it is answered.
-abbrev pub IsVerdict : List ℕ → Outcome → Type 0
-IsVerdict text o =
-    ((refusal : RefusalKind) × IsRefused text refusal × (o ≡ refused_with refusal))
-    ⊎ ((length text ≤ TEXT_LIMIT) × ((skeleton : Skeleton) × StandsFor text skeleton × Resolve text skeleton × IsAnswered text skeleton o))
+-- A verdict on the text: the line of its refusal, or its answers.
+abbrev pub IsVerdict : Limits → List ℕ → Outcome → Type 0
+IsVerdict limits text o = ((refusal : RefusalKind) × IsRefused limits text refusal × (o ≡ refused_with refusal)) ⊎ IsAnswered limits text o

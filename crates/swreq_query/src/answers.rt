@@ -1,0 +1,63 @@
+//! The answer of a query.
+ghost use Rattle.std.specs.Prelude.{◌≡◌, List, length, OnErr, OnOk};
+ghost use Rattle.swreq_derive.specs.Derivation.{TermRequirement};
+ghost use Rattle.swreq_map.specs.Follows.{IsMapOf};
+ghost use Rattle.swreq_shown.specs.Known.{IsTextOver};
+ghost use Rattle.swreq_valid.specs.Asked.{IsDerivable};
+ghost use Rattle.swreq_valid.specs.Machines.{IsMachineOf};
+ghost use Rattle.swreq_valid.specs.Rounds.{last_rules};
+ghost use Rattle.swreq_world.specs.ByTable.{world_by};
+ghost use Rattle.swreq_written.specs.ByTable.{query_by};
+ghost use Rattle.swreq_query.specs.Asked.{AppendsAnswer, IsOfTypes, IsQueryIn, IsRoomFor};
+
+use crate::reduced::reduced_line;
+use crate::verdict::{Property, judge_equality, judge_property};
+use std::alloc::{AllocError, Global};
+use swreq_bytes::append_bytes;
+use swreq_map::PropertyMap;
+use swreq_param::ParamTable;
+use swreq_valid::{Machine, Scratch};
+use swreq_world::World;
+use swreq_written::Query;
+
+/// Appends the line that answers a query of a requirement or a type, from every list of which m is the machine.
+///
+/// The map is that of the rules of m. For want of memory `out` is as before.
+pub fn answer(
+    alloc: Global,
+    world: &World,
+    table: &ParamTable,
+    m: &Machine,
+    map: &PropertyMap,
+    q: &Query,
+    s: &mut Scratch,
+    out: &mut Vec<u8>,
+) -> Result<(), AllocError>
+    requires text { IsTextOver table.now world.now }
+    requires query { IsQueryIn table.now world.now q.now }
+    requires of_types { IsOfTypes (query_by table.now q.now) }
+    requires map { IsMapOf (last_rules m.now.rounds) map.now }
+    requires protocols { map.now.protocols ≡ length world.now.lexicon.protocols }
+    requires room { IsRoomFor (query_by table.now q.now) s.old.room }
+    ensures ok { OnOk result ((list : List TermRequirement) → IsMachineOf (world_by table.now world.now) list m.now
+        → AppendsAnswer world.now.lexicon (IsDerivable (world_by table.now world.now) m.now list) (query_by table.now q.now) out.old.items out.new.items) }
+    ensures err { OnErr result (out.new.items ≡ out.old.items) }
+    ensures room { s.new.room ≡ s.old.room }
+{
+    match *q {
+        Query::Signature { .. } => unreachable!(),
+        Query::Reduced { t, .. } => reduced_line(alloc, world, table, m, t, s, out),
+        Query::Conf { t, p, .. } => {
+            let verdict = judge_property(world, table, m, map, t, Property::Protocol(p), s);
+            append_bytes(out, verdict.line())
+        }
+        Query::Layout { t, .. } => {
+            let verdict = judge_property(world, table, m, map, t, Property::Layout, s);
+            append_bytes(out, verdict.line())
+        }
+        Query::Same { a, b, .. } => {
+            let verdict = judge_equality(world, table, m, a, b, s);
+            append_bytes(out, verdict.line())
+        }
+    }
+}

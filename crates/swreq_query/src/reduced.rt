@@ -1,0 +1,66 @@
+//! The line of a query of a type.
+ghost use Rattle.std.specs.Prelude.{◌≡◌, ◌+◌, ◌*◌, ◌≤◌, ◌++◌, List, codes, OnErr, OnOk};
+ghost use Rattle.swreq_param.specs.Tables.{term_at};
+ghost use Rattle.swreq_param.specs.Terms.{member_count, with_steps};
+ghost use Rattle.swreq_param.specs.Terms.Term.{Generic};
+ghost use Rattle.swreq_derive.specs.Derivation.{TermRequirement};
+ghost use Rattle.swreq_print.specs.Types.{type_text};
+ghost use Rattle.swreq_shown.specs.Known.{IsTextOver, IsTypeIn};
+ghost use Rattle.swreq_valid.specs.Asked.{IsDerivable};
+ghost use Rattle.swreq_valid.specs.Machines.{IsMachineOf};
+ghost use Rattle.swreq_world.specs.ByTable.{world_by};
+ghost use Rattle.swreq_written.specs.Queries.TermQuery.{AsksReduced};
+ghost use Rattle.swreq_written.specs.declared.ids.FuncId.{FuncId};
+ghost use Rattle.swreq_query.specs.Asked.{AppendsAnswer};
+
+use crate::verdict::Verdict;
+use std::alloc::{AllocError, Global};
+use swreq_bytes::append_bytes;
+use swreq_param::{ParamId, ParamTable, Step, TermId};
+use swreq_print::steps_text;
+use swreq_ranks::Lexicon;
+use swreq_valid::{Machine, Scratch};
+use swreq_world::World;
+
+/// Appends the line of the type parameter with this generic parameter and these steps.
+fn type_line(
+    alloc: Global,
+    names: &Lexicon,
+    head: ParamId,
+    steps: &[Step],
+    out: &mut Vec<u8>,
+) -> Result<(), AllocError>
+    ensures ok { OnOk result (out.new.items ≡ out.old.items ++ (type_text names.now (with_steps (Generic head) steps.now) ++ codes "\n")) }
+    ensures err { OnErr result (out.new.items ≡ out.old.items) }
+{
+    let mut line = Vec::new(alloc);
+    steps_text(alloc, names, head, steps, &mut line)?;
+    append_bytes(&mut line, b"\n")?;
+    append_bytes(out, &line)
+}
+
+/// Appends the line of the reduced type of t, or of `invalid` where t is not valid.
+pub(crate) fn reduced_line(
+    alloc: Global,
+    world: &World,
+    table: &ParamTable,
+    m: &Machine,
+    t: TermId,
+    s: &mut Scratch,
+    out: &mut Vec<u8>,
+) -> Result<(), AllocError>
+    requires text { IsTextOver table.now world.now }
+    requires t { IsTypeIn table.now world.now.lexicon t }
+    requires room { 4 * (member_count (term_at table.now t) + 2) ≤ s.old.room }
+    ensures ok { OnOk result ((f : FuncId) (list : List TermRequirement) → IsMachineOf (world_by table.now world.now) list m.now
+        → AppendsAnswer world.now.lexicon (IsDerivable (world_by table.now world.now) m.now list) (AsksReduced f (term_at table.now t)) out.old.items out.new.items) }
+    ensures err { OnErr result (out.new.items ≡ out.old.items) }
+    ensures room { s.new.room ≡ s.old.room }
+{
+    if m.is_valid(world, table, t, s) {
+        m.reduced(world, table, t, s);
+        type_line(alloc, world.lexicon(), s.param(), s.steps(), out)
+    } else {
+        append_bytes(out, Verdict::Invalid.line())
+    }
+}

@@ -1,0 +1,142 @@
+//! Whether the requirement that a query asks is derivable.
+ghost use Rattle.std.specs.Prelude.{◌≡◌, ◌↔◌, ◌+◌, ◌*◌, ◌≤◌, IsTrue, List, length};
+ghost use Rattle.swreq_param.specs.Tables.{term_at};
+ghost use Rattle.swreq_param.specs.Terms.{member_count};
+ghost use Rattle.swreq_derive.specs.Derivation.{TermRequirement};
+ghost use Rattle.swreq_derive.specs.Derivation.TermStatement.{Requires};
+ghost use Rattle.swreq_map.specs.Follows.{IsMapOf};
+ghost use Rattle.swreq_ranks.specs.Views.{LexiconView};
+ghost use Rattle.swreq_shown.specs.Known.{IsTextOver, IsTypeIn};
+ghost use Rattle.swreq_valid.specs.Asked.{IsDerivable};
+ghost use Rattle.swreq_valid.specs.Machines.{IsMachineOf};
+ghost use Rattle.swreq_valid.specs.Rounds.{last_rules};
+ghost use Rattle.swreq_world.specs.ByTable.{world_by};
+ghost use Rattle.swreq_written.specs.Queries.TermQuery.{AsksEquals};
+ghost use Rattle.swreq_written.specs.declared.ids.FuncId.{FuncId};
+ghost use Rattle.swreq_query.specs.Answers.{IsAnswer, answer_line};
+ghost use Rattle.swreq_query.specs.Asked.{IsPropertyOf, answer_of, asks, has};
+
+use swreq_map::PropertyMap;
+use swreq_param::{ParamTable, ProtoId, TermId};
+use swreq_valid::{Machine, Scratch};
+use swreq_world::World;
+
+/// What is asked of one type parameter.
+#[derive(Clone, Copy)]
+pub(crate) enum Property {
+    /// That it conforms to this protocol.
+    Protocol(ProtoId),
+    /// That it is `AnyObject`.
+    Layout,
+}
+
+/// The answer to a query of a requirement.
+#[derive(Clone, Copy)]
+pub(crate) enum Verdict {
+    /// A side is not valid.
+    Invalid,
+    /// The requirement is derivable.
+    Yes,
+    /// The sides are valid, and the requirement is not derivable.
+    No,
+}
+
+impl Verdict {
+    /// Its line, with the line feed.
+    pub(crate) fn line(self) -> &'static [u8]
+        ensures { (x : LexiconView) → result.now ≡ answer_line x (answer_of self) }
+    {
+        match self {
+            Verdict::Invalid => b"invalid\n",
+            Verdict::Yes => b"yes\n",
+            Verdict::No => b"no\n",
+        }
+    }
+}
+
+/// Whether a valid type parameter has the property.
+fn has(
+    world: &World,
+    table: &ParamTable,
+    m: &Machine,
+    _map: &PropertyMap,
+    t: TermId,
+    property: Property,
+    s: &mut Scratch,
+) -> bool
+    requires text { IsTextOver table.now world.now }
+    requires t { IsTypeIn table.now world.now.lexicon t }
+    requires property { IsPropertyOf world.now.lexicon property }
+    requires map { IsMapOf (last_rules m.now.rounds) _map.now }
+    requires protocols { _map.now.protocols ≡ length world.now.lexicon.protocols }
+    requires room { 4 * (member_count (term_at table.now t) + 2) ≤ s.old.room }
+    ensures answer { (list : List TermRequirement) → IsMachineOf (world_by table.now world.now) list m.now
+        → IsTrue result ↔ IsDerivable (world_by table.now world.now) m.now list (Requires (has (term_at table.now t) property)) }
+    ensures room { s.new.room ≡ s.old.room }
+{
+    match property {
+        Property::Protocol(p) => m.conforms(world, table, t, p, s),
+        Property::Layout => m.any_object(world, table, t, s),
+    }
+}
+
+/// Whether t is valid and has the property.
+pub(crate) fn judge_property(
+    world: &World,
+    table: &ParamTable,
+    m: &Machine,
+    map: &PropertyMap,
+    t: TermId,
+    property: Property,
+    s: &mut Scratch,
+) -> Verdict
+    requires text { IsTextOver table.now world.now }
+    requires t { IsTypeIn table.now world.now.lexicon t }
+    requires property { IsPropertyOf world.now.lexicon property }
+    requires map { IsMapOf (last_rules m.now.rounds) map.now }
+    requires protocols { map.now.protocols ≡ length world.now.lexicon.protocols }
+    requires room { 4 * (member_count (term_at table.now t) + 2) ≤ s.old.room }
+    ensures answer { (f : FuncId) (list : List TermRequirement) → IsMachineOf (world_by table.now world.now) list m.now
+        → IsAnswer (IsDerivable (world_by table.now world.now) m.now list) (asks f (term_at table.now t) property) (answer_of result) }
+    ensures room { s.new.room ≡ s.old.room }
+{
+    if !m.is_valid(world, table, t, s) {
+        return Verdict::Invalid;
+    }
+    if has(world, table, m, map, t, property, s) {
+        Verdict::Yes
+    } else {
+        Verdict::No
+    }
+}
+
+/// Whether a and b are valid and equal.
+pub(crate) fn judge_equality(
+    world: &World,
+    table: &ParamTable,
+    m: &Machine,
+    a: TermId,
+    b: TermId,
+    s: &mut Scratch,
+) -> Verdict
+    requires text { IsTextOver table.now world.now }
+    requires a { IsTypeIn table.now world.now.lexicon a }
+    requires b { IsTypeIn table.now world.now.lexicon b }
+    requires room_a { 4 * (member_count (term_at table.now a) + 2) ≤ s.old.room }
+    requires room_b { 4 * (member_count (term_at table.now b) + 2) ≤ s.old.room }
+    ensures answer { (f : FuncId) (list : List TermRequirement) → IsMachineOf (world_by table.now world.now) list m.now
+        → IsAnswer (IsDerivable (world_by table.now world.now) m.now list) (AsksEquals f (term_at table.now a) (term_at table.now b)) (answer_of result) }
+    ensures room { s.new.room ≡ s.old.room }
+{
+    if !m.is_valid(world, table, a, s) {
+        return Verdict::Invalid;
+    }
+    if !m.is_valid(world, table, b, s) {
+        return Verdict::Invalid;
+    }
+    if m.equal(world, table, a, b, s) {
+        Verdict::Yes
+    } else {
+        Verdict::No
+    }
+}
