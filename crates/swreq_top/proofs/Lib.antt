@@ -1,3 +1,4 @@
+pub mod Checked
+pub mod OneCheck
 pub mod OneRefusal
-pub mod Unresolved
 pub mod Verdicts
