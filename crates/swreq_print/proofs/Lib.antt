@@ -1,6 +1,6 @@
 mod Cutting
 mod ReadSignatures
 mod ReadTypes
-mod Steps
+pub mod Steps
 mod Telling
 mod Where

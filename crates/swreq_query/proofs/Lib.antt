@@ -1,2 +1,4 @@
-pub mod OneAnswer
 pub mod Along
+pub mod Appending
+pub mod Judging
+pub mod OneAnswer

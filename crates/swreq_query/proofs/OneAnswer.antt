@@ -31,10 +31,12 @@ is_some None = ⊥
 is_some (Some r) = Unit {0}
 
 one_requirement : (q : TermQuery) (r p : TermRequirement) → asked q ≡ Some r → asked q ≡ Some p → r ≡ p
+unfolding or_self
 one_requirement q r p h k = ap or_self (sym h ∙ k)
 
 -- a query of a type asks no requirement
 no_requirement : (q : TermQuery) (r : TermRequirement) (f : FuncId) (t : Term) → asked q ≡ Some r → q ≡ AsksReduced f t → ⊥
+unfolding is_some
 no_requirement q r f t h k = subst is_some (sym h ∙ ap asked k) tt
 
 module _ (derivable : TermStatement → Type 0) where
@@ -46,6 +48,7 @@ module _ (derivable : TermStatement → Type 0) where
 
   one_type : (q : TermQuery) (f g : FuncId) (t s u v : Term) → q ≡ AsksReduced f t → q ≡ AsksReduced g s
       → IsLeastEqual derivable t u → IsLeastEqual derivable s v → u ≡ v
+  unfolding type_of
   one_type q f g t s u v h k l m = one_least t u v l (subst (λ z. IsLeastEqual derivable z v) (ap type_of (sym k ∙ h)) m)
 
   pub one_answer : (q : TermQuery) (a b : Answer) → IsAnswer derivable q a → IsAnswer derivable q b → a ≡ b

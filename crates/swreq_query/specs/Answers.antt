@@ -1,5 +1,5 @@
 -- The answers of queries, by what is derivable.
-use Rattle.std.specs.Prelude.{◌≡◌, ◌⊎◌, List, ◌++◌, Option, Some, None, codes}
+use Rattle.std.specs.Prelude.{◌≡◌, ◌⊎◌, ◌++◌, Option, Some, None, codes}
 use Rattle.swreq_param.specs.Order.{TermBefore}
 use Rattle.swreq_param.specs.Terms.{Term}
 use Rattle.swreq_derive.specs.Derivation.{TermRequirement, TermStatement}

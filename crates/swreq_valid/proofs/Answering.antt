@@ -1,5 +1,5 @@
 -- From what rules show to what is derivable.
-use Rattle.std.proofs.Common.{◌≡◌, sym, subst, ◌∙◌, ◌↔◌, Bool, true, false, List, [], ◌∷◌}
+use Rattle.std.proofs.Common.{◌≡◌, sym, subst, Bool, true, false, List, [], ◌∷◌}
 use Rattle.std.specs.Bool.{Decides, OnTrue}
 use Rattle.swreq_param.specs.declared.ids.ProtoId.{ProtoId}
 use Rattle.swreq_param.specs.Terms.{Term}

@@ -1,5 +1,5 @@
 -- From the rounds and the sides to what building comes to.
-use Rattle.std.proofs.Common.{◌≡◌, ◌⊎◌, ◌∙◌, inl, inr, refl, sym, ap, ap₂, subst, ℕ, List, [], ◌∷◌, ◌++◌, length, Contains, Option, Result, Ok, Err}
+use Rattle.std.proofs.Common.{◌≡◌, ◌⊎◌, inl, inr, refl, sym, ap, ap₂, subst, List, length, Contains, Option, Result, Ok, Err}
 use Rattle.swreq_derive.specs.Derivation.{TermFacts}
 use Rattle.swreq_rule.specs.declared.rules.Rule.{Rule}
 use Rattle.swreq_watch.specs.declared.events.Event.{Event}
@@ -15,7 +15,7 @@ use Rattle.swreq_valid.specs.declared.refused.Refused.{Refused}
 use Rattle.swreq_valid.specs.declared.refused.Refused.TheVariants.{Limit, NotATypeParameter, Memory}
 use Rattle.swreq_valid.specs.Answers.{Answers}
 use Rattle.swreq_valid.specs.Built.{Builds, IsBuilt, IsForMemory, IsOnlyBuilt, Judges, refusal}
-use Rattle.swreq_valid.specs.Sides.{FailsFirst, HoldsOfEach, IsValidSide, Side}
+use Rattle.swreq_valid.specs.Sides.{IsValidSide, Side}
 use Rattle.swreq_valid.proofs.FirstSide.{first_to, not_both, one_first}
 
 module _ (limits : Limits) (plan : Plan) where
@@ -53,16 +53,20 @@ module _ (limits : Limits) (plan : Plan) where
 
   -- ---- what building comes to
 
+  comes_to_end : (used : List Item) (rules : List Rule) (told : List Event) → IsLastRound limits plan used rules told → ComesTo limits plan told
+  comes_to_end used rules told l =
+      let within : IsWithin limits (length plan.base) (given plan used) rules =
+      record { reached = l.ends.1.ended.reached; kept = λ k rule b s e. l.ends.1.kept k rule b e } in
+      record { used = used; before = l.before; round = l.round; part = inr (rules, l.ends.0, within, l.told_is) }
+
+  -- where memory is wanting after the last round
+  pub memory_at_end : (rules : List Rule) (old new : Option (List Event)) → Answers limits plan old new (Ok rules) → Answers limits plan old new (Err failed.Memory)
+  memory_at_end rules old new a = (a.0, comes_to_end a.1.0 rules a.0 a.1.1, a.2)
+
   module _ (f : TermFacts) (sides : List Side) where
     pub builds_failed : (e : Failed) (old new : Option (List Event)) → Answers limits plan old new (Err e) → Builds limits plan f sides old new (Err (refusal e))
     builds_failed (failed.Limit which trace) old new a = a
     builds_failed failed.Memory old new a = a
-
-    comes_to_end : (used : List Item) (rules : List Rule) (told : List Event) → IsLastRound limits plan used rules told → ComesTo limits plan told
-    comes_to_end used rules told l =
-        let within : IsWithin limits (length plan.base) (given plan used) rules =
-        record { reached = l.ends.1.ended.reached; kept = λ k rule b s e. l.ends.1.kept k rule b e } in
-        record { used = used; before = l.before; round = l.round; part = inr (rules, l.ends.0, within, l.told_is) }
 
     pub builds_judged : (P : Side → Type 0) (rules : List Rule) (answer : Result (List Rule) Refused) (old new : Option (List Event))
         → ((s : Side) → Contains sides s → P s → IsValidSide f s) → ((s : Side) → Contains sides s → IsValidSide f s → P s)

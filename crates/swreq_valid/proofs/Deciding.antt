@@ -1,5 +1,5 @@
 -- Complete rules decide what they link.
-use Rattle.std.proofs.Common.{◌≡◌, ◌⊎◌, inl, inr, sym, subst, ℕ, zero, suc, ◌<◌, ◌≤◌, arith, List}
+use Rattle.std.proofs.Common.{◌≡◌, ◌⊎◌, inl, inr, sym, subst, ℕ, zero, suc, ◌≤◌, arith, List}
 use Rattle.swreq_word.specs.Order.{WordLess}
 use Rattle.swreq_word.specs.Relations.Chain.{done, more}
 use Rattle.swreq_word.proofs.Chains.{linked_back, linked_on}

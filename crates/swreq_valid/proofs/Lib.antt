@@ -14,3 +14,6 @@ pub mod Firsts
 pub mod Giving
 pub mod Typed
 pub mod Reducing
+pub mod Transfer
+pub mod Once
+pub mod OfKept

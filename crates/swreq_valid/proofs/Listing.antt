@@ -1,10 +1,6 @@
 -- The plan of a list, and the requirements that stand in it.
-use Rattle.std.proofs.Common.{◌≡◌, refl, sym, ap, ap₂, subst, ◌∙◌, ℕ, zero, suc, ◌<◌, ◌≤◌, ◌+◌, arith, List, [], ◌∷◌, ◌++◌, length, map, take, drop, get_or, append_assoc, Contains, Option, Result, Ok, Err, IfOk}
-use Rattle.std.specs.List.{All}
-use Rattle.std.proofs.lemmas.List.{append-nil, drop_more, map-append}
-use Rattle.std.proofs.lemmas.List.Elements.{All-from_get_or, Contains-get_or}
-use Rattle.std.proofs.lemmas.Option.{slice_get-get_or}
-use Rattle.swreq_word.proofs.Lists.{take_one}
+use Rattle.std.proofs.Common.{◌≡◌, refl, sym, ap, ap₂, subst, ◌∙◌, ℕ, zero, suc, ◌<◌, ◌≤◌, ◌+◌, arith, List, [], ◌∷◌, ◌++◌, length, map, drop, get_or, append_assoc, Contains, Option, Ok}
+use Rattle.std.proofs.lemmas.List.{append-nil, drop_more}
 use Rattle.swreq_param.specs.Terms.{Term}
 use Rattle.swreq_derive.specs.declared.known.Params.{Params}
 use Rattle.swreq_derive.specs.declared.requirements.Requirement.{Requirement}
@@ -13,11 +9,9 @@ use Rattle.swreq_derive.specs.Derivation.Source.{Written}
 use Rattle.swreq_derive.specs.Facts.{generic_params, requirement_of}
 use Rattle.swreq_rule.specs.declared.rules.Rule.{Rule}
 use Rattle.swreq_watch.specs.declared.events.Event.{Event}
-use Rattle.swreq_complete.specs.declared.limit.Failed.{Failed}
 use Rattle.swreq_complete.specs.declared.limit.Limits.{Limits}
 use Rattle.swreq_reading.specs.Symbols.{IsInText}
 use Rattle.swreq_rounds.specs.Given.{of_list}
-use Rattle.swreq_rounds.specs.Plan.{Item, Plan}
 use Rattle.swreq_rounds.proofs.LastRound.{list_law}
 use Rattle.swreq_rounds.proofs.Members.{contains_of_map}
 use Rattle.swreq_ranks.specs.Views.{LexiconView}
@@ -29,10 +23,10 @@ use Rattle.swreq_shown.specs.Meaning.{facts_of, symbols_of}
 use Rattle.swreq_shown.proofs.Symbols as shown
 use Rattle.swreq_valid.specs.declared.wanted.Start.{Start}
 use Rattle.swreq_valid.specs.declared.wanted.Wanted.{Wanted}
-use Rattle.swreq_valid.specs.Answers.{Answers, IsOnlyOutcome}
-use Rattle.swreq_valid.specs.Machines.{AreRulesOf, IsMachineOf, MachineView, list_of}
+use Rattle.swreq_valid.specs.Answers.{Answers}
+use Rattle.swreq_valid.specs.Machines.{AreRulesOf, IsMachineOf, list_of}
 use Rattle.swreq_valid.specs.Plans.{AreKnown, AreWanted, in_signature, item_of, items_of, listed, plan_of, says}
-use Rattle.swreq_valid.specs.Rounds.{AreRounds, RoundView, last_rules}
+use Rattle.swreq_valid.specs.Rounds.{RoundView, last_rules}
 use Rattle.swreq_valid.proofs.Flagged.{map_map}
 
 -- ---- lists that are made item by item

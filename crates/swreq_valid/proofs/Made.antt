@@ -1,5 +1,5 @@
 -- What building answers of a text.
-use Rattle.std.proofs.Common.{◌≡◌, sym, ap, subst, List, Contains, Option, Result, Ok, Err, IfOk}
+use Rattle.std.proofs.Common.{◌≡◌, refl, sym, ap, subst, Bool, List, length, Contains, Option, Result, Ok, Err, IfErr, IfOk}
 use Rattle.swreq_param.specs.Terms.{Term}
 use Rattle.swreq_derive.specs.declared.known.Params.{Params}
 use Rattle.swreq_derive.specs.declared.requirements.Requirement.{Requirement}
@@ -10,6 +10,7 @@ use Rattle.swreq_rule.specs.declared.rules.Rule.{Rule}
 use Rattle.swreq_watch.specs.declared.events.Event.{Event}
 use Rattle.swreq_complete.specs.declared.limit.Failed.{Failed}
 use Rattle.swreq_complete.specs.declared.limit.Limits.{Limits}
+use Rattle.swreq_rounds.specs.Presents.{AreProtocolRules}
 use Rattle.swreq_rounds.proofs.Members.{contains_of_map}
 use Rattle.swreq_ranks.specs.Views.{LexiconView}
 use Rattle.swreq_written.specs.declared.ids.Written.{Written}
@@ -17,16 +18,20 @@ use Rattle.swreq_written.specs.ByTable.{placed}
 use Rattle.swreq_world.specs.ByTable.{world_by}
 use Rattle.swreq_world.specs.Closed.{IsClosed}
 use Rattle.swreq_world.specs.Worlds.{IdWorld, TextWorld}
+use Rattle.swreq_shown.proofs.Symbols.{symbols_law, text_law}
 use Rattle.swreq_shown.specs.Known.{IsRequirementIn}
 use Rattle.swreq_shown.specs.Meaning.{facts_of, symbols_of}
 use Rattle.swreq_valid.specs.declared.refused.Refused.{Refused}
+use Rattle.swreq_valid.specs.declared.refused.Refused.TheVariants.{Memory}
 use Rattle.swreq_valid.specs.Answers.{Answers}
 use Rattle.swreq_valid.specs.Built.{Builds, Judges, built_rules, protocol_rules, refusal}
+use Rattle.swreq_valid.specs.Keeping.{TellEach, TellUsable, kept_facts}
 use Rattle.swreq_valid.specs.Machines.{AreRulesOf, IsMachineOf, MachineView, ProtocolsView, list_of, protocols_of}
 use Rattle.swreq_valid.specs.Plans.{AreKnown, AreWritten, bare, listed}
 use Rattle.swreq_valid.specs.Rounds.{RoundView, last_rules}
-use Rattle.swreq_valid.specs.Sides.{IsShownSide, protocol_sides, sides}
+use Rattle.swreq_valid.specs.Sides.{HoldsOfEach, IsShownSide, Side, protocol_sides, sides}
 use Rattle.swreq_valid.proofs.Building.{builds_failed, builds_judged}
+use Rattle.swreq_valid.proofs.OfKept.{kept_of_text, tell_usable}
 use Rattle.swreq_valid.proofs.Valid.{protocol_shown, protocol_valid, side_shown, side_valid}
 
 pub written_known : (terms : List Term) (x : LexiconView) (written : List Written) (list : List Requirement) → list ≡ bare written → AreWritten terms x written → AreKnown terms x list
@@ -81,3 +86,19 @@ module _ (w : TextWorld) (closed : IsClosed w) (limits : Limits) (old new : Opti
   protocols_judged rounds answer a are judged =
       builds_judged limits (protocols_of w) (facts_of w) (protocol_sides w) (IsShownSide (symbols_of w.lexicon) (facts_of w) (last_rules rounds)) (last_rules rounds)
       (protocol_rules answer) old new (λ s c h. protocol_valid w closed (last_rules rounds) are s c h) (λ s c h. protocol_shown w closed (last_rules rounds) are s c h) a judged
+
+-- ---- usable requirements
+
+pub judged_or_memory : (P : Side → Type 0) (all : List Side) (rounds : List RoundView) (answer : Result ProtocolsView Refused) → IfOk answer (λ p. p.rounds ≡ rounds)
+    → IfErr answer (λ e. e ≡ Memory) → HoldsOfEach P all → Judges P all (last_rules rounds) (protocol_rules answer)
+judged_or_memory P all rounds (Ok p) same err h = (ap last_rules same, h)
+judged_or_memory P all rounds (Err e) same err h = subst (λ z. Judges P all (last_rules rounds) (Err z)) (sym err) tt
+
+pub build_usable : (w : TextWorld) → IsClosed w → (rules : List Rule) → AreRulesOf w rules → (answer : Result ProtocolsView Refused)
+    → IfOk answer (λ p. TellEach w rules p.usable (length w.lexicon.protocols)) → IfOk answer (λ p. TellUsable w (facts_of w) p.usable)
+build_usable w closed rules are (Ok p) h = tell_usable w closed (facts_of w) refl (symbols_law w closed) (text_law w closed) rules are p.usable h
+build_usable w closed rules are (Err e) h = tt
+
+pub kept_usable : (w : TextWorld) → IsClosed w → (keep : List (List Bool)) (rules : List Rule) → AreProtocolRules (symbols_of w.lexicon) (kept_facts w keep) rules → (flags : List (List Bool))
+    → TellEach w rules flags (length w.lexicon.protocols) → TellUsable w (kept_facts w keep) flags
+kept_usable w closed keep rules are flags h = tell_usable w closed (kept_facts w keep) refl (symbols_law w closed) (kept_of_text w closed keep) rules are flags h

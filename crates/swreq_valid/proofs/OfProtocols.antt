@@ -1,5 +1,5 @@
 -- The plan of the protocols, and its lists, made item by item.
-use Rattle.std.proofs.Common.{◌≡◌, refl, sym, ap, ap₂, subst, ◌∙◌, ℕ, zero, suc, ◌<◌, ◌≤◌, ◌+◌, arith, Bool, true, false, List, [], ◌∷◌, ◌++◌, length, map, drop, get_or, slice_get, append_assoc, Option, Some, Contains, inl, inr, Result, Ok, Err, IfOk}
+use Rattle.std.proofs.Common.{◌≡◌, refl, sym, ap, ap₂, subst, ◌∙◌, ℕ, suc, ◌<◌, ◌≤◌, ◌+◌, arith, Bool, true, false, List, [], ◌∷◌, ◌++◌, length, map, drop, slice_get, append_assoc, Option, Some, Contains, inl, inr, Result, Ok, Err, IfOk}
 use Rattle.std.specs.Bool.{if◌then◌else◌, nat_eq}
 use Rattle.std.specs.Option.{option_map}
 use Rattle.std.proofs.lemmas.Bool.{cases_lt}
@@ -9,7 +9,6 @@ use Rattle.std.proofs.lemmas.Option.{get_or_from_slice_get, slice_get-map, slice
 use Rattle.std.specs.List.{All}
 use Rattle.swreq_param.specs.declared.ids.ProtoId.{ProtoId}
 use Rattle.swreq_param.specs.Terms.{Term}
-use Rattle.swreq_derive.specs.declared.requirements.Requirement.{Requirement}
 use Rattle.swreq_derive.specs.Derivation.{TermFacts, TermRequirement}
 use Rattle.swreq_derive.specs.Derivation.Source.{SelfOf}
 use Rattle.swreq_derive.specs.Facts.{requirement_of}
@@ -18,9 +17,8 @@ use Rattle.swreq_rule.specs.declared.rules.Rule.{Rule}
 use Rattle.swreq_watch.specs.declared.events.Event.{Event}
 use Rattle.swreq_complete.specs.declared.limit.Failed.{Failed}
 use Rattle.swreq_complete.specs.declared.limit.Limits.{Limits}
-use Rattle.swreq_reading.specs.Symbols.{MemberName, Symbols, Word}
+use Rattle.swreq_reading.specs.Symbols.{MemberName, Word}
 use Rattle.swreq_rounds.specs.Given.{basic_equations, items_of as items_from, named, named_from, of_self}
-use Rattle.swreq_rounds.specs.Plan.{Item}
 use Rattle.swreq_rounds.proofs.LastRound.{protocols_law}
 use Rattle.swreq_rounds.proofs.Members.{contains_map, contains_of_map}
 use Rattle.swreq_ranks.specs.declared.pair.ProtocolName.{ProtocolName}
@@ -134,7 +132,7 @@ module _ (w : IdWorld) (terms : List Term) where
   abbrev f : TermFacts
   f = facts_of (world_by terms w)
 
-  own_requirements : (p : ProtoId) → f.of_protocol p ≡ map (requirement_of terms) (bare (requirements_of w p))
+  pub own_requirements : (p : ProtoId) → f.of_protocol p ≡ map (requirement_of terms) (bare (requirements_of w p))
   own_requirements p =
       ap (map (λ (r : PlacedRequirement). r.requirement)) (requirements_by w terms p)
       ∙ map_map (λ (r : PlacedRequirement). r.requirement) (placed_by terms) (requirements_of w p)

@@ -1,7 +1,7 @@
 -- From what the code has of a plan to the plan.
 use Rattle.std.proofs.lemmas.Option.{slice_get_read}
 use Rattle.swreq_word.proofs.Lists.{take_one}
-use Rattle.std.proofs.Common.{◌≡◌, zero, suc, subst₂, refl, sym, ap, ap₂, subst, ◌∙◌, ℕ, ◌<◌, ◌≤◌, ◌+◌, arith, Bool, List, [], ◌∷◌, ◌++◌, length, map, take, drop, get_or, append_assoc}
+use Rattle.std.proofs.Common.{◌≡◌, zero, suc, subst₂, refl, sym, ap, subst, ◌∙◌, ℕ, ◌<◌, ◌≤◌, ◌+◌, arith, Bool, List, [], ◌∷◌, ◌++◌, length, map, take, drop, get_or, append_assoc}
 use Rattle.std.specs.Bool.{if◌then◌else◌, Decides}
 use Rattle.std.proofs.lemmas.List.{append-nil, map-append}
 use Rattle.swreq_param.specs.Terms.{Term}
@@ -11,7 +11,7 @@ use Rattle.swreq_derive.specs.Facts.{generic_params, requirement_of}
 use Rattle.swreq_reading.specs.Symbols.{Word, Symbols}
 use Rattle.swreq_reading.specs.Shown.{ShowsUsable, ShowsValid}
 use Rattle.swreq_reading.proofs.Shown.{shown_by_params, usable_by_params}
-use Rattle.swreq_rounds.specs.Plan.{Item, equation_of, given, AreShown}
+use Rattle.swreq_rounds.specs.Plan.{equation_of, given, AreShown}
 use Rattle.swreq_shown.specs.declared.over.Over.{Over}
 use Rattle.swreq_shown.specs.declared.over.Over.TheVariants.{Signature, Protocol}
 use Rattle.swreq_shown.specs.Meaning.{facts_of, symbols_of}

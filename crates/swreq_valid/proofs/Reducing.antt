@@ -1,5 +1,5 @@
 -- The reduced type is read off the least word.
-use Rattle.std.proofs.Common.{◌≡◌, ◌∙◌, sym, ap, subst, List, [], ◌∷◌, ◌++◌}
+use Rattle.std.proofs.Common.{◌≡◌, sym, subst, List, [], ◌∷◌, ◌++◌}
 use Rattle.std.proofs.lemmas.List.{append-nil}
 use Rattle.swreq_param.specs.declared.ids.AssocId.{AssocId}
 use Rattle.swreq_param.specs.declared.ids.NameId.{NameId}
@@ -14,7 +14,6 @@ use Rattle.swreq_derive.specs.Derivation.TermStatement.{IsValid, Requires}
 use Rattle.swreq_derive.specs.Facts.{generic_params}
 use Rattle.swreq_derive.proofs.Substitution.{valid_sides}
 use Rattle.swreq_word.specs.declared.symbols.Symbol.TheVariants.{Proto, Member as MemberSymbol}
-use Rattle.swreq_word.specs.Least.{IsLeast}
 use Rattle.swreq_word.proofs.Chains.{joined}
 use Rattle.swreq_rule.specs.declared.rules.Rule.{Rule}
 use Rattle.swreq_complete.specs.Complete.{IsComplete}
@@ -30,8 +29,8 @@ use Rattle.swreq_shown.specs.Vanishing.{IsLeastBy, Links}
 use Rattle.swreq_shown.proofs.Symbols.{ranks_law, symbols_law, text_law}
 use Rattle.swreq_world.specs.Closed.{IsClosed}
 use Rattle.swreq_world.specs.Worlds.{TextWorld}
-use Rattle.swreq_valid.specs.Asked.{IsDerivable, IsLeastOf, IsLeastWord, IsReducedIn}
-use Rattle.swreq_valid.specs.LeastTypes.{BeginsBy, IsFirstBehind, IsGiven}
+use Rattle.swreq_valid.specs.Asked.{IsLeastOf, IsReducedIn}
+use Rattle.swreq_valid.specs.LeastTypes.{BeginsBy, IsFirstBehind}
 use Rattle.swreq_valid.specs.Machines.{IsMachineOf, MachineView}
 use Rattle.swreq_valid.specs.Rounds.{last_rules}
 use Rattle.swreq_valid.proofs.Firsts.{firsts}

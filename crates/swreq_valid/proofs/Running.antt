@@ -1,17 +1,16 @@
 -- From what the code knows of a round to the answer of the rounds.
-use Rattle.std.proofs.Common.{◌≡◌, ◌⊎◌, inl, inr, refl, sym, ap, subst, subst₂, ◌∙◌, ℕ, suc, ◌-◌, ◌<◌, ◌≤◌, arith, get_or, Bool, List, [], ◌∷◌, ◌++◌, length, Contains, Option, Result, Ok, Err}
+use Rattle.std.proofs.Common.{◌≡◌, inl, inr, refl, sym, ap, subst, subst₂, ◌∙◌, suc, ◌-◌, ◌<◌, arith, get_or, Bool, List, [], ◌∷◌, ◌++◌, length, Contains, Option, Result, Ok, Err}
 use Rattle.std.proofs.lemmas.List.{append-nil}
 use Rattle.swreq_rule.specs.declared.rules.Rule.{Rule}
 use Rattle.swreq_watch.specs.declared.events.Event.{Event}
 use Rattle.swreq_watch.specs.Told.{GrewBy}
 use Rattle.swreq_watch.proofs.Told.{grew_none, grew_on}
 use Rattle.swreq_complete.specs.declared.limit.Limits.{Limits}
-use Rattle.swreq_complete.specs.declared.limit.Which.{Which}
 use Rattle.swreq_complete.specs.declared.limit.Failed.{Failed}
 use Rattle.swreq_complete.specs.declared.limit.Failed.TheVariants.{Limit, Memory}
-use Rattle.swreq_complete.specs.Answers.{IsAnswer, IsMemory}
+use Rattle.swreq_complete.specs.Answers.{IsAnswer}
 use Rattle.swreq_complete.specs.Events.{events, Tells as TellsEvents}
-use Rattle.swreq_complete.specs.Limits.{IsWithin, EndsWithin}
+use Rattle.swreq_complete.specs.Limits.{IsWithin}
 use Rattle.swreq_reading.specs.Symbols.{Word}
 use Rattle.swreq_rounds.specs.Plan.{Item, Plan, given, AreShown}
 use Rattle.swreq_rounds.specs.Rounds.{Ends, LeavesUsable, IsRound}

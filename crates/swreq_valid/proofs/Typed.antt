@@ -1,17 +1,14 @@
 -- The steps of the type of a least word.
-use Rattle.std.proofs.Common.{◌≡◌, ◌∙◌, inl, inr, refl, sym, ap, subst, subst₂, ℕ, zero, suc, ◌<◌, ◌≤◌, ◌+◌, arith, List, [], ◌∷◌, ◌++◌, length, take, drop, slice_get, Some, length-append, take-append-drop}
+use Rattle.std.proofs.Common.{◌≡◌, ◌∙◌, inl, inr, refl, sym, ap, subst, subst₂, ℕ, suc, ◌<◌, ◌≤◌, ◌+◌, arith, List, [], ◌∷◌, ◌++◌, length, take, drop, slice_get, Some, length-append, take-append-drop}
 use Rattle.std.proofs.lemmas.Bool.{cases_eq}
-use Rattle.std.proofs.lemmas.List.{append-nil}
 use Rattle.swreq_param.specs.declared.ids.AssocId.{AssocId}
 use Rattle.swreq_param.specs.declared.ids.NameId.{NameId}
-use Rattle.swreq_param.specs.declared.ids.ParamId.{ParamId}
 use Rattle.swreq_param.specs.declared.ids.Step.{Step}
 use Rattle.swreq_param.specs.declared.ids.Step.TheVariants.{Bound, Name}
 use Rattle.swreq_param.specs.Terms.{Term, head, with_steps}
 use Rattle.swreq_param.specs.Terms.Term.{Generic, Member}
 use Rattle.swreq_word.specs.declared.symbols.Symbol.{Symbol}
 use Rattle.swreq_word.specs.declared.symbols.Symbol.TheVariants.{Member as MemberSymbol, Param}
-use Rattle.swreq_word.specs.Least.{IsLeast}
 use Rattle.swreq_word.specs.Order.{WordLess}
 use Rattle.swreq_word.proofs.Comparing.{less_after, not_below_itself, not_both_below, trichotomy}
 use Rattle.swreq_rule.specs.declared.rules.Rule.{Rule}
@@ -19,7 +16,7 @@ use Rattle.swreq_rule.proofs.Context.{Linked-after}
 use Rattle.swreq_ranks.specs.Views.{LexiconView}
 use Rattle.swreq_reading.specs.Symbols.{IsRank, Symbols, Word, name_of}
 use Rattle.swreq_shown.specs.Meaning.{symbols_of}
-use Rattle.swreq_shown.specs.Vanishing.{IsLeastBy, Links}
+use Rattle.swreq_shown.specs.Vanishing.{IsLeastBy}
 use Rattle.swreq_valid.specs.LeastTypes.{BeginsBy, IsFirstBehind}
 use Rattle.swreq_valid.proofs.OfProtocols.{drop_at}
 

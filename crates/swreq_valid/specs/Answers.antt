@@ -1,5 +1,5 @@
 -- What the rounds of a plan come to and tell.
-use Rattle.std.specs.Prelude.{◌≡◌, ◌⊎◌, List, [], ◌∷◌, ◌++◌, Option, Result, Ok, Err}
+use Rattle.std.specs.Prelude.{◌≡◌, ◌⊎◌, List, Option, Result, Ok, Err}
 use Rattle.swreq_rule.specs.declared.rules.Rule.{Rule}
 use Rattle.swreq_watch.specs.declared.events.Event.{Event}
 use Rattle.swreq_watch.specs.Told.{GrewBy}
@@ -7,9 +7,8 @@ use Rattle.swreq_complete.specs.declared.limit.Limits.{Limits}
 use Rattle.swreq_complete.specs.declared.limit.Failed.{Failed}
 use Rattle.swreq_complete.specs.declared.limit.Failed.TheVariants.{Limit, Memory}
 use Rattle.swreq_complete.specs.Answers.{IsMemory}
-use Rattle.swreq_rounds.specs.Plan.{Item, Plan}
-use Rattle.swreq_rounds.specs.Rounds.{ComesTo, Ends, IsOutcome, LeavesUsable}
-use Rattle.swreq_valid.specs.Flags.{chosen}
+use Rattle.swreq_rounds.specs.Plan.{Plan}
+use Rattle.swreq_rounds.specs.Rounds.{ComesTo, IsOutcome}
 
 -- The rounds come out so, and the watcher was told what they tell: in all, or for want of memory so far as they came.
 abbrev pub Answers : Limits → Plan → Option (List Event) → Option (List Event) → Result (List Rule) Failed → Type 0

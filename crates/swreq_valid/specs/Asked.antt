@@ -3,7 +3,7 @@ use Rattle.std.specs.Prelude.{ℕ, List}
 use Rattle.swreq_param.specs.declared.ids.ParamId.{ParamId}
 use Rattle.swreq_param.specs.declared.ids.Step.{Step}
 use Rattle.swreq_param.specs.Terms.{Term}
-use Rattle.swreq_derive.specs.Derivation.{Derivable, Source, TermFacts, TermRequirement, TermStatement}
+use Rattle.swreq_derive.specs.Derivation.{Derivable, TermRequirement, TermStatement}
 use Rattle.swreq_derive.specs.Derivation.Source.{Written}
 use Rattle.swreq_derive.specs.Facts.{generic_params}
 use Rattle.swreq_word.specs.declared.symbols.Symbol.{Symbol}

@@ -7,3 +7,4 @@ pub mod Sides
 pub mod Built
 pub mod Asked
 pub mod LeastTypes
+pub mod Keeping

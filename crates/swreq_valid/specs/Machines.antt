@@ -1,6 +1,5 @@
 -- What is said of machines and of the rules of the protocols.
-use Rattle.std.specs.Prelude.{List, Result, Ok, Err}
-use Rattle.swreq_param.specs.Terms.{Term}
+use Rattle.std.specs.Prelude.{Bool, List, Result, Ok, Err}
 use Rattle.swreq_derive.specs.declared.known.Params.{Params}
 use Rattle.swreq_derive.specs.Derivation.{TermRequirement}
 use Rattle.swreq_derive.specs.Derivation.Source.{Written}
@@ -12,8 +11,7 @@ use Rattle.swreq_rounds.specs.Given.{list_plan, protocols_plan}
 use Rattle.swreq_rounds.specs.Plan.{Plan}
 use Rattle.swreq_rounds.specs.Presents.{AreListRules, AreProtocolRules}
 use Rattle.swreq_shown.specs.Meaning.{facts_of, symbols_of}
-use Rattle.swreq_world.specs.ByTable.{world_by}
-use Rattle.swreq_world.specs.Worlds.{IdWorld, TextWorld}
+use Rattle.swreq_world.specs.Worlds.{TextWorld}
 use Rattle.swreq_valid.specs.Rounds.{RoundView, last_rules}
 
 -- what contracts see of a machine
@@ -24,6 +22,8 @@ pub record MachineView : Type 0 where
 -- what contracts see of the rules of the protocols
 pub record ProtocolsView : Type 0 where
   pub rounds : List RoundView
+  -- for each protocol, by rank, a flag for each of its requirements, set where it is usable
+  pub usable : List (List Bool)
 
 -- the answer of a machine with the rules of its last round
 abbrev pub machine_rules : Result MachineView Failed → Result (List Rule) Failed

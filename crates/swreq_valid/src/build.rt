@@ -1,5 +1,5 @@
 //! The rules of the protocols, and the machine of a written list, where all that is written is a type parameter.
-ghost use Rattle.std.specs.Prelude.{◌≡◌, IfOk, List};
+ghost use Rattle.std.specs.Prelude.{◌≡◌, IfErr, IfOk, List, length};
 ghost use Rattle.swreq_derive.specs.Derivation.{TermRequirement};
 ghost use Rattle.swreq_derive.specs.Derivation.Source.{Written as WrittenList};
 ghost use Rattle.swreq_derive.specs.Facts.{generic_params};
@@ -8,19 +8,24 @@ ghost use Rattle.swreq_shown.specs.Known.{IsTextOver};
 ghost use Rattle.swreq_shown.specs.Meaning.{facts_of, symbols_of};
 ghost use Rattle.swreq_world.specs.ByTable.{world_by};
 ghost use Rattle.swreq_written.specs.ByTable.{placed};
+ghost use Rattle.swreq_rounds.specs.Presents.{AreProtocolRules};
+ghost use Rattle.swreq_valid.specs.declared.refused.Refused.TheVariants.{Memory as NoMemory};
+ghost use Rattle.swreq_valid.specs.Answers.{Answers, IsOnlyOutcome};
+ghost use Rattle.swreq_valid.specs.Keeping.{AreFlags, TellEach, TellUsable, kept_answer, kept_facts, kept_plan};
 ghost use Rattle.swreq_valid.specs.Built.{Builds, IsOnlyBuilt, Judges, built_rules, protocol_rules};
 ghost use Rattle.swreq_valid.specs.Machines.{AreRulesOf, IsMachineOf, list_of, protocols_of};
 ghost use Rattle.swreq_valid.specs.Plans.{AreWritten, bare, listed};
 ghost use Rattle.swreq_valid.specs.Rounds.{AreRounds, last_rules};
 ghost use Rattle.swreq_valid.specs.Sides.{IsShownSide, protocol_sides, sides};
 
+use crate::kept::{Kept, complete_kept, usable_lists};
 use crate::machine::{Machine, core};
 use crate::protocols::{Protocols, complete_protocols};
 use crate::refused::{Refused, refusal};
 use crate::round::Rounds;
 use crate::sides::{first_in_protocols, first_invalid};
 use std::alloc::{AllocError, Global};
-use swreq_complete::Limits;
+use swreq_complete::{Failed, Limits};
 use swreq_derive::{Params, Requirement};
 use swreq_param::ParamTable;
 use swreq_shown::Over;
@@ -39,6 +44,39 @@ fn bare(alloc: Global, written: &[Written]) -> Result<Vec<Requirement>, AllocErr
     Ok(list)
 }
 
+/// The rules of the protocols that these rounds found, with the requirements that they show usable.
+fn with_usable(
+    alloc: Global,
+    world: &World,
+    table: &ParamTable,
+    rounds: Rounds,
+) -> Result<Protocols, AllocError>
+    requires { IsTextOver table.now world.now }
+    ensures same { IfOk result (λ p. p.rounds ≡ rounds) }
+    ensures usable { IfOk result (λ p. TellEach (world_by table.now world.now) (last_rules rounds) p.usable (length world.now.lexicon.protocols)) }
+{
+    let usable = usable_lists(alloc, world, table, rounds.last())?;
+    Ok(Protocols::new(rounds, usable))
+}
+
+/// The same as a refusal for want of memory.
+fn protocols_or_memory(
+    alloc: Global,
+    world: &World,
+    table: &ParamTable,
+    rounds: Rounds,
+) -> Result<Protocols, Refused>
+    requires { IsTextOver table.now world.now }
+    ensures same { IfOk result (λ p. p.rounds ≡ rounds) }
+    ensures usable { IfOk result (λ p. TellEach (world_by table.now world.now) (last_rules rounds) p.usable (length world.now.lexicon.protocols)) }
+    ensures err { IfErr result (λ e. e ≡ NoMemory) }
+{
+    match with_usable(alloc, world, table, rounds) {
+        Ok(protocols) => Ok(protocols),
+        Err(_) => Err(Refused::Memory),
+    }
+}
+
 /// The rules of the protocols that these rounds found, if they show each side valid.
 fn judge_protocols(
     alloc: Global,
@@ -50,11 +88,12 @@ fn judge_protocols(
     ensures judged { Judges (IsShownSide (symbols_of world.now.lexicon) (facts_of (world_by table.now world.now)) (last_rules rounds)) (protocol_sides (world_by table.now world.now))
         (last_rules rounds) (protocol_rules result) }
     ensures same { IfOk result (λ p. p.rounds ≡ rounds) }
+    ensures usable { IfOk result (λ p. TellEach (world_by table.now world.now) (last_rules rounds) p.usable (length world.now.lexicon.protocols)) }
 {
     match first_in_protocols(alloc, world, table, rounds.last()) {
         Err(_) => Err(Refused::Memory),
         Ok(Some(at)) => Err(Refused::NotATypeParameter { at }),
-        Ok(None) => Ok(Protocols::new(rounds)),
+        Ok(None) => protocols_or_memory(alloc, world, table, rounds),
     }
 }
 
@@ -107,10 +146,43 @@ impl Protocols {
             (protocol_rules result) }
         ensures rounds { IfOk result (λ p. AreRounds limits (protocols_of (world_by table.now world.now)) p.rounds) }
         ensures rules { IfOk result (λ p. AreRulesOf (world_by table.now world.now) (last_rules p.rounds)) }
+        ensures usable { IfOk result (λ p. TellUsable (world_by table.now world.now) (facts_of (world_by table.now world.now)) p.usable) }
     {
         match complete_protocols(alloc, world, table, limits, watch) {
             Err(failed) => Err(refusal(failed)),
             Ok(rounds) => judge_protocols(alloc, world, table, rounds),
+        }
+    }
+}
+
+impl Protocols {
+    /// The rules of the protocols by the kept requirements alone, over the symbols and the basic equations of the whole text.
+    ///
+    /// It is `Failed::Limit` exactly where a round passes a limit, with that limit and the trace of that round. The watcher is told the
+    /// events of the rounds.
+    pub fn build_kept<W: Watch>(
+        alloc: Global,
+        world: &World,
+        table: &ParamTable,
+        keep: &Kept,
+        limits: Limits,
+        watch: &mut W,
+    ) -> Result<Protocols, Failed>
+        requires text { IsTextOver table.now world.now }
+        requires keep { AreFlags world.now keep.now.lists }
+        requires limits { AreInRange limits }
+        ensures answer { Answers limits (kept_plan (world_by table.now world.now) keep.now.lists) (W.told watch.old) (W.told watch.new) (kept_answer result) }
+        ensures only { IsOnlyOutcome limits (kept_plan (world_by table.now world.now) keep.now.lists) (kept_answer result) }
+        ensures rounds { IfOk result (λ p. AreRounds limits (kept_plan (world_by table.now world.now) keep.now.lists) p.rounds) }
+        ensures rules { IfOk result (λ p. AreProtocolRules (symbols_of world.now.lexicon) (kept_facts (world_by table.now world.now) keep.now.lists) (last_rules p.rounds)) }
+        ensures usable { IfOk result (λ p. TellUsable (world_by table.now world.now) (kept_facts (world_by table.now world.now) keep.now.lists) p.usable) }
+    {
+        match complete_kept(alloc, world, table, keep, limits, watch) {
+            Err(failed) => Err(failed),
+            Ok(rounds) => match with_usable(alloc, world, table, rounds) {
+                Ok(protocols) => Ok(protocols),
+                Err(_) => Err(Failed::Memory),
+            },
         }
     }
 }

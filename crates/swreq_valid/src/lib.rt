@@ -4,6 +4,7 @@
 mod answers;
 mod basic;
 mod build;
+mod kept;
 mod machine;
 mod protocols;
 mod reduced;
@@ -15,6 +16,7 @@ mod sides;
 mod usable;
 mod wanted;
 
+pub use kept::Kept;
 pub use machine::{Machine, core};
 pub use protocols::Protocols;
 pub use refused::Refused;

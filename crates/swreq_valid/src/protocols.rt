@@ -1,9 +1,10 @@
 //! The rules of the protocols of a text.
-ghost use Rattle.std.specs.Prelude.{◌≡◌, IfOk};
+ghost use Rattle.std.specs.Prelude.{◌≡◌, IfOk, false, slice_index_or};
 ghost use Rattle.swreq_complete.specs.Limits.{AreInRange};
 ghost use Rattle.swreq_shown.specs.Known.{IsTextOver};
 ghost use Rattle.swreq_world.specs.ByTable.{world_by};
 ghost use Rattle.swreq_valid.specs.Answers.{Answers, IsOnlyOutcome};
+ghost use Rattle.swreq_valid.specs.Keeping.{flag_at};
 ghost use Rattle.swreq_valid.specs.Machines.{AreRulesOf, protocols_of};
 ghost use Rattle.swreq_valid.specs.Rounds.{AreRounds, last_rules, rules_of};
 
@@ -14,7 +15,8 @@ use crate::wanted::Start;
 use std::alloc::{AllocError, Global};
 use std::marker::Model;
 use swreq_complete::{CompleteRules, Failed, Limits};
-use swreq_param::ParamTable;
+use swreq_param::{ParamTable, ProtoId};
+use swreq_text::Seq;
 use swreq_watch::Watch;
 use swreq_world::World;
 
@@ -22,6 +24,7 @@ use swreq_world::World;
 #[derive(Drop)]
 pub struct Protocols {
     rounds: Rounds,
+    usable: Seq<Seq<bool>>,
 }
 
 impl Model for Protocols {
@@ -29,15 +32,18 @@ impl Model for Protocols {
 
     ghost Value = { ProtocolsView };
 
-    ghost view = { λ p. record { rounds = p.rounds } };
+    ghost view = { λ p. record { rounds = p.rounds; usable = p.usable } };
 }
 
 impl Protocols {
-    /// The rules that these rounds found.
-    pub(crate) fn new(rounds: Rounds) -> Protocols
-        ensures { result.rounds ≡ rounds }
+    /// The rules that these rounds found, with a flag for each requirement of each protocol, by rank.
+    pub(crate) fn new(rounds: Rounds, usable: Vec<Seq<bool>>) -> Protocols
+        ensures { result ≡ record { rounds = rounds; usable = usable.items } }
     {
-        Protocols { rounds }
+        Protocols {
+            rounds,
+            usable: Seq::new(usable),
+        }
     }
 
     /// The rounds that found the rules.
@@ -47,11 +53,32 @@ impl Protocols {
         self.rounds.items()
     }
 
+    /// Whether the n-th requirement of the protocol, from 0, is usable: whether its type parameters are derivable by the requirements of
+    /// which the rules were made. It is false where there is no such requirement.
+    pub fn usable(&self, p: ProtoId, n: u32) -> bool
+        ensures { result ≡ flag_at self.now.usable p n }
+    {
+        match self.usable.items().get(p.rank as usize) {
+            Some(flags) => flag_in(flags.items(), n),
+            None => false,
+        }
+    }
+
     /// The rules of the last round.
     pub fn rules(&self) -> &CompleteRules
         ensures { result.now ≡ last_rules self.now.rounds }
     {
         self.rounds.last()
+    }
+}
+
+/// The flag at a place, or false where there is none.
+fn flag_in(flags: &[bool], n: u32) -> bool
+    ensures { result ≡ slice_index_or flags.now n false }
+{
+    match flags.get(n as usize) {
+        Some(flag) => *flag,
+        None => false,
     }
 }
 

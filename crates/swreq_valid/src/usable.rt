@@ -42,7 +42,7 @@ pub(crate) fn is_shown(
 }
 
 /// Whether the rules show that the type parameters of a requirement are valid.
-fn is_usable(
+pub(crate) fn is_usable(
     alloc: Global,
     world: &World,
     table: &ParamTable,

@@ -4,8 +4,7 @@ use Rattle.swreq_query.proofs.Along.{along}
 use Rattle.swreq_query.proofs.laws.guard_changes_no_answer.Goals as goal
 
 pub returns : goal.returns
-returns c = λ f lists s q a formed member.
-    let same = λ st. from_function f lists s st formed member in (
-      along (BookDerivable f s) (Derivable f s) (λ st. (same st).0) (λ st. (same st).1) q a,
-      along (Derivable f s) (BookDerivable f s) (λ st. (same st).1) (λ st. (same st).0) q a,
-    )
+returns c = λ f lists s q a formed member. (
+  along (BookDerivable f s) (Derivable f s) (λ st. (from_function f lists s st formed member).0) (λ st. (from_function f lists s st formed member).1) q a,
+  along (Derivable f s) (BookDerivable f s) (λ st. (from_function f lists s st formed member).1) (λ st. (from_function f lists s st formed member).0) q a,
+)

@@ -1,4 +1,4 @@
-use Rattle.std.proofs.Common.{◌≡◌, ◌∙◌, ap, sym, subst, subst₂, [], List, IsTrue}
+use Rattle.std.proofs.Common.{◌≡◌, ◌∙◌, ap, sym, subst, subst₂, [], IsTrue}
 use Rattle.swreq_param.specs.Tables.{term_at}
 use Rattle.swreq_param.specs.Terms.{head, with_steps}
 use Rattle.swreq_param.specs.Terms.Term.{Generic}

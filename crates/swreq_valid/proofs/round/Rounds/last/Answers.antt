@@ -1,4 +1,4 @@
-use Rattle.std.proofs.Common.{◌∙◌, ap, subst, sym, ◌≡◌, ◌<◌, ◌-◌, length, get_or}
+use Rattle.std.proofs.Common.{◌∙◌, ap, subst, sym, ◌≡◌, ◌<◌, length}
 use Rattle.swreq_valid.specs.Rounds.{last_rules}
 use Rattle.swreq_valid.proofs.Running.{last_is}
 use Rattle.swreq_valid.proofs.round.Rounds.last.Goals as goal

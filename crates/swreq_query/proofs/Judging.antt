@@ -1,0 +1,55 @@
+-- The answers to queries of requirements.
+use Rattle.std.proofs.Common.{◌≡◌, refl, sym, subst, inl, inr, Some}
+use Rattle.swreq_param.specs.Terms.{Term}
+use Rattle.swreq_derive.specs.Derivation.{TermStatement}
+use Rattle.swreq_derive.specs.Derivation.TermRequirement.{Equals}
+use Rattle.swreq_derive.specs.Derivation.TermStatement.{IsValid, Requires}
+use Rattle.swreq_written.specs.Queries.TermQuery.{AsksEquals}
+use Rattle.swreq_written.specs.declared.ids.FuncId.{FuncId}
+use Rattle.swreq_query.specs.declared.verdict.Property.{Property}
+use Rattle.swreq_query.specs.declared.verdict.Property.TheVariants.{Protocol, Layout}
+use Rattle.swreq_query.specs.Answers.{IsAnswer, IsSide, asked}
+use Rattle.swreq_query.specs.Answers.Answer.{Invalid, Yes, No}
+use Rattle.swreq_query.specs.Asked.{asks, has}
+
+is_side : (f : FuncId) (t : Term) (property : Property) → IsSide (asks f t property) t
+is_side f t (Protocol p) = refl
+is_side f t Layout = refl
+
+only_side : (f : FuncId) (t : Term) (property : Property) (s : Term) → IsSide (asks f t property) s → s ≡ t
+only_side f t (Protocol p) s h = h
+only_side f t Layout s h = h
+
+is_asked : (f : FuncId) (t : Term) (property : Property) → asked (asks f t property) ≡ Some (has t property)
+is_asked f t (Protocol p) = refl
+is_asked f t Layout = refl
+
+module _ (derivable : TermStatement → Type 0) (f : FuncId) where
+  pub property_invalid : (t : Term) (property : Property) → (derivable (IsValid t) → ⊥) → IsAnswer derivable (asks f t property) Invalid
+  property_invalid t property n = (t, is_side f t property, n)
+
+  valid_side : (t : Term) (property : Property) → derivable (IsValid t) → (s : Term) → IsSide (asks f t property) s → derivable (IsValid s)
+  valid_side t property v s i = subst (λ z. derivable (IsValid z)) (sym (only_side f t property s i)) v
+
+  pub property_yes : (t : Term) (property : Property) → derivable (IsValid t) → derivable (Requires (has t property)) → IsAnswer derivable (asks f t property) Yes
+  property_yes t property v h = (valid_side t property v, (has t property, is_asked f t property, h))
+
+  pub property_no : (t : Term) (property : Property) → derivable (IsValid t) → (derivable (Requires (has t property)) → ⊥) → IsAnswer derivable (asks f t property) No
+  property_no t property v n = (valid_side t property v, (has t property, is_asked f t property, n))
+
+  module _ (t u : Term) where
+    pub left_invalid : (derivable (IsValid t) → ⊥) → IsAnswer derivable (AsksEquals f t u) Invalid
+    left_invalid n = (t, inl refl, n)
+
+    pub right_invalid : (derivable (IsValid u) → ⊥) → IsAnswer derivable (AsksEquals f t u) Invalid
+    right_invalid n = (u, inr refl, n)
+
+    valid_sides : derivable (IsValid t) → derivable (IsValid u) → (s : Term) → IsSide (AsksEquals f t u) s → derivable (IsValid s)
+    valid_sides v w s (inl e) = subst (λ z. derivable (IsValid z)) (sym e) v
+    valid_sides v w s (inr e) = subst (λ z. derivable (IsValid z)) (sym e) w
+
+    pub equality_yes : derivable (IsValid t) → derivable (IsValid u) → derivable (Requires (Equals t u)) → IsAnswer derivable (AsksEquals f t u) Yes
+    equality_yes v w h = (valid_sides v w, (Equals t u, refl, h))
+
+    pub equality_no : derivable (IsValid t) → derivable (IsValid u) → (derivable (Requires (Equals t u)) → ⊥) → IsAnswer derivable (AsksEquals f t u) No
+    equality_no v w n = (valid_sides v w, (Equals t u, refl, n))

@@ -1,0 +1,177 @@
+//! The rules of the protocols by a part of their requirements, and which requirements are usable by them.
+ghost use Rattle.std.specs.Prelude.{◌≡◌, ◌<◌, ◌++◌, ◌∷◌, [], IfOk, OnOk, length, map};
+ghost use Rattle.std.specs.Bool.{if◌then◌else◌};
+ghost use Rattle.swreq_complete.specs.Limits.{AreInRange};
+ghost use Rattle.swreq_rounds.specs.Presents.{AreProtocolRules};
+ghost use Rattle.swreq_shown.specs.Known.{IsTextOver};
+ghost use Rattle.swreq_shown.specs.Meaning.{facts_of, symbols_of};
+ghost use Rattle.swreq_world.specs.ByTable.{world_by};
+ghost use Rattle.swreq_world.specs.Closed.{AreIds};
+ghost use Rattle.swreq_valid.specs.Answers.{Answers, IsOnlyOutcome};
+ghost use Rattle.swreq_valid.specs.Flags.{Tells, chosen};
+ghost use Rattle.swreq_valid.specs.Keeping.{AreFlags, IsUsableBy, TellEach, kept_facts, kept_in, kept_plan};
+ghost use Rattle.swreq_valid.specs.Plans.{in_protocol};
+ghost use Rattle.swreq_valid.specs.Rounds.{AreRounds, last_rules, rules_of};
+
+use crate::basic::basic;
+use crate::round::Rounds;
+use crate::rounds::run;
+use crate::usable::is_usable;
+use crate::wanted::{Start, Wanted};
+use std::alloc::{AllocError, Global};
+use swreq_complete::{CompleteRules, Failed, Limits};
+use swreq_derive::Requirement;
+use swreq_param::{ParamTable, ProtoId};
+use swreq_shown::Over;
+use swreq_text::Seq;
+use swreq_watch::Watch;
+use swreq_world::World;
+
+/// Which requirements of the protocols are kept: for each protocol, in written order, a flag for each of its requirements.
+#[derive(Drop)]
+pub struct Kept {
+    pub lists: Seq<Seq<bool>>,
+}
+
+/// Puts the requirements of the protocol last whose flags are set.
+fn add_kept(
+    p: ProtoId,
+    list: &[Requirement],
+    flags: &[bool],
+    v: &mut Vec<Wanted>,
+) -> Result<(), AllocError>
+    requires { length flags.now ≡ length list.now }
+    ensures { OnOk result (v.new.items ≡ v.old.items ++ map (in_protocol p) (chosen list.now flags.now)) }
+{
+    for k in 0..list.len() {
+        let requirement = list[k];
+        add_one(p, requirement, flags[k], v)?;
+    }
+    Ok(())
+}
+
+/// Puts the requirement of the protocol last, where its flag is set.
+fn add_one(
+    p: ProtoId,
+    requirement: Requirement,
+    kept: bool,
+    v: &mut Vec<Wanted>,
+) -> Result<(), AllocError>
+    ensures { OnOk result (v.new.items ≡ v.old.items ++ (if kept then in_protocol p requirement ∷ [] else [])) }
+{
+    if kept {
+        v.push(Wanted {
+            over: Over::Protocol(p),
+            requirement,
+        })?;
+    }
+    Ok(())
+}
+
+/// The kept requirements of the protocols, protocols and requirements in written order.
+fn kept_requirements(alloc: Global, world: &World, keep: &Kept) -> Result<Vec<Wanted>, AllocError>
+    requires ids { AreIds world.now.lexicon }
+    requires keep { AreFlags world.now keep.now.lists }
+    ensures { IfOk result (λ v. v.items ≡ kept_in world.now world.now.lexicon.written_order keep.now.lists) }
+{
+    let mut v = Vec::new(alloc);
+    let lists = keep.lists.items();
+    for k in 0..world.protocols() {
+        let p = world.proto_at(k);
+        let list = world.bare_requirements(p);
+        let flags = &lists[k as usize];
+        add_kept(p, list, flags.items(), &mut v)?;
+    }
+    Ok(v)
+}
+
+/// Runs the rounds of the protocols with the kept requirements.
+pub(crate) fn complete_kept<W: Watch>(
+    alloc: Global,
+    world: &World,
+    table: &ParamTable,
+    keep: &Kept,
+    limits: Limits,
+    watch: &mut W,
+) -> Result<Rounds, Failed>
+    requires text { IsTextOver table.now world.now }
+    requires keep { AreFlags world.now keep.now.lists }
+    requires limits { AreInRange limits }
+    ensures answer { Answers limits (kept_plan (world_by table.now world.now) keep.now.lists) (W.told watch.old) (W.told watch.new) (rules_of result) }
+    ensures only { IsOnlyOutcome limits (kept_plan (world_by table.now world.now) keep.now.lists) (rules_of result) }
+    ensures rounds { IfOk result (AreRounds limits (kept_plan (world_by table.now world.now) keep.now.lists)) }
+    ensures rules { IfOk result (λ rounds. AreProtocolRules (symbols_of world.now.lexicon) (kept_facts (world_by table.now world.now) keep.now.lists) (last_rules rounds)) }
+{
+    match basic(alloc, world) {
+        Err(_) => Err(Failed::Memory),
+        Ok(basic) => match kept_requirements(alloc, world, keep) {
+            Err(_) => Err(Failed::Memory),
+            Ok(all) => {
+                let start = Start { basic, all, limits };
+                run(
+                    alloc,
+                    world,
+                    table,
+                    &CompleteRules::empty(alloc),
+                    &start,
+                    watch,
+                )
+            }
+        },
+    }
+}
+
+/// Which requirements of the protocol the rules show usable, by a flag for each.
+fn usable_of(
+    alloc: Global,
+    world: &World,
+    table: &ParamTable,
+    rules: &CompleteRules,
+    p: ProtoId,
+) -> Result<Vec<bool>, AllocError>
+    requires text { IsTextOver table.now world.now }
+    requires p { p.rank < length world.now.lexicon.protocols }
+    ensures { IfOk result (λ v. Tells (IsUsableBy (world_by table.now world.now) rules.now p) ((facts_of (world_by table.now world.now)).of_protocol p) v.items) }
+{
+    let mut flags = Vec::new(alloc);
+    let list = world.bare_requirements(p);
+    for k in 0..list.len() {
+        let requirement = list[k];
+        let want = Wanted {
+            over: Over::Protocol(p),
+            requirement,
+        };
+        let shown = is_usable(alloc, world, table, rules, &want)?;
+        flags.push(shown)?;
+    }
+    Ok(flags)
+}
+
+/// The same of each protocol, by rank.
+pub(crate) fn usable_lists(
+    alloc: Global,
+    world: &World,
+    table: &ParamTable,
+    rules: &CompleteRules,
+) -> Result<Vec<Seq<bool>>, AllocError>
+    requires { IsTextOver table.now world.now }
+    ensures { IfOk result (λ v. TellEach (world_by table.now world.now) rules.now v.items (length world.now.lexicon.protocols)) }
+{
+    let mut lists: Vec<Seq<bool>> = Vec::new(alloc);
+    for rank in 0..world.protocols() {
+        let flags = usable_of(alloc, world, table, rules, ProtoId { rank })?;
+        let list = Seq::new(flags);
+        put_list(&mut lists, list)?;
+    }
+    Ok(lists)
+}
+
+/// Puts the list last.
+fn put_list(lists: &mut Vec<Seq<bool>>, list: Seq<bool>) -> Result<(), AllocError>
+    ensures { OnOk result (lists.new.items ≡ lists.old.items ++ list ∷ []) }
+{
+    match lists.push(list) {
+        Ok(()) => Ok(()),
+        Err(_) => Err(AllocError),
+    }
+}
