@@ -10,16 +10,20 @@ use Rattle.swreq_derive.specs.WellFormed.{AreProtocolsWellFormed, HasValidSides,
 use Rattle.swreq_derive.proofs.Members.{first_member, later_member, member_cases, no_member}
 use Rattle.swreq_param.specs.declared.ids.ProtoId.{ProtoId}
 use Rattle.swreq_rule.specs.declared.rules.Rule.{Rule}
-use Rattle.swreq_rounds.specs.Rounds.{ComesTo}
+use Rattle.swreq_complete.specs.Limits.{IsWithin}
+use Rattle.swreq_rounds.specs.Plan.{Plan, given}
+use Rattle.swreq_rounds.specs.Rounds.{ComesTo, IsOutcome}
 use Rattle.swreq_rounds.proofs.Members.{contains_of_map}
 use Rattle.swreq_watch.specs.declared.events.Event.{Event}
 use Rattle.swreq_written.specs.Requirements.{PlacedRequirement}
 use Rattle.swreq_world.specs.Closed.{IsClosed}
 use Rattle.swreq_world.specs.Worlds.{SignatureOver, TextWorld, requirements_of}
 use Rattle.swreq_shown.specs.Meaning.{facts_of}
-use Rattle.swreq_valid.specs.Machines.{list_of}
+use Rattle.swreq_valid.specs.Built.{IsBuilt}
+use Rattle.swreq_valid.specs.Machines.{list_of, protocols_of}
 use Rattle.swreq_valid.specs.Sides.{HoldsOfEach, IsValidSide, Side, protocol_sides, sides, sides_at, sides_in, sides_of}
 use Rattle.swreq_valid.specs.declared.refused.Refused.{Refused}
+use Rattle.swreq_valid.specs.declared.refused.Refused.TheVariants.{Limit, NotATypeParameter, Memory}
 use Rattle.swreq_top.specs.Machines.{IsChecked, ProtocolsCome, SignatureComes, SignaturesCome, limits, source_of, written_list}
 use Rattle.swreq_top.specs.Machines.IsChecked.{protocols_built, protocols_refused}
 use Rattle.swreq_top.specs.Machines.SignaturesCome.{all, next, stopped}
@@ -44,13 +48,37 @@ module _ (w : TextWorld) (rules : List Rule) where
   tell_on {_} {_} {_} {b} (next {_} {_} {_} {first} {more} own one rest e) h =
       past_first own one (tell_on rest h) (ap (λ (t : List Event). t ++ b) e ∙ append_assoc first more b)
 
-  pub tell_all : {gs : Signatures} {a : List Event} → SignaturesCome w rules gs None a → SignaturesTell w rules gs a
-  tell_all all = nothing_yet
-  tell_all (next own one rest e) = past_first own one (tell_all rest) e
+-- ---- a check that is done tells all that it tells
 
--- a check that is done tells all
-pub check_tells : (w : TextWorld) {told : List Event} → IsChecked w None told → CheckTells w told
-check_tells w (protocols_built rules come signatures e) = past_protocols rules come (tell_all w rules signatures) e
+module _ (plan : Plan) where
+  ends_come : (rules : List Rule) (told : List Event) → IsOutcome limits plan (Ok rules) told → ComesTo limits plan told
+  ends_come rules told (used, last) =
+      let within : IsWithin limits (length plan.base) (given plan used) rules =
+      record { reached = last.ends.1.ended.reached; kept = λ k rule b s e. last.ends.1.kept k rule b e } in
+      record { used = used; before = last.before; round = last.round; part = inr (rules, last.ends.0, within, last.told_is) }
+
+  built_comes : (f : TermFacts) (all : List Side) (answer : Result (List Rule) Refused) (told : List Event) → answer ≢ Err Memory → IsBuilt limits plan f all answer told → ComesTo limits plan told
+  built_comes f all (Ok rules) told real h = ends_come rules told h.0
+  built_comes f all (Err (Limit which trace)) told real h =
+      record { used = h.used; before = h.before; round = h.round; part = inr (trace, h.stops.0, h.stops.1.within, h.told_is) }
+  built_comes f all (Err (NotATypeParameter at)) told real (rules, h, fails) = ends_come rules told h
+  built_comes f all (Err Memory) told real h = absurd (real refl)
+
+  refused_comes : (f : TermFacts) (all : List Side) (refused : Refused) (told : List Event) → refused ≢ Memory → IsBuilt limits plan f all (Err refused) told → ComesTo limits plan told
+  refused_comes f all refused told real h = built_comes f all (Err refused) told (λ is. real (inner refused is)) h
+    where
+      inner : (r : Refused) → (let a : Result (List Rule) Refused = Err r in a) ≡ Err Memory → r ≡ Memory
+      inner r e = cc
+
+signatures_tell : (w : TextWorld) (rules : List Rule) {gs : Signatures} {refused : Option Refused} {told : List Event} → SignaturesCome w rules gs refused told → SignaturesTell w rules gs told
+signatures_tell w rules all = nothing_yet
+signatures_tell w rules (next own one rest e) = past_first own one (signatures_tell w rules rest) e
+signatures_tell w rules {_} {_} {told} (stopped {g} refused real come) =
+    in_first (refused_comes (list_of w rules g.params (written_list g)) (facts_of w) (sides (source_of g) g.requirements) refused told real come)
+
+pub check_tells : (w : TextWorld) {refused : Option Refused} {told : List Event} → IsChecked w refused told → CheckTells w told
+check_tells w {_} {told} (protocols_refused refused real come) = in_protocols (refused_comes (protocols_of w) (facts_of w) (protocol_sides w) refused told real come)
+check_tells w (protocols_built rules come signatures e) = past_protocols rules come (signatures_tell w rules signatures) e
 
 -- ---- well formed texts
 

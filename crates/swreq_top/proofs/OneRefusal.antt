@@ -19,6 +19,7 @@ use Rattle.swreq_names.proofs.Answers.{not_refused, one_refusal as one_name}
 use Rattle.swreq_print.specs.declared.refusal.RefusalKind.{RefusalKind}
 use Rattle.swreq_print.specs.declared.refusal.RefusalKind.TheVariants as refusals
 use Rattle.swreq_watch.specs.declared.events.Event.{Event}
+use Rattle.swreq_world.specs.Closed.{AreIds, IsClosed}
 use Rattle.swreq_world.specs.WorldOf.{IsWorldOf}
 use Rattle.swreq_world.specs.Worlds.{TextWorld}
 use Rattle.swreq_complete.specs.declared.limit.Which.{Which}
@@ -42,6 +43,7 @@ pub record AreOne (text : List ℕ) : Type 0 where
   pub verdict : (ts : List lexed.Token) → HasTokens text ts → ((s : Skeleton) × StandsFor text s) ⊎ ((at : ℕ) × (kind : Option Kind) × RefusedFor text at kind)
   pub token : (at place : ℕ) (kind other : Option Kind) → RefusedFor text at kind → RefusedFor text place other → (at ≡ place) × (kind ≡ other)
   pub no_token : (s : Skeleton) (at : ℕ) (kind : Option Kind) → StandsFor text s → ¬ (RefusedFor text at kind)
+  pub closed : (s : Skeleton) (w : TextWorld) → StandsFor text s → IsWorldOf text s w → Resolve text s → IsClosed w
 
 -- the reading of a text, where there is memory for it
 pub record Reading (text : List ℕ) : Type 0 where
@@ -145,7 +147,7 @@ IsCheckedAs w refusal =
 
 -- The names resolve, and a world is refused so.
 abbrev IsWorldRefused : List ℕ → Skeleton → RefusalKind → Type 0
-IsWorldRefused text s refusal = Resolve text s × ((w : TextWorld) × IsWorldOf text s w × IsCheckedAs w refusal)
+IsWorldRefused text s refusal = Resolve text s × ((w : TextWorld) × IsWorldOf text s w × AreIds w.lexicon × IsCheckedAs w refusal)
 
 -- A text with this reading is refused for what was read, for its names, or for its world.
 abbrev IsReadAs : List ℕ → Result Skeleton ParseErr → RefusalKind → Type 0
@@ -161,36 +163,40 @@ told text r answer refusal (inr none) read = absurd (r.real none)
 by_names : (text : List ℕ) (r : Reading text) (e : NameErr) → RefusesNames text e → IsReadAs text r.parsed (name_refusal e)
 by_names text r e (within, (s, stands, refuses)) = told text r (Ok s) _ ((r.exact.ok s).1 stands) (inl (e, refuses, refl))
 
-by_world : (text : List ℕ) (r : Reading text) (w : TextWorld) (refusal : RefusalKind) → HasWorld text w → IsCheckedAs w refusal → IsReadAs text r.parsed refusal
-by_world text r w refusal has checked = told text r (Ok has.skeleton) _ ((r.exact.ok has.skeleton).1 has.stands) (inr (has.resolve, (w, has.world, checked)))
+has_ids : (text : List ℕ) → AreOne text → (w : TextWorld) → HasWorld text w → AreIds w.lexicon
+has_ids text one w has = (one.closed has.skeleton w has.stands has.world has.resolve).ids
 
-by_machines : (text : List ℕ) (r : Reading text) (refused : Refused) → RefusesMachines text refused → IsReadAs text r.parsed (machine_refusal refused)
-by_machines text r refused (w, has, checked) = by_world text r w _ has (inl (refused, checked, refl))
+by_world : (text : List ℕ) (one : AreOne text) (r : Reading text) (w : TextWorld) (refusal : RefusalKind) → HasWorld text w → IsCheckedAs w refusal → IsReadAs text r.parsed refusal
+by_world text one r w refusal has checked =
+    told text r (Ok has.skeleton) _ ((r.exact.ok has.skeleton).1 has.stands) (inr (has.resolve, (w, has.world, has_ids text one w has, checked)))
+
+by_machines : (text : List ℕ) (one : AreOne text) (r : Reading text) (refused : Refused) → RefusesMachines text refused → IsReadAs text r.parsed (machine_refusal refused)
+by_machines text one r refused (w, has, checked) = by_world text one r w _ has (inl (refused, checked, refl))
 
 -- the refusal of a text that is not too long is its reading's
-is_read : (text : List ℕ) (r : Reading text) (refusal : RefusalKind) → IsRefused text refusal → IsReadAs text r.parsed refusal
-is_read text r refusals.TooLarge long = absurd (omega (arith, long, r.exact.within))
-is_read text r (refusals.NotUtf8 at) has = told text r _ _ ((r.exact.lex (lexical.NotUtf8 at)).1 has.1) refl
-is_read text r (refusals.BadCharacter at) has = told text r _ _ ((r.exact.lex (lexical.BadCharacter at)).1 has.1) refl
-is_read text r (refusals.OpenComment at) has = told text r _ _ ((r.exact.lex (lexical.OpenComment at)).1 has.1) refl
-is_read text r (refusals.Syntax at) has = told text r _ _ ((r.exact.syntax at).1 has.1) refl
-is_read text r (refusals.Unsupported at kind) has = told text r _ _ ((r.exact.unsupported at kind).1 has.1) refl
-is_read text r (refusals.Duplicate at) has = by_names text r (names.Duplicate at) has
-is_read text r (refusals.NotAProtocol at) has = by_names text r (names.NotAProtocol at) has
-is_read text r (refusals.ConcreteType at) has = by_names text r (names.ConcreteType at) has
-is_read text r (refusals.NoSuchMember at) has = by_names text r (names.NoSuchMember at) has
-is_read text r (refusals.UnknownSignature at) has = by_names text r (names.UnknownSignature at) has
-is_read text r (refusals.WrongArity at) has = by_names text r (names.WrongArity at) has
-is_read text r (refusals.Cycle at) has = by_names text r (names.Cycle at) has
-is_read text r (refusals.NotATypeParameter at) has = by_machines text r (NotATypeParameter at) has
-is_read text r (refusals.LimitRules max) (is, (trace, has)) =
-    subst (λ (n : ℕ). IsReadAs text r.parsed (refusals.LimitRules n)) (sym is) (by_machines text r (Limit Rules trace) has)
-is_read text r (refusals.LimitLength max) (is, (trace, has)) =
-    subst (λ (n : ℕ). IsReadAs text r.parsed (refusals.LimitLength n)) (sym is) (by_machines text r (Limit Length trace) has)
-is_read text r refusals.NotBuilt (w, whole, asks) = by_world text r w _ whole.has_world (inr ((whole.told, whole.checked), asks, refl))
-is_read text r refusals.ReadFault has = absurd has
-is_read text r refusals.OutOfMemory has = absurd has
-is_read text r refusals.Usage has = absurd has
+is_read : (text : List ℕ) (one : AreOne text) (r : Reading text) (refusal : RefusalKind) → IsRefused text refusal → IsReadAs text r.parsed refusal
+is_read text one r refusals.TooLarge long = absurd (omega (arith, long, r.exact.within))
+is_read text one r (refusals.NotUtf8 at) has = told text r _ _ ((r.exact.lex (lexical.NotUtf8 at)).1 has.1) refl
+is_read text one r (refusals.BadCharacter at) has = told text r _ _ ((r.exact.lex (lexical.BadCharacter at)).1 has.1) refl
+is_read text one r (refusals.OpenComment at) has = told text r _ _ ((r.exact.lex (lexical.OpenComment at)).1 has.1) refl
+is_read text one r (refusals.Syntax at) has = told text r _ _ ((r.exact.syntax at).1 has.1) refl
+is_read text one r (refusals.Unsupported at kind) has = told text r _ _ ((r.exact.unsupported at kind).1 has.1) refl
+is_read text one r (refusals.Duplicate at) has = by_names text r (names.Duplicate at) has
+is_read text one r (refusals.NotAProtocol at) has = by_names text r (names.NotAProtocol at) has
+is_read text one r (refusals.ConcreteType at) has = by_names text r (names.ConcreteType at) has
+is_read text one r (refusals.NoSuchMember at) has = by_names text r (names.NoSuchMember at) has
+is_read text one r (refusals.UnknownSignature at) has = by_names text r (names.UnknownSignature at) has
+is_read text one r (refusals.WrongArity at) has = by_names text r (names.WrongArity at) has
+is_read text one r (refusals.Cycle at) has = by_names text r (names.Cycle at) has
+is_read text one r (refusals.NotATypeParameter at) has = by_machines text one r (NotATypeParameter at) has
+is_read text one r (refusals.LimitRules max) (is, (trace, has)) =
+    subst (λ (n : ℕ). IsReadAs text r.parsed (refusals.LimitRules n)) (sym is) (by_machines text one r (Limit Rules trace) has)
+is_read text one r (refusals.LimitLength max) (is, (trace, has)) =
+    subst (λ (n : ℕ). IsReadAs text r.parsed (refusals.LimitLength n)) (sym is) (by_machines text one r (Limit Length trace) has)
+is_read text one r refusals.NotBuilt (w, whole, asks) = by_world text one r w _ whole.has_world (inr ((whole.told, whole.checked), asks, refl))
+is_read text one r refusals.ReadFault has = absurd has
+is_read text one r refusals.OutOfMemory has = absurd has
+is_read text one r refusals.Usage has = absurd has
 
 same_refused : (a b : Refused) → (let o : Option Refused = Some a in o) ≡ Some b → a ≡ b
 same_refused a b e = cc
@@ -211,7 +217,7 @@ one_read : (text : List ℕ) (parsed : Result Skeleton ParseErr) (refusal other 
 one_read text (Ok s) refusal other (inl (e, refuses, is)) (inl (f, too, same)) = is ∙ ap name_refusal (one_name text s e f refuses too) ∙ sym same
 one_read text (Ok s) refusal other (inl (e, refuses, is)) (inr (resolve, world)) = absurd (not_refused text s e resolve refuses)
 one_read text (Ok s) refusal other (inr (resolve, world)) (inl (e, refuses, is)) = absurd (not_refused text s e resolve refuses)
-one_read text (Ok s) refusal other (inr (resolve, (w, h, checked))) (inr (also, (v, k, too))) = one_checked w v (one_world text s w v h k) refusal other checked too
+one_read text (Ok s) refusal other (inr (resolve, (w, h, ids, checked))) (inr (also, (v, k, others, too))) = one_checked w v (one_world text s w v h k ids others) refusal other checked too
 one_read text (Err e) refusal other is same = is ∙ sym same
 
 -- a text that is too long is refused for that alone
@@ -245,7 +251,7 @@ module _ (text : List ℕ) (all : AreOne text) where
       by (inl long) = is_too_large text long refusal has ∙ sym (is_too_large text long other too)
       by (inr within) =
           let r = reading_of text all within in
-          one_read text r.parsed refusal other (is_read text r refusal has) (is_read text r other too)
+          one_read text r.parsed refusal other (is_read text all r refusal has) (is_read text all r other too)
 
   pub never_both : (refusal : RefusalKind) (o : Outcome) → IsRefused text refusal → IsAnswered text o → ⊥
   never_both refusal o has answered = by (reading_of text all answered.whole.has_world.within)
@@ -255,10 +261,10 @@ module _ (text : List ℕ) (all : AreOne text) where
 
       not_so : IsReadAs text (Ok world.skeleton) refusal → ⊥
       not_so (inl (e, refuses, is)) = not_refused text world.skeleton e world.resolve refuses
-      not_so (inr (resolve, (w, h, checked))) = by_check checked
+      not_so (inr (resolve, (w, h, ids, checked))) = by_check checked
         where
           alike : AreAlike w answered.world
-          alike = one_world text world.skeleton w answered.world h world.world
+          alike = one_world text world.skeleton w answered.world h world.world ids (has_ids text all answered.world world)
 
           by_check : IsCheckedAs w refusal → ⊥
           by_check (inl (r, (t, c), is)) = never_none r (one_check answered.world (alike.checked c) answered.whole.checked)
@@ -266,6 +272,6 @@ module _ (text : List ℕ) (all : AreOne text) where
 
       by : Reading text → ⊥
       by r = elim ((r.exact.ok world.skeleton).1 world.stands) [
-        | inl is ↦ not_so (subst (λ p. IsReadAs text p refusal) is (is_read text r refusal has))
+        | inl is ↦ not_so (subst (λ p. IsReadAs text p refusal) is (is_read text all r refusal has))
         | inr none ↦ r.real none
       ]

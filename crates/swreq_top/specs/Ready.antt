@@ -1,5 +1,5 @@
 -- What is kept of a checked text for its queries.
-use Rattle.std.specs.Prelude.{◌≡◌, ◌⊎◌, ◌≤◌, ℕ, List, Vec, Option, Some, None, Result, Ok, Err, Contains, length, slice_get}
+use Rattle.std.specs.Prelude.{◌≡◌, ◌⊎◌, ◌≤◌, ℕ, Bool, true, false, List, Vec, Option, Some, None, Result, Ok, Err, Contains, length, slice_get}
 use Rattle.std.specs.declared.alloc.Global.{Global}
 use Rattle.swreq_param.specs.Terms.{Term, member_count}
 use Rattle.swreq_rule.specs.declared.rules.Rule.{Rule}
@@ -32,6 +32,13 @@ function_of (queries.Reduced f t) = f
 function_of (queries.Conf f t p) = f
 function_of (queries.Layout f t) = f
 function_of (queries.Same f t u) = f
+
+abbrev pub asks_signature : Query → Bool
+asks_signature (queries.Signature f) = true
+asks_signature (queries.Reduced f t) = false
+asks_signature (queries.Conf f t p) = false
+asks_signature (queries.Layout f t) = false
+asks_signature (queries.Same f t u) = false
 
 -- The members of each side are at most so many.
 abbrev pub HasShortSides : TermQuery → ℕ → Type 0

@@ -1,5 +1,5 @@
 //! The lines that answer the queries of a checked text.
-ghost use Rattle.std.specs.Prelude.{◌≡◌, ◌++◌, ◌×◌, true, length, Contains, IfOk, List, OnOk};
+ghost use Rattle.std.specs.Prelude.{◌≡◌, ◌++◌, ℕ, length, Contains, IfOk, List, OnOk, true};
 ghost use Rattle.swreq_shown.specs.Known.{IsTextOver};
 ghost use Rattle.swreq_query.specs.Asked.{IsOfTypes, IsRoomFor};
 ghost use Rattle.swreq_world.specs.ByTable.{world_by};
@@ -7,7 +7,7 @@ ghost use Rattle.swreq_written.specs.ByTable.{query_by};
 ghost use Rattle.swreq_top.specs.Ready.{AreKept};
 ghost use Rattle.swreq_top.specs.Verdict.{AreLinesOf, IsLineOf};
 
-use crate::asking::{function_of, most_members};
+use crate::asking::{function_of, members};
 use crate::ready::Ready;
 use std::alloc::{AllocError, Global};
 use swreq_param::ParamTable;
@@ -16,12 +16,18 @@ use swreq_valid::Scratch;
 use swreq_world::World;
 use swreq_written::Query;
 
-/// Room for each type parameter that a query names.
-fn scratch(alloc: Global, world: &World, table: &ParamTable) -> Result<Scratch, AllocError>
+/// Room for the type parameters that a query of the text names.
+fn scratch(
+    alloc: Global,
+    world: &World,
+    table: &ParamTable,
+    query: &Query,
+) -> Result<Scratch, AllocError>
     requires text { IsTextOver table.now world.now }
-    ensures { IfOk result (λ s. (q : Query) → Contains world.now.queries q → IsRoomFor (query_by table.now q) s.room) }
+    requires query { Contains world.now.queries query.now }
+    ensures { IfOk result (λ s. IsRoomFor (query_by table.now query.now) s.room) }
 {
-    let longest = most_members(world, table).checked_add(2).ok_or(AllocError)?;
+    let longest = members(table, query).checked_add(2).ok_or(AllocError)?;
     let room = longest.checked_mul(4).ok_or(AllocError)?;
     Scratch::with_room(alloc, room)
 }
@@ -33,7 +39,6 @@ fn answer_one(
     table: &ParamTable,
     all: &[Option<Ready>],
     query: &Query,
-    s: &mut Scratch,
     out: &mut Vec<u8>,
 ) -> Result<(), AllocError>
     requires text { IsTextOver table.now world.now }
@@ -41,10 +46,9 @@ fn answer_one(
     requires count { length all.now ≡ length world.now.signatures }
     requires query { Contains world.now.queries query.now }
     requires of_types { IsOfTypes (query_by table.now query.now) }
-    requires room { IsRoomFor (query_by table.now query.now) s.old.room }
     ensures line { OnOk result ((line : List ℕ) × IsLineOf true (world_by table.now world.now) (query_by table.now query.now) line × (out.new.items ≡ out.old.items ++ line)) }
-    ensures room { s.new.room ≡ s.old.room }
 {
+    let mut s = scratch(alloc, world, table, query)?;
     match &all[function_of(query).place as usize] {
         Some(ready) => answer(
             alloc,
@@ -53,7 +57,7 @@ fn answer_one(
             &ready.machine,
             &ready.map,
             query,
-            s,
+            &mut s,
             out,
         ),
         None => unreachable!(),
@@ -73,11 +77,10 @@ pub(crate) fn answers(
     requires of_types { (q : Query) → Contains world.now.queries q → IsOfTypes (query_by table.now q) }
     ensures { IfOk result (λ v. AreLinesOf true (world_by table.now world.now) (world_by table.now world.now).queries v.items) }
 {
-    let mut s = scratch(alloc, world, table)?;
     let mut lines = Vec::new(alloc);
     for k in 0..world.queries().len() {
         let query = &world.queries()[k];
-        answer_one(alloc, world, table, all, query, &mut s, &mut lines)?;
+        answer_one(alloc, world, table, all, query, &mut lines)?;
     }
     Ok(lines)
 }

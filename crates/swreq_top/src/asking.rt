@@ -1,13 +1,8 @@
 //! What queries ask.
-ghost use Rattle.std.specs.Prelude.{◌≡◌, ◌≤◌, ◌↔◌, IsTrue, Contains};
+ghost use Rattle.std.specs.Prelude.{◌≡◌, nat_eq};
 ghost use Rattle.std.specs.List.{list_any};
 ghost use Rattle.swreq_written.specs.ByTable.{HasQueryIdsOf, query_by};
-ghost use Rattle.swreq_written.specs.declared.ids.Query.{Query};
-ghost use Rattle.swreq_world.specs.ByTable.{world_by};
-ghost use Rattle.swreq_query.specs.Asked.{IsOfTypes};
-ghost use Rattle.swreq_shown.specs.Known.{IsTextOver};
-ghost use Rattle.swreq_top.specs.Ready.{HasShortSides, function_of};
-ghost use Rattle.swreq_top.specs.Verdict.{AsksOneSignature};
+ghost use Rattle.swreq_top.specs.Ready.{HasShortSides, asks_signature, function_of};
 
 use swreq_param::ParamTable;
 use swreq_world::World;
@@ -28,37 +23,29 @@ pub(crate) fn function_of(query: &Query) -> FuncId
 
 /// Whether some query asks the signature.
 pub(crate) fn is_asked(world: &World, f: FuncId) -> bool
-    ensures { IsTrue result ↔ ((q : Query) × Contains world.now.queries q × ((function_of q).place ≡ f.place)) }
+    ensures { result ≡ list_any (λ q. nat_eq (function_of q).place f.place) world.now.queries }
 {
-    for query in world.queries() {
-        if function_of(query).place == f.place {
-            return true;
-        }
-    }
-    false
+    world
+        .queries()
+        .iter()
+        .any(|query| function_of(query).place == f.place)
 }
 
 fn asks_signature(query: &Query) -> bool
-    ensures { IsTrue result ↔ ((f : swreq_written.FuncId) × (query.now ≡ queries.Signature f)) }
+    ensures { result ≡ asks_signature query.now }
 {
     matches!(query, Query::Signature { .. })
 }
 
 /// Whether some query asks for a signature.
-pub(crate) fn asks_one_signature(world: &World, table: &ParamTable) -> bool
-    ensures yes { IsTrue result → AsksOneSignature (world_by table.now world.now) }
-    ensures no { (result ≡ false) → (q : Query) → Contains world.now.queries q → IsOfTypes (query_by table.now q) }
+pub(crate) fn asks_one_signature(world: &World) -> bool
+    ensures { result ≡ list_any asks_signature world.now.queries }
 {
-    for query in world.queries() {
-        if asks_signature(query) {
-            return true;
-        }
-    }
-    false
+    world.queries().iter().any(|query| asks_signature(query))
 }
 
 /// The most members of a type parameter that the query names.
-fn members(table: &ParamTable, query: &Query) -> usize
+pub(crate) fn members(table: &ParamTable, query: &Query) -> usize
     requires { HasQueryIdsOf table.now query.now }
     ensures { HasShortSides (query_by table.now query.now) result }
 {
@@ -69,16 +56,4 @@ fn members(table: &ParamTable, query: &Query) -> usize
         }
         Query::Same { a, b, .. } => table.members(a).max(table.members(b)),
     }
-}
-
-/// The most members of a type parameter that a query names.
-pub(crate) fn most_members(world: &World, table: &ParamTable) -> usize
-    requires { IsTextOver table.now world.now }
-    ensures { (q : Query) → Contains world.now.queries q → HasShortSides (query_by table.now q) result }
-{
-    let mut most = 0;
-    for query in world.queries() {
-        most = most.max(members(table, query));
-    }
-    most
 }

@@ -2,12 +2,12 @@
 ghost use Rattle.std.specs.Prelude.{◌≡◌, ◌<◌, length, IfOk, Ok};
 ghost use Rattle.swreq_complete.specs.declared.limit.Limits.{Limits};
 ghost use Rattle.swreq_shown.specs.Known.{IsTextOver};
-ghost use Rattle.swreq_valid.specs.Machines.{AreRulesOf};
+ghost use Rattle.swreq_valid.specs.Machines.{AreRulesOf, IsMachineOf};
 ghost use Rattle.swreq_valid.specs.Rounds.{last_rules};
 ghost use Rattle.swreq_world.specs.ByTable.{world_by};
 ghost use Rattle.swreq_world.specs.Worlds.{signature_at};
 ghost use Rattle.swreq_top.specs.Machines.{limits, written_list};
-ghost use Rattle.swreq_top.specs.Ready.{AreKept, Checks, ChecksAll, ChecksOne, IsKept};
+ghost use Rattle.swreq_top.specs.Ready.{AreKept, Checks, ChecksAll, ChecksOne, IsKept, kept_in};
 
 use crate::asking::is_asked;
 use crate::ready::Ready;

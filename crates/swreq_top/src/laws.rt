@@ -13,5 +13,5 @@ pub fn one_refusal(text: &[u8])
     swreq_lex::laws::one_reading(text);
     swreq_decl::laws::one_skeleton(text);
     swreq_decl::laws::one_verdict(text);
-    swreq_rounds::laws::outcomes_are_one();
+    swreq_world::laws::worlds_are_closed(text);
 }

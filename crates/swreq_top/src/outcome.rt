@@ -19,9 +19,11 @@ ghost use Rattle.swreq_top.specs.Verdict.{IsAnswered, IsRefused, IsVerdict, refu
 use crate::answering::answers;
 use crate::asking::asks_one_signature;
 use crate::checking::check;
+use crate::laws::one_refusal;
 use crate::ready::Ready;
 use crate::refusal::{machine_refusal, name_refusal, refusal_of, status_of};
 use std::alloc::{AllocError, Global};
+use swreq_decl::laws::one_skeleton;
 use swreq_decl::{ParseErr, Skeleton, parse};
 use swreq_lex::TEXT_LIMIT;
 use swreq_names::NameErr;
@@ -54,7 +56,15 @@ pub fn reply<W: Watch>(alloc: Global, text: &[u8], watch: &mut W) -> Result<Outc
     ensures told { OnOk result (WasTold text.now (W.told watch.old) (W.told watch.new)) }
     ensures told_part { OnErr result (WasToldPart text.now (W.told watch.old) (W.told watch.new)) }
 {
-    crate::laws::one_refusal(text);
+    one_refusal(text);
+    read(alloc, text, watch)
+}
+
+/// Reads the text, and answers it.
+fn read<W: Watch>(alloc: Global, text: &[u8], watch: &mut W) -> Result<Outcome, AllocError>
+    requires { length text.now ≤ TEXT_LIMIT }
+    ensures { Replies text.now (W.told watch.old) (W.told watch.new) result }
+{
     match parse(alloc, text) {
         Ok(skeleton) => with_skeleton(alloc, text, &skeleton, watch),
         Err(e) => unread(alloc, e),
@@ -98,6 +108,7 @@ fn over_table<W: Watch>(
     requires stands { StandsFor text.now skeleton.now }
     ensures { Replies text.now (W.told watch.old) (W.told watch.new) result }
 {
+    one_skeleton(text);
     match World::resolve(alloc, text, skeleton, table) {
         Ok(world) => with_world(alloc, text, &world, table, watch),
         Err(e) => unresolved(alloc, e),
@@ -159,7 +170,7 @@ fn checked(
     ensures { IfOk result (IsVerdict text.now) }
 {
     let _ = text;
-    if asks_one_signature(world, table) {
+    if asks_one_signature(world) {
         return refused(alloc, RefusalKind::NotBuilt);
     }
     Ok(Outcome {

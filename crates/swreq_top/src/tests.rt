@@ -272,7 +272,7 @@ fn a_text_whose_machines_are_refused_has_one_line(rt: HostRuntime) -> Result<(),
             "error: not a type parameter at 85\n",
         ),
         (
-            "protocol P { associatedtype A: P associatedtype B: P where A.B.A == B.A.B } func f<T>() where T.A == T",
+            "protocol N { associatedtype A: N } func f<T: N>() where T.A.A.A.A.A.A.A.A.A.A.A.A.A.A.A.A.A.A.A.A.A.A.A.A.A.A.A.A.A.A.A.A.A.A.A.A.A.A.A.A.A.A.A.A.A.A.A.A.A.A.A.A.A.A.A.A.A.A.A.A.A.A.A.A.A.A == T func g<T>() where T.A == T",
             3,
             "error: rule longer than 64 symbols\n",
         ),
@@ -288,7 +288,7 @@ fn a_text_whose_machines_are_refused_has_one_line(rt: HostRuntime) -> Result<(),
         ),
     ];
     for (text, status, output) in cases {
-        assert!(rt; text.len() <= 200);
+        assert!(rt; text.len() <= 300);
         replies(&rt, rt.alloc(), text, status, output)?;
     }
     Ok(())
