@@ -12,6 +12,7 @@ use Rattle.swreq_derive.proofs.Guard.{from_function}
 use Rattle.swreq_derive.proofs.Members.{first_member, later_member}
 use Rattle.swreq_param.specs.Terms.{Term}
 use Rattle.swreq_rounds.proofs.Members.{contains_map}
+use Rattle.swreq_watch.specs.declared.events.Event.{Event}
 use Rattle.swreq_written.specs.declared.ids.FuncId.{FuncId}
 use Rattle.swreq_written.specs.declared.ids.Query.{Query}
 use Rattle.swreq_written.specs.declared.ids.Query.TheVariants as queries
@@ -78,15 +79,16 @@ module _ (w : TextWorld) (formed : IsWellFormed (facts_of w) (map source_of w.si
       let f : FuncId = signature_of q in
       let member : Contains (map source_of w.signatures) (source_of (signature_at w f)) =
       contains_map source_of w.signatures (signature_at w f) (Contains-get_or w.signatures f.place no_signature (query_signature w q of)) in
-      let guard = λ st. from_function (facts_of w) (map source_of w.signatures) (source_of (signature_at w f)) st formed member in
-      (a, along (Derivable (facts_of w) (source_of (signature_at w f))) (BookDerivable (facts_of w) (source_of (signature_at w f))) (λ st. (guard st).1) (λ st. (guard st).0) q a is, e)
+      (a, along (Derivable (facts_of w) (source_of (signature_at w f))) (BookDerivable (facts_of w) (source_of (signature_at w f)))
+      (λ st. (from_function (facts_of w) (map source_of w.signatures) (source_of (signature_at w f)) st formed member).1)
+      (λ st. (from_function (facts_of w) (map source_of w.signatures) (source_of (signature_at w f)) st formed member).0) q a is, e)
 
   lines_by_book : {qs : List TermQuery} {output : List ℕ} → ((q : TermQuery) → Contains qs q → IsQueryOf w q) → AreLinesOf true w qs output → AreLinesOf false w qs output
   lines_by_book of none = none
   lines_by_book of (more {q} {qs} {line} is rest e) =
       more (line_by_book q line (of q (first_member q qs)) is) (lines_by_book (λ r c. of r (later_member q r qs c)) rest) e
 
-pub by_book : (w : TextWorld) (output : List ℕ) → IsClosed w → ((told : List _) × IsChecked w None told) → AreLinesOf true w w.queries output → AreLinesOf false w w.queries output
+pub by_book : (w : TextWorld) (output : List ℕ) → IsClosed w → ((told : List Event) × IsChecked w None told) → AreLinesOf true w w.queries output → AreLinesOf false w w.queries output
 by_book w output closed (told, checked) lines = lines_by_book w (is_formed w closed checked) (λ q c. All-contains (IsQueryOf w) w.queries q closed.queries c) lines
 
 -- ---- queries for signatures

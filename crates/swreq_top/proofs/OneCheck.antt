@@ -71,6 +71,10 @@ module _ (w : TextWorld) where
   one_come rules (stopped {g} refused real come) (stopped other too came) =
       ap Some (same_refusal refused other (one_signature rules g (Err refused) (Err other) come came (real_refusal refused real) (real_refusal other too)))
 
+  one_over : (rules other : List Rule) → rules ≡ other → {gs : List (SignatureOver PlacedRequirement)} {a b : Option Refused} {t u : List Event}
+      → SignaturesCome w rules gs a t → SignaturesCome w other gs b u → a ≡ b
+  one_over rules other same {gs} {a} {b} {t} {u} h k = one_come other (subst (λ (r : List Rule). SignaturesCome w r gs a t) same h) k
+
   one_protocols : (a b : Answer) {t u : List Event} → IsBuilt limits (protocols_of w) (facts_of w) (protocol_sides w) a t
       → IsBuilt limits (protocols_of w) (facts_of w) (protocol_sides w) b u → IsReal a → IsReal b → a ≡ b
   one_protocols a b h k real too = one_answer (protocols_of w) (facts_of w) (protocol_sides w) a b h k real too
@@ -82,6 +86,5 @@ module _ (w : TextWorld) where
       never_same rules r (one_protocols (Ok rules) (Err r) came come (real_rules rules) (real_refusal r real))
   one_check (protocols_built rules came rest e) (protocols_refused r real come) =
       never_same rules r (one_protocols (Ok rules) (Err r) came come (real_rules rules) (real_refusal r real))
-  one_check {a} {b} (protocols_built rules come rest e) (protocols_built other came too f) =
-      let same : rules ≡ other = same_rules rules other (one_protocols (Ok rules) (Ok other) come came (real_rules rules) (real_rules other)) in
-      one_come other (subst (λ (r : List Rule). SignaturesCome w r w.signatures a _) same rest) too
+  one_check (protocols_built rules come rest e) (protocols_built other came too f) =
+      one_over rules other (same_rules rules other (one_protocols (Ok rules) (Ok other) come came (real_rules rules) (real_rules other))) rest too

@@ -34,15 +34,16 @@ use Rattle.swreq_written.specs.Words.{WordsView}
 use Rattle.swreq_world.specs.Closed.{AreIds}
 use Rattle.swreq_world.specs.Text.{requirements_named, signatures}
 use Rattle.swreq_world.specs.WorldOf.{IsWorldOf, words_of}
-use Rattle.swreq_world.specs.Worlds.{SignatureOver, TextWorld}
+use Rattle.swreq_world.specs.Worlds.{SignatureOver, TextWorld, signature_at}
+use Rattle.swreq_shown.specs.Meaning.{facts_of}
 use Rattle.swreq_valid.specs.declared.refused.Refused.{Refused}
 use Rattle.swreq_query.specs.Answers.{Answer, IsAnswerLine, asked}
 use Rattle.swreq_query.specs.Answers.Answer.{Invalid, Yes, No, Reduced}
 use Rattle.swreq_derive.specs.Derivation.{TermRequirement}
-use Rattle.swreq_top.specs.Machines.{IsChecked, SignaturesCome}
+use Rattle.swreq_top.specs.Machines.{IsChecked, SignaturesCome, source_of}
 use Rattle.swreq_top.specs.Machines.IsChecked.{protocols_built, protocols_refused}
 use Rattle.swreq_top.specs.Machines.SignaturesCome.{all, next, stopped}
-use Rattle.swreq_top.specs.Verdict.{AreLinesOf, AsksOneSignature}
+use Rattle.swreq_top.specs.Verdict.{AreLinesOf, AsksOneSignature, signature_of}
 use Rattle.swreq_top.specs.Verdict.AreLinesOf.{none, more}
 use Rattle.swreq_top.proofs.Rankings.{one_ranking}
 use Rattle.swreq_top.proofs.Written.{bare_words, queries_same, requirements_same, signatures_same}
@@ -63,7 +64,8 @@ no_line D x f line (Reduced u, h, e) = let clash : AsksSignature f ≡ AsksReduc
 no_lines : (w : TextWorld) {qs : List TermQuery} {output : List ℕ} (f : FuncId) → AreLinesOf false w qs output → Contains qs (AsksSignature f) → ⊥
 no_lines w f none c = no_member (AsksSignature f) c
 no_lines w f (more {q} {qs} {line} h rest e) c = elim (member_cases q (AsksSignature f) qs c) [
-  | inl i ↦ no_line _ w.lexicon f line (subst (λ (z : TermQuery). IsAnswerLine w.lexicon _ z line) (sym i) h)
+  | inl i ↦ (let D : TermStatement → Type 0 = Derives (facts_of w) false (source_of (signature_at w (signature_of q))) in
+      no_line D w.lexicon f line (subst (λ (z : TermQuery). IsAnswerLine w.lexicon D z line) (sym i) h))
   | inr d ↦ no_lines w f rest d
 ]
 

@@ -53,10 +53,10 @@ bare_words w = record { text = w.text; skeleton = w.skeleton; lexicon = bare_lex
 
 -- lists that are made alike of each item
 alike : {A B : Type 0} (f g : A → B) → ((x : A) → f x ≡ g x) → (xs : List A) → map f xs ≡ map g xs
-alike f g h xs = ap (λ (k : _). map k xs) (λ i x. h x i)
+alike {A} {B} f g h xs = ap (λ (k : A → B). map k xs) (λ i x. h x i)
 
 flat_alike : {A B : Type 0} (f g : A → List B) → ((x : A) → f x ≡ g x) → (xs : List A) → flat_map f xs ≡ flat_map g xs
-flat_alike f g h xs = ap (λ (k : _). flat_map k xs) (λ i x. h x i)
+flat_alike {A} {B} f g h xs = ap (λ (k : A → List B). flat_map k xs) (λ i x. h x i)
 
 module _ (w : WordsView) where
   step_same : (d : StepDecl) → step_of (bare_words w) d ≡ step_of w d
@@ -171,10 +171,19 @@ module _ (w : WordsView) where
       named None = refl
       named (Some f) = refl
 
+  -- a signature with this name and these requirements
+  abbrev made : List Signature → Signature → List ℕ → List PlacedRequirement → SignatureOver PlacedRequirement
+  made order g name list = record {
+    signature = g;
+    name = name;
+    outer = outer_of order g;
+    own_depth = own_depth w.skeleton g;
+    params = params_of w.skeleton g;
+    requirements = list;
+  }
+
   signature_same : (order : List Signature) (g : Signature) → signature_in (bare_words w) order g ≡ signature_in w order g
-  signature_same order g =
-      ap₂ (λ (name : List ℕ) (list : List PlacedRequirement). record { signature = g; name = name; outer = outer_of order g; own_depth = own_depth w.skeleton g; params = params_of w.skeleton g; requirements = list })
-      (name_same g) (list_of_same g)
+  signature_same order g = ap₂ (made order g) (name_same g) (list_of_same g)
 
   pub signatures_same : signatures (bare_words w) ≡ signatures w
   signatures_same = alike (signature_in (bare_words w) (in_order w.skeleton)) (signature_in w (in_order w.skeleton)) (signature_same (in_order w.skeleton)) (in_order w.skeleton)
