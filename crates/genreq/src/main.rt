@@ -6,6 +6,7 @@ use std::io::{self, ErrorKind};
 use std::process::ExitCode;
 use swreq_text::{StdSink, StdSource};
 use swreq_top::run;
+use swreq_watch::Quiet;
 
 /// The status where there is no memory for the words.
 const OUT_OF_MEMORY: u8 = 6;
@@ -19,7 +20,13 @@ fn main(rt: HostRuntime) -> ExitCode {
     };
     let mut src = StdSource::new(rt.stdin());
     let mut out = StdSink::new(rt.stdout());
-    ExitCode::from(run(rt.alloc(), &words, &mut src, &mut out))
+    ExitCode::from(run(
+        rt.alloc(),
+        &words,
+        &mut src,
+        &mut out,
+        &mut Quiet,
+    ))
 }
 
 /// The words of the command line, without the name of the program.

@@ -1,3 +1,9 @@
+pub mod Checked
+pub mod Lines
+pub mod OfSignatures
+pub mod OneCheck
 pub mod OneRefusal
-pub mod Unresolved
+pub mod OneWorld
+pub mod Rankings
 pub mod Verdicts
+pub mod Written

@@ -1,4 +1,4 @@
--- Each text that is not too long is read in one way, and so has one refusal at most.
+-- Each text that is not too long is read in one way and has one world, and so has one refusal at most.
 use Rattle.std.proofs.Common.{◌≡◌, ◌≢◌, ◌⊎◌, ℕ, ◌<◌, ◌≤◌, List, length, Option, Some, None, Result, Ok, Err, refl, sym, ◌∙◌, ap, inl, inr, subst, arith}
 use Rattle.std.proofs.lemmas.Bool.{cases_lt}
 use Rattle.swreq_lex.specs.declared.refusal.LexErr.{LexErr}
@@ -18,8 +18,20 @@ use Rattle.swreq_names.specs.Names.{Refuses, Resolve}
 use Rattle.swreq_names.proofs.Answers.{not_refused, one_refusal as one_name}
 use Rattle.swreq_print.specs.declared.refusal.RefusalKind.{RefusalKind}
 use Rattle.swreq_print.specs.declared.refusal.RefusalKind.TheVariants as refusals
-use Rattle.swreq_top.specs.Reports.{name_refusal, refusal_of}
-use Rattle.swreq_top.specs.Verdict.{IsRefused, RefusesNames}
+use Rattle.swreq_watch.specs.declared.events.Event.{Event}
+use Rattle.swreq_world.specs.Closed.{AreIds, IsClosed}
+use Rattle.swreq_world.specs.WorldOf.{IsWorldOf}
+use Rattle.swreq_world.specs.Worlds.{TextWorld}
+use Rattle.swreq_complete.specs.declared.limit.Which.{Which}
+use Rattle.swreq_complete.specs.declared.limit.Which.TheVariants.{Rules, Length}
+use Rattle.swreq_valid.specs.declared.refused.Refused.{Refused}
+use Rattle.swreq_valid.specs.declared.refused.Refused.TheVariants.{Limit, NotATypeParameter}
+use Rattle.swreq_top.specs.Machines.{HasWorld, IsChecked, limits}
+use Rattle.swreq_top.specs.Reports.{machine_refusal, name_refusal, refusal_of}
+use Rattle.swreq_top.specs.Verdict.{AsksOneSignature, IsAnswered, IsRefused, RefusesMachines, RefusesNames}
+use Rattle.swreq_top.specs.declared.outcome.Outcome.{Outcome}
+use Rattle.swreq_top.proofs.OneCheck.{one_check}
+use Rattle.swreq_top.proofs.OneWorld.{AreAlike, one_world, unanswered}
 use Rattle.swreq_top.proofs.Verdicts.{IsExact}
 
 -- what the crates below say of every text
@@ -31,6 +43,7 @@ pub record AreOne (text : List ℕ) : Type 0 where
   pub verdict : (ts : List lexed.Token) → HasTokens text ts → ((s : Skeleton) × StandsFor text s) ⊎ ((at : ℕ) × (kind : Option Kind) × RefusedFor text at kind)
   pub token : (at place : ℕ) (kind other : Option Kind) → RefusedFor text at kind → RefusedFor text place other → (at ≡ place) × (kind ≡ other)
   pub no_token : (s : Skeleton) (at : ℕ) (kind : Option Kind) → StandsFor text s → ¬ (RefusedFor text at kind)
+  pub closed : (s : Skeleton) (w : TextWorld) → StandsFor text s → IsWorldOf text s w → Resolve text s → IsClosed w
 
 -- the reading of a text, where there is memory for it
 pub record Reading (text : List ℕ) : Type 0 where
@@ -126,9 +139,19 @@ module _ (text : List ℕ) (one : AreOne text) (within : length text ≤ TEXT_LI
 
 -- ---- one refusal
 
--- A text with this reading is refused for what was read, or for its names.
+-- The check of a world is refused so, or it is not, and a query asks for a signature.
+abbrev IsCheckedAs : TextWorld → RefusalKind → Type 0
+IsCheckedAs w refusal =
+    ((r : Refused) × ((told : List Event) × IsChecked w (Some r) told) × (refusal ≡ machine_refusal r))
+    ⊎ (((told : List Event) × IsChecked w None told) × AsksOneSignature w × (refusal ≡ refusals.NotBuilt))
+
+-- The names resolve, and a world is refused so.
+abbrev IsWorldRefused : List ℕ → Skeleton → RefusalKind → Type 0
+IsWorldRefused text s refusal = Resolve text s × ((w : TextWorld) × IsWorldOf text s w × AreIds w.lexicon × IsCheckedAs w refusal)
+
+-- A text with this reading is refused for what was read, for its names, or for its world.
 abbrev IsReadAs : List ℕ → Result Skeleton ParseErr → RefusalKind → Type 0
-IsReadAs text (Ok s) refusal = (e : NameErr) × Refuses text s e × (refusal ≡ name_refusal e)
+IsReadAs text (Ok s) refusal = ((e : NameErr) × Refuses text s e × (refusal ≡ name_refusal e)) ⊎ IsWorldRefused text s refusal
 IsReadAs text (Err e) refusal = refusal ≡ refusal_of e
 
 -- an answer that the text has is its reading's
@@ -138,34 +161,63 @@ told text r answer refusal (inl is) read = subst (λ p. IsReadAs text p refusal)
 told text r answer refusal (inr none) read = absurd (r.real none)
 
 by_names : (text : List ℕ) (r : Reading text) (e : NameErr) → RefusesNames text e → IsReadAs text r.parsed (name_refusal e)
-by_names text r e (within, (s, stands, refuses)) = told text r (Ok s) _ ((r.exact.ok s).1 stands) (e, refuses, refl)
+by_names text r e (within, (s, stands, refuses)) = told text r (Ok s) _ ((r.exact.ok s).1 stands) (inl (e, refuses, refl))
+
+has_ids : (text : List ℕ) → AreOne text → (w : TextWorld) → HasWorld text w → AreIds w.lexicon
+has_ids text one w has = (one.closed has.skeleton w has.stands has.world has.resolve).ids
+
+by_world : (text : List ℕ) (one : AreOne text) (r : Reading text) (w : TextWorld) (refusal : RefusalKind) → HasWorld text w → IsCheckedAs w refusal → IsReadAs text r.parsed refusal
+by_world text one r w refusal has checked =
+    told text r (Ok has.skeleton) _ ((r.exact.ok has.skeleton).1 has.stands) (inr (has.resolve, (w, has.world, has_ids text one w has, checked)))
+
+by_machines : (text : List ℕ) (one : AreOne text) (r : Reading text) (refused : Refused) → RefusesMachines text refused → IsReadAs text r.parsed (machine_refusal refused)
+by_machines text one r refused (w, has, checked) = by_world text one r w _ has (inl (refused, checked, refl))
 
 -- the refusal of a text that is not too long is its reading's
-is_read : (text : List ℕ) (r : Reading text) (refusal : RefusalKind) → IsRefused text refusal → IsReadAs text r.parsed refusal
-is_read text r refusals.TooLarge long = absurd (omega (arith, long, r.exact.within))
-is_read text r (refusals.NotUtf8 at) has = told text r _ _ ((r.exact.lex (lexical.NotUtf8 at)).1 has.1) refl
-is_read text r (refusals.BadCharacter at) has = told text r _ _ ((r.exact.lex (lexical.BadCharacter at)).1 has.1) refl
-is_read text r (refusals.OpenComment at) has = told text r _ _ ((r.exact.lex (lexical.OpenComment at)).1 has.1) refl
-is_read text r (refusals.Syntax at) has = told text r _ _ ((r.exact.syntax at).1 has.1) refl
-is_read text r (refusals.Unsupported at kind) has = told text r _ _ ((r.exact.unsupported at kind).1 has.1) refl
-is_read text r (refusals.Duplicate at) has = by_names text r (names.Duplicate at) has
-is_read text r (refusals.NotAProtocol at) has = by_names text r (names.NotAProtocol at) has
-is_read text r (refusals.ConcreteType at) has = by_names text r (names.ConcreteType at) has
-is_read text r (refusals.NoSuchMember at) has = by_names text r (names.NoSuchMember at) has
-is_read text r (refusals.UnknownSignature at) has = by_names text r (names.UnknownSignature at) has
-is_read text r (refusals.WrongArity at) has = by_names text r (names.WrongArity at) has
-is_read text r (refusals.Cycle at) has = by_names text r (names.Cycle at) has
-is_read text r (refusals.NotATypeParameter at) has = absurd has
-is_read text r (refusals.LimitRules max) has = absurd has
-is_read text r (refusals.LimitLength max) has = absurd has
-is_read text r refusals.NotBuilt has = absurd has
-is_read text r refusals.ReadFault has = absurd has
-is_read text r refusals.OutOfMemory has = absurd has
-is_read text r refusals.Usage has = absurd has
+is_read : (text : List ℕ) (one : AreOne text) (r : Reading text) (refusal : RefusalKind) → IsRefused text refusal → IsReadAs text r.parsed refusal
+is_read text one r refusals.TooLarge long = absurd (omega (arith, long, r.exact.within))
+is_read text one r (refusals.NotUtf8 at) has = told text r _ _ ((r.exact.lex (lexical.NotUtf8 at)).1 has.1) refl
+is_read text one r (refusals.BadCharacter at) has = told text r _ _ ((r.exact.lex (lexical.BadCharacter at)).1 has.1) refl
+is_read text one r (refusals.OpenComment at) has = told text r _ _ ((r.exact.lex (lexical.OpenComment at)).1 has.1) refl
+is_read text one r (refusals.Syntax at) has = told text r _ _ ((r.exact.syntax at).1 has.1) refl
+is_read text one r (refusals.Unsupported at kind) has = told text r _ _ ((r.exact.unsupported at kind).1 has.1) refl
+is_read text one r (refusals.Duplicate at) has = by_names text r (names.Duplicate at) has
+is_read text one r (refusals.NotAProtocol at) has = by_names text r (names.NotAProtocol at) has
+is_read text one r (refusals.ConcreteType at) has = by_names text r (names.ConcreteType at) has
+is_read text one r (refusals.NoSuchMember at) has = by_names text r (names.NoSuchMember at) has
+is_read text one r (refusals.UnknownSignature at) has = by_names text r (names.UnknownSignature at) has
+is_read text one r (refusals.WrongArity at) has = by_names text r (names.WrongArity at) has
+is_read text one r (refusals.Cycle at) has = by_names text r (names.Cycle at) has
+is_read text one r (refusals.NotATypeParameter at) has = by_machines text one r (NotATypeParameter at) has
+is_read text one r (refusals.LimitRules max) (is, (trace, has)) =
+    subst (λ (n : ℕ). IsReadAs text r.parsed (refusals.LimitRules n)) (sym is) (by_machines text one r (Limit Rules trace) has)
+is_read text one r (refusals.LimitLength max) (is, (trace, has)) =
+    subst (λ (n : ℕ). IsReadAs text r.parsed (refusals.LimitLength n)) (sym is) (by_machines text one r (Limit Length trace) has)
+is_read text one r refusals.NotBuilt (w, whole, asks) = by_world text one r w _ whole.has_world (inr ((whole.told, whole.checked), asks, refl))
+is_read text one r refusals.ReadFault has = absurd has
+is_read text one r refusals.OutOfMemory has = absurd has
+is_read text one r refusals.Usage has = absurd has
+
+same_refused : (a b : Refused) → (let o : Option Refused = Some a in o) ≡ Some b → a ≡ b
+same_refused a b e = cc
+
+never_none : {A : Type 0} (a : Refused) → (let o : Option Refused = Some a in o) ≡ None → A
+never_none a e = absurd (cc)
+
+-- a world is refused so in one way at most
+one_checked : (w v : TextWorld) → AreAlike w v → (refusal other : RefusalKind) → IsCheckedAs w refusal → IsCheckedAs v other → refusal ≡ other
+one_checked w v alike refusal other (inl (r, (t, h), is)) (inl (s, (u, k), same)) =
+    is ∙ ap machine_refusal (same_refused r s (one_check v (alike.checked h) k)) ∙ sym same
+one_checked w v alike refusal other (inl (r, (t, h), is)) (inr ((u, k), asks, same)) = never_none r (one_check v (alike.checked h) k)
+one_checked w v alike refusal other (inr ((t, h), asks, is)) (inl (s, (u, k), same)) = never_none s (sym (one_check v (alike.checked h) k))
+one_checked w v alike refusal other (inr ((t, h), asks, is)) (inr ((u, k), too, same)) = is ∙ sym same
 
 -- a reading has one refusal at most
 one_read : (text : List ℕ) (parsed : Result Skeleton ParseErr) (refusal other : RefusalKind) → IsReadAs text parsed refusal → IsReadAs text parsed other → refusal ≡ other
-one_read text (Ok s) refusal other (e, refuses, is) (f, too, same) = is ∙ ap name_refusal (one_name text s e f refuses too) ∙ sym same
+one_read text (Ok s) refusal other (inl (e, refuses, is)) (inl (f, too, same)) = is ∙ ap name_refusal (one_name text s e f refuses too) ∙ sym same
+one_read text (Ok s) refusal other (inl (e, refuses, is)) (inr (resolve, world)) = absurd (not_refused text s e resolve refuses)
+one_read text (Ok s) refusal other (inr (resolve, world)) (inl (e, refuses, is)) = absurd (not_refused text s e resolve refuses)
+one_read text (Ok s) refusal other (inr (resolve, (w, h, ids, checked))) (inr (also, (v, k, others, too))) = one_checked w v (one_world text s w v h k ids others) refusal other checked too
 one_read text (Err e) refusal other is same = is ∙ sym same
 
 -- a text that is too long is refused for that alone
@@ -183,10 +235,10 @@ is_too_large text long (refusals.NoSuchMember at) has = absurd (omega (arith, lo
 is_too_large text long (refusals.UnknownSignature at) has = absurd (omega (arith, long, has.0))
 is_too_large text long (refusals.WrongArity at) has = absurd (omega (arith, long, has.0))
 is_too_large text long (refusals.Cycle at) has = absurd (omega (arith, long, has.0))
-is_too_large text long (refusals.NotATypeParameter at) has = absurd has
-is_too_large text long (refusals.LimitRules max) has = absurd has
-is_too_large text long (refusals.LimitLength max) has = absurd has
-is_too_large text long refusals.NotBuilt has = absurd has
+is_too_large text long (refusals.NotATypeParameter at) has = absurd (omega (arith, long, has.1.within))
+is_too_large text long (refusals.LimitRules max) has = absurd (omega (arith, long, has.2.1.within))
+is_too_large text long (refusals.LimitLength max) has = absurd (omega (arith, long, has.2.1.within))
+is_too_large text long refusals.NotBuilt has = absurd (omega (arith, long, has.1.has_world.within))
 is_too_large text long refusals.ReadFault has = absurd has
 is_too_large text long refusals.OutOfMemory has = absurd has
 is_too_large text long refusals.Usage has = absurd has
@@ -199,41 +251,27 @@ module _ (text : List ℕ) (all : AreOne text) where
       by (inl long) = is_too_large text long refusal has ∙ sym (is_too_large text long other too)
       by (inr within) =
           let r = reading_of text all within in
-          one_read text r.parsed refusal other (is_read text r refusal has) (is_read text r other too)
+          one_read text r.parsed refusal other (is_read text all r refusal has) (is_read text all r other too)
 
-  -- the text is refused, or it is not too long and has a skeleton
-  abbrev pub HasAnswer : Type 0
-  HasAnswer = ((refusal : RefusalKind) × IsRefused text refusal) ⊎ ((length text ≤ TEXT_LIMIT) × ((skeleton : Skeleton) × StandsFor text skeleton))
-
-  pub some_refusal : HasAnswer
-  some_refusal = by (cases_lt TEXT_LIMIT (length text))
+  pub never_both : (refusal : RefusalKind) (o : Outcome) → IsRefused text refusal → IsAnswered text o → ⊥
+  never_both refusal o has answered = by (reading_of text all answered.whole.has_world.within)
     where
-      by_refusal : length text ≤ TEXT_LIMIT → (e : LexErr) → HasRefusal text e → HasAnswer
-      by_refusal within (lexical.NotUtf8 at) has = inl (refusals.NotUtf8 at, (within, has))
-      by_refusal within (lexical.BadCharacter at) has = inl (refusals.BadCharacter at, (within, has))
-      by_refusal within (lexical.OpenComment at) has = inl (refusals.OpenComment at, (within, has))
-      by_refusal within lexical.Memory has = absurd has
+      world : HasWorld text answered.world
+      world = answered.whole.has_world
 
-      by_verdict : length text ≤ TEXT_LIMIT → ((s : Skeleton) × StandsFor text s) ⊎ ((at : ℕ) × (kind : Option Kind) × RefusedFor text at kind) → HasAnswer
-      by_verdict within (inl stands) = inr (within, stands)
-      by_verdict within (inr (at, None, is_refused)) = inl (refusals.Syntax at, (within, is_refused))
-      by_verdict within (inr (at, Some kind, is_refused)) = inl (refusals.Unsupported at kind, (within, is_refused))
+      not_so : IsReadAs text (Ok world.skeleton) refusal → ⊥
+      not_so (inl (e, refuses, is)) = not_refused text world.skeleton e world.resolve refuses
+      not_so (inr (resolve, (w, h, ids, checked))) = by_check checked
+        where
+          alike : AreAlike w answered.world
+          alike = one_world text world.skeleton w answered.world h world.world ids (has_ids text all answered.world world)
 
-      by_reading : length text ≤ TEXT_LIMIT → ((ts : List lexed.Token) × HasTokens text ts) ⊎ ((e : LexErr) × HasRefusal text e) → HasAnswer
-      by_reading within (inl found) = by_verdict within (all.verdict found.0 found.1)
-      by_reading within (inr has) = by_refusal within has.0 has.1
+          by_check : IsCheckedAs w refusal → ⊥
+          by_check (inl (r, (t, c), is)) = never_none r (one_check answered.world (alike.checked c) answered.whole.checked)
+          by_check (inr ((t, c), asks, is)) = unanswered w answered.world alike o.output asks answered.answers
 
-      by : (TEXT_LIMIT < length text) ⊎ (length text ≤ TEXT_LIMIT) → HasAnswer
-      by (inl long) = inl (refusals.TooLarge, long)
-      by (inr within) = by_reading within all.reading
-
-  pub never_refused : (refusal : RefusalKind) (skeleton : Skeleton) → length text ≤ TEXT_LIMIT → StandsFor text skeleton → Resolve text skeleton → ¬ (IsRefused text refusal)
-  never_refused refusal skeleton within stands resolve has =
-      let r = reading_of text all within in
-      resolved (r.parsed) (is_read text r refusal has) r.real ((r.exact.ok skeleton).1 stands)
-    where
-      resolved : (parsed : Result Skeleton ParseErr) → IsReadAs text parsed refusal → parsed ≢ Err grammar.Memory → (parsed ≡ Ok skeleton) ⊎ (parsed ≡ Err grammar.Memory) → ⊥
-      resolved parsed read real (inr none) = real none
-      resolved parsed read real (inl is) =
-          let found = let P : Result Skeleton ParseErr → Type 0 = λ p. IsReadAs text p refusal in subst P is read in
-          not_refused text skeleton found.0 resolve found.1
+      by : Reading text → ⊥
+      by r = elim ((r.exact.ok world.skeleton).1 world.stands) [
+        | inl is ↦ not_so (subst (λ p. IsReadAs text p refusal) is (is_read text all r refusal has))
+        | inr none ↦ r.real none
+      ]

@@ -1,5 +1,7 @@
-pub mod Answers
-pub mod Plain
+pub mod Machines
+pub mod Ready
+pub mod Replies
 pub mod Reports
 pub mod Runs
+pub mod Told
 pub mod Verdict

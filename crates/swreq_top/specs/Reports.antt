@@ -1,17 +1,16 @@
--- What is answered where the text was read with this result.
-use Rattle.std.specs.Prelude.{◌≡◌, ◌⊎◌, ℕ, List, Result, Ok, Err}
+-- The refusals of the crates below, as refusals of a text.
 use Rattle.swreq_lex.specs.declared.refusal.LexErr.{LexErr}
 use Rattle.swreq_lex.specs.declared.refusal.LexErr.TheVariants as lexical
-use Rattle.swreq_decl.specs.declared.skeleton.Skeleton.{Skeleton}
 use Rattle.swreq_decl.specs.declared.refusal.ParseErr.{ParseErr}
 use Rattle.swreq_decl.specs.declared.refusal.ParseErr.TheVariants as grammar
 use Rattle.swreq_names.specs.declared.refusal.NameErr.{NameErr}
 use Rattle.swreq_names.specs.declared.refusal.NameErr.TheVariants as names
-use Rattle.swreq_names.specs.Names.{Refuses, Resolve}
-use Rattle.swreq_top.specs.declared.outcome.Outcome.{Outcome}
+use Rattle.swreq_complete.specs.declared.limit.Which.TheVariants.{Rules, Length}
+use Rattle.swreq_valid.specs.declared.refused.Refused.{Refused}
+use Rattle.swreq_valid.specs.declared.refused.Refused.TheVariants as machines
 use Rattle.swreq_print.specs.declared.refusal.RefusalKind.{RefusalKind}
 use Rattle.swreq_print.specs.declared.refusal.RefusalKind.TheVariants as refusals
-use Rattle.swreq_top.specs.Verdict.{IsAnswered, refused_with}
+use Rattle.swreq_top.specs.Machines.{limits}
 
 abbrev pub lexical_refusal : LexErr → RefusalKind
 lexical_refusal (lexical.NotUtf8 at) = refusals.NotUtf8 at
@@ -35,16 +34,8 @@ name_refusal (names.WrongArity at) = refusals.WrongArity at
 name_refusal (names.Cycle at) = refusals.Cycle at
 name_refusal names.Memory = refusals.OutOfMemory
 
--- What is answered where this skeleton stands for the text: what its names are refused for, or its answers.
-pub record AnswersSkeleton (text : List ℕ) (skeleton : Skeleton) (o : Outcome) : Type 0 where
-  pub one : (Resolve text skeleton × IsAnswered text skeleton o) ⊎ ((e : NameErr) × Refuses text skeleton e × (o ≡ refused_with (name_refusal e)))
-  pub refused : (e : NameErr) → Refuses text skeleton e → o ≡ refused_with (name_refusal e)
-  pub answered : Resolve text skeleton → IsAnswered text skeleton o
-
--- Of a text that was not read for want of memory nothing is answered.
-abbrev pub Reports : List ℕ → Result Skeleton ParseErr → Outcome → Type 0
-Reports text (Ok skeleton) o = AnswersSkeleton text skeleton o
-Reports text (Err (grammar.Lex fault)) o = o ≡ refused_with (lexical_refusal fault)
-Reports text (Err (grammar.Syntax at)) o = o ≡ refused_with (refusals.Syntax at)
-Reports text (Err (grammar.Unsupported at kind)) o = o ≡ refused_with (refusals.Unsupported at kind)
-Reports text (Err grammar.Memory) o = ⊥
+abbrev pub machine_refusal : Refused → RefusalKind
+machine_refusal (machines.Limit Rules trace) = refusals.LimitRules limits.max_rules
+machine_refusal (machines.Limit Length trace) = refusals.LimitLength limits.max_length
+machine_refusal (machines.NotATypeParameter at) = refusals.NotATypeParameter at
+machine_refusal machines.Memory = refusals.OutOfMemory

@@ -4,6 +4,8 @@ use Rattle.std.specs.Io.KnownBytes.{Appends, IsAtEnd}
 use Rattle.swreq_text.specs.Given.{GivesCount}
 use Rattle.swreq_lex.specs.declared.lexer.TheConstants.{TEXT_LIMIT}
 use Rattle.swreq_print.specs.declared.refusal.TheConstants.{OUT_OF_MEMORY, READ_FAULT, USAGE}
+use Rattle.swreq_watch.specs.declared.events.Event.{Event}
+use Rattle.swreq_top.specs.Told.{WasTold, WasToldPart}
 use Rattle.swreq_top.specs.Verdict.{IsVerdict}
 
 -- The words of the command line are the one word `answer`.
@@ -34,3 +36,11 @@ abbrev pub IsPrinted : (words : List (List ℕ)) (read_failed : Type 0) (left : 
 IsPrinted words read_failed left printed =
     (AreWrong words × (printed ≡ USAGE.now))
     ⊎ (AreRight words × (IsOutput left printed ⊎ ((read_failed × (printed ≡ READ_FAULT.now)) ⊎ (printed ≡ OUT_OF_MEMORY.now))))
+
+-- The watcher was told what the text tells that the source had left.
+abbrev pub TellsVerdict : Option (List ℕ) → Option (List Event) → Option (List Event) → Type 0
+TellsVerdict left old new = IfSome left (λ text. WasTold text old new)
+
+-- It was told that, or a part of it.
+abbrev pub TellsSome : Option (List ℕ) → Option (List Event) → Option (List Event) → Type 0
+TellsSome left old new = IfSome left (λ text. WasTold text old new ⊎ WasToldPart text old new)

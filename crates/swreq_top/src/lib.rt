@@ -1,12 +1,14 @@
 //! The program over any source and sink.
 #![tactic(auto)]
 
+mod answering;
+mod asking;
+mod checking;
 pub mod laws;
 mod outcome;
-mod plain;
 mod program;
+mod ready;
 mod refusal;
-mod search;
 
 pub use outcome::{Outcome, reply};
 pub use program::run;

@@ -6,6 +6,7 @@ use std::alloc::Global;
 use std::process::Abort;
 use std::test::Fail;
 use swreq_text::{MemSink, MemSource, Source};
+use swreq_watch::Quiet;
 
 const INHERITANCE: &[u8] =
     b"protocol Base { }\nprotocol Derived: Base { }\nfunc f<T: Derived, U>()\nquery f(T : Base)\nquery f(U : Base)\n";
@@ -37,7 +38,7 @@ fn runs(
     let mut src = MemSource::new(text.to_vec(alloc)?, 10, vec![in alloc; failing_read]?);
     let mut out = MemSink::new(alloc, 1000, 3, vec![in alloc; failing_write]?)?;
     assert_eq!(rt;
-        run(alloc, &words, &mut src, &mut out),
+        run(alloc, &words, &mut src, &mut out, &mut Quiet),
         status,
         "at {taken}"
     );
@@ -88,7 +89,7 @@ fn wrong_words_read_nothing(rt: HostRuntime) -> Result<(), Fail> {
     let alloc = rt.alloc();
     let mut src = MemSource::new(b"query".to_vec(alloc)?, 10, Vec::new(alloc));
     let mut out = MemSink::new(alloc, 1000, 1000, Vec::new(alloc))?;
-    assert_eq!(rt; run(alloc, &[], &mut src, &mut out), 2);
+    assert_eq!(rt; run(alloc, &[], &mut src, &mut out, &mut Quiet), 2);
     let mut buf = [0u8; 10];
     assert_eq!(rt; src.read(&mut buf), Ok(5));
     Ok(())
@@ -113,7 +114,7 @@ fn a_text_past_the_limit_is_too_large(rt: HostRuntime) -> Result<(), Fail> {
 fn replies(rt: &impl Abort, alloc: Global, text: &str, status: u8, output: &str) -> Result<(), Fail>
     requires { length text.now ≤ TEXT_LIMIT }
 {
-    let outcome = reply(alloc, text.as_bytes())?;
+    let outcome = reply(alloc, text.as_bytes(), &mut Quiet)?;
     assert_eq!(rt; outcome.status, status, "at {text}");
     assert_eq!(rt; outcome.output.items(), output.as_bytes(), "at {text}");
     Ok(())
@@ -142,7 +143,7 @@ fn a_text_outside_the_language_is_refused_with_its_reason_and_place(
         assert!(rt; text.len() <= 100);
         replies(&rt, rt.alloc(), text, 1, line)?;
     }
-    let outcome = reply(rt.alloc(), &[0x2F, 0x2F, 0xFF])?;
+    let outcome = reply(rt.alloc(), &[0x2F, 0x2F, 0xFF], &mut Quiet)?;
     assert_eq!(rt;
         outcome.output.items(),
         b"error: not UTF-8 at 2\n".as_slice()
@@ -192,59 +193,103 @@ fn a_text_whose_names_do_not_resolve_is_refused_with_its_reason_and_place(
     Ok(())
 }
 
+/// A hierarchy of collections, with the queries on it, and their answers.
+const COLLECTIONS: (&str, &str) = (
+    "protocol IteratorProtocol { associatedtype Element }
+protocol Sequence {
+  associatedtype Iterator: IteratorProtocol
+  associatedtype Element where Iterator.Element == Element
+}
+protocol Equatable { }
+protocol Collection: Sequence {
+  associatedtype Index
+  associatedtype SubSequence: Collection where SubSequence.Element == Element, SubSequence.Index == Index, SubSequence.SubSequence == SubSequence
+  associatedtype Indices: Collection where Indices.Element == Index, Indices.Index == Index, Indices.SubSequence == Indices
+}
+protocol BidirectionalCollection: Collection {
+  associatedtype SubSequence: BidirectionalCollection
+  associatedtype Indices: BidirectionalCollection
+}
+func f<C: BidirectionalCollection & Sequence>() where C.Element: Equatable { }
+query f(C.SubSequence.Element : Equatable)
+query f(C.SubSequence.SubSequence.Iterator.Element)
+query f(C.Indices.Indices : BidirectionalCollection)
+query f(C.SubSequence.Indices.Element)
+query f(C.Indices.Indices.SubSequence)
+query f(C.Element == C.Index)
+query f(C.Iterator : Sequence)
+",
+    "yes\nτ_0_0.[Sequence]Element\nyes\nτ_0_0.[Collection]Index\nτ_0_0.[Collection]Indices.[Collection]Indices\nno\nno\n",
+);
+
 #[test]
-fn a_plain_text_is_answered_along_inheritance(rt: HostRuntime) -> Result<(), Fail> {
+fn a_text_is_answered_by_what_is_derivable(rt: HostRuntime) -> Result<(), Fail> {
     let cases = [
+        COLLECTIONS,
         ("/* a /* b */ c */", ""),
         (
-            "protocol C: B { } protocol B: A { } protocol A { } func f<T: C>() query f(T : A) query f(T : C)",
-            "yes\nyes\n",
+            "protocol N { associatedtype Next: N } func f<T: N>() query f(T.Next.Next.Next : N) query f(T.Next == T.Next.Next) query f(T.Missing : N) query f(T.Next.Next)",
+            "yes\nno\ninvalid\nτ_0_0.[N]Next.[N]Next\n",
         ),
         (
-            "protocol A { } protocol B: A { } func f<T: A>() query f(T : B)",
-            "no\n",
+            "protocol P { associatedtype A } protocol Q { associatedtype A } func f<T: P & Q>() func g<T: P>() query f(T.[P]A == T.[Q]A) query f(T.A) query g(T.[Q]A) query g(T.[Q]A : P)",
+            "yes\nτ_0_0.[P]A\ninvalid\ninvalid\n",
         ),
         (
-            "protocol A { } protocol B: A & A { } protocol C: A, B { } func f<T: A & C, U>(); query f(T: B); query f(U: A)",
-            "yes\nno\n",
+            "protocol Late { associatedtype Next: Late } protocol Early: Late { associatedtype Next: Early } func f<T: Early>() query f(T.Next) query f(T.Next.Next : Early) query f(T.Next.Next)",
+            "τ_0_0.[Late]Next\nyes\nτ_0_0.[Late]Next.[Late]Next\n",
         ),
         (
-            "func f<T: P>() func g<T>() protocol P { } query f(T : P) query g(T : P)",
-            "yes\nno\n",
-        ),
-        (
-            "public protocol query { } private func f<query: query>() { } query f(query : query)",
+            "protocol P { associatedtype B where B == Self } func f<X: P, Y>() where X.B == Y query f(Y : P)",
             "yes\n",
+        ),
+        (
+            "protocol P: AnyObject { } func f<T: P, U>() where U == T func g<T: AnyObject, U>() where T == U query f(U : AnyObject) query g(U)",
+            "yes\nτ_0_0\n",
+        ),
+        (
+            "protocol P { associatedtype A } struct S<T: P> { func f<U: P>() where U.A == T.A { } } query S.f(U.A) query S.f(U) query S(T.A)",
+            "τ_0_0.[P]A\nτ_1_0\nτ_0_0.[P]A\n",
+        ),
+        (
+            "protocol Sequence<Element> { associatedtype Element } func f<S: Sequence<E>, E>() func g<S: Sequence, E>() where S.Element == E query f(S.Element) query g(E == S.Element)",
+            "τ_0_1\nyes\n",
         ),
     ];
     for (text, output) in cases {
-        assert!(rt; text.len() <= 200);
+        assert!(rt; text.len() <= 2000);
         replies(&rt, rt.alloc(), text, 0, output)?;
     }
     Ok(())
 }
 
 #[test]
-fn a_text_that_cannot_be_answered_yet_is_refused(rt: HostRuntime) -> Result<(), Fail> {
+fn a_text_whose_machines_are_refused_has_one_line(rt: HostRuntime) -> Result<(), Fail> {
     let cases = [
-        "func f<T>() where T == T",
-        "protocol Q { } protocol P where Self: Q { }",
-        "protocol P { associatedtype A }",
-        "protocol P: AnyObject { }",
-        "func f<T: AnyObject>()",
-        "protocol P { } func f<T: P>() query f(T.A : P)",
-        "func f<T>() query f(T : AnyObject)",
-        "func f<T>() query f(T)",
-        "func f<T>() query f(T == T)",
-        "func f<T>() query f()",
-        "struct S { }",
-        "struct S { func f<T>() } query S.f()",
-        "protocol P<A> { associatedtype A }",
-        "protocol P<A> { associatedtype A } func f<T: P<T>>()",
+        (
+            "protocol P { associatedtype A }\nprotocol Q { associatedtype B: P }\nfunc f<T>() where T.A: Q, T.A.B == T {}\n",
+            1,
+            "error: not a type parameter at 85\n",
+        ),
+        (
+            "protocol N { associatedtype A: N } func f<T: N>() where T.A.A.A.A.A.A.A.A.A.A.A.A.A.A.A.A.A.A.A.A.A.A.A.A.A.A.A.A.A.A.A.A.A.A.A.A.A.A.A.A.A.A.A.A.A.A.A.A.A.A.A.A.A.A.A.A.A.A.A.A.A.A.A.A.A.A == T func g<T>() where T.A == T",
+            3,
+            "error: rule longer than 64 symbols\n",
+        ),
+        (
+            "protocol P { } func f<T: P>() func g<T>() where T.A == T query f(T : P)",
+            1,
+            "error: not a type parameter at 48\n",
+        ),
+        (
+            "func f<T>() query f() query f(T)",
+            1,
+            "error: not built\n",
+        ),
     ];
-    for text in cases {
-        assert!(rt; text.len() <= 100);
-        replies(&rt, rt.alloc(), text, 1, "error: not built\n")?;
+    for (text, status, output) in cases {
+        assert!(rt; text.len() <= 300);
+        replies(&rt, rt.alloc(), text, status, output)?;
     }
     Ok(())
 }

@@ -1,9 +1,10 @@
 use Rattle.std.proofs.Common.{◌≢◌, ℕ, List, IfSome, Err, ap, subst, sym, inl, inr}
 use Rattle.std.specs.Io.KnownBytes.{Appends}
 use Rattle.swreq_text.specs.Given.{AppendsPart}
-use Rattle.swreq_top.specs.Runs.{DeliversVerdict}
+use Rattle.swreq_top.specs.Runs.{DeliversVerdict, TellsVerdict}
+use Rattle.swreq_top.specs.Told.{WasTold}
 use Rattle.swreq_top.specs.Verdict.{IsVerdict}
-use Rattle.swreq_top.proofs.Verdicts.{delivered, output_of, read_too_large, read_whole, too_large_output, whole_output, written}
+use Rattle.swreq_top.proofs.Verdicts.{delivered, output_of, read_too_large, read_whole, told_some, too_large_output, too_large_told, whole_output, whole_part, whole_told, written}
 use Rattle.swreq_top.proofs.program.run.Given as given
 use Rattle.swreq_top.proofs.program.run.Goals as goal
 
@@ -51,3 +52,20 @@ returns-in-Ok-reply-clause-read g c answered = read_whole _ _ c.in-Ok.text.items
 
 pub returns-in-Err-TooLarge-clause-read : goal.returns-in-Err-TooLarge-clause-read
 returns-in-Err-TooLarge-clause-read g c answered = read_too_large _ _ (c.in-Err-TooLarge.ensures.too_large (ap Err c.in-Err-TooLarge.field-0-is))
+
+-- the watcher was told what the source's text tells
+told : (g : given.Over) (c : goal.After-drop-text g) → TellsVerdict (g.S.Source.left c.args.src.now) (g.W.Watch.told c.args.watch.now) (g.W.Watch.told c.reply.new.watch)
+told g c = whole_told _ _ c.in-Ok.text.items _ _ c.in-Ok.ensures.all c.in-Ok.ensures.end
+    (subst (λ (t : List ℕ). WasTold t (g.W.Watch.told c.args.watch.now) (g.W.Watch.told c.reply.new.watch)) c.deref.ensures.value c.in-Ok-reply.ensures.told)
+
+pub returns-in-Ok-reply-clause-told : goal.returns-in-Ok-reply-clause-told
+returns-in-Ok-reply-clause-told g c answered = told g c
+
+pub returns-in-Ok-reply-clause-told_part : goal.returns-in-Ok-reply-clause-told_part
+returns-in-Ok-reply-clause-told_part g c = told_some _ _ _ (told g c)
+
+pub returns-in-Err-TooLarge-clause-told : goal.returns-in-Err-TooLarge-clause-told
+returns-in-Err-TooLarge-clause-told g c answered = too_large_told _ _ _ (c.in-Err-TooLarge.ensures.too_large (ap Err c.in-Err-TooLarge.field-0-is))
+
+pub returns-in-Err-TooLarge-clause-told_part : goal.returns-in-Err-TooLarge-clause-told_part
+returns-in-Err-TooLarge-clause-told_part g c = told_some _ _ _ (too_large_told _ _ _ (c.in-Err-TooLarge.ensures.too_large (ap Err c.in-Err-TooLarge.field-0-is)))

@@ -1,0 +1,142 @@
+-- The check of a text: its parts one after another, and what a check without a refusal gives.
+use Rattle.std.proofs.Common.{◌≡◌, ◌≢◌, ◌∙◌, inl, inr, refl, sym, ap, subst, ℕ, List, [], ◌∷◌, ◌++◌, append_assoc, Contains, Option, Some, None, Result, Ok, Err, map, length, ◌<◌, get_or}
+use Rattle.std.proofs.lemmas.Bool.{cases_lt}
+use Rattle.std.proofs.lemmas.List.{get_or_past}
+use Rattle.std.proofs.lemmas.List.Elements.{Contains-append_cases, Contains-append_left, Contains-append_right}
+use Rattle.swreq_derive.specs.Derivation.{Source, TermFacts, TermRequirement}
+use Rattle.swreq_derive.specs.Derivation.Source.{SelfOf}
+use Rattle.swreq_derive.specs.Derivation.TermRequirement.{Conforms, IsAnyObject, Equals}
+use Rattle.swreq_derive.specs.WellFormed.{AreProtocolsWellFormed, HasValidSides, IsListWellFormed, IsWellFormed}
+use Rattle.swreq_derive.proofs.Members.{first_member, later_member, member_cases, no_member}
+use Rattle.swreq_param.specs.declared.ids.ProtoId.{ProtoId}
+use Rattle.swreq_rule.specs.declared.rules.Rule.{Rule}
+use Rattle.swreq_complete.specs.Limits.{IsWithin}
+use Rattle.swreq_rounds.specs.Plan.{Plan, given}
+use Rattle.swreq_rounds.specs.Rounds.{ComesTo, IsOutcome}
+use Rattle.swreq_rounds.proofs.Members.{contains_of_map}
+use Rattle.swreq_watch.specs.declared.events.Event.{Event}
+use Rattle.swreq_written.specs.Requirements.{PlacedRequirement}
+use Rattle.swreq_world.specs.Closed.{IsClosed}
+use Rattle.swreq_world.specs.Worlds.{SignatureOver, TextWorld, requirements_of}
+use Rattle.swreq_shown.specs.Meaning.{facts_of}
+use Rattle.swreq_valid.specs.Built.{IsBuilt}
+use Rattle.swreq_valid.specs.Machines.{list_of, protocols_of}
+use Rattle.swreq_valid.specs.Sides.{HoldsOfEach, IsValidSide, Side, protocol_sides, sides, sides_at, sides_in, sides_of}
+use Rattle.swreq_valid.specs.declared.refused.Refused.{Refused}
+use Rattle.swreq_valid.specs.declared.refused.Refused.TheVariants.{Limit, NotATypeParameter, Memory}
+use Rattle.swreq_top.specs.Machines.{IsChecked, ProtocolsCome, SignatureComes, SignaturesCome, limits, source_of, written_list}
+use Rattle.swreq_top.specs.Machines.IsChecked.{protocols_built, protocols_refused}
+use Rattle.swreq_top.specs.Machines.SignaturesCome.{all, next, stopped}
+use Rattle.swreq_top.specs.Told.{CheckTells, SignaturesTell}
+use Rattle.swreq_top.specs.Told.CheckTells.{in_protocols, past_protocols}
+use Rattle.swreq_top.specs.Told.SignaturesTell.{nothing_yet, in_first, past_first}
+
+abbrev Signatures : Type 0
+Signatures = List (SignatureOver PlacedRequirement)
+
+module _ (w : TextWorld) (rules : List Rule) where
+  -- ---- signatures after signatures
+
+  pub come_on : {gs hs : Signatures} {refused : Option Refused} {a b : List Event} → SignaturesCome w rules gs None a → SignaturesCome w rules hs refused b
+      → SignaturesCome w rules (gs ++ hs) refused (a ++ b)
+  come_on all h = h
+  come_on {_} {_} {_} {_} {b} (next {_} {_} {_} {first} {more} own one rest e) h =
+      next own one (come_on rest h) (ap (λ (t : List Event). t ++ b) e ∙ append_assoc first more b)
+
+  pub tell_on : {gs hs : Signatures} {a b : List Event} → SignaturesCome w rules gs None a → SignaturesTell w rules hs b → SignaturesTell w rules (gs ++ hs) (a ++ b)
+  tell_on all h = h
+  tell_on {_} {_} {_} {b} (next {_} {_} {_} {first} {more} own one rest e) h =
+      past_first own one (tell_on rest h) (ap (λ (t : List Event). t ++ b) e ∙ append_assoc first more b)
+
+-- ---- a check that is done tells all that it tells
+
+module _ (plan : Plan) where
+  ends_come : (rules : List Rule) (told : List Event) → IsOutcome limits plan (Ok rules) told → ComesTo limits plan told
+  ends_come rules told (used, last) =
+      let within : IsWithin limits (length plan.base) (given plan used) rules =
+      record { reached = last.ends.1.ended.reached; kept = λ k rule b s e. last.ends.1.kept k rule b e } in
+      record { used = used; before = last.before; round = last.round; part = inr (rules, last.ends.0, within, last.told_is) }
+
+  built_comes : (f : TermFacts) (all : List Side) (answer : Result (List Rule) Refused) (told : List Event) → answer ≢ Err Memory → IsBuilt limits plan f all answer told → ComesTo limits plan told
+  built_comes f all (Ok rules) told real h = ends_come rules told h.0
+  built_comes f all (Err (Limit which trace)) told real h =
+      record { used = h.used; before = h.before; round = h.round; part = inr (trace, h.stops.0, h.stops.1.within, h.told_is) }
+  built_comes f all (Err (NotATypeParameter at)) told real (rules, h, fails) = ends_come rules told h
+  built_comes f all (Err Memory) told real h = absurd (real refl)
+
+  refused_comes : (f : TermFacts) (all : List Side) (refused : Refused) (told : List Event) → refused ≢ Memory → IsBuilt limits plan f all (Err refused) told → ComesTo limits plan told
+  refused_comes f all refused told real h = built_comes f all (Err refused) told (λ is. real (inner refused is)) h
+    where
+      inner : (r : Refused) → (let a : Result (List Rule) Refused = Err r in a) ≡ Err Memory → r ≡ Memory
+      inner r e = cc
+
+signatures_tell : (w : TextWorld) (rules : List Rule) {gs : Signatures} {refused : Option Refused} {told : List Event} → SignaturesCome w rules gs refused told → SignaturesTell w rules gs told
+signatures_tell w rules all = nothing_yet
+signatures_tell w rules (next own one rest e) = past_first own one (signatures_tell w rules rest) e
+signatures_tell w rules {_} {_} {told} (stopped {g} refused real come) =
+    in_first (refused_comes (list_of w rules g.params (written_list g)) (facts_of w) (sides (source_of g) g.requirements) refused told real come)
+
+pub check_tells : (w : TextWorld) {refused : Option Refused} {told : List Event} → IsChecked w refused told → CheckTells w told
+check_tells w {_} {told} (protocols_refused refused real come) = in_protocols (refused_comes (protocols_of w) (facts_of w) (protocol_sides w) refused told real come)
+check_tells w (protocols_built rules come signatures e) = past_protocols rules come (signatures_tell w rules signatures) e
+
+-- ---- well formed texts
+
+of_sides : (f : TermFacts) (s : Source) (r : TermRequirement) (left right : ℕ) → HoldsOfEach (IsValidSide f) (sides_at s r left right) → HasValidSides f s r
+of_sides f s (Conforms t p) left right h = h (record { source = s; term = t; at = left }) (first_member _ [])
+of_sides f s (IsAnyObject t) left right h = h (record { source = s; term = t; at = left }) (first_member _ [])
+of_sides f s (Equals t u) left right h = (
+  h (record { source = s; term = t; at = left }) (first_member _ _),
+  h (record { source = s; term = u; at = right }) (later_member _ _ _ (first_member _ [])),
+)
+
+in_sides : (s : Source) (rs : List PlacedRequirement) (r : PlacedRequirement) (x : Side) → Contains rs r → Contains (sides_of s r) x → Contains (sides s rs) x
+in_sides s [] r x c k = no_member r c
+in_sides s (q ∷ rs) r x c k = elim (member_cases q r rs c) [
+  | inl e ↦ Contains-append_left (sides_of s q) (sides s rs) x (subst (λ (z : PlacedRequirement). Contains (sides_of s z) x) e k)
+  | inr d ↦ Contains-append_right (sides_of s q) (sides s rs) x (in_sides s rs r x d k)
+]
+
+-- a list whose sides are valid is well formed
+of_list : (f : TermFacts) (s : Source) (rs : List PlacedRequirement) → HoldsOfEach (IsValidSide f) (sides s rs) → (r : TermRequirement)
+    → Contains (map (λ (q : PlacedRequirement). q.requirement) rs) r → HasValidSides f s r
+of_list f s rs h r c =
+    let q = contains_of_map (λ (q : PlacedRequirement). q.requirement) rs r c in
+    subst (HasValidSides f s) (sym q.2) (of_sides f s q.0.requirement q.0.left_at q.0.right_at (λ x k. h x (in_sides s rs q.0 x q.1 k)))
+
+in_protocols_sides : (w : TextWorld) (ps : List ProtoId) (p : ProtoId) (x : Side) → Contains ps p → Contains (sides (SelfOf p) (requirements_of w p)) x → Contains (sides_in w ps) x
+in_protocols_sides w [] p x c k = no_member p c
+in_protocols_sides w (q ∷ ps) p x c k = elim (member_cases q p ps c) [
+  | inl e ↦ Contains-append_left (sides (SelfOf q) (requirements_of w q)) (sides_in w ps) x (subst (λ (z : ProtoId). Contains (sides (SelfOf z) (requirements_of w z)) x) e k)
+  | inr d ↦ Contains-append_right (sides (SelfOf q) (requirements_of w q)) (sides_in w ps) x (in_protocols_sides w ps p x d k)
+]
+
+module _ (w : TextWorld) (closed : IsClosed w) where
+  protocol_declared : (p : ProtoId) (r : PlacedRequirement) → Contains (requirements_of w p) r → Contains w.lexicon.written_order p
+  protocol_declared p r c = elim (cases_lt p.rank (length w.requirements)) [
+    | inl l ↦ (closed.ids.written_order p).1 (subst (λ (n : ℕ). p.rank < n) closed.protocols l)
+    | inr l ↦ no_member r (subst (λ (z : List PlacedRequirement). Contains z r) (get_or_past w.requirements p.rank [] l) c)
+  ]
+
+  protocols_formed : HoldsOfEach (IsValidSide (facts_of w)) (protocol_sides w) → AreProtocolsWellFormed (facts_of w)
+  protocols_formed h p r c =
+      let q = contains_of_map (λ (q : PlacedRequirement). q.requirement) (requirements_of w p) r c in
+      of_list (facts_of w) (SelfOf p) (requirements_of w p)
+      (λ x k. h x (in_protocols_sides w w.lexicon.written_order p x (protocol_declared p q.0 q.1) k)) r c
+
+  lists_formed : (rules : List Rule) {gs : Signatures} {told : List Event} → SignaturesCome w rules gs None told → (g : SignatureOver PlacedRequirement)
+      → Contains gs g → IsListWellFormed (facts_of w) (source_of g)
+  lists_formed rules all g c = no_member g c
+  lists_formed rules (next {h} {gs} own one rest e) g c = elim (member_cases h g gs c) [
+    | inl i ↦ subst (λ (z : SignatureOver PlacedRequirement). IsListWellFormed (facts_of w) (source_of z)) (sym i)
+        (λ r k. of_list (facts_of w) (source_of h) h.requirements one.1 r k)
+    | inr k ↦ lists_formed rules rest g k
+  ]
+
+  -- a text that is not refused is well formed
+  pub is_formed : {told : List Event} → IsChecked w None told → IsWellFormed (facts_of w) (map source_of w.signatures)
+  is_formed (protocols_built rules come signatures e) = record {
+    protocols = protocols_formed come.1;
+    lists = λ s c. let g = contains_of_map source_of w.signatures s c in
+    subst (IsListWellFormed (facts_of w)) (sym g.2) (lists_formed rules signatures g.0 g.1);
+  }

@@ -1,0 +1,180 @@
+-- The signatures of a world over ids, and their check one after another.
+use Rattle.std.proofs.Common.{◌≡◌, ◌≢◌, ◌⊎◌, ◌∙◌, inl, inr, refl, sym, ap, ap₂, subst, ℕ, zero, suc, ◌+◌, ◌<◌, ◌≤◌, arith, Bool, true, false, nat_eq, List, [], ◌∷◌, ◌++◌, append_assoc, append-nil, take, drop, get_or, length, map, slice_get, Contains, Option, Some, None, Result, Ok, Err, true≢false, eqb-true}
+use Rattle.std.specs.List.{list_any}
+use Rattle.std.proofs.lemmas.Bool.{cases_lt}
+use Rattle.std.proofs.lemmas.List.{get_or_default, length-map, take-append-drop, take_all, take_more}
+use Rattle.std.proofs.lemmas.Option.{same_Some}
+use Rattle.std.proofs.Math.ListN.{get_or-map}
+use Rattle.swreq_derive.specs.declared.requirements.Requirement.{Requirement}
+use Rattle.swreq_derive.specs.Derivation.{TermRequirement}
+use Rattle.swreq_derive.specs.Derivation.Source.{Written as WrittenList}
+use Rattle.swreq_derive.specs.Facts.{generic_params, requirement_of}
+use Rattle.swreq_param.specs.Terms.{Term}
+use Rattle.swreq_rule.specs.declared.rules.Rule.{Rule}
+use Rattle.swreq_rounds.proofs.Members.{contains_of_map}
+use Rattle.swreq_watch.specs.declared.events.Event.{Event}
+use Rattle.swreq_watch.specs.Told.{GrewBy}
+use Rattle.swreq_watch.proofs.Told.{grew_none, grew_on}
+use Rattle.swreq_world.proofs.WrittenOrder.{drop_at}
+use Rattle.swreq_written.specs.declared.ids.FuncId.{FuncId}
+use Rattle.swreq_written.specs.declared.ids.Query.{Query}
+use Rattle.swreq_written.specs.declared.ids.Query.TheVariants as queries
+use Rattle.swreq_written.specs.declared.ids.Written.{Written}
+use Rattle.swreq_written.specs.ByTable.{placed, placed_by, query_by}
+use Rattle.swreq_written.specs.Queries.{TermQuery}
+use Rattle.swreq_written.specs.Requirements.{PlacedRequirement}
+use Rattle.swreq_world.specs.ByTable.{signature_by, world_by}
+use Rattle.swreq_world.specs.Worlds.{IdWorld, SignatureOver, TextWorld, no_signature, signature_at}
+use Rattle.swreq_shown.specs.Meaning.{facts_of}
+use Rattle.swreq_valid.specs.Built.{Builds}
+use Rattle.swreq_valid.specs.Machines.{list_of, protocols_of}
+use Rattle.swreq_valid.specs.Plans.{bare, listed}
+use Rattle.swreq_valid.specs.Sides.{protocol_sides, sides}
+use Rattle.swreq_valid.specs.declared.refused.Refused.{Refused}
+use Rattle.swreq_valid.specs.declared.refused.Refused.TheVariants.{Limit, NotATypeParameter, Memory}
+use Rattle.swreq_top.specs.declared.ready.Ready.{Ready}
+use Rattle.swreq_top.specs.Machines.{SignatureComes, SignaturesCome, limits, source_of, written_list}
+use Rattle.swreq_top.specs.Machines.IsChecked.{protocols_built, protocols_refused}
+use Rattle.swreq_top.specs.Machines.SignaturesCome.{all, next, stopped}
+use Rattle.swreq_top.specs.Ready.{AreKept, Checks, ChecksAll, ChecksOne, IsKept, function_of}
+use Rattle.swreq_top.specs.Told.{SignaturesTell}
+use Rattle.swreq_top.specs.Told.CheckTells.{in_protocols, past_protocols}
+use Rattle.swreq_top.specs.Told.SignaturesTell.{nothing_yet, in_first, past_first}
+use Rattle.swreq_top.specs.Verdict.{signature_of}
+use Rattle.swreq_top.proofs.Checked.{come_on, tell_on}
+use Rattle.swreq_top.proofs.OneWorld.{any_in}
+
+-- ---- one signature
+
+pub signature_is : (w : IdWorld) (terms : List Term) (f : FuncId) → signature_at (world_by terms w) f ≡ signature_by terms (signature_at w f)
+signature_is w terms f = get_or-map (signature_by terms) w.signatures f.place no_signature
+
+pub list_is : (terms : List Term) (rs : List Written) → listed terms (bare rs) ≡ map (λ (r : PlacedRequirement). r.requirement) (placed terms rs)
+list_is terms [] = refl
+list_is terms (r ∷ rs) = ap (λ (xs : List TermRequirement). requirement_of terms r.requirement ∷ xs) (list_is terms rs)
+
+-- what building a machine says, of the signature
+pub built : (w : IdWorld) (terms : List Term) (base : List Rule) (f : FuncId) (old new : Option (List Event)) (answer : Result (List Rule) Refused)
+    → (let h : SignatureOver Written = signature_at w f in
+    Builds limits (list_of (world_by terms w) base h.params (listed terms (bare h.requirements))) (facts_of (world_by terms w))
+    (sides (WrittenList (generic_params h.params) (listed terms (bare h.requirements))) (placed terms h.requirements)) old new answer)
+    → (let g : SignatureOver PlacedRequirement = signature_at (world_by terms w) f in
+    Builds limits (list_of (world_by terms w) base g.params (written_list g)) (facts_of (world_by terms w)) (sides (source_of g) g.requirements) old new answer)
+built w terms base f old new answer b =
+    subst (λ (g : SignatureOver PlacedRequirement).
+    Builds limits (list_of (world_by terms w) base g.params (written_list g)) (facts_of (world_by terms w)) (sides (source_of g) g.requirements) old new answer)
+    (sym (signature_is w terms f))
+    (subst (λ (rs : List TermRequirement). Builds limits (list_of (world_by terms w) base (signature_at w f).params rs) (facts_of (world_by terms w))
+    (sides (WrittenList (generic_params (signature_at w f).params) rs) (placed terms (signature_at w f).requirements)) old new answer)
+    (list_is terms (signature_at w f).requirements) b)
+
+module _ (w : TextWorld) (base : List Rule) (g : SignatureOver PlacedRequirement) (old new : Option (List Event)) where
+  abbrev BuildsIt : Result (List Rule) Refused → Type 0
+  BuildsIt = Builds limits (list_of w base g.params (written_list g)) (facts_of w) (sides (source_of g) g.requirements) old new
+
+  pub one_refused : (e : Refused) → BuildsIt (Err e) → ChecksOne w base g old new (Err e)
+  one_refused (Limit which trace) b = b
+  one_refused (NotATypeParameter at) b = b
+  one_refused Memory b = (b.0, inl b.1, b.2)
+
+  pub one_kept : (rules : List Rule) (entry : Option Ready) → BuildsIt (Ok rules) → ChecksOne w base g old new (Ok entry)
+  one_kept rules entry b = (b.0, (rules, b.1), b.2)
+
+  pub one_lost : (rules : List Rule) → BuildsIt (Ok rules) → ChecksOne w base g old new (Err Memory)
+  one_lost rules b = (b.0, inr (rules, b.1), b.2)
+
+-- ---- a signature that no query asks
+
+asked_alike : (terms : List Term) (q : Query) → signature_of (query_by terms q) ≡ function_of q
+asked_alike terms (queries.Signature f) = refl
+asked_alike terms (queries.Reduced f t) = refl
+asked_alike terms (queries.Conf f t p) = refl
+asked_alike terms (queries.Layout f t) = refl
+asked_alike terms (queries.Same f t u) = refl
+
+eqb_same : (m n : ℕ) → m ≡ n → nat_eq m n ≡ true
+eqb_same m n e = (omega arith)
+
+pub not_kept : (w : IdWorld) (terms : List Term) (f : FuncId) → list_any (λ q. nat_eq (function_of q).place f.place) w.queries ≡ false → IsKept (world_by terms w) f None
+not_kept w terms f no q c e =
+    let of = contains_of_map (query_by terms) w.queries q c in
+    let same : (function_of of.0).place ≡ f.place = ap (λ (g : FuncId). g.place) (sym (asked_alike terms of.0)) ∙ ap (λ (z : TermQuery). (signature_of z).place) (sym of.2) ∙ e in
+    true≢false (sym (any_in (λ q. nat_eq (function_of q).place f.place) w.queries of.0 of.1 (eqb_same _ _ same)) ∙ no)
+
+-- ---- one after another
+
+-- The first k signatures came to rules, and this was told.
+abbrev pub CameFirst : TextWorld → List Rule → ℕ → Option (List Event) → Option (List Event) → Type 0
+CameFirst w base k old new = (told : List Event) × SignaturesCome w base (take k w.signatures) None told × GrewBy old new told
+
+module _ (w : TextWorld) (base : List Rule) (old : Option (List Event)) where
+  pub came_none : CameFirst w base 0 old old
+  came_none = ([], all, grew_none old)
+
+  came_one : (g : SignatureOver PlacedRequirement) (told : List Event) → (own : List Rule) × SignatureComes w base g (Ok own) told → SignaturesCome w base (g ∷ []) None told
+  came_one g told (own, come) = next own come all (sym (append-nil told))
+
+  pub came_more : (k : ℕ) (mid new : Option (List Event)) (entry : Option Ready) → k < length w.signatures → CameFirst w base k old mid
+      → ChecksOne w base (signature_at w (record { place = k })) mid new (Ok entry) → CameFirst w base (k + 1) old new
+  came_more k mid new entry l (a, h, grew) (b, come, more) =
+      (a ++ b, subst (λ (gs : List (SignatureOver PlacedRequirement)). SignaturesCome w base gs None (a ++ b)) (sym (take_more w.signatures k no_signature l))
+      (come_on w base h (came_one (signature_at w (record { place = k })) b come)), grew_on old mid new a b grew more)
+
+  pub came_all : (k : ℕ) (new : Option (List Event)) (v : List (Option Ready)) → length w.signatures ≤ k → CameFirst w base k old new → ChecksAll w base old new (Ok v)
+  came_all k new v l (a, h, grew) = (a, subst (λ (gs : List (SignatureOver PlacedRequirement)). SignaturesCome w base gs None a) (take_all k w.signatures l) h, grew)
+
+  module _ (k : ℕ) (mid new : Option (List Event)) (l : k < length w.signatures) (first : CameFirst w base k old mid) where
+    abbrev g : SignatureOver PlacedRequirement
+    g = signature_at w (record { place = k })
+
+    split : take k w.signatures ++ (g ∷ drop (k + 1) w.signatures) ≡ w.signatures
+    split =
+        ap (λ (gs : List (SignatureOver PlacedRequirement)). take k w.signatures ++ gs) (sym (drop_at w.signatures k g l (get_or_default w.signatures k no_signature g l)))
+        ∙ take-append-drop k w.signatures
+
+    pub stopped_at : (e : Refused) → ChecksOne w base g mid new (Err e) → ChecksAll w base old new (Err e)
+    stopped_at (Limit which trace) (b, come, more) =
+        (first.0 ++ b, subst (λ (gs : List (SignatureOver PlacedRequirement)). SignaturesCome w base gs (Some (Limit which trace)) (first.0 ++ b)) split
+        (come_on w base first.1 (stopped (Limit which trace) (λ is. (cc)) come)), grew_on old mid new first.0 b first.2 more)
+    stopped_at (NotATypeParameter at) (b, come, more) =
+        (first.0 ++ b, subst (λ (gs : List (SignatureOver PlacedRequirement)). SignaturesCome w base gs (Some (NotATypeParameter at)) (first.0 ++ b)) split
+        (come_on w base first.1 (stopped (NotATypeParameter at) (λ is. (cc)) come)), grew_on old mid new first.0 b first.2 more)
+    stopped_at Memory (b, come, more) =
+        (first.0 ++ b, subst (λ (gs : List (SignatureOver PlacedRequirement)). SignaturesTell w base gs (first.0 ++ b)) split
+        (tell_on w base first.1 (elim come [ inl part ↦ in_first part | inr whole ↦ past_first whole.0 whole.1 nothing_yet (sym (append-nil b)) ])), grew_on old mid new first.0 b first.2 more)
+
+    pub lost_at : (entry : Option Ready) → ChecksOne w base g mid new (Ok entry) → ChecksAll w base old new (Err Memory)
+    lost_at entry (b, come, more) = stopped_at Memory (b, inr come, more)
+
+-- ---- the protocols, and then the signatures
+
+module _ (w : TextWorld) (old new : Option (List Event)) where
+  abbrev BuildsProtocols : Option (List Event) → Result (List Rule) Refused → Type 0
+  BuildsProtocols mid = Builds limits (protocols_of w) (facts_of w) (protocol_sides w) old mid
+
+  pub protocols_failed : (e : Refused) → BuildsProtocols new (Err e) → Checks w old new (Err e)
+  protocols_failed (Limit which trace) (told, h, grew) = (told, protocols_refused (Limit which trace) (λ is. (cc)) h, grew)
+  protocols_failed (NotATypeParameter at) (told, h, grew) = (told, protocols_refused (NotATypeParameter at) (λ is. (cc)) h, grew)
+  protocols_failed Memory (told, h, grew) = (told, in_protocols h, grew)
+
+  pub then_signatures : (mid : Option (List Event)) (rules : List Rule) (answer : Result (List (Option Ready)) Refused) → BuildsProtocols mid (Ok rules)
+      → ChecksAll w rules mid new answer → Checks w old new answer
+  then_signatures mid rules (Ok v) (told, h, grew) (after, rest, more) = (told ++ after, protocols_built rules h rest refl, grew_on old mid new told after grew more)
+  then_signatures mid rules (Err (Limit which trace)) (told, h, grew) (after, rest, more) = (told ++ after, protocols_built rules h rest refl, grew_on old mid new told after grew more)
+  then_signatures mid rules (Err (NotATypeParameter at)) (told, h, grew) (after, rest, more) = (told ++ after, protocols_built rules h rest refl, grew_on old mid new told after grew more)
+  then_signatures mid rules (Err Memory) (told, h, grew) (after, rest, more) = (told ++ after, past_protocols rules h rest refl, grew_on old mid new told after grew more)
+
+-- ---- what is kept
+
+end_cases : {X : Type 0} (xs : List X) (x e : X) (i : ℕ) → slice_get (xs ++ x ∷ []) i ≡ Some e → (slice_get xs i ≡ Some e) ⊎ ((i ≡ length xs) × (x ≡ e))
+end_cases [] x e zero h = inr (refl, same_Some x e h)
+end_cases {X} [] x e (suc i) h = absurd (let clash : (let o : Option X = None in o) ≡ Some e = h in cc)
+end_cases (y ∷ ys) x e zero h = inl h
+end_cases (y ∷ ys) x e (suc i) h = elim (end_cases ys x e i h) [ inl k ↦ inl k | inr k ↦ inr (ap suc k.0, k.1) ]
+
+pub kept_more : (w : TextWorld) (kept : List (Option Ready)) (k : ℕ) (entry : Option Ready) → length kept ≡ k → AreKept w kept
+    → IsKept w (record { place = k }) entry → AreKept w (kept ++ entry ∷ [])
+kept_more w kept k entry l before one i e h = elim (end_cases kept entry e i h) [
+  | inl at ↦ before i e at
+  | inr at ↦ subst (λ (n : ℕ). IsKept w (record { place = n }) e) (sym (at.0 ∙ l)) (subst (IsKept w (record { place = k })) at.1 one)
+]

@@ -1,0 +1,208 @@
+-- What is written depends on a lexicon by its names, its associated types and what they refer to alone.
+use Rattle.std.proofs.Common.{◌≡◌, ◌∙◌, refl, sym, ap, ap₂, subst, ℕ, ◌+◌, cond, List, [], ◌∷◌, ◌++◌, Option, Some, None, map, slice_get}
+use Rattle.std.specs.List.{flat_map}
+use Rattle.swreq_param.specs.declared.ids.Step.{Step}
+use Rattle.swreq_param.specs.Terms.{Term, self, with_steps}
+use Rattle.swreq_param.specs.Terms.Term.{Generic}
+use Rattle.swreq_decl.specs.declared.skeleton.Ask.{Ask}
+use Rattle.swreq_decl.specs.declared.skeleton.Ask.TheVariants as asks
+use Rattle.swreq_decl.specs.declared.skeleton.AssocDecl.{AssocDecl}
+use Rattle.swreq_decl.specs.declared.skeleton.Entity.{Entity}
+use Rattle.swreq_decl.specs.declared.skeleton.FunctionDecl.{FunctionDecl}
+use Rattle.swreq_decl.specs.declared.skeleton.ParamDecl.{ParamDecl}
+use Rattle.swreq_decl.specs.declared.skeleton.ProtocolDecl.{ProtocolDecl}
+use Rattle.swreq_decl.specs.declared.skeleton.QueryDecl.{QueryDecl}
+use Rattle.swreq_decl.specs.declared.skeleton.ReqDecl.{ReqDecl}
+use Rattle.swreq_decl.specs.declared.skeleton.ReqDecl.TheVariants as requirements
+use Rattle.swreq_decl.specs.declared.skeleton.Span.{Span}
+use Rattle.swreq_decl.specs.declared.skeleton.StepDecl.{StepDecl}
+use Rattle.swreq_decl.specs.declared.skeleton.StepDecl.TheVariants as decls
+use Rattle.swreq_decl.specs.declared.skeleton.StructDecl.{StructDecl}
+use Rattle.swreq_decl.specs.declared.skeleton.TypeDecl.{TypeDecl}
+use Rattle.swreq_names.specs.declared.signature.Signature.{Signature}
+use Rattle.swreq_names.specs.declared.signature.Signature.TheVariants.{Struct, Function, Nested}
+use Rattle.swreq_names.specs.declared.signature.Param.TheVariants.{Own}
+use Rattle.swreq_names.specs.Spaces.{protocol_of, word}
+use Rattle.swreq_ranks.specs.Views.{LexiconView}
+use Rattle.swreq_written.specs.declared.ids.FuncId.{FuncId}
+use Rattle.swreq_written.specs.declared.scope.Scope.{Scope}
+use Rattle.swreq_written.specs.declared.scope.Scope.TheVariants as scopes
+use Rattle.swreq_written.specs.Queries.TermQuery.{AsksAnyObject, AsksConforms, AsksEquals, AsksReduced}
+use Rattle.swreq_written.specs.Queries.{TermQuery, asked_of, asked_signature, query_of, signature_named}
+use Rattle.swreq_written.specs.Requirements.{PlacedRequirement, bound_of, equality, of_one_side, arguments, argument, in_bound, in_bounds, in_clause, in_function, in_member, in_members, in_nested, in_param, in_params, in_protocol, in_requirement, in_signature, in_struct}
+use Rattle.swreq_written.specs.Signatures.{func_id, functions_of, in_order, own_depth, params_of}
+use Rattle.swreq_written.specs.Types.{head_in, member_named, param_id, step_of, type_in}
+use Rattle.swreq_written.specs.Words.{WordsView, declared, primaries_named, proto_of}
+use Rattle.swreq_world.specs.Worlds.{SignatureOver}
+use Rattle.swreq_world.specs.Text.{function_name, list_of, name_of, outer_of, signatures, struct_name, of_function, of_nested, of_nested_in, of_place, of_protocol, of_struct, requirements_named, signature_in}
+
+-- the lexicon with what is written alone
+abbrev pub bare_lexicon : LexiconView → LexiconView
+bare_lexicon x = record {
+  protocols = x.protocols;
+  places = [];
+  written_order = [];
+  names = x.names;
+  associated = x.associated;
+  symbols = [];
+  resolved = record { declared = x.resolved.declared; inherits = [] };
+}
+
+abbrev pub bare_words : WordsView → WordsView
+bare_words w = record { text = w.text; skeleton = w.skeleton; lexicon = bare_lexicon w.lexicon }
+
+-- lists that are made alike of each item
+alike : {A B : Type 0} (f g : A → B) → ((x : A) → f x ≡ g x) → (xs : List A) → map f xs ≡ map g xs
+alike {A} {B} f g h xs = ap (λ (k : A → B). map k xs) (λ i x. h x i)
+
+flat_alike : {A B : Type 0} (f g : A → List B) → ((x : A) → f x ≡ g x) → (xs : List A) → flat_map f xs ≡ flat_map g xs
+flat_alike {A} {B} f g h xs = ap (λ (k : A → List B). flat_map k xs) (λ i x. h x i)
+
+module _ (w : WordsView) where
+  step_same : (d : StepDecl) → step_of (bare_words w) d ≡ step_of w d
+  step_same (decls.Plain a) = refl
+  step_same (decls.Bound p a) = refl
+
+  head_same : (scope : Scope) (s : Span) → head_in (bare_words w) scope s ≡ head_in w scope s
+  head_same scopes.Protocol s = refl
+  head_same (scopes.Signature g) s = refl
+
+  type_same : (scope : Scope) (t : TypeDecl) → type_in (bare_words w) scope t ≡ type_in w scope t
+  type_same scope t = ap₂ with_steps (head_same scope t.head) (alike (step_of (bare_words w)) (step_of w) step_same t.steps)
+
+  module _ (scope : Scope) where
+    argument_same : (t : Term) (at : ℕ) (a : Span) (u : TypeDecl) → argument (bare_words w) scope t at a u ≡ argument w scope t at a u
+    argument_same t at a u = ap (λ (v : Term). equality (member_named w t a) at v u.head.start) (type_same scope u)
+
+    arguments_same : (t : Term) (at : ℕ) (names : List Span) (us : List TypeDecl) → arguments (bare_words w) scope t at names us ≡ arguments w scope t at names us
+    arguments_same t at [] us = refl
+    arguments_same t at (a ∷ names) [] = refl
+    arguments_same t at (a ∷ names) (u ∷ us) = ap₂ (λ (x : PlacedRequirement) (xs : List PlacedRequirement). x ∷ xs) (argument_same t at a u) (arguments_same t at names us)
+
+    in_bound_same : (t : Term) (at : ℕ) (e : Entity) → in_bound (bare_words w) scope t at e ≡ in_bound w scope t at e
+    in_bound_same t at e =
+        ap (λ (xs : List PlacedRequirement). of_one_side (bound_of w t e) at ∷ xs) (arguments_same t e.span.start (primaries_named w e.span) e.args)
+
+    in_bounds_same : (t : Term) (at : ℕ) (bounds : List Entity) → in_bounds (bare_words w) scope t at bounds ≡ in_bounds w scope t at bounds
+    in_bounds_same t at bounds = flat_alike (in_bound (bare_words w) scope t at) (in_bound w scope t at) (in_bound_same t at) bounds
+
+    in_requirement_same : (r : ReqDecl) → in_requirement (bare_words w) scope r ≡ in_requirement w scope r
+    in_requirement_same (requirements.Bound t bounds) =
+        ap (λ (v : Term). in_bounds (bare_words w) scope v t.head.start bounds) (type_same scope t) ∙ in_bounds_same (type_in w scope t) t.head.start bounds
+    in_requirement_same (requirements.Same t u) =
+        ap₂ (λ (v z : Term). equality v t.head.start z u.head.start ∷ []) (type_same scope t) (type_same scope u)
+
+    in_clause_same : (clause : List ReqDecl) → in_clause (bare_words w) scope clause ≡ in_clause w scope clause
+    in_clause_same clause = flat_alike (in_requirement (bare_words w) scope) (in_requirement w scope) in_requirement_same clause
+
+  abbrev joined : List PlacedRequirement → List PlacedRequirement → List PlacedRequirement
+  joined xs ys = xs ++ ys
+
+  in_member_same : (m : AssocDecl) → in_member (bare_words w) m ≡ in_member w m
+  in_member_same m =
+      ap₂ joined (in_bounds_same scopes.Protocol (member_named w self m.name) m.name.start m.inherits) (in_clause_same scopes.Protocol m.clause)
+
+  in_protocol_same : (p : ProtocolDecl) → in_protocol (bare_words w) p ≡ in_protocol w p
+  in_protocol_same p =
+      ap₂ joined (in_bounds_same scopes.Protocol self p.name.start p.inherits)
+      (ap₂ joined (in_clause_same scopes.Protocol p.clause) (flat_alike (in_member (bare_words w)) (in_member w) in_member_same p.members))
+
+  module _ (g : Signature) where
+    in_params_same : (k : ℕ) (ps : List ParamDecl) → in_params (bare_words w) g k ps ≡ in_params w g k ps
+    in_params_same k [] = refl
+    in_params_same k (p ∷ ps) =
+        ap₂ joined (in_bounds_same (scopes.Signature g) (Generic (param_id (own_depth w.skeleton g) (Own k))) p.name.start p.bounds) (in_params_same (k + 1) ps)
+
+    in_signature_same : (ps : List ParamDecl) (clause : List ReqDecl) → in_signature (bare_words w) g ps clause ≡ in_signature w g ps clause
+    in_signature_same ps clause = ap₂ joined (in_params_same 0 ps) (in_clause_same (scopes.Signature g) clause)
+
+  in_struct_same : (i : ℕ) (s : StructDecl) → in_struct (bare_words w) i s ≡ in_struct w i s
+  in_struct_same i s = in_signature_same (Struct i) s.params s.clause
+
+  -- the requirements of a protocol
+  of_protocol_same : (p : Option ProtocolDecl) → of_protocol (bare_words w) p ≡ of_protocol w p
+  of_protocol_same None = refl
+  of_protocol_same (Some p) = in_protocol_same p
+
+  of_place_same : (i : Option ℕ) → of_place (bare_words w) i ≡ of_place w i
+  of_place_same None = refl
+  of_place_same (Some i) = of_protocol_same (slice_get w.skeleton.protocols i)
+
+  pub requirements_same : (names : List (List ℕ)) → map (requirements_named (bare_words w)) names ≡ map (requirements_named w) names
+  requirements_same names =
+      alike (requirements_named (bare_words w)) (requirements_named w) (λ name. of_place_same (protocol_of (declared w) name)) names
+
+  -- the requirements of a signature
+  of_struct_same : (i : ℕ) (s : Option StructDecl) → of_struct (bare_words w) i s ≡ of_struct w i s
+  of_struct_same i None = refl
+  of_struct_same i (Some s) = in_struct_same i s
+
+  of_function_same : (i : ℕ) (f : Option FunctionDecl) → of_function (bare_words w) i f ≡ of_function w i f
+  of_function_same i None = refl
+  of_function_same i (Some f) = in_signature_same (Function i) f.params f.clause
+
+  of_nested_same : (i j : ℕ) (s : StructDecl) (f : Option FunctionDecl) → of_nested (bare_words w) i j s f ≡ of_nested w i j s f
+  of_nested_same i j s None = refl
+  of_nested_same i j s (Some f) = ap₂ joined (in_struct_same i s) (in_signature_same (Nested i j) f.params f.clause)
+
+  of_nested_in_same : (i j : ℕ) (s : Option StructDecl) → of_nested_in (bare_words w) i j s ≡ of_nested_in w i j s
+  of_nested_in_same i j None = refl
+  of_nested_in_same i j (Some s) = of_nested_same i j s (slice_get s.functions j)
+
+  list_of_same : (g : Signature) → list_of (bare_words w) g ≡ list_of w g
+  list_of_same (Struct i) = of_struct_same i (slice_get w.skeleton.structs i)
+  list_of_same (Function i) = of_function_same i (slice_get w.skeleton.functions i)
+  list_of_same (Nested i j) = of_nested_in_same i j (slice_get w.skeleton.structs i)
+
+  name_same : (g : Signature) → name_of (bare_words w) g ≡ name_of w g
+  name_same (Struct i) = named_struct (slice_get w.skeleton.structs i)
+    where
+      named_struct : (s : Option StructDecl) → struct_name (bare_words w) s ≡ struct_name w s
+      named_struct None = refl
+      named_struct (Some s) = refl
+  name_same (Function i) = named (slice_get w.skeleton.functions i)
+    where
+      named : (f : Option FunctionDecl) → function_name (bare_words w) f ≡ function_name w f
+      named None = refl
+      named (Some f) = refl
+  name_same (Nested i j) = named (slice_get (functions_of (slice_get w.skeleton.structs i)) j)
+    where
+      named : (f : Option FunctionDecl) → function_name (bare_words w) f ≡ function_name w f
+      named None = refl
+      named (Some f) = refl
+
+  -- a signature with this name and these requirements
+  abbrev made : List Signature → Signature → List ℕ → List PlacedRequirement → SignatureOver PlacedRequirement
+  made order g name list = record {
+    signature = g;
+    name = name;
+    outer = outer_of order g;
+    own_depth = own_depth w.skeleton g;
+    params = params_of w.skeleton g;
+    requirements = list;
+  }
+
+  signature_same : (order : List Signature) (g : Signature) → signature_in (bare_words w) order g ≡ signature_in w order g
+  signature_same order g = ap₂ (made order g) (name_same g) (list_of_same g)
+
+  pub signatures_same : signatures (bare_words w) ≡ signatures w
+  signatures_same = alike (signature_in (bare_words w) (in_order w.skeleton)) (signature_in w (in_order w.skeleton)) (signature_same (in_order w.skeleton)) (in_order w.skeleton)
+
+  -- queries
+  asked_same : (g : Signature) (f : FuncId) (ask : Ask) → asked_of (bare_words w) g f ask ≡ asked_of w g f ask
+  asked_same g f asks.Signature = refl
+  asked_same g f (asks.Reduced t) = ap (AsksReduced f) (type_same (scopes.Signature g) t)
+  asked_same g f (asks.Is t e) = ap (λ (v : Term). cond e.layout (AsksAnyObject f v) (AsksConforms f v (proto_of w e.span))) (type_same (scopes.Signature g) t)
+  asked_same g f (asks.Same t u) = ap₂ (AsksEquals f) (type_same (scopes.Signature g) t) (type_same (scopes.Signature g) u)
+
+  named_same : (outer : Option Span) (f : Span) → signature_named (bare_words w) outer f ≡ signature_named w outer f
+  named_same None f = refl
+  named_same (Some s) f = refl
+
+  query_same : (order : List Signature) (q : QueryDecl) → query_of (bare_words w) order q ≡ query_of w order q
+  query_same order q =
+      ap (λ (o : Option Signature). asked_of (bare_words w) (asked_signature o) (func_id order (asked_signature o)) q.ask) (named_same q.outer q.function)
+      ∙ asked_same (asked_signature (signature_named w q.outer q.function)) (func_id order (asked_signature (signature_named w q.outer q.function))) q.ask
+
+  pub queries_same : (order : List Signature) (qs : List QueryDecl) → map (query_of (bare_words w) order) qs ≡ map (query_of w order) qs
+  queries_same order qs = alike (query_of (bare_words w) order) (query_of w order) (query_same order) qs

@@ -1,0 +1,66 @@
+-- The machines of a text: the rules of its protocols, and those of the list of each signature, or why there are none.
+use Rattle.std.specs.Prelude.{◌≡◌, ◌≢◌, ◌≤◌, ℕ, List, [], ◌∷◌, ◌++◌, Option, Some, None, Result, Ok, Err, length, map}
+use Rattle.swreq_lex.specs.declared.lexer.TheConstants.{TEXT_LIMIT}
+use Rattle.swreq_decl.specs.declared.skeleton.Skeleton.{Skeleton}
+use Rattle.swreq_decl.specs.Skeletons.{StandsFor}
+use Rattle.swreq_names.specs.Names.{Resolve}
+use Rattle.swreq_derive.specs.Derivation.{TermRequirement, Source}
+use Rattle.swreq_derive.specs.Derivation.Source.{Written}
+use Rattle.swreq_derive.specs.Facts.{generic_params}
+use Rattle.swreq_rule.specs.declared.rules.Rule.{Rule}
+use Rattle.swreq_watch.specs.declared.events.Event.{Event}
+use Rattle.swreq_complete.specs.declared.limit.Limits.{Limits}
+use Rattle.swreq_written.specs.Requirements.{PlacedRequirement}
+use Rattle.swreq_world.specs.WorldOf.{IsWorldOf}
+use Rattle.swreq_world.specs.Worlds.{SignatureOver, TextWorld}
+use Rattle.swreq_shown.specs.Meaning.{facts_of}
+use Rattle.swreq_valid.specs.declared.refused.Refused.{Refused}
+use Rattle.swreq_valid.specs.declared.refused.Refused.TheVariants.{Memory}
+use Rattle.swreq_valid.specs.Built.{IsBuilt}
+use Rattle.swreq_valid.specs.Machines.{list_of, protocols_of}
+use Rattle.swreq_valid.specs.Sides.{protocol_sides, sides}
+
+-- the most rules of a completion, and the most symbols on a left side
+abbrev pub limits : Limits
+limits = record { max_rules = 4000; max_length = 64 }
+
+-- This is the world of the text, which has at most 1,048,576 bytes: a skeleton stands for it, whose names resolve.
+pub record HasWorld (text : List ℕ) (w : TextWorld) : Type 0 where
+  pub within : length text ≤ TEXT_LIMIT
+  pub skeleton : Skeleton
+  pub stands : StandsFor text skeleton
+  pub resolve : Resolve text skeleton
+  pub world : IsWorldOf text skeleton w
+
+-- the requirements of a signature
+abbrev pub written_list : SignatureOver PlacedRequirement → List TermRequirement
+written_list g = map (λ (r : PlacedRequirement). r.requirement) g.requirements
+
+-- the list from which one derives what a signature implies
+abbrev pub source_of : SignatureOver PlacedRequirement → Source
+source_of g = Written (generic_params g.params) (written_list g)
+
+module _ (w : TextWorld) where
+  -- The rounds of the protocols come to rules that show each side of their requirements, or to a refusal, and tell these events.
+  abbrev pub ProtocolsCome : (answer : Result (List Rule) Refused) → List Event → Type 0
+  ProtocolsCome = IsBuilt limits (protocols_of w) (facts_of w) (protocol_sides w)
+
+  -- So do those of a signature, over the rules of the protocols.
+  abbrev pub SignatureComes : List Rule → SignatureOver PlacedRequirement → (answer : Result (List Rule) Refused) → List Event → Type 0
+  SignatureComes rules g = IsBuilt limits (list_of w rules g.params (written_list g)) (facts_of w) (sides (source_of g) g.requirements)
+
+  -- The signatures, in order: all of them come to rules, or the first that does not is refused so. They tell the events of all up to it.
+  pub data SignaturesCome (rules : List Rule) : List (SignatureOver PlacedRequirement) → Option Refused → List Event → Type 0 where
+    all : SignaturesCome rules [] None []
+    next : {g : SignatureOver PlacedRequirement} {gs : List (SignatureOver PlacedRequirement)} {refused : Option Refused} {first more told : List Event}
+        (own : List Rule) → SignatureComes rules g (Ok own) first → SignaturesCome rules gs refused more → told ≡ first ++ more
+        → SignaturesCome rules (g ∷ gs) refused told
+    stopped : {g : SignatureOver PlacedRequirement} {gs : List (SignatureOver PlacedRequirement)} {told : List Event}
+        (refused : Refused) → refused ≢ Memory → SignatureComes rules g (Err refused) told → SignaturesCome rules (g ∷ gs) (Some refused) told
+
+  -- The text is checked: first its protocols, then its signatures in written order. It is refused so, or not, and these events are told.
+  pub data IsChecked : Option Refused → List Event → Type 0 where
+    protocols_refused : {told : List Event} (refused : Refused) → refused ≢ Memory → ProtocolsCome (Err refused) told
+        → IsChecked (Some refused) told
+    protocols_built : {refused : Option Refused} {first more told : List Event} (rules : List Rule) → ProtocolsCome (Ok rules) first
+        → SignaturesCome rules w.signatures refused more → told ≡ first ++ more → IsChecked refused told
