@@ -1,3 +1,4 @@
+pub mod Flags
 pub mod Checked
 pub mod Lines
 pub mod OfSignatures

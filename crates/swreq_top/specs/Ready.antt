@@ -1,5 +1,6 @@
 -- What is kept of a checked text for its queries.
-use Rattle.std.specs.Prelude.{◌≡◌, ◌⊎◌, ◌≤◌, ℕ, Bool, true, false, List, Vec, Option, Some, None, Result, Ok, Err, Contains, length, slice_get}
+use Rattle.std.specs.Prelude.{◌≡◌, ◌⊎◌, ◌<◌, ◌≤◌, ℕ, Bool, true, false, List, Vec, Option, Some, None, Result, Ok, Err, Contains, get_or, length, nat_eq, slice_get}
+use Rattle.std.specs.List.{list_any}
 use Rattle.std.specs.declared.alloc.Global.{Global}
 use Rattle.swreq_param.specs.Terms.{Term, member_count}
 use Rattle.swreq_rule.specs.declared.rules.Rule.{Rule}
@@ -39,6 +40,11 @@ asks_signature (queries.Reduced f t) = false
 asks_signature (queries.Conf f t p) = false
 asks_signature (queries.Layout f t) = false
 asks_signature (queries.Same f t u) = false
+
+-- These are so many flags, one of each signature, set where one of these queries asks it.
+pub record AreAsked (asking : List Query) (count : ℕ) (flags : List Bool) : Type 0 where
+  pub counted : length flags ≡ count
+  pub set : (k : ℕ) → k < count → get_or flags k false ≡ list_any (λ (q : Query). nat_eq (function_of q).place k) asking
 
 -- The members of each side are at most so many.
 abbrev pub HasShortSides : TermQuery → ℕ → Type 0

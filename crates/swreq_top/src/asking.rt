@@ -1,9 +1,10 @@
 //! What queries ask.
-ghost use Rattle.std.specs.Prelude.{◌≡◌, nat_eq};
+ghost use Rattle.std.specs.Prelude.{◌≡◌, ◌<◌, [], length, Contains, IfOk};
 ghost use Rattle.std.specs.List.{list_any};
 ghost use Rattle.swreq_written.specs.ByTable.{HasQueryIdsOf, query_by};
-ghost use Rattle.swreq_top.specs.Ready.{HasShortSides, asks_signature, function_of};
+ghost use Rattle.swreq_top.specs.Ready.{AreAsked, HasShortSides, asks_signature, function_of};
 
+use std::alloc::{AllocError, Global};
 use swreq_param::ParamTable;
 use swreq_world::World;
 use swreq_written::{FuncId, Query};
@@ -21,14 +22,27 @@ pub(crate) fn function_of(query: &Query) -> FuncId
     }
 }
 
-/// Whether some query asks the signature.
-pub(crate) fn is_asked(world: &World, f: FuncId) -> bool
-    ensures { result ≡ list_any (λ q. nat_eq (function_of q).place f.place) world.now.queries }
+/// So many flags, none of them set.
+fn none_asked(alloc: Global, count: usize) -> Result<Vec<bool>, AllocError>
+    ensures { IfOk result (λ v. AreAsked [] count v.items) }
 {
-    world
-        .queries()
-        .iter()
-        .any(|query| function_of(query).place == f.place)
+    let mut flags = Vec::new(alloc);
+    for _ in 0..count {
+        flags.push(false)?;
+    }
+    Ok(flags)
+}
+
+/// Of each signature, whether some query asks it.
+pub(crate) fn asked(alloc: Global, world: &World) -> Result<Vec<bool>, AllocError>
+    requires { (q : Query) → Contains world.now.queries q → (function_of q).place < length world.now.signatures }
+    ensures { IfOk result (λ v. AreAsked world.now.queries (length world.now.signatures) v.items) }
+{
+    let mut flags = none_asked(alloc, world.functions() as usize)?;
+    for k in 0..world.queries().len() {
+        flags[function_of(&world.queries()[k]).place as usize] = true;
+    }
+    Ok(flags)
 }
 
 fn asks_signature(query: &Query) -> bool

@@ -7,9 +7,9 @@ ghost use Rattle.swreq_valid.specs.Rounds.{last_rules};
 ghost use Rattle.swreq_world.specs.ByTable.{world_by};
 ghost use Rattle.swreq_world.specs.Worlds.{signature_at};
 ghost use Rattle.swreq_top.specs.Machines.{limits, written_list};
-ghost use Rattle.swreq_top.specs.Ready.{AreKept, Checks, ChecksAll, ChecksOne, IsKept, kept_in};
+ghost use Rattle.swreq_top.specs.Ready.{AreAsked, AreKept, Checks, ChecksAll, ChecksOne, IsKept, kept_in};
 
-use crate::asking::is_asked;
+use crate::asking::asked;
 use crate::ready::Ready;
 use std::alloc::{AllocError, Global};
 use swreq_complete::Limits;
@@ -35,15 +35,18 @@ fn keep(
     alloc: Global,
     world: &World,
     table: &ParamTable,
+    asked: &[bool],
     f: FuncId,
     machine: Machine,
 ) -> Result<Option<Ready>, AllocError>
     requires text { IsTextOver table.now world.now }
+    requires asked { AreAsked world.now.queries (length world.now.signatures) asked.now }
+    requires f { f.place < length world.now.signatures }
     requires machine { IsMachineOf (world_by table.now world.now) (written_list (signature_at (world_by table.now world.now) f)) machine }
     requires params { machine.params ≡ (signature_at (world_by table.now world.now) f).params }
     ensures { IfOk result (IsKept (world_by table.now world.now) f) }
 {
-    if !is_asked(world, f) {
+    if !asked[f.place as usize] {
         return Ok(None);
     }
     let map = PropertyMap::build(alloc, machine.rules(), world.protocols())?;
@@ -56,11 +59,13 @@ fn check_one<W: Watch>(
     world: &World,
     table: &ParamTable,
     protocols: &Protocols,
+    asked: &[bool],
     f: FuncId,
     watch: &mut W,
 ) -> Result<Option<Ready>, Refused>
     requires text { IsTextOver table.now world.now }
     requires protocols { AreRulesOf (world_by table.now world.now) (last_rules protocols.now.rounds) }
+    requires asked { AreAsked world.now.queries (length world.now.signatures) asked.now }
     requires f { f.place < length world.now.signatures }
     ensures check { ChecksOne (world_by table.now world.now) (last_rules protocols.now.rounds) (signature_at (world_by table.now world.now) f) (W.told watch.old) (W.told watch.new) result }
     ensures kept { IfOk result (IsKept (world_by table.now world.now) f) }
@@ -76,7 +81,7 @@ fn check_one<W: Watch>(
         watch,
     ) {
         Err(refused) => Err(refused),
-        Ok(machine) => match keep(alloc, world, table, f, machine) {
+        Ok(machine) => match keep(alloc, world, table, asked, f, machine) {
             Err(_) => Err(Refused::Memory),
             Ok(entry) => Ok(entry),
         },
@@ -89,17 +94,27 @@ fn check_all<W: Watch>(
     world: &World,
     table: &ParamTable,
     protocols: &Protocols,
+    asked: &[bool],
     watch: &mut W,
 ) -> Result<Vec<Option<Ready>>, Refused>
     requires text { IsTextOver table.now world.now }
     requires protocols { AreRulesOf (world_by table.now world.now) (last_rules protocols.now.rounds) }
+    requires asked { AreAsked world.now.queries (length world.now.signatures) asked.now }
     ensures check { ChecksAll (world_by table.now world.now) (last_rules protocols.now.rounds) (W.told watch.old) (W.told watch.new) (kept_in result) }
     ensures kept { IfOk result (λ v. AreKept (world_by table.now world.now) v.items) }
     ensures count { IfOk result (λ v. length v.items ≡ length world.now.signatures) }
 {
     let mut all = Vec::new(alloc);
     for k in 0..world.functions() {
-        match check_one(alloc, world, table, protocols, FuncId { place: k }, watch) {
+        match check_one(
+            alloc,
+            world,
+            table,
+            protocols,
+            asked,
+            FuncId { place: k },
+            watch,
+        ) {
             Err(refused) => return Err(refused),
             Ok(entry) => match all.push(entry) {
                 Err(_) => return Err(Refused::Memory),
@@ -108,6 +123,26 @@ fn check_all<W: Watch>(
         }
     }
     Ok(all)
+}
+
+/// Finds out what the queries ask, and checks the signatures.
+fn check_asked<W: Watch>(
+    alloc: Global,
+    world: &World,
+    table: &ParamTable,
+    protocols: &Protocols,
+    watch: &mut W,
+) -> Result<Vec<Option<Ready>>, Refused>
+    requires text { IsTextOver table.now world.now }
+    requires protocols { AreRulesOf (world_by table.now world.now) (last_rules protocols.now.rounds) }
+    ensures check { ChecksAll (world_by table.now world.now) (last_rules protocols.now.rounds) (W.told watch.old) (W.told watch.new) (kept_in result) }
+    ensures kept { IfOk result (λ v. AreKept (world_by table.now world.now) v.items) }
+    ensures count { IfOk result (λ v. length v.items ≡ length world.now.signatures) }
+{
+    match asked(alloc, world) {
+        Err(_) => Err(Refused::Memory),
+        Ok(asked) => check_all(alloc, world, table, protocols, &asked, watch),
+    }
 }
 
 /// Checks the protocols of a text, then its signatures in written order, and keeps what the queries need.
@@ -126,6 +161,6 @@ pub(crate) fn check<W: Watch>(
 {
     match Protocols::build(alloc, world, table, limits(), watch) {
         Err(refused) => Err(refused),
-        Ok(protocols) => check_all(alloc, world, table, &protocols, watch),
+        Ok(protocols) => check_asked(alloc, world, table, &protocols, watch),
     }
 }

@@ -12,6 +12,3 @@ mod refusal;
 
 pub use outcome::{Outcome, reply};
 pub use program::run;
-
-#[cfg(test)]
-mod tests;
