@@ -40,12 +40,12 @@ module _ (w : TextWorld) (rules : List Rule) where
   pub come_on : {gs hs : Signatures} {refused : Option Refused} {a b : List Event} → SignaturesCome w rules gs None a → SignaturesCome w rules hs refused b
       → SignaturesCome w rules (gs ++ hs) refused (a ++ b)
   come_on all h = h
-  come_on {_} {_} {_} {_} {b} (next {_} {_} {_} {first} {more} own one rest e) h =
+  come_on {b = b} (next {first = first} {more = more} own one rest e) h =
       next own one (come_on rest h) (ap (λ (t : List Event). t ++ b) e ∙ append_assoc first more b)
 
   pub tell_on : {gs hs : Signatures} {a b : List Event} → SignaturesCome w rules gs None a → SignaturesTell w rules hs b → SignaturesTell w rules (gs ++ hs) (a ++ b)
   tell_on all h = h
-  tell_on {_} {_} {_} {b} (next {_} {_} {_} {first} {more} own one rest e) h =
+  tell_on {b = b} (next {first = first} {more = more} own one rest e) h =
       past_first own one (tell_on rest h) (ap (λ (t : List Event). t ++ b) e ∙ append_assoc first more b)
 
 -- ---- a check that is done tells all that it tells
@@ -57,15 +57,15 @@ module _ (plan : Plan) where
       record { reached = last.ends.1.ended.reached; kept = λ k rule b s e. last.ends.1.kept k rule b e } in
       record { used = used; before = last.before; round = last.round; part = inr (rules, last.ends.0, within, last.told_is) }
 
-  built_comes : (f : TermFacts) (all : List Side) (answer : Result (List Rule) Refused) (told : List Event) → answer ≢ Err Memory → IsBuilt limits plan f all answer told → ComesTo limits plan told
-  built_comes f all (Ok rules) told real h = ends_come rules told h.0
-  built_comes f all (Err (Limit which trace)) told real h =
+  built_comes : (f : TermFacts) (every : List Side) (answer : Result (List Rule) Refused) (told : List Event) → answer ≢ Err Memory → IsBuilt limits plan f every answer told → ComesTo limits plan told
+  built_comes f every (Ok rules) told real h = ends_come rules told h.0
+  built_comes f every (Err (Limit which trace)) told real h =
       record { used = h.used; before = h.before; round = h.round; part = inr (trace, h.stops.0, h.stops.1.within, h.told_is) }
-  built_comes f all (Err (NotATypeParameter at)) told real (rules, h, fails) = ends_come rules told h
-  built_comes f all (Err Memory) told real h = absurd (real refl)
+  built_comes f every (Err (NotATypeParameter at)) told real (rules, h, fails) = ends_come rules told h
+  built_comes f every (Err Memory) told real h = absurd (real refl)
 
-  refused_comes : (f : TermFacts) (all : List Side) (refused : Refused) (told : List Event) → refused ≢ Memory → IsBuilt limits plan f all (Err refused) told → ComesTo limits plan told
-  refused_comes f all refused told real h = built_comes f all (Err refused) told (λ is. real (inner refused is)) h
+  refused_comes : (f : TermFacts) (every : List Side) (refused : Refused) (told : List Event) → refused ≢ Memory → IsBuilt limits plan f every (Err refused) told → ComesTo limits plan told
+  refused_comes f every refused told real h = built_comes f every (Err refused) told (λ is. real (inner refused is)) h
     where
       inner : (r : Refused) → (let a : Result (List Rule) Refused = Err r in a) ≡ Err Memory → r ≡ Memory
       inner r e = cc
@@ -73,11 +73,11 @@ module _ (plan : Plan) where
 signatures_tell : (w : TextWorld) (rules : List Rule) {gs : Signatures} {refused : Option Refused} {told : List Event} → SignaturesCome w rules gs refused told → SignaturesTell w rules gs told
 signatures_tell w rules all = nothing_yet
 signatures_tell w rules (next own one rest e) = past_first own one (signatures_tell w rules rest) e
-signatures_tell w rules {_} {_} {told} (stopped {g} refused real come) =
+signatures_tell w rules {told = told} (stopped {g = g} refused real come) =
     in_first (refused_comes (list_of w rules g.params (written_list g)) (facts_of w) (sides (source_of g) g.requirements) refused told real come)
 
 pub check_tells : (w : TextWorld) {refused : Option Refused} {told : List Event} → IsChecked w refused told → CheckTells w told
-check_tells w {_} {told} (protocols_refused refused real come) = in_protocols (refused_comes (protocols_of w) (facts_of w) (protocol_sides w) refused told real come)
+check_tells w {told = told} (protocols_refused refused real come) = in_protocols (refused_comes (protocols_of w) (facts_of w) (protocol_sides w) refused told real come)
 check_tells w (protocols_built rules come signatures e) = past_protocols rules come (signatures_tell w rules signatures) e
 
 -- ---- well formed texts
@@ -86,8 +86,8 @@ of_sides : (f : TermFacts) (s : Source) (r : TermRequirement) (left right : ℕ)
 of_sides f s (Conforms t p) left right h = h (record { source = s; term = t; at = left }) (first_member _ [])
 of_sides f s (IsAnyObject t) left right h = h (record { source = s; term = t; at = left }) (first_member _ [])
 of_sides f s (Equals t u) left right h = (
-  h (record { source = s; term = t; at = left }) (first_member _ _),
-  h (record { source = s; term = u; at = right }) (later_member _ _ _ (first_member _ [])),
+  h (record { source = s; term = t; at = left }) (first_member _ (record { source = s; term = u; at = right } ∷ [])),
+  h (record { source = s; term = u; at = right }) (later_member _ _ (record { source = s; term = u; at = right } ∷ []) (first_member _ [])),
 )
 
 in_sides : (s : Source) (rs : List PlacedRequirement) (r : PlacedRequirement) (x : Side) → Contains rs r → Contains (sides_of s r) x → Contains (sides s rs) x
@@ -127,7 +127,7 @@ module _ (w : TextWorld) (closed : IsClosed w) where
   lists_formed : (rules : List Rule) {gs : Signatures} {told : List Event} → SignaturesCome w rules gs None told → (g : SignatureOver PlacedRequirement)
       → Contains gs g → IsListWellFormed (facts_of w) (source_of g)
   lists_formed rules all g c = no_member g c
-  lists_formed rules (next {h} {gs} own one rest e) g c = elim (member_cases h g gs c) [
+  lists_formed rules (next {g = h} {gs = gs} own one rest e) g c = elim (member_cases h g gs c) [
     | inl i ↦ subst (λ (z : SignatureOver PlacedRequirement). IsListWellFormed (facts_of w) (source_of z)) (sym i)
         (λ r k. of_list (facts_of w) (source_of h) h.requirements one.1 r k)
     | inr k ↦ lists_formed rules rest g k
@@ -138,5 +138,5 @@ module _ (w : TextWorld) (closed : IsClosed w) where
   is_formed (protocols_built rules come signatures e) = record {
     protocols = protocols_formed come.1;
     lists = λ s c. let g = contains_of_map source_of w.signatures s c in
-    subst (IsListWellFormed (facts_of w)) (sym g.2) (lists_formed rules signatures g.0 g.1);
+        subst (IsListWellFormed (facts_of w)) (sym g.2) (lists_formed rules signatures g.0 g.1);
   }

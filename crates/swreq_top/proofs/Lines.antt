@@ -52,7 +52,7 @@ machine_line w q r old new ready answer =
 module _ (guarded : Bool) (w : TextWorld) where
   pub lines_on : {qs rs : List TermQuery} {a b : List ℕ} → AreLinesOf guarded w qs a → AreLinesOf guarded w rs b → AreLinesOf guarded w (qs ++ rs) (a ++ b)
   lines_on none h = h
-  lines_on {_} {_} {_} {b} (more {q} {qs} {line} {lines} is rest e) h = more is (lines_on rest h) (ap (λ (t : List ℕ). t ++ b) e ∙ append_assoc line lines b)
+  lines_on {b = b} (more {line = line} {lines = lines} is rest e) h = more is (lines_on rest h) (ap (λ (t : List ℕ). t ++ b) e ∙ append_assoc line lines b)
 
   pub lines_more : (all : List TermQuery) (k : ℕ) (q : TermQuery) (a b line : List ℕ) → k < length all → get_or all k q ≡ q → AreLinesOf guarded w (take k all) a
       → IsLineOf guarded w q line → b ≡ a ++ line → AreLinesOf guarded w (take (k + 1) all) b
@@ -78,10 +78,13 @@ module _ (w : TextWorld) (formed : IsWellFormed (facts_of w) (map source_of w.si
   line_by_book q line of (a, is, e) =
       let f : FuncId = signature_of q in
       let member : Contains (map source_of w.signatures) (source_of (signature_at w f)) =
-      contains_map source_of w.signatures (signature_at w f) (Contains-get_or w.signatures f.place no_signature (query_signature w q of)) in
-      (a, along (Derivable (facts_of w) (source_of (signature_at w f))) (BookDerivable (facts_of w) (source_of (signature_at w f)))
-      (λ st. (from_function (facts_of w) (map source_of w.signatures) (source_of (signature_at w f)) st formed member).1)
-      (λ st. (from_function (facts_of w) (map source_of w.signatures) (source_of (signature_at w f)) st formed member).0) q a is, e)
+      contains_map source_of w.signatures (signature_at w f) (Contains-get_or w.signatures f.place no_signature (query_signature w q of)) in (
+        a,
+        along (Derivable (facts_of w) (source_of (signature_at w f))) (BookDerivable (facts_of w) (source_of (signature_at w f)))
+            (λ st. (from_function (facts_of w) (map source_of w.signatures) (source_of (signature_at w f)) st formed member).1)
+            (λ st. (from_function (facts_of w) (map source_of w.signatures) (source_of (signature_at w f)) st formed member).0) q a is,
+        e,
+      )
 
   lines_by_book : {qs : List TermQuery} {output : List ℕ} → ((q : TermQuery) → Contains qs q → IsQueryOf w q) → AreLinesOf true w qs output → AreLinesOf false w qs output
   lines_by_book of none = none

@@ -1,5 +1,5 @@
 -- The signatures of a world over ids, and their check one after another.
-use Rattle.std.proofs.Common.{◌≡◌, ◌≢◌, ◌⊎◌, ◌∙◌, inl, inr, refl, sym, ap, ap₂, subst, ℕ, zero, suc, ◌+◌, ◌<◌, ◌≤◌, arith, Bool, true, false, nat_eq, List, [], ◌∷◌, ◌++◌, append_assoc, append-nil, take, drop, get_or, length, map, slice_get, Contains, Option, Some, None, Result, Ok, Err, true≢false, eqb-true}
+use Rattle.std.proofs.Common.{◌≡◌, ◌≢◌, ◌⊎◌, ◌∙◌, inl, inr, refl, sym, ap, ap₂, subst, ℕ, zero, suc, ◌+◌, ◌<◌, ◌≤◌, arith, Bool, true, false, nat_eq, List, [], ◌∷◌, ◌++◌, append_assoc, append-nil, take, drop, get_or, length, map, slice_get, Contains, Option, Some, None, Result, Ok, Err, true≢false, eq-eqb}
 use Rattle.std.specs.List.{list_any}
 use Rattle.std.proofs.lemmas.Bool.{cases_lt}
 use Rattle.std.proofs.lemmas.List.{get_or_default, length-map, take-append-drop, take_all, take_more}
@@ -92,14 +92,11 @@ asked_alike terms (queries.Conf f t p) = refl
 asked_alike terms (queries.Layout f t) = refl
 asked_alike terms (queries.Same f t u) = refl
 
-eqb_same : (m n : ℕ) → m ≡ n → nat_eq m n ≡ true
-eqb_same m n e = (omega arith)
-
 pub not_kept : (w : IdWorld) (terms : List Term) (f : FuncId) → list_any (λ q. nat_eq (function_of q).place f.place) w.queries ≡ false → IsKept (world_by terms w) f None
-not_kept w terms f no q c e =
+not_kept w terms f none q c e =
     let of = contains_of_map (query_by terms) w.queries q c in
     let same : (function_of of.0).place ≡ f.place = ap (λ (g : FuncId). g.place) (sym (asked_alike terms of.0)) ∙ ap (λ (z : TermQuery). (signature_of z).place) (sym of.2) ∙ e in
-    true≢false (sym (any_in (λ q. nat_eq (function_of q).place f.place) w.queries of.0 of.1 (eqb_same _ _ same)) ∙ no)
+    true≢false (sym (any_in (λ q. nat_eq (function_of q).place f.place) w.queries of.0 of.1 (eq-eqb _ _ same)) ∙ none)
 
 -- ---- one after another
 
@@ -116,9 +113,12 @@ module _ (w : TextWorld) (base : List Rule) (old : Option (List Event)) where
 
   pub came_more : (k : ℕ) (mid new : Option (List Event)) (entry : Option Ready) → k < length w.signatures → CameFirst w base k old mid
       → ChecksOne w base (signature_at w (record { place = k })) mid new (Ok entry) → CameFirst w base (k + 1) old new
-  came_more k mid new entry l (a, h, grew) (b, come, more) =
-      (a ++ b, subst (λ (gs : List (SignatureOver PlacedRequirement)). SignaturesCome w base gs None (a ++ b)) (sym (take_more w.signatures k no_signature l))
-      (come_on w base h (came_one (signature_at w (record { place = k })) b come)), grew_on old mid new a b grew more)
+  came_more k mid new entry l (a, h, grew) (b, come, more) = (
+    a ++ b,
+    subst (λ (gs : List (SignatureOver PlacedRequirement)). SignaturesCome w base gs None (a ++ b)) (sym (take_more w.signatures k no_signature l))
+        (come_on w base h (came_one (signature_at w (record { place = k })) b come)),
+    grew_on old mid new a b grew more,
+  )
 
   pub came_all : (k : ℕ) (new : Option (List Event)) (v : List (Option Ready)) → length w.signatures ≤ k → CameFirst w base k old new → ChecksAll w base old new (Ok v)
   came_all k new v l (a, h, grew) = (a, subst (λ (gs : List (SignatureOver PlacedRequirement)). SignaturesCome w base gs None a) (take_all k w.signatures l) h, grew)
@@ -133,15 +133,24 @@ module _ (w : TextWorld) (base : List Rule) (old : Option (List Event)) where
         ∙ take-append-drop k w.signatures
 
     pub stopped_at : (e : Refused) → ChecksOne w base g mid new (Err e) → ChecksAll w base old new (Err e)
-    stopped_at (Limit which trace) (b, come, more) =
-        (first.0 ++ b, subst (λ (gs : List (SignatureOver PlacedRequirement)). SignaturesCome w base gs (Some (Limit which trace)) (first.0 ++ b)) split
-        (come_on w base first.1 (stopped (Limit which trace) (λ is. (cc)) come)), grew_on old mid new first.0 b first.2 more)
-    stopped_at (NotATypeParameter at) (b, come, more) =
-        (first.0 ++ b, subst (λ (gs : List (SignatureOver PlacedRequirement)). SignaturesCome w base gs (Some (NotATypeParameter at)) (first.0 ++ b)) split
-        (come_on w base first.1 (stopped (NotATypeParameter at) (λ is. (cc)) come)), grew_on old mid new first.0 b first.2 more)
-    stopped_at Memory (b, come, more) =
-        (first.0 ++ b, subst (λ (gs : List (SignatureOver PlacedRequirement)). SignaturesTell w base gs (first.0 ++ b)) split
-        (tell_on w base first.1 (elim come [ inl part ↦ in_first part | inr whole ↦ past_first whole.0 whole.1 nothing_yet (sym (append-nil b)) ])), grew_on old mid new first.0 b first.2 more)
+    stopped_at (Limit which trace) (b, come, more) = (
+      first.0 ++ b,
+      subst (λ (gs : List (SignatureOver PlacedRequirement)). SignaturesCome w base gs (Some (Limit which trace)) (first.0 ++ b)) split
+          (come_on w base first.1 (stopped (Limit which trace) (λ is. (cc)) come)),
+      grew_on old mid new first.0 b first.2 more,
+    )
+    stopped_at (NotATypeParameter at) (b, come, more) = (
+      first.0 ++ b,
+      subst (λ (gs : List (SignatureOver PlacedRequirement)). SignaturesCome w base gs (Some (NotATypeParameter at)) (first.0 ++ b)) split
+          (come_on w base first.1 (stopped (NotATypeParameter at) (λ is. (cc)) come)),
+      grew_on old mid new first.0 b first.2 more,
+    )
+    stopped_at Memory (b, come, more) = (
+      first.0 ++ b,
+      subst (λ (gs : List (SignatureOver PlacedRequirement)). SignaturesTell w base gs (first.0 ++ b)) split
+          (tell_on w base first.1 (elim come [ inl part ↦ in_first part | inr whole ↦ past_first whole.0 whole.1 nothing_yet (sym (append-nil b)) ])),
+      grew_on old mid new first.0 b first.2 more,
+    )
 
     pub lost_at : (entry : Option Ready) → ChecksOne w base g mid new (Ok entry) → ChecksAll w base old new (Err Memory)
     lost_at entry (b, come, more) = stopped_at Memory (b, inr come, more)

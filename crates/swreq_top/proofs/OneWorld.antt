@@ -145,12 +145,12 @@ module _ (text : Bytes) (s : Skeleton) (x y : LexiconView) (of_x : IsLexiconOf t
 
     same_root : (d : ProtocolName) → Contains x.associated d → over.is_root (inherits x) x.associated d ≡ over.is_root (inherits y) y.associated d
     same_root d c = ap not (same_bool (list_any (inherits_it x d) x.associated) (list_any (inherits_it y d) y.associated)
-      (λ h. let e = any_of (inherits_it x d) x.associated h in any_in (inherits_it y d) y.associated e.0 (to_member e.0 e.1)
-      (and_both (nat_eq d.name.rank e.0.name.rank) (inherits y d.proto e.0.proto) (and_first (nat_eq d.name.rank e.0.name.rank) (inherits x d.proto e.0.proto) e.2)
-      (sym (same_inherits d.proto e.0.proto (is_protocol d c) (is_protocol e.0 e.1)) ∙ and_second (nat_eq d.name.rank e.0.name.rank) (inherits x d.proto e.0.proto) e.2)))
-      (λ h. let e = any_of (inherits_it y d) y.associated h in any_in (inherits_it x d) x.associated e.0 (from_member e.0 e.1)
-      (and_both (nat_eq d.name.rank e.0.name.rank) (inherits x d.proto e.0.proto) (and_first (nat_eq d.name.rank e.0.name.rank) (inherits y d.proto e.0.proto) e.2)
-      (same_inherits d.proto e.0.proto (is_protocol d c) (is_protocol e.0 (from_member e.0 e.1)) ∙ and_second (nat_eq d.name.rank e.0.name.rank) (inherits y d.proto e.0.proto) e.2))))
+        (λ h. let e = any_of (inherits_it x d) x.associated h in any_in (inherits_it y d) y.associated e.0 (to_member e.0 e.1)
+        (and_both (nat_eq d.name.rank e.0.name.rank) (inherits y d.proto e.0.proto) (and_first (nat_eq d.name.rank e.0.name.rank) (inherits x d.proto e.0.proto) e.2)
+        (sym (same_inherits d.proto e.0.proto (is_protocol d c) (is_protocol e.0 e.1)) ∙ and_second (nat_eq d.name.rank e.0.name.rank) (inherits x d.proto e.0.proto) e.2)))
+        (λ h. let e = any_of (inherits_it y d) y.associated h in any_in (inherits_it x d) x.associated e.0 (from_member e.0 e.1)
+        (and_both (nat_eq d.name.rank e.0.name.rank) (inherits x d.proto e.0.proto) (and_first (nat_eq d.name.rank e.0.name.rank) (inherits y d.proto e.0.proto) e.2)
+        (same_inherits d.proto e.0.proto (is_protocol d c) (is_protocol e.0 (from_member e.0 e.1)) ∙ and_second (nat_eq d.name.rank e.0.name.rank) (inherits y d.proto e.0.proto) e.2))))
 
     same_associated : x.associated ≡ y.associated
     same_associated = one_ranking (assoc_cmp x) (assoc_cmp y) (assoc_total (inherits x) x.associated) (IsDeclaredIn x.protocols x.names) (IsDeclaredIn y.protocols y.names)

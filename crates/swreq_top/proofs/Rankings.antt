@@ -24,40 +24,55 @@ module _ {K : Type 0} (R S : K → K → Ordering) (total : IsTotalOrder R) wher
   not_back : (x y : K) → R x y ≡ Less → R y x ≡ Less → ⊥
   not_back x y h k = let clash : Greater ≡ Less = ap ordering_reverse (sym h) ∙ sym (total.antisymm y x) ∙ k in cc
 
+  -- Each of two lists has the items of the other, and where both have two items their orders agree.
+  record AreItems (xs ys : List K) : Type 0 where
+    pub agree : (x y : K) → Contains xs x → Contains xs y → R x y ≡ S x y
+    pub to : (x : K) → Contains xs x → Contains ys x
+    pub from : (x : K) → Contains ys x → Contains xs x
+
+  module _ (x y : K) (xs ys : List K) (after_x : AllByRecursion (λ z. R x z ≡ Less) xs) (after_y : AllByRecursion (λ z. S y z ≡ Less) ys) (items : AreItems (x ∷ xs) (y ∷ ys)) where
+    same_head : x ≡ y
+    same_head = by (member_cases y x ys (items.to x (first_member x xs))) (member_cases x y xs (items.from y (first_member y ys)))
+      where
+        by : (x ≡ y) ⊎ Contains ys x → (y ≡ x) ⊎ Contains xs y → x ≡ y
+        by (inl e) other = e
+        by (inr c) (inl e) = sym e
+        by (inr c) (inr d) = absurd (not_back x y (all_member (λ z. R x z ≡ Less) xs y after_x d)
+            (items.agree y x (later_member x y xs d) (first_member x xs) ∙ all_member (λ z. S y z ≡ Less) ys x after_y c))
+
+    not_again : (z : K) → R x z ≡ Less → z ≡ x → ⊥
+    not_again z h e = not_itself x (subst (λ (q : K). R x q ≡ Less) e h)
+
+    rest_to : (z : K) → Contains xs z → Contains ys z
+    rest_to z c = elim (member_cases y z ys (items.to z (later_member x z xs c))) [
+      | inl e ↦ absurd (not_again z (all_member (λ z. R x z ≡ Less) xs z after_x c) (e ∙ sym same_head))
+      | inr d ↦ d
+    ]
+
+    rest_from : (z : K) → Contains ys z → Contains xs z
+    rest_from z c = elim (member_cases x z xs (items.from z (later_member y z ys c))) [
+      | inl e ↦ absurd (not_again z (items.agree x z (first_member x xs) (items.from z (later_member y z ys c))
+          ∙ subst (λ (q : K). S q z ≡ Less) (sym same_head) (all_member (λ z. S y z ≡ Less) ys z after_y c)) e)
+      | inr d ↦ d
+    ]
+
+    rest_items : AreItems xs ys
+    rest_items = record { agree = λ a b c d. items.agree a b (later_member x a xs c) (later_member x b xs d); to = rest_to; from = rest_from }
+
   -- two lists that are sorted alike and have the same items
-  same_sorted : (xs ys : List K) → IsStrictlySortedBy R xs → IsStrictlySortedBy S ys → ((x y : K) → Contains xs x → Contains xs y → R x y ≡ S x y)
-      → ((x : K) → Contains xs x → Contains ys x) → ((x : K) → Contains ys x → Contains xs x) → xs ≡ ys
+  same_sorted : (xs ys : List K) → IsStrictlySortedBy R xs → IsStrictlySortedBy S ys → AreItems xs ys → xs ≡ ys
   unfolding IsStrictlySortedBy
-  same_sorted [] [] s t agree to from = refl
-  same_sorted [] (y ∷ ys) s t agree to from = no_member y (from y (first_member y ys))
-  same_sorted (x ∷ xs) [] s t agree to from = no_member x (to x (first_member x xs))
-  same_sorted (x ∷ xs) (y ∷ ys) s t agree to from = by (member_cases y x ys (to x (first_member x xs))) (member_cases x y xs (from y (first_member y ys)))
-    where
-      after_x : (z : K) → Contains xs z → R x z ≡ Less
-      after_x z c = all_member (λ z. R x z ≡ Less) xs z s.0 c
-
-      after_y : (z : K) → Contains ys z → S y z ≡ Less
-      after_y z c = all_member (λ z. S y z ≡ Less) ys z t.0 c
-
-      heads : x ≡ y → x ∷ xs ≡ y ∷ ys
-      heads e = ap₂ (λ (z : K) (zs : List K). z ∷ zs) e (same_sorted xs ys s.1 t.1
-        (λ a b c d. agree a b (later_member x a xs c) (later_member x b xs d))
-        (λ z c. elim (member_cases y z ys (to z (later_member x z xs c))) [
-          | inl f ↦ absurd (not_itself x (subst (λ (q : K). R x q ≡ Less) (f ∙ sym e) (after_x z c)))
-          | inr d ↦ d
-        ])
-        (λ z c. elim (member_cases x z xs (from z (later_member y z ys c))) [
-          | inl f ↦ absurd (not_itself x (agree x x (first_member x xs) (first_member x xs) ∙ subst (λ (q : K). S q x ≡ Less) (sym e) (subst (λ (q : K). S y q ≡ Less) f (after_y z c))))
-          | inr d ↦ d
-        ]))
-
-      by : (x ≡ y) ⊎ Contains ys x → (y ≡ x) ⊎ Contains xs y → x ∷ xs ≡ y ∷ ys
-      by (inl e) other = heads e
-      by (inr c) (inl e) = heads (sym e)
-      by (inr c) (inr d) = absurd (not_back x y (after_x y d) (agree y x (later_member x y xs d) (first_member x xs) ∙ after_y x c))
+  same_sorted [] [] s t items = refl
+  same_sorted [] (y ∷ ys) s t items = no_member y (items.from y (first_member y ys))
+  same_sorted (x ∷ xs) [] s t items = no_member x (items.to x (first_member x xs))
+  same_sorted (x ∷ xs) (y ∷ ys) s t items =
+      ap₂ (λ (z : K) (zs : List K). z ∷ zs) (same_head x y xs ys s.0 t.0 items) (same_sorted xs ys s.1 t.1 (rest_items x y xs ys s.0 t.0 items))
 
   pub one_ranking : (P Q : K → Type 0) (xs ys : List K) → IsRanking R P xs → IsRanking S Q ys → ((x y : K) → P x → P y → R x y ≡ S x y)
       → ((x : K) → P x → Q x) → ((x : K) → Q x → P x) → xs ≡ ys
   one_ranking P Q xs ys a b agree to from =
-      same_sorted xs ys a.sorted b.sorted (λ x y c d. agree x y ((a.same x).0 c) ((a.same y).0 d))
-      (λ x c. (b.same x).1 (to x ((a.same x).0 c))) (λ x c. (a.same x).1 (from x ((b.same x).0 c)))
+      same_sorted xs ys a.sorted b.sorted (record {
+        agree = λ x y c d. agree x y ((a.same x).0 c) ((a.same y).0 d);
+        to = λ x c. (b.same x).1 (to x ((a.same x).0 c));
+        from = λ x c. (a.same x).1 (from x ((b.same x).0 c));
+      })

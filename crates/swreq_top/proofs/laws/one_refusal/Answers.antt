@@ -10,7 +10,7 @@ laws c = record {
   verdict = c.one_verdict.ensures.some;
   token = c.one_verdict.ensures.one;
   no_token = c.one_verdict.ensures.never_both;
-  closed = c.worlds_are_closed.ensures;
+  closed = c.worlds_are_closed.ensures.closed;
 }
 
 pub returns-clause-one : goal.returns-clause-one
