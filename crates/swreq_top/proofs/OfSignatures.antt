@@ -83,21 +83,6 @@ module _ (w : TextWorld) (base : List Rule) (g : SignatureOver PlacedRequirement
   pub one_lost : (rules : List Rule) → BuildsIt (Ok rules) → ChecksOne w base g old new (Err Memory)
   one_lost rules b = (b.0, inr (rules, b.1), b.2)
 
--- ---- a signature that no query asks
-
-asked_alike : (terms : List Term) (q : Query) → signature_of (query_by terms q) ≡ function_of q
-asked_alike terms (queries.Signature f) = refl
-asked_alike terms (queries.Reduced f t) = refl
-asked_alike terms (queries.Conf f t p) = refl
-asked_alike terms (queries.Layout f t) = refl
-asked_alike terms (queries.Same f t u) = refl
-
-pub not_kept : (w : IdWorld) (terms : List Term) (f : FuncId) → list_any (λ q. nat_eq (function_of q).place f.place) w.queries ≡ false → IsKept (world_by terms w) f None
-not_kept w terms f none q c e =
-    let of = contains_of_map (query_by terms) w.queries q c in
-    let same : (function_of of.0).place ≡ f.place = ap (λ (g : FuncId). g.place) (sym (asked_alike terms of.0)) ∙ ap (λ (z : TermQuery). (signature_of z).place) (sym of.2) ∙ e in
-    true≢false (sym (any_in (λ q. nat_eq (function_of q).place f.place) w.queries of.0 of.1 (eq-eqb _ _ same)) ∙ none)
-
 -- ---- one after another
 
 -- The first k signatures came to rules, and this was told.
