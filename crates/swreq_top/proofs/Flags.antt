@@ -1,5 +1,5 @@
 -- Which signatures queries ask.
-use Rattle.std.proofs.Common.{◌≡◌, ◌≢◌, ◌⊎◌, ◌∙◌, inl, inr, refl, sym, ap, ℕ, ◌+◌, ◌<◌, ◌||◌, Bool, true, false, nat_eq, List, [], ◌∷◌, ◌++◌, get_or, set, length, Contains, None, true≢false, arith}
+use Rattle.std.proofs.Common.{◌≡◌, ◌≢◌, ◌⊎◌, ◌∙◌, inl, inr, refl, sym, ap, ℕ, ◌+◌, ◌<◌, ◌||◌, Bool, true, false, nat_eq, List, [], ◌∷◌, ◌++◌, get_or, set, length, Contains, None, true≢false, arith, eq-eqb, ne_eqb}
 use Rattle.std.specs.List.{list_any}
 use Rattle.std.proofs.lemmas.Bool.{cases_eq}
 use Rattle.std.proofs.lemmas.List.{get_or-set_other, get_or-set_same, length-set}
@@ -20,12 +20,6 @@ use Rattle.swreq_top.proofs.OneWorld.{any_in}
 abbrev asks : ℕ → Query → Bool
 asks k q = nat_eq (function_of q).place k
 
-eqb_same : (m n : ℕ) → m ≡ n → nat_eq m n ≡ true
-eqb_same m n e = (omega arith)
-
-eqb_other : (m n : ℕ) → m ≢ n → nat_eq m n ≡ false
-eqb_other m n e = (omega (arith, e))
-
 or_false : (b : Bool) → (b || false) ≡ b
 or_false true = refl
 or_false false = refl
@@ -35,29 +29,26 @@ or_true true = refl
 or_true false = refl
 
 -- one query more
-pub asked_more : (qs : List Query) (count : ℕ) (flags : List Bool) (q : Query) → AreAsked qs count flags → (function_of q).place < count
-    → AreAsked (qs ++ q ∷ []) count (set flags (function_of q).place true)
-asked_more qs count flags q h l = record {
-  counted = length-set flags at true ∙ h.counted;
-  set = λ k below. by k below (cases_eq k at);
-}
-  where
-    abbrev at : ℕ
-    at = (function_of q).place
+module _ (qs : List Query) (count : ℕ) (flags : List Bool) (q : Query) (h : AreAsked qs count flags) (l : (function_of q).place < count) where
+  abbrev at : ℕ
+  at = (function_of q).place
 
-    ends : (k : ℕ) → list_any (asks k) (qs ++ q ∷ []) ≡ (list_any (asks k) qs || (asks k q || false))
-    ends k = list_any-append (asks k) qs (q ∷ [])
+  ends : (k : ℕ) → list_any (asks k) (qs ++ q ∷ []) ≡ (list_any (asks k) qs || (asks k q || false))
+  ends k = list_any-append (asks k) qs (q ∷ [])
 
-    by : (k : ℕ) → k < count → (k ≡ at) ⊎ (k ≢ at) → get_or (set flags at true) k false ≡ list_any (asks k) (qs ++ q ∷ [])
-    by k below (inl e) =
-        let same : asks k q ≡ true = eqb_same at k (sym e) in
-        let within : at < length flags = omega (arith, h.counted, l) in
-        ap (λ (n : ℕ). get_or (set flags at true) n false) e ∙ get_or-set_same flags at true false within
-        ∙ sym (ends k ∙ ap (λ (b : Bool). list_any (asks k) qs || b) (or_false (asks k q) ∙ same) ∙ or_true (list_any (asks k) qs))
-    by k below (inr n) =
-        let other : asks k q ≡ false = eqb_other at k (λ e. n (sym e)) in
-        get_or-set_other flags at k true false n ∙ h.set k below
-        ∙ sym (ends k ∙ ap (λ (b : Bool). list_any (asks k) qs || b) (or_false (asks k q) ∙ other) ∙ or_false (list_any (asks k) qs))
+  flag_of : (k : ℕ) → k < count → (k ≡ at) ⊎ (k ≢ at) → get_or (set flags at true) k false ≡ list_any (asks k) (qs ++ q ∷ [])
+  flag_of k below (inl e) =
+      let same : asks k q ≡ true = eq-eqb at k (sym e) in
+      let within : at < length flags = omega (arith, h.counted, l) in
+      ap (λ (n : ℕ). get_or (set flags at true) n false) e ∙ get_or-set_same flags at true false within
+      ∙ sym (ends k ∙ ap (λ (b : Bool). list_any (asks k) qs || b) (or_false (asks k q) ∙ same) ∙ or_true (list_any (asks k) qs))
+  flag_of k below (inr n) =
+      let other : asks k q ≡ false = ne_eqb at k (λ e. n (sym e)) in
+      get_or-set_other flags at k true false n ∙ h.set k below
+      ∙ sym (ends k ∙ ap (λ (b : Bool). list_any (asks k) qs || b) (or_false (asks k q) ∙ other) ∙ or_false (list_any (asks k) qs))
+
+  pub asked_more : AreAsked (qs ++ q ∷ []) count (set flags at true)
+  asked_more = record { counted = length-set flags at true ∙ h.counted; set = λ k below. flag_of k below (cases_eq k at) }
 
 asked_alike : (terms : List Term) (q : Query) → signature_of (query_by terms q) ≡ function_of q
 asked_alike terms (queries.Signature f) = refl
@@ -72,4 +63,4 @@ pub not_kept : (w : IdWorld) (terms : List Term) (f : FuncId) (flags : List Bool
 not_kept w terms f flags asked within unset q c e =
     let of = contains_of_map (query_by terms) w.queries q c in
     let same : (function_of of.0).place ≡ f.place = ap (λ (g : FuncId). g.place) (sym (asked_alike terms of.0)) ∙ ap (λ (z : TermQuery). (signature_of z).place) (sym of.2) ∙ e in
-    true≢false (sym (any_in (asks f.place) w.queries of.0 of.1 (eqb_same _ _ same)) ∙ sym (asked.set f.place within) ∙ unset)
+    true≢false (sym (any_in (asks f.place) w.queries of.0 of.1 (eq-eqb _ _ same)) ∙ sym (asked.set f.place within) ∙ unset)
