@@ -1,8 +1,8 @@
 -- The check of a text: its parts one after another, and what a check without a refusal gives.
-use Rattle.std.proofs.Common.{◌≡◌, ◌≢◌, ◌∙◌, inl, inr, refl, sym, ap, subst, ℕ, List, [], ◌∷◌, ◌++◌, append_assoc, Contains, Option, Some, None, Result, Ok, Err, map, length, ◌<◌, get_or}
+use Rattle.std.proofs.Common.{◌≡◌, ◌≢◌, ◌∙◌, inl, inr, refl, sym, ap, subst, ℕ, List, [], ◌∷◌, ◌++◌, append_assoc, Contains, Option, None, Result, Ok, Err, map, length, ◌<◌}
 use Rattle.std.proofs.lemmas.Bool.{cases_lt}
 use Rattle.std.proofs.lemmas.List.{get_or_past}
-use Rattle.std.proofs.lemmas.List.Elements.{Contains-append_cases, Contains-append_left, Contains-append_right}
+use Rattle.std.proofs.lemmas.List.Elements.{Contains-append_left, Contains-append_right}
 use Rattle.swreq_derive.specs.Derivation.{Source, TermFacts, TermRequirement}
 use Rattle.swreq_derive.specs.Derivation.Source.{SelfOf}
 use Rattle.swreq_derive.specs.Derivation.TermRequirement.{Conforms, IsAnyObject, Equals}
@@ -24,7 +24,7 @@ use Rattle.swreq_valid.specs.Machines.{list_of, protocols_of}
 use Rattle.swreq_valid.specs.Sides.{HoldsOfEach, IsValidSide, Side, protocol_sides, sides, sides_at, sides_in, sides_of}
 use Rattle.swreq_valid.specs.declared.refused.Refused.{Refused}
 use Rattle.swreq_valid.specs.declared.refused.Refused.TheVariants.{Limit, NotATypeParameter, Memory}
-use Rattle.swreq_top.specs.Machines.{IsChecked, ProtocolsCome, SignatureComes, SignaturesCome, limits, source_of, written_list}
+use Rattle.swreq_top.specs.Machines.{IsChecked, SignaturesCome, limits, source_of, written_list}
 use Rattle.swreq_top.specs.Machines.IsChecked.{protocols_built, protocols_refused}
 use Rattle.swreq_top.specs.Machines.SignaturesCome.{all, next, stopped}
 use Rattle.swreq_top.specs.Told.{CheckTells, SignaturesTell}
@@ -37,13 +37,15 @@ Signatures = List (SignatureOver PlacedRequirement)
 module _ (w : TextWorld) (rules : List Rule) where
   -- ---- signatures after signatures
 
-  pub come_on : {gs hs : Signatures} {refused : Option Refused} {a b : List Event} → SignaturesCome w rules gs None a → SignaturesCome w rules hs refused b
+  pub come_on : {gs hs : Signatures} {refused : Option Refused} {a b : List Event} → SignaturesCome w rules gs None a
+      → SignaturesCome w rules hs refused b
       → SignaturesCome w rules (gs ++ hs) refused (a ++ b)
   come_on all h = h
   come_on {b = b} (next {first = first} {more = more} own one rest e) h =
       next own one (come_on rest h) (ap (λ (t : List Event). t ++ b) e ∙ append_assoc first more b)
 
-  pub tell_on : {gs hs : Signatures} {a b : List Event} → SignaturesCome w rules gs None a → SignaturesTell w rules hs b → SignaturesTell w rules (gs ++ hs) (a ++ b)
+  pub tell_on : {gs hs : Signatures} {a b : List Event} → SignaturesCome w rules gs None a → SignaturesTell w rules hs b
+      → SignaturesTell w rules (gs ++ hs) (a ++ b)
   tell_on all h = h
   tell_on {b = b} (next {first = first} {more = more} own one rest e) h =
       past_first own one (tell_on rest h) (ap (λ (t : List Event). t ++ b) e ∙ append_assoc first more b)
@@ -57,32 +59,37 @@ module _ (plan : Plan) where
       record { reached = last.ends.1.ended.reached; kept = λ k rule b s e. last.ends.1.kept k rule b e } in
       record { used = used; before = last.before; round = last.round; part = inr (rules, last.ends.0, within, last.told_is) }
 
-  built_comes : (f : TermFacts) (every : List Side) (answer : Result (List Rule) Refused) (told : List Event) → answer ≢ Err Memory → IsBuilt limits plan f every answer told → ComesTo limits plan told
+  built_comes : (f : TermFacts) (every : List Side) (answer : Result (List Rule) Refused) (told : List Event) → answer ≢ Err Memory
+      → IsBuilt limits plan f every answer told → ComesTo limits plan told
   built_comes f every (Ok rules) told real h = ends_come rules told h.0
   built_comes f every (Err (Limit which trace)) told real h =
       record { used = h.used; before = h.before; round = h.round; part = inr (trace, h.stops.0, h.stops.1.within, h.told_is) }
   built_comes f every (Err (NotATypeParameter at)) told real (rules, h, fails) = ends_come rules told h
   built_comes f every (Err Memory) told real h = absurd (real refl)
 
-  refused_comes : (f : TermFacts) (every : List Side) (refused : Refused) (told : List Event) → refused ≢ Memory → IsBuilt limits plan f every (Err refused) told → ComesTo limits plan told
+  refused_comes : (f : TermFacts) (every : List Side) (refused : Refused) (told : List Event) → refused ≢ Memory
+      → IsBuilt limits plan f every (Err refused) told → ComesTo limits plan told
   refused_comes f every refused told real h = built_comes f every (Err refused) told (λ is. real (inner refused is)) h
     where
       inner : (r : Refused) → (let a : Result (List Rule) Refused = Err r in a) ≡ Err Memory → r ≡ Memory
       inner r e = cc
 
-signatures_tell : (w : TextWorld) (rules : List Rule) {gs : Signatures} {refused : Option Refused} {told : List Event} → SignaturesCome w rules gs refused told → SignaturesTell w rules gs told
+signatures_tell : (w : TextWorld) (rules : List Rule) {gs : Signatures} {refused : Option Refused} {told : List Event}
+    → SignaturesCome w rules gs refused told → SignaturesTell w rules gs told
 signatures_tell w rules all = nothing_yet
 signatures_tell w rules (next own one rest e) = past_first own one (signatures_tell w rules rest) e
 signatures_tell w rules {told = told} (stopped {g = g} refused real come) =
     in_first (refused_comes (list_of w rules g.params (written_list g)) (facts_of w) (sides (source_of g) g.requirements) refused told real come)
 
 pub check_tells : (w : TextWorld) {refused : Option Refused} {told : List Event} → IsChecked w refused told → CheckTells w told
-check_tells w {told = told} (protocols_refused refused real come) = in_protocols (refused_comes (protocols_of w) (facts_of w) (protocol_sides w) refused told real come)
+check_tells w {told = told} (protocols_refused refused real come) =
+    in_protocols (refused_comes (protocols_of w) (facts_of w) (protocol_sides w) refused told real come)
 check_tells w (protocols_built rules come signatures e) = past_protocols rules come (signatures_tell w rules signatures) e
 
 -- ---- well formed texts
 
-of_sides : (f : TermFacts) (s : Source) (r : TermRequirement) (left right : ℕ) → HoldsOfEach (IsValidSide f) (sides_at s r left right) → HasValidSides f s r
+of_sides : (f : TermFacts) (s : Source) (r : TermRequirement) (left right : ℕ) → HoldsOfEach (IsValidSide f) (sides_at s r left right)
+    → HasValidSides f s r
 of_sides f s (Conforms t p) left right h = h (record { source = s; term = t; at = left }) (first_member _ [])
 of_sides f s (IsAnyObject t) left right h = h (record { source = s; term = t; at = left }) (first_member _ [])
 of_sides f s (Equals t u) left right h = (
@@ -90,7 +97,8 @@ of_sides f s (Equals t u) left right h = (
   h (record { source = s; term = u; at = right }) (later_member _ _ (record { source = s; term = u; at = right } ∷ []) (first_member _ [])),
 )
 
-in_sides : (s : Source) (rs : List PlacedRequirement) (r : PlacedRequirement) (x : Side) → Contains rs r → Contains (sides_of s r) x → Contains (sides s rs) x
+in_sides : (s : Source) (rs : List PlacedRequirement) (r : PlacedRequirement) (x : Side) → Contains rs r → Contains (sides_of s r) x
+    → Contains (sides s rs) x
 in_sides s [] r x c k = no_member r c
 in_sides s (q ∷ rs) r x c k = elim (member_cases q r rs c) [
   | inl e ↦ Contains-append_left (sides_of s q) (sides s rs) x (subst (λ (z : PlacedRequirement). Contains (sides_of s z) x) e k)
@@ -104,7 +112,8 @@ of_list f s rs h r c =
     let q = contains_of_map (λ (q : PlacedRequirement). q.requirement) rs r c in
     subst (HasValidSides f s) (sym q.2) (of_sides f s q.0.requirement q.0.left_at q.0.right_at (λ x k. h x (in_sides s rs q.0 x q.1 k)))
 
-in_protocols_sides : (w : TextWorld) (ps : List ProtoId) (p : ProtoId) (x : Side) → Contains ps p → Contains (sides (SelfOf p) (requirements_of w p)) x → Contains (sides_in w ps) x
+in_protocols_sides : (w : TextWorld) (ps : List ProtoId) (p : ProtoId) (x : Side) → Contains ps p
+    → Contains (sides (SelfOf p) (requirements_of w p)) x → Contains (sides_in w ps) x
 in_protocols_sides w [] p x c k = no_member p c
 in_protocols_sides w (q ∷ ps) p x c k = elim (member_cases q p ps c) [
   | inl e ↦ Contains-append_left (sides (SelfOf q) (requirements_of w q)) (sides_in w ps) x (subst (λ (z : ProtoId). Contains (sides (SelfOf z) (requirements_of w z)) x) e k)
@@ -124,7 +133,8 @@ module _ (w : TextWorld) (closed : IsClosed w) where
       of_list (facts_of w) (SelfOf p) (requirements_of w p)
       (λ x k. h x (in_protocols_sides w w.lexicon.written_order p x (protocol_declared p q.0 q.1) k)) r c
 
-  lists_formed : (rules : List Rule) {gs : Signatures} {told : List Event} → SignaturesCome w rules gs None told → (g : SignatureOver PlacedRequirement)
+  lists_formed : (rules : List Rule) {gs : Signatures} {told : List Event} → SignaturesCome w rules gs None told
+      → (g : SignatureOver PlacedRequirement)
       → Contains gs g → IsListWellFormed (facts_of w) (source_of g)
   lists_formed rules all g c = no_member g c
   lists_formed rules (next {g = h} {gs = gs} own one rest e) g c = elim (member_cases h g gs c) [

@@ -1,5 +1,5 @@
 -- Which signatures queries ask.
-use Rattle.std.proofs.Common.{◌≡◌, ◌≢◌, ◌⊎◌, ◌∙◌, inl, inr, refl, sym, ap, ℕ, ◌+◌, ◌<◌, ◌||◌, Bool, true, false, nat_eq, List, [], ◌∷◌, ◌++◌, get_or, set, length, Contains, None, true≢false, arith, eq-eqb, ne_eqb}
+use Rattle.std.proofs.Common.{◌≡◌, ◌≢◌, ◌⊎◌, ◌∙◌, inl, inr, refl, sym, ap, ℕ, ◌+◌, ◌<◌, ◌||◌, Bool, true, false, nat_eq, List, [], ◌∷◌, ◌++◌, get_or, set, length, None, true≢false, arith, eq-eqb, ne_eqb}
 use Rattle.std.specs.List.{list_any}
 use Rattle.std.proofs.lemmas.Bool.{cases_eq}
 use Rattle.std.proofs.lemmas.List.{get_or-set_other, get_or-set_same, length-set}
@@ -58,9 +58,11 @@ asked_alike terms (queries.Layout f t) = refl
 asked_alike terms (queries.Same f t u) = refl
 
 -- nothing is kept of a signature that no query asks
-pub not_kept : (w : IdWorld) (terms : List Term) (f : FuncId) (flags : List Bool) → AreAsked w.queries (length w.signatures) flags → f.place < length w.signatures
+pub not_kept : (w : IdWorld) (terms : List Term) (f : FuncId) (flags : List Bool) → AreAsked w.queries (length w.signatures) flags
+    → f.place < length w.signatures
     → get_or flags f.place false ≡ false → IsKept (world_by terms w) f None
 not_kept w terms f flags asked within unset q c e =
     let of = contains_of_map (query_by terms) w.queries q c in
-    let same : (function_of of.0).place ≡ f.place = ap (λ (g : FuncId). g.place) (sym (asked_alike terms of.0)) ∙ ap (λ (z : TermQuery). (signature_of z).place) (sym of.2) ∙ e in
+    let same : (function_of of.0).place ≡ f.place = ap (λ (g : FuncId). g.place) (sym (asked_alike terms of.0))
+    ∙ ap (λ (z : TermQuery). (signature_of z).place) (sym of.2) ∙ e in
     true≢false (sym (any_in (asks f.place) w.queries of.0 of.1 (eq-eqb _ _ same)) ∙ sym (asked.set f.place within) ∙ unset)

@@ -1,9 +1,9 @@
 -- The lines of queries.
-use Rattle.std.proofs.Common.{◌≡◌, ◌⊎◌, ◌∙◌, inl, inr, refl, sym, ap, subst, ℕ, ◌+◌, ◌<◌, ◌≤◌, Bool, true, false, List, [], ◌∷◌, ◌++◌, append_assoc, append-nil, take, get_or, length, map, Contains, Option, Some, None}
+use Rattle.std.proofs.Common.{◌≡◌, ◌∙◌, refl, sym, ap, subst, ℕ, ◌+◌, ◌<◌, ◌≤◌, Bool, true, false, List, [], ◌∷◌, ◌++◌, append_assoc, append-nil, take, get_or, length, map, Contains, None}
 use Rattle.std.specs.List.{list_any}
 use Rattle.std.proofs.lemmas.List.{take_all, take_more}
 use Rattle.std.proofs.lemmas.List.Elements.{All-contains, Contains-get_or}
-use Rattle.swreq_derive.specs.Derivation.{BookDerivable, Derivable, Derives}
+use Rattle.swreq_derive.specs.Derivation.{BookDerivable, Derivable}
 use Rattle.swreq_derive.specs.Derivation.Source.{Written}
 use Rattle.swreq_derive.specs.Facts.{generic_params}
 use Rattle.swreq_derive.specs.WellFormed.{IsWellFormed}
@@ -19,10 +19,9 @@ use Rattle.swreq_written.specs.declared.ids.Query.TheVariants as queries
 use Rattle.swreq_written.specs.ByTable.{query_by}
 use Rattle.swreq_written.specs.Queries.{TermQuery}
 use Rattle.swreq_written.specs.Queries.TermQuery.{AsksSignature, AsksReduced, AsksConforms, AsksAnyObject, AsksEquals}
-use Rattle.swreq_written.specs.Requirements.{PlacedRequirement}
 use Rattle.swreq_world.specs.ByTable.{world_by}
 use Rattle.swreq_world.specs.Closed.{IsClosed, IsQueryOf}
-use Rattle.swreq_world.specs.Worlds.{IdWorld, SignatureOver, TextWorld, no_signature, signature_at}
+use Rattle.swreq_world.specs.Worlds.{IdWorld, TextWorld, no_signature, signature_at}
 use Rattle.swreq_shown.specs.Meaning.{facts_of}
 use Rattle.swreq_valid.specs.Asked.{IsDerivable}
 use Rattle.swreq_query.specs.Answers.{IsAnswerLine}
@@ -50,18 +49,22 @@ machine_line w q r old new ready answer =
 -- ---- lines after lines
 
 module _ (guarded : Bool) (w : TextWorld) where
-  pub lines_on : {qs rs : List TermQuery} {a b : List ℕ} → AreLinesOf guarded w qs a → AreLinesOf guarded w rs b → AreLinesOf guarded w (qs ++ rs) (a ++ b)
+  pub lines_on : {qs rs : List TermQuery} {a b : List ℕ} → AreLinesOf guarded w qs a → AreLinesOf guarded w rs b
+      → AreLinesOf guarded w (qs ++ rs) (a ++ b)
   lines_on none h = h
-  lines_on {b = b} (more {line = line} {lines = lines} is rest e) h = more is (lines_on rest h) (ap (λ (t : List ℕ). t ++ b) e ∙ append_assoc line lines b)
+  lines_on {b = b} (more {line = line} {lines = lines} is rest e) h =
+      more is (lines_on rest h) (ap (λ (t : List ℕ). t ++ b) e ∙ append_assoc line lines b)
 
-  pub lines_more : (all : List TermQuery) (k : ℕ) (q : TermQuery) (a b line : List ℕ) → k < length all → get_or all k q ≡ q → AreLinesOf guarded w (take k all) a
+  pub lines_more : (all : List TermQuery) (k : ℕ) (q : TermQuery) (a b line : List ℕ) → k < length all → get_or all k q ≡ q
+      → AreLinesOf guarded w (take k all) a
       → IsLineOf guarded w q line → b ≡ a ++ line → AreLinesOf guarded w (take (k + 1) all) b
   lines_more all k q a b line l at h is e =
       subst (λ (t : List ℕ). AreLinesOf guarded w (take (k + 1) all) t) (sym e)
       (subst (λ (qs : List TermQuery). AreLinesOf guarded w qs (a ++ line)) (sym (take_more all k q l ∙ ap (λ (z : TermQuery). take k all ++ z ∷ []) at))
       (lines_on h (more is none (sym (append-nil line)))))
 
-  pub lines_all : (all : List TermQuery) (k : ℕ) (a : List ℕ) → length all ≤ k → AreLinesOf guarded w (take k all) a → AreLinesOf guarded w all a
+  pub lines_all : (all : List TermQuery) (k : ℕ) (a : List ℕ) → length all ≤ k → AreLinesOf guarded w (take k all) a
+      → AreLinesOf guarded w all a
   lines_all all k a l h = subst (λ (qs : List TermQuery). AreLinesOf guarded w qs a) (take_all k all l) h
 
 -- ---- by the book's rules
@@ -86,13 +89,16 @@ module _ (w : TextWorld) (formed : IsWellFormed (facts_of w) (map source_of w.si
         e,
       )
 
-  lines_by_book : {qs : List TermQuery} {output : List ℕ} → ((q : TermQuery) → Contains qs q → IsQueryOf w q) → AreLinesOf true w qs output → AreLinesOf false w qs output
+  lines_by_book : {qs : List TermQuery} {output : List ℕ} → ((q : TermQuery) → Contains qs q → IsQueryOf w q) → AreLinesOf true w qs output
+      → AreLinesOf false w qs output
   lines_by_book of none = none
   lines_by_book of (more {q} {qs} {line} is rest e) =
       more (line_by_book q line (of q (first_member q qs)) is) (lines_by_book (λ r c. of r (later_member q r qs c)) rest) e
 
-pub by_book : (w : TextWorld) (output : List ℕ) → IsClosed w → ((told : List Event) × IsChecked w None told) → AreLinesOf true w w.queries output → AreLinesOf false w w.queries output
-by_book w output closed (told, checked) lines = lines_by_book w (is_formed w closed checked) (λ q c. All-contains (IsQueryOf w) w.queries q closed.queries c) lines
+pub by_book : (w : TextWorld) (output : List ℕ) → IsClosed w → ((told : List Event) × IsChecked w None told)
+    → AreLinesOf true w w.queries output → AreLinesOf false w w.queries output
+by_book w output closed (told, checked) lines =
+    lines_by_book w (is_formed w closed checked) (λ q c. All-contains (IsQueryOf w) w.queries q closed.queries c) lines
 
 -- ---- queries for signatures
 
@@ -116,7 +122,8 @@ of_types terms (queries.Conf f t p) h g e = (cc)
 of_types terms (queries.Layout f t) h g e = (cc)
 of_types terms (queries.Same f t u) h g e = (cc)
 
-pub none_asks : (w : IdWorld) (terms : List Term) → list_any asks_signature w.queries ≡ false → (q : Query) → Contains w.queries q → IsOfTypes (query_by terms q)
+pub none_asks : (w : IdWorld) (terms : List Term) → list_any asks_signature w.queries ≡ false → (q : Query) → Contains w.queries q
+    → IsOfTypes (query_by terms q)
 none_asks w terms h q c = by (asks_signature q) refl
   where
     by : (b : Bool) → asks_signature q ≡ b → IsOfTypes (query_by terms q)

@@ -1,27 +1,20 @@
 -- The signatures of a world over ids, and their check one after another.
-use Rattle.std.proofs.Common.{◌≡◌, ◌≢◌, ◌⊎◌, ◌∙◌, inl, inr, refl, sym, ap, ap₂, subst, ℕ, zero, suc, ◌+◌, ◌<◌, ◌≤◌, arith, Bool, true, false, nat_eq, List, [], ◌∷◌, ◌++◌, append_assoc, append-nil, take, drop, get_or, length, map, slice_get, Contains, Option, Some, None, Result, Ok, Err, true≢false, eq-eqb}
-use Rattle.std.specs.List.{list_any}
-use Rattle.std.proofs.lemmas.Bool.{cases_lt}
-use Rattle.std.proofs.lemmas.List.{get_or_default, length-map, take-append-drop, take_all, take_more}
+use Rattle.std.proofs.Common.{◌≡◌, ◌⊎◌, ◌∙◌, inl, inr, refl, sym, ap, subst, ℕ, zero, suc, ◌+◌, ◌<◌, ◌≤◌, List, [], ◌∷◌, ◌++◌, append-nil, take, drop, length, map, slice_get, Option, Some, None, Result, Ok, Err}
+use Rattle.std.proofs.lemmas.List.{get_or_default, take-append-drop, take_all, take_more}
 use Rattle.std.proofs.lemmas.Option.{same_Some}
 use Rattle.std.proofs.Math.ListN.{get_or-map}
-use Rattle.swreq_derive.specs.declared.requirements.Requirement.{Requirement}
 use Rattle.swreq_derive.specs.Derivation.{TermRequirement}
 use Rattle.swreq_derive.specs.Derivation.Source.{Written as WrittenList}
 use Rattle.swreq_derive.specs.Facts.{generic_params, requirement_of}
 use Rattle.swreq_param.specs.Terms.{Term}
 use Rattle.swreq_rule.specs.declared.rules.Rule.{Rule}
-use Rattle.swreq_rounds.proofs.Members.{contains_of_map}
 use Rattle.swreq_watch.specs.declared.events.Event.{Event}
 use Rattle.swreq_watch.specs.Told.{GrewBy}
 use Rattle.swreq_watch.proofs.Told.{grew_none, grew_on}
 use Rattle.swreq_world.proofs.WrittenOrder.{drop_at}
 use Rattle.swreq_written.specs.declared.ids.FuncId.{FuncId}
-use Rattle.swreq_written.specs.declared.ids.Query.{Query}
-use Rattle.swreq_written.specs.declared.ids.Query.TheVariants as queries
 use Rattle.swreq_written.specs.declared.ids.Written.{Written}
-use Rattle.swreq_written.specs.ByTable.{placed, placed_by, query_by}
-use Rattle.swreq_written.specs.Queries.{TermQuery}
+use Rattle.swreq_written.specs.ByTable.{placed}
 use Rattle.swreq_written.specs.Requirements.{PlacedRequirement}
 use Rattle.swreq_world.specs.ByTable.{signature_by, world_by}
 use Rattle.swreq_world.specs.Worlds.{IdWorld, SignatureOver, TextWorld, no_signature, signature_at}
@@ -36,20 +29,20 @@ use Rattle.swreq_top.specs.declared.ready.Ready.{Ready}
 use Rattle.swreq_top.specs.Machines.{SignatureComes, SignaturesCome, limits, source_of, written_list}
 use Rattle.swreq_top.specs.Machines.IsChecked.{protocols_built, protocols_refused}
 use Rattle.swreq_top.specs.Machines.SignaturesCome.{all, next, stopped}
-use Rattle.swreq_top.specs.Ready.{AreKept, Checks, ChecksAll, ChecksOne, IsKept, function_of}
+use Rattle.swreq_top.specs.Ready.{AreKept, Checks, ChecksAll, ChecksOne, IsKept}
 use Rattle.swreq_top.specs.Told.{SignaturesTell}
 use Rattle.swreq_top.specs.Told.CheckTells.{in_protocols, past_protocols}
 use Rattle.swreq_top.specs.Told.SignaturesTell.{nothing_yet, in_first, past_first}
-use Rattle.swreq_top.specs.Verdict.{signature_of}
 use Rattle.swreq_top.proofs.Checked.{come_on, tell_on}
-use Rattle.swreq_top.proofs.OneWorld.{any_in}
 
 -- ---- one signature
 
-pub signature_is : (w : IdWorld) (terms : List Term) (f : FuncId) → signature_at (world_by terms w) f ≡ signature_by terms (signature_at w f)
+pub signature_is : (w : IdWorld) (terms : List Term) (f : FuncId)
+    → signature_at (world_by terms w) f ≡ signature_by terms (signature_at w f)
 signature_is w terms f = get_or-map (signature_by terms) w.signatures f.place no_signature
 
-pub list_is : (terms : List Term) (rs : List Written) → listed terms (bare rs) ≡ map (λ (r : PlacedRequirement). r.requirement) (placed terms rs)
+pub list_is : (terms : List Term) (rs : List Written)
+    → listed terms (bare rs) ≡ map (λ (r : PlacedRequirement). r.requirement) (placed terms rs)
 list_is terms [] = refl
 list_is terms (r ∷ rs) = ap (λ (xs : List TermRequirement). requirement_of terms r.requirement ∷ xs) (list_is terms rs)
 
@@ -93,7 +86,8 @@ module _ (w : TextWorld) (base : List Rule) (old : Option (List Event)) where
   pub came_none : CameFirst w base 0 old old
   came_none = ([], all, grew_none old)
 
-  came_one : (g : SignatureOver PlacedRequirement) (told : List Event) → (own : List Rule) × SignatureComes w base g (Ok own) told → SignaturesCome w base (g ∷ []) None told
+  came_one : (g : SignatureOver PlacedRequirement) (told : List Event) → (own : List Rule) × SignatureComes w base g (Ok own) told
+      → SignaturesCome w base (g ∷ []) None told
   came_one g told (own, come) = next own come all (sym (append-nil told))
 
   pub came_more : (k : ℕ) (mid new : Option (List Event)) (entry : Option Ready) → k < length w.signatures → CameFirst w base k old mid
@@ -105,8 +99,10 @@ module _ (w : TextWorld) (base : List Rule) (old : Option (List Event)) where
     grew_on old mid new a b grew more,
   )
 
-  pub came_all : (k : ℕ) (new : Option (List Event)) (v : List (Option Ready)) → length w.signatures ≤ k → CameFirst w base k old new → ChecksAll w base old new (Ok v)
-  came_all k new v l (a, h, grew) = (a, subst (λ (gs : List (SignatureOver PlacedRequirement)). SignaturesCome w base gs None a) (take_all k w.signatures l) h, grew)
+  pub came_all : (k : ℕ) (new : Option (List Event)) (v : List (Option Ready)) → length w.signatures ≤ k → CameFirst w base k old new
+      → ChecksAll w base old new (Ok v)
+  came_all k new v l (a, h, grew) =
+      (a, subst (λ (gs : List (SignatureOver PlacedRequirement)). SignaturesCome w base gs None a) (take_all k w.signatures l) h, grew)
 
   module _ (k : ℕ) (mid new : Option (List Event)) (l : k < length w.signatures) (first : CameFirst w base k old mid) where
     abbrev g : SignatureOver PlacedRequirement
@@ -151,16 +147,22 @@ module _ (w : TextWorld) (old new : Option (List Event)) where
   protocols_failed (NotATypeParameter at) (told, h, grew) = (told, protocols_refused (NotATypeParameter at) (λ is. (cc)) h, grew)
   protocols_failed Memory (told, h, grew) = (told, in_protocols h, grew)
 
-  pub then_signatures : (mid : Option (List Event)) (rules : List Rule) (answer : Result (List (Option Ready)) Refused) → BuildsProtocols mid (Ok rules)
+  pub then_signatures : (mid : Option (List Event)) (rules : List Rule) (answer : Result (List (Option Ready)) Refused)
+      → BuildsProtocols mid (Ok rules)
       → ChecksAll w rules mid new answer → Checks w old new answer
-  then_signatures mid rules (Ok v) (told, h, grew) (after, rest, more) = (told ++ after, protocols_built rules h rest refl, grew_on old mid new told after grew more)
-  then_signatures mid rules (Err (Limit which trace)) (told, h, grew) (after, rest, more) = (told ++ after, protocols_built rules h rest refl, grew_on old mid new told after grew more)
-  then_signatures mid rules (Err (NotATypeParameter at)) (told, h, grew) (after, rest, more) = (told ++ after, protocols_built rules h rest refl, grew_on old mid new told after grew more)
-  then_signatures mid rules (Err Memory) (told, h, grew) (after, rest, more) = (told ++ after, past_protocols rules h rest refl, grew_on old mid new told after grew more)
+  then_signatures mid rules (Ok v) (told, h, grew) (after, rest, more) =
+      (told ++ after, protocols_built rules h rest refl, grew_on old mid new told after grew more)
+  then_signatures mid rules (Err (Limit which trace)) (told, h, grew) (after, rest, more) =
+      (told ++ after, protocols_built rules h rest refl, grew_on old mid new told after grew more)
+  then_signatures mid rules (Err (NotATypeParameter at)) (told, h, grew) (after, rest, more) =
+      (told ++ after, protocols_built rules h rest refl, grew_on old mid new told after grew more)
+  then_signatures mid rules (Err Memory) (told, h, grew) (after, rest, more) =
+      (told ++ after, past_protocols rules h rest refl, grew_on old mid new told after grew more)
 
 -- ---- what is kept
 
-end_cases : {X : Type 0} (xs : List X) (x e : X) (i : ℕ) → slice_get (xs ++ x ∷ []) i ≡ Some e → (slice_get xs i ≡ Some e) ⊎ ((i ≡ length xs) × (x ≡ e))
+end_cases : {X : Type 0} (xs : List X) (x e : X) (i : ℕ) → slice_get (xs ++ x ∷ []) i ≡ Some e
+    → (slice_get xs i ≡ Some e) ⊎ ((i ≡ length xs) × (x ≡ e))
 end_cases [] x e zero h = inr (refl, same_Some x e h)
 end_cases {X} [] x e (suc i) h = absurd (let clash : (let o : Option X = None in o) ≡ Some e = h in cc)
 end_cases (y ∷ ys) x e zero h = inl h

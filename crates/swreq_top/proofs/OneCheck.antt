@@ -1,5 +1,5 @@
 -- A check comes out in one way.
-use Rattle.std.proofs.Common.{◌≡◌, ◌≢◌, ◌∙◌, inl, inr, refl, sym, ap, subst, List, [], ◌∷◌, ◌++◌, Option, Some, None, Result, Ok, Err}
+use Rattle.std.proofs.Common.{◌≡◌, ◌≢◌, inl, inr, refl, ap, subst, List, Option, Some, None, Result, Ok, Err}
 use Rattle.swreq_derive.specs.Derivation.{TermFacts}
 use Rattle.swreq_rule.specs.declared.rules.Rule.{Rule}
 use Rattle.swreq_rounds.specs.Plan.{Plan}
@@ -40,7 +40,8 @@ module _ (plan : Plan) (f : TermFacts) (sides : List Side) where
   untold (Err (NotATypeParameter at)) told h real = (told, h, refl)
   untold (Err Memory) told h real = absurd (real refl)
 
-  one_answer : (a b : Answer) (t u : List Event) → IsBuilt limits plan f sides a t → IsBuilt limits plan f sides b u → IsReal a → IsReal b → a ≡ b
+  one_answer : (a b : Answer) (t u : List Event) → IsBuilt limits plan f sides a t → IsBuilt limits plan f sides b u → IsReal a → IsReal b
+      → a ≡ b
   one_answer a b t u h k real too = elim (only_built limits plan f sides a None None (untold a t h real) b u k) [
     | inl e ↦ e
     | inr m ↦ elim m [ inl e ↦ absurd (real e) | inr e ↦ absurd (too e) ]
@@ -58,9 +59,11 @@ never_same r s e = absurd (cc)
 module _ (w : TextWorld) where
   one_signature : (rules : List Rule) (g : SignatureOver PlacedRequirement) (a b : Answer) (t u : List Event) → SignatureComes w rules g a t
       → SignatureComes w rules g b u → IsReal a → IsReal b → a ≡ b
-  one_signature rules g a b t u h k real too = one_answer (list_of w rules g.params (written_list g)) (facts_of w) (sides (source_of g) g.requirements) a b t u h k real too
+  one_signature rules g a b t u h k real too =
+      one_answer (list_of w rules g.params (written_list g)) (facts_of w) (sides (source_of g) g.requirements) a b t u h k real too
 
-  one_come : (rules : List Rule) {gs : List (SignatureOver PlacedRequirement)} {a b : Option Refused} {t u : List Event} → SignaturesCome w rules gs a t → SignaturesCome w rules gs b u → a ≡ b
+  one_come : (rules : List Rule) {gs : List (SignatureOver PlacedRequirement)} {a b : Option Refused} {t u : List Event}
+      → SignaturesCome w rules gs a t → SignaturesCome w rules gs b u → a ≡ b
   one_come rules all all = refl
   one_come rules (next own one rest e) (next own' one' rest' e') = one_come rules rest rest'
   one_come rules (next {g = g} {first = t} own one rest e) (stopped {told = u} refused real come) =
@@ -70,7 +73,8 @@ module _ (w : TextWorld) where
   one_come rules (stopped {g = g} {told = t} refused real come) (stopped {told = u} other too came) =
       ap Some (same_refusal refused other (one_signature rules g (Err refused) (Err other) t u come came (real_refusal refused real) (real_refusal other too)))
 
-  one_over : (rules other : List Rule) → rules ≡ other → {gs : List (SignatureOver PlacedRequirement)} {a b : Option Refused} {t u : List Event}
+  one_over : (rules other : List Rule) → rules ≡ other
+      → {gs : List (SignatureOver PlacedRequirement)} {a b : Option Refused} {t u : List Event}
       → SignaturesCome w rules gs a t → SignaturesCome w other gs b u → a ≡ b
   one_over rules other same {gs} {a} {b} {t} {u} h k = one_come other (subst (λ (r : List Rule). SignaturesCome w r gs a t) same h) k
 

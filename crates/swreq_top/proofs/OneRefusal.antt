@@ -22,11 +22,10 @@ use Rattle.swreq_watch.specs.declared.events.Event.{Event}
 use Rattle.swreq_world.specs.Closed.{AreIds, IsClosed}
 use Rattle.swreq_world.specs.WorldOf.{IsWorldOf}
 use Rattle.swreq_world.specs.Worlds.{TextWorld}
-use Rattle.swreq_complete.specs.declared.limit.Which.{Which}
 use Rattle.swreq_complete.specs.declared.limit.Which.TheVariants.{Rules, Length}
 use Rattle.swreq_valid.specs.declared.refused.Refused.{Refused}
 use Rattle.swreq_valid.specs.declared.refused.Refused.TheVariants.{Limit, NotATypeParameter}
-use Rattle.swreq_top.specs.Machines.{HasWorld, IsChecked, limits}
+use Rattle.swreq_top.specs.Machines.{HasWorld, IsChecked}
 use Rattle.swreq_top.specs.Reports.{machine_refusal, name_refusal, refusal_of}
 use Rattle.swreq_top.specs.Verdict.{AsksOneSignature, IsAnswered, IsRefused, RefusesMachines, RefusesNames}
 use Rattle.swreq_top.specs.declared.outcome.Outcome.{Outcome}
@@ -40,8 +39,10 @@ pub record AreOne (text : List ℕ) : Type 0 where
   pub refusal : (d e : LexErr) → HasRefusal text d → HasRefusal text e → d ≡ e
   pub no_refusal : (ts : List lexed.Token) (e : LexErr) → HasTokens text ts → ¬ (HasRefusal text e)
   pub skeleton : (s t : Skeleton) → StandsFor text s → StandsFor text t → s ≡ t
-  pub verdict : (ts : List lexed.Token) → HasTokens text ts → ((s : Skeleton) × StandsFor text s) ⊎ ((at : ℕ) × (kind : Option Kind) × RefusedFor text at kind)
-  pub token : (at place : ℕ) (kind other : Option Kind) → RefusedFor text at kind → RefusedFor text place other → (at ≡ place) × (kind ≡ other)
+  pub verdict : (ts : List lexed.Token) → HasTokens text ts
+      → ((s : Skeleton) × StandsFor text s) ⊎ ((at : ℕ) × (kind : Option Kind) × RefusedFor text at kind)
+  pub token : (at place : ℕ) (kind other : Option Kind) → RefusedFor text at kind → RefusedFor text place other
+      → (at ≡ place) × (kind ≡ other)
   pub no_token : (s : Skeleton) (at : ℕ) (kind : Option Kind) → StandsFor text s → ¬ (RefusedFor text at kind)
   pub closed : (s : Skeleton) (w : TextWorld) → StandsFor text s → IsWorldOf text s w → Resolve text s → IsClosed w
 
@@ -67,7 +68,8 @@ module _ (text : List ℕ) (one : AreOne text) (within : length text ≤ TEXT_LI
     exact = record {
       within = within;
       ok = λ s. neither (λ stands. one.no_refusal stands.0 e stands.1 has) (λ is. (cc));
-      lex = λ fault. (λ is. subst (HasRefusal text) (inner e fault is) has, λ other. inl (ap (λ f. Err (grammar.Lex f)) (one.refusal e fault has other)));
+      lex =
+          λ fault. (λ is. subst (HasRefusal text) (inner e fault is) has, λ other. inl (ap (λ f. Err (grammar.Lex f)) (one.refusal e fault has other)));
       syntax = λ at. neither (λ r. one.no_refusal r.0 e r.1 has) (λ is. (cc));
       unsupported = λ at kind. neither (λ r. one.no_refusal r.0 e r.1 has) (λ is. (cc));
     };
@@ -109,18 +111,21 @@ module _ (text : List ℕ) (one : AreOne text) (within : length text ≤ TEXT_LI
       inner : (a b : ParseErr) → (let r : Result Skeleton ParseErr = Err a in r) ≡ Err b → a ≡ b
       inner a b is = (cc)
 
-      same : (there : ℕ) (k other : Option Kind) → (let r : Result Skeleton ParseErr = Err (refused at k) in r) ≡ Err (refused there other) → (at ≡ there) × (k ≡ other)
+      same : (there : ℕ) (k other : Option Kind) → (let r : Result Skeleton ParseErr = Err (refused at k) in r) ≡ Err (refused there other)
+          → (at ≡ there) × (k ≡ other)
       same there None None is = ((cc), (cc))
       same there None (Some b) is = ((cc), (cc))
       same there (Some a) None is = ((cc), (cc))
       same there (Some a) (Some b) is = ((cc), (cc))
 
-      here : (there : ℕ) (other : Option Kind) → (let r : Result Skeleton ParseErr = Err (refused at kind) in r) ≡ Err (refused there other) → RefusedFor text there other
+      here : (there : ℕ) (other : Option Kind) → (let r : Result Skeleton ParseErr = Err (refused at kind) in r) ≡ Err (refused there other)
+          → RefusedFor text there other
       here there other is =
           let moved : RefusedFor text there kind = subst (λ n. RefusedFor text n kind) (same there kind other is).0 is_refused in
           subst (RefusedFor text there) (same there kind other is).1 moved
 
-      there_too : (there : ℕ) (other : Option Kind) → RefusedFor text there other → (let r : Result Skeleton ParseErr = Err (refused at kind) in r) ≡ Err (refused there other)
+      there_too : (there : ℕ) (other : Option Kind) → RefusedFor text there other
+          → (let r : Result Skeleton ParseErr = Err (refused at kind) in r) ≡ Err (refused there other)
       there_too there other r =
           let eq = one.token at there kind other is_refused r in
           ap (λ n. Err (refused n kind)) eq.0 ∙ ap (λ k. Err (refused there k)) eq.1
@@ -155,7 +160,8 @@ IsReadAs text (Ok s) refusal = ((e : NameErr) × Refuses text s e × (refusal �
 IsReadAs text (Err e) refusal = refusal ≡ refusal_of e
 
 -- an answer that the text has is its reading's
-told : (text : List ℕ) (r : Reading text) (answer : Result Skeleton ParseErr) (refusal : RefusalKind) → (r.parsed ≡ answer) ⊎ (r.parsed ≡ Err grammar.Memory)
+told : (text : List ℕ) (r : Reading text) (answer : Result Skeleton ParseErr) (refusal : RefusalKind)
+    → (r.parsed ≡ answer) ⊎ (r.parsed ≡ Err grammar.Memory)
     → IsReadAs text answer refusal → IsReadAs text r.parsed refusal
 told text r answer refusal (inl is) read = subst (λ p. IsReadAs text p refusal) (sym is) read
 told text r answer refusal (inr none) read = absurd (r.real none)
@@ -166,15 +172,18 @@ by_names text r e (within, (s, stands, refuses)) = told text r (Ok s) _ ((r.exac
 has_ids : (text : List ℕ) → AreOne text → (w : TextWorld) → HasWorld text w → AreIds w.lexicon
 has_ids text one w has = (one.closed has.skeleton w has.stands has.world has.resolve).ids
 
-by_world : (text : List ℕ) (one : AreOne text) (r : Reading text) (w : TextWorld) (refusal : RefusalKind) → HasWorld text w → IsCheckedAs w refusal → IsReadAs text r.parsed refusal
+by_world : (text : List ℕ) (one : AreOne text) (r : Reading text) (w : TextWorld) (refusal : RefusalKind) → HasWorld text w
+    → IsCheckedAs w refusal → IsReadAs text r.parsed refusal
 by_world text one r w refusal has checked =
     told text r (Ok has.skeleton) _ ((r.exact.ok has.skeleton).1 has.stands) (inr (has.resolve, (w, has.world, has_ids text one w has, checked)))
 
-by_machines : (text : List ℕ) (one : AreOne text) (r : Reading text) (refused : Refused) → RefusesMachines text refused → IsReadAs text r.parsed (machine_refusal refused)
+by_machines : (text : List ℕ) (one : AreOne text) (r : Reading text) (refused : Refused) → RefusesMachines text refused
+    → IsReadAs text r.parsed (machine_refusal refused)
 by_machines text one r refused (w, has, checked) = by_world text one r w _ has (inl (refused, checked, refl))
 
 -- the refusal of a text that is not too long is its reading's
-is_read : (text : List ℕ) (one : AreOne text) (r : Reading text) (refusal : RefusalKind) → IsRefused text refusal → IsReadAs text r.parsed refusal
+is_read : (text : List ℕ) (one : AreOne text) (r : Reading text) (refusal : RefusalKind) → IsRefused text refusal
+    → IsReadAs text r.parsed refusal
 is_read text one r refusals.TooLarge long = absurd (omega (arith, long, r.exact.within))
 is_read text one r (refusals.NotUtf8 at) has = told text r _ _ ((r.exact.lex (lexical.NotUtf8 at)).1 has.1) refl
 is_read text one r (refusals.BadCharacter at) has = told text r _ _ ((r.exact.lex (lexical.BadCharacter at)).1 has.1) refl
@@ -193,7 +202,8 @@ is_read text one r (refusals.LimitRules max) (is, (trace, has)) =
     subst (λ (n : ℕ). IsReadAs text r.parsed (refusals.LimitRules n)) (sym is) (by_machines text one r (Limit Rules trace) has)
 is_read text one r (refusals.LimitLength max) (is, (trace, has)) =
     subst (λ (n : ℕ). IsReadAs text r.parsed (refusals.LimitLength n)) (sym is) (by_machines text one r (Limit Length trace) has)
-is_read text one r refusals.NotBuilt (w, whole, asks) = by_world text one r w _ whole.has_world (inr ((whole.told, whole.checked), asks, refl))
+is_read text one r refusals.NotBuilt (w, whole, asks) =
+    by_world text one r w _ whole.has_world (inr ((whole.told, whole.checked), asks, refl))
 is_read text one r refusals.ReadFault has = absurd has
 is_read text one r refusals.OutOfMemory has = absurd has
 is_read text one r refusals.Usage has = absurd has
@@ -205,7 +215,8 @@ never_none : {A : Type 0} (a : Refused) → (let o : Option Refused = Some a in 
 never_none a e = absurd (cc)
 
 -- a world is refused so in one way at most
-one_checked : (w v : TextWorld) → AreAlike w v → (refusal other : RefusalKind) → IsCheckedAs w refusal → IsCheckedAs v other → refusal ≡ other
+one_checked : (w v : TextWorld) → AreAlike w v → (refusal other : RefusalKind) → IsCheckedAs w refusal → IsCheckedAs v other
+    → refusal ≡ other
 one_checked w v alike refusal other (inl (r, (t, h), is)) (inl (s, (u, k), same)) =
     is ∙ ap machine_refusal (same_refused r s (one_check v (alike.checked h) k)) ∙ sym same
 one_checked w v alike refusal other (inl (r, (t, h), is)) (inr ((u, k), asks, same)) = never_none r (one_check v (alike.checked h) k)
@@ -213,11 +224,14 @@ one_checked w v alike refusal other (inr ((t, h), asks, is)) (inl (s, (u, k), sa
 one_checked w v alike refusal other (inr ((t, h), asks, is)) (inr ((u, k), too, same)) = is ∙ sym same
 
 -- a reading has one refusal at most
-one_read : (text : List ℕ) (parsed : Result Skeleton ParseErr) (refusal other : RefusalKind) → IsReadAs text parsed refusal → IsReadAs text parsed other → refusal ≡ other
-one_read text (Ok s) refusal other (inl (e, refuses, is)) (inl (f, too, same)) = is ∙ ap name_refusal (one_name text s e f refuses too) ∙ sym same
+one_read : (text : List ℕ) (parsed : Result Skeleton ParseErr) (refusal other : RefusalKind) → IsReadAs text parsed refusal
+    → IsReadAs text parsed other → refusal ≡ other
+one_read text (Ok s) refusal other (inl (e, refuses, is)) (inl (f, too, same)) =
+    is ∙ ap name_refusal (one_name text s e f refuses too) ∙ sym same
 one_read text (Ok s) refusal other (inl (e, refuses, is)) (inr (resolve, world)) = absurd (not_refused text s e resolve refuses)
 one_read text (Ok s) refusal other (inr (resolve, world)) (inl (e, refuses, is)) = absurd (not_refused text s e resolve refuses)
-one_read text (Ok s) refusal other (inr (resolve, (w, h, ids, checked))) (inr (also, (v, k, others, too))) = one_checked w v (one_world text s w v h k ids others) refusal other checked too
+one_read text (Ok s) refusal other (inr (resolve, (w, h, ids, checked))) (inr (also, (v, k, others, too))) =
+    one_checked w v (one_world text s w v h k ids others) refusal other checked too
 one_read text (Err e) refusal other is same = is ∙ sym same
 
 -- a text that is too long is refused for that alone

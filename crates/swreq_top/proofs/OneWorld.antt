@@ -1,9 +1,8 @@
 -- The worlds of a text differ in how its inheritance is kept alone, and so they are checked alike.
-use Rattle.std.proofs.Common.{◌≡◌, ◌⊎◌, ◌∙◌, inl, inr, refl, sym, ap, ap₂, subst, ℕ, zero, suc, ◌+◌, ◌<◌, arith, Bool, true, false, cond, not, ◌&&◌, nat_eq, List, [], ◌∷◌, ◌++◌, length, map, slice_get, Contains, Option, Some, None, IsTrue, get_or, true≢false}
-use Rattle.std.specs.List.{flat_map, list_any}
-use Rattle.std.specs.declared.cmp.Ordering.{Ordering}
+use Rattle.std.proofs.Common.{◌≡◌, ◌∙◌, inl, inr, refl, sym, ap, ap₂, subst, ℕ, zero, suc, ◌+◌, ◌<◌, arith, Bool, true, false, cond, not, ◌&&◌, nat_eq, List, [], ◌∷◌, length, map, slice_get, Contains, Option, Some, None, get_or, true≢false}
+use Rattle.std.specs.List.{list_any}
 use Rattle.std.specs.Cmp.{IsTotalOrder}
-use Rattle.std.specs.Ordering.{nat_cmp, ordering_then, then_cmp, on}
+use Rattle.std.specs.Ordering.{nat_cmp, ordering_then}
 use Rattle.std.proofs.lemmas.Cmp.{back_total, nat_cmp_total, nat_list_cmp_total, on_total, then_total}
 use Rattle.std.proofs.lemmas.Option.{same_Some, slice_get-get_or}
 use Rattle.swreq_decl.specs.declared.skeleton.Skeleton.{Skeleton}
@@ -12,8 +11,7 @@ use Rattle.swreq_derive.proofs.Members.{first_member, later_member, member_cases
 use Rattle.swreq_names.proofs.Booleans.{and_both, and_first, and_second, or_cases, or_left, or_right, same_bool}
 use Rattle.swreq_names.specs.Inheritance.{Inherits}
 use Rattle.swreq_names.specs.Mentioned.{mentioned}
-use Rattle.swreq_names.specs.Spaces.{Spaces, place, spaces, word}
-use Rattle.swreq_param.specs.declared.ids.NameId.{NameId}
+use Rattle.swreq_names.specs.Spaces.{Spaces, word}
 use Rattle.swreq_param.specs.declared.ids.ProtoId.{ProtoId}
 use Rattle.swreq_ranks.specs.declared.pair.ProtocolName.{ProtocolName}
 use Rattle.swreq_ranks.specs.Associated as over
@@ -37,7 +35,7 @@ use Rattle.swreq_world.specs.WorldOf.{IsWorldOf, words_of}
 use Rattle.swreq_world.specs.Worlds.{SignatureOver, TextWorld, signature_at}
 use Rattle.swreq_shown.specs.Meaning.{facts_of}
 use Rattle.swreq_valid.specs.declared.refused.Refused.{Refused}
-use Rattle.swreq_query.specs.Answers.{Answer, IsAnswerLine, asked}
+use Rattle.swreq_query.specs.Answers.{IsAnswerLine}
 use Rattle.swreq_query.specs.Answers.Answer.{Invalid, Yes, No, Reduced}
 use Rattle.swreq_derive.specs.Derivation.{TermRequirement}
 use Rattle.swreq_top.specs.Machines.{IsChecked, SignaturesCome, source_of}
@@ -61,7 +59,8 @@ no_line D x f line (Yes, h, e) = let clash : (let o : Option TermRequirement = N
 no_line D x f line (No, h, e) = let clash : (let o : Option TermRequirement = None in o) ≡ Some h.1.0 = h.1.1 in cc
 no_line D x f line (Reduced u, h, e) = let clash : AsksSignature f ≡ AsksReduced h.1.0 h.1.1 = h.1.2 in cc
 
-no_lines : (w : TextWorld) {qs : List TermQuery} {output : List ℕ} (f : FuncId) → AreLinesOf false w qs output → Contains qs (AsksSignature f) → ⊥
+no_lines : (w : TextWorld) {qs : List TermQuery} {output : List ℕ} (f : FuncId) → AreLinesOf false w qs output
+    → Contains qs (AsksSignature f) → ⊥
 no_lines w f none c = no_member (AsksSignature f) c
 no_lines w f (more {q} {qs} {line} h rest e) c = elim (member_cases q (AsksSignature f) qs c) [
   | inl i ↦ (let D : TermStatement → Type 0 = Derives (facts_of w) false (source_of (signature_at w (signature_of q))) in
@@ -70,7 +69,8 @@ no_lines w f (more {q} {qs} {line} h rest e) c = elim (member_cases q (AsksSigna
 ]
 
 pub unanswered : (w v : TextWorld) → AreAlike w v → (output : List ℕ) → AsksOneSignature w → AreLinesOf false v v.queries output → ⊥
-unanswered w v alike output (f, c) lines = no_lines v f lines (subst (λ (qs : List TermQuery). Contains qs (AsksSignature f)) alike.queries c)
+unanswered w v alike output (f, c) lines =
+    no_lines v f lines (subst (λ (qs : List TermQuery). Contains qs (AsksSignature f)) alike.queries c)
 
 -- ---- lexicons
 
@@ -94,7 +94,8 @@ count_same t u (suc n) h = ap₂ (λ (c : ℕ) (b : Bool). c + cond b 1 0) (coun
 
 module _ (text : Bytes) (s : Skeleton) (x y : LexiconView) (of_x : IsLexiconOf text s x) (of_y : IsLexiconOf text s y) where
   same_protocols : x.protocols ≡ y.protocols
-  same_protocols = one_ranking bytes_cmp bytes_cmp nat_list_cmp_total (Contains (protocol_names text s.protocols)) (Contains (protocol_names text s.protocols))
+  same_protocols =
+      one_ranking bytes_cmp bytes_cmp nat_list_cmp_total (Contains (protocol_names text s.protocols)) (Contains (protocol_names text s.protocols))
       x.protocols y.protocols of_x.protocols of_y.protocols (λ a b c d. refl) (λ a c. c) (λ a c. c)
 
   same_names : x.names ≡ y.names
@@ -102,7 +103,9 @@ module _ (text : Bytes) (s : Skeleton) (x y : LexiconView) (of_x : IsLexiconOf t
       x.names y.names of_x.names of_y.names (λ a b c d. refl) (λ a c. c) (λ a c. c)
 
   same_order : x.written_order ≡ y.written_order
-  same_order = of_x.written_order ∙ ap (λ (ps : List Bytes). map (λ (p : ProtocolDecl). proto_by ps (word text p.name)) s.protocols) same_protocols ∙ sym of_y.written_order
+  same_order =
+      of_x.written_order ∙ ap (λ (ps : List Bytes). map (λ (p : ProtocolDecl). proto_by ps (word text p.name)) s.protocols) same_protocols
+      ∙ sym of_y.written_order
 
   -- protocols of the text have the same places
   same_place : (p : ProtoId) → IsProtocol x p → place_of x p ≡ place_of y p
@@ -125,7 +128,8 @@ module _ (text : Bytes) (s : Skeleton) (x y : LexiconView) (of_x : IsLexiconOf t
     IsDeclaredIn ps ns d = Contains (declared_in text ps ns s.protocols) d
 
     to_declared : (d : ProtocolName) → IsDeclaredIn x.protocols x.names d → IsDeclaredIn y.protocols y.names d
-    to_declared d c = subst (λ (ns : List Bytes). IsDeclaredIn y.protocols ns d) same_names (subst (λ (ps : List Bytes). IsDeclaredIn ps x.names d) same_protocols c)
+    to_declared d c =
+        subst (λ (ns : List Bytes). IsDeclaredIn y.protocols ns d) same_names (subst (λ (ps : List Bytes). IsDeclaredIn ps x.names d) same_protocols c)
 
     from_declared : (d : ProtocolName) → IsDeclaredIn y.protocols y.names d → IsDeclaredIn x.protocols x.names d
     from_declared d c =
@@ -143,7 +147,8 @@ module _ (text : Bytes) (s : Skeleton) (x y : LexiconView) (of_x : IsLexiconOf t
     abbrev inherits_it : LexiconView → ProtocolName → ProtocolName → Bool
     inherits_it z d e = nat_eq d.name.rank e.name.rank && inherits z d.proto e.proto
 
-    same_root : (d : ProtocolName) → Contains x.associated d → over.is_root (inherits x) x.associated d ≡ over.is_root (inherits y) y.associated d
+    same_root : (d : ProtocolName) → Contains x.associated d
+        → over.is_root (inherits x) x.associated d ≡ over.is_root (inherits y) y.associated d
     same_root d c = ap not (same_bool (list_any (inherits_it x d) x.associated) (list_any (inherits_it y d) y.associated)
         (λ h. let e = any_of (inherits_it x d) x.associated h in any_in (inherits_it y d) y.associated e.0 (to_member e.0 e.1)
         (and_both (nat_eq d.name.rank e.0.name.rank) (inherits y d.proto e.0.proto) (and_first (nat_eq d.name.rank e.0.name.rank) (inherits x d.proto e.0.proto) e.2)
@@ -153,7 +158,8 @@ module _ (text : Bytes) (s : Skeleton) (x y : LexiconView) (of_x : IsLexiconOf t
         (same_inherits d.proto e.0.proto (is_protocol d c) (is_protocol e.0 (from_member e.0 e.1)) ∙ and_second (nat_eq d.name.rank e.0.name.rank) (inherits y d.proto e.0.proto) e.2))))
 
     same_associated : x.associated ≡ y.associated
-    same_associated = one_ranking (assoc_cmp x) (assoc_cmp y) (assoc_total (inherits x) x.associated) (IsDeclaredIn x.protocols x.names) (IsDeclaredIn y.protocols y.names)
+    same_associated =
+        one_ranking (assoc_cmp x) (assoc_cmp y) (assoc_total (inherits x) x.associated) (IsDeclaredIn x.protocols x.names) (IsDeclaredIn y.protocols y.names)
         x.associated y.associated of_x.associated of_y.associated
         (λ d e c k. ap₂ (λ (a b : Bool). ordering_then (nat_cmp d.name.rank e.name.rank) (ordering_then (nat_cmp (cond a 0 1) (cond b 0 1)) (nat_cmp d.proto.rank e.proto.rank)))
         (same_root d ((of_x.associated.same d).1 c)) (same_root e ((of_x.associated.same e).1 k)))
@@ -165,20 +171,23 @@ module _ (text : Bytes) (s : Skeleton) (x y : LexiconView) (of_x : IsLexiconOf t
     IsSymbolOf z d = IsProtocol z d.proto × HasMember z d.proto d.name
 
     to_symbol : (d : ProtocolName) → IsSymbolOf x d → IsSymbolOf y d
-    to_symbol d (h, inl c) = (subst (λ (ps : List Bytes). d.proto.rank < length ps) same_protocols h, inl (to_member (pair d.proto d.name) c))
+    to_symbol d (h, inl c) =
+        (subst (λ (ps : List Bytes). d.proto.rank < length ps) same_protocols h, inl (to_member (pair d.proto d.name) c))
     to_symbol d (h, inr (q, e, c)) = (
       subst (λ (ps : List Bytes). d.proto.rank < length ps) same_protocols h,
       inr (q, sym (same_inherits d.proto q h (is_protocol (pair q d.name) c)) ∙ e, to_member (pair q d.name) c),
     )
 
     from_symbol : (d : ProtocolName) → IsSymbolOf y d → IsSymbolOf x d
-    from_symbol d (h, inl c) = (subst (λ (ps : List Bytes). d.proto.rank < length ps) (sym same_protocols) h, inl (from_member (pair d.proto d.name) c))
+    from_symbol d (h, inl c) =
+        (subst (λ (ps : List Bytes). d.proto.rank < length ps) (sym same_protocols) h, inl (from_member (pair d.proto d.name) c))
     from_symbol d (h, inr (q, e, c)) =
         let within : IsProtocol x d.proto = subst (λ (ps : List Bytes). d.proto.rank < length ps) (sym same_protocols) h in
         let member = from_member (pair q d.name) c in
         (within, inr (q, same_inherits d.proto q within (is_protocol (pair q d.name) member) ∙ e, member))
 
-    same_depth : (p : ProtoId) → IsProtocol x p → over.depth (inherits x) (length x.protocols) p ≡ over.depth (inherits y) (length y.protocols) p
+    same_depth : (p : ProtoId) → IsProtocol x p
+        → over.depth (inherits x) (length x.protocols) p ≡ over.depth (inherits y) (length y.protocols) p
     same_depth p h =
         count_same (λ q. inherits x p (over.protocol q)) (λ q. inherits y p (over.protocol q)) (length x.protocols) (λ k l. same_inherits p (over.protocol k) h l)
         ∙ ap (λ (ps : List Bytes). over.count_below (λ q. inherits y p (over.protocol q)) (length ps)) same_protocols
@@ -188,7 +197,8 @@ module _ (text : Bytes) (s : Skeleton) (x y : LexiconView) (of_x : IsLexiconOf t
         (then_total (back_total (on_total (over.depth (inherits x) (length x.protocols)) nat_cmp_total)) (on_total (λ (p : ProtoId). p.rank) nat_cmp_total)))
 
     same_symbols : x.symbols ≡ y.symbols
-    same_symbols = one_ranking (symbol_cmp x) (symbol_cmp y) symbols_total (IsSymbolOf x) (IsSymbolOf y) x.symbols y.symbols of_x.symbols of_y.symbols
+    same_symbols =
+        one_ranking (symbol_cmp x) (symbol_cmp y) symbols_total (IsSymbolOf x) (IsSymbolOf y) x.symbols y.symbols of_x.symbols of_y.symbols
         (λ d e c k. ap₂ (λ (m n : ℕ). ordering_then (nat_cmp d.name.rank e.name.rank) (ordering_then (nat_cmp n m) (nat_cmp d.proto.rank e.proto.rank)))
         (same_depth d.proto c.0) (same_depth e.proto k.0))
         to_symbol from_symbol
@@ -199,7 +209,8 @@ module _ (text : Bytes) (s : Skeleton) (x y : LexiconView) (of_x : IsLexiconOf t
 -- ---- worlds
 
 -- the world with what its check sees alone
-abbrev core : List ProtoId → List ProtocolName → List ProtocolName → Spaces → List (List PlacedRequirement) → List (SignatureOver PlacedRequirement) → TextWorld
+abbrev core : List ProtoId → List ProtocolName → List ProtocolName → Spaces → List (List PlacedRequirement)
+    → List (SignatureOver PlacedRequirement) → TextWorld
 core order associated symbols declared requirements signatures = record {
   lexicon = record {
     protocols = [];
@@ -265,7 +276,8 @@ module _ (text : Bytes) (s : Skeleton) (w v : TextWorld) (of_w : IsWorldOf text 
   }
 
   words_same : bare_words (words_of text s w) ≡ bare_words (words_of text s v)
-  words_same = λ i. words (protocols_same i) (same_names text s w.lexicon v.lexicon of_w.lexicon of_v.lexicon i) (associated_same i) (declared_same i)
+  words_same =
+      λ i. words (protocols_same i) (same_names text s w.lexicon v.lexicon of_w.lexicon of_v.lexicon i) (associated_same i) (declared_same i)
 
   same_requirements : w.requirements ≡ v.requirements
   same_requirements =
@@ -274,7 +286,9 @@ module _ (text : Bytes) (s : Skeleton) (w v : TextWorld) (of_w : IsWorldOf text 
       ∙ requirements_same (words_of text s v) v.lexicon.protocols ∙ sym of_v.requirements
 
   same_signatures : w.signatures ≡ v.signatures
-  same_signatures = of_w.signatures ∙ sym (signatures_same (words_of text s w)) ∙ ap signatures words_same ∙ signatures_same (words_of text s v) ∙ sym of_v.signatures
+  same_signatures =
+      of_w.signatures ∙ sym (signatures_same (words_of text s w)) ∙ ap signatures words_same ∙ signatures_same (words_of text s v)
+      ∙ sym of_v.signatures
 
   same_queries : w.queries ≡ v.queries
   same_queries =

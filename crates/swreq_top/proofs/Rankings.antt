@@ -1,5 +1,5 @@
 -- A ranking is one list.
-use Rattle.std.proofs.Common.{◌≡◌, ◌⊎◌, ◌∙◌, inl, inr, refl, sym, ap, ap₂, subst, ℕ, List, [], ◌∷◌, Contains}
+use Rattle.std.proofs.Common.{◌≡◌, ◌⊎◌, ◌∙◌, inl, inr, refl, sym, ap, ap₂, subst, List, [], ◌∷◌, Contains}
 use Rattle.std.specs.declared.cmp.Ordering.{Ordering}
 use Rattle.std.specs.declared.cmp.Ordering.TheVariants.{Less, Equal, Greater}
 use Rattle.std.specs.Cmp.{IsTotalOrder}
@@ -57,7 +57,8 @@ module _ {K : Type 0} (R S : K → K → Ordering) (total : IsTotalOrder R) wher
     ]
 
     rest_items : AreItems xs ys
-    rest_items = record { agree = λ a b c d. items.agree a b (later_member x a xs c) (later_member x b xs d); to = rest_to; from = rest_from }
+    rest_items =
+        record { agree = λ a b c d. items.agree a b (later_member x a xs c) (later_member x b xs d); to = rest_to; from = rest_from }
 
   -- two lists that are sorted alike and have the same items
   same_sorted : (xs ys : List K) → IsStrictlySortedBy R xs → IsStrictlySortedBy S ys → AreItems xs ys → xs ≡ ys

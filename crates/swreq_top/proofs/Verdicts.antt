@@ -16,7 +16,6 @@ use Rattle.swreq_decl.specs.Skeletons.{StandsFor, RefusedFor, Exactly}
 use Rattle.swreq_names.specs.Errors.{error_by}
 use Rattle.swreq_names.specs.declared.refusal.Fault.{Fault}
 use Rattle.swreq_names.specs.declared.refusal.Fault.TheVariants as faults
-use Rattle.swreq_names.specs.declared.refusal.Refusal.{Refusal}
 use Rattle.swreq_names.specs.declared.refusal.NameErr.{NameErr}
 use Rattle.swreq_names.specs.declared.refusal.NameErr.TheVariants as names
 use Rattle.swreq_names.specs.Names.{Refuses, Resolve}
@@ -39,7 +38,7 @@ use Rattle.swreq_top.specs.Reports.{machine_refusal, name_refusal, refusal_of}
 use Rattle.swreq_top.specs.Told.{WasTold, WasToldPart}
 use Rattle.swreq_top.proofs.Checked.{check_tells}
 use Rattle.swreq_top.specs.Runs.{DeliversVerdict, IsOutput, IsRead, TellsSome, TellsVerdict}
-use Rattle.swreq_top.specs.Verdict.{IsAnswered, IsRefused, IsVerdict, RefusesNames, refused_with, status_of}
+use Rattle.swreq_top.specs.Verdict.{IsAnswered, IsRefused, IsVerdict, refused_with, status_of}
 
 -- what a text was read with is exact
 pub record IsExact (text : List ℕ) (parsed : Result Skeleton ParseErr) : Type 0 where
@@ -50,7 +49,8 @@ pub record IsExact (text : List ℕ) (parsed : Result Skeleton ParseErr) : Type 
   pub unsupported : (at : ℕ) (kind : Kind) → Exactly (RefusedFor text at (Some kind)) (Err (grammar.Unsupported at kind)) parsed
 
 -- a refusal of names is one of the text
-pub names_refused : (text : List ℕ) (skeleton : Skeleton) (e : NameErr) → length text ≤ TEXT_LIMIT → StandsFor text skeleton → Refuses text skeleton e → IsRefused text (name_refusal e)
+pub names_refused : (text : List ℕ) (skeleton : Skeleton) (e : NameErr) → length text ≤ TEXT_LIMIT → StandsFor text skeleton
+    → Refuses text skeleton e → IsRefused text (name_refusal e)
 names_refused text skeleton (names.Duplicate at) within stands refuses = (within, (skeleton, stands, refuses))
 names_refused text skeleton (names.NotAProtocol at) within stands refuses = (within, (skeleton, stands, refuses))
 names_refused text skeleton (names.ConcreteType at) within stands refuses = (within, (skeleton, stands, refuses))
@@ -75,7 +75,8 @@ names_refused text skeleton names.Memory within stands refuses = not_memory refu
 -- ---- what a refusal is
 
 -- a text that was not read is refused for that
-pub unread : (text : List ℕ) (parsed : Result Skeleton ParseErr) (e : ParseErr) → IsExact text parsed → parsed ≡ Err e → e ≢ grammar.Memory → IsRefused text (refusal_of e)
+pub unread : (text : List ℕ) (parsed : Result Skeleton ParseErr) (e : ParseErr) → IsExact text parsed → parsed ≡ Err e → e ≢ grammar.Memory
+    → IsRefused text (refusal_of e)
 unread text parsed (grammar.Lex (lexical.NotUtf8 at)) exact is real = (exact.within, (exact.lex (lexical.NotUtf8 at)).0 is)
 unread text parsed (grammar.Lex (lexical.BadCharacter at)) exact is real = (exact.within, (exact.lex (lexical.BadCharacter at)).0 is)
 unread text parsed (grammar.Lex (lexical.OpenComment at)) exact is real = (exact.within, (exact.lex (lexical.OpenComment at)).0 is)
@@ -91,7 +92,8 @@ no_error : {A E : Type 0} (r : Result A E) (x : A) (e : E) → r ≡ Ok x → r 
 no_error {A} {E} r x e is same = let both : (let z : Result A E = Ok x in z) ≡ Err e = sym is ∙ same in cc
 
 -- and has no world
-pub unread_has_none : (text : List ℕ) (parsed : Result Skeleton ParseErr) (e : ParseErr) → IsExact text parsed → parsed ≡ Err e → e ≢ grammar.Memory
+pub unread_has_none : (text : List ℕ) (parsed : Result Skeleton ParseErr) (e : ParseErr) → IsExact text parsed → parsed ≡ Err e
+    → e ≢ grammar.Memory
     → (w : TextWorld) → HasWorld text w → ⊥
 unread_has_none text parsed e exact is real w has = elim ((exact.ok has.skeleton).1 has.stands) [
   | inl same ↦ no_error parsed has.skeleton e same is
@@ -100,19 +102,22 @@ unread_has_none text parsed e exact is real w has = elim ((exact.ok has.skeleton
 
 module _ {Names : Type 0} (text : List ℕ) (skeleton : Skeleton) (result : Result Names NameErr) (e : NameErr) (is : result ≡ Err e) (real : e ≢ names.Memory) where
   -- a text whose names are refused is
-  pub unresolved_refused : length text ≤ TEXT_LIMIT → StandsFor text skeleton → IfErr result (λ f. Refuses text skeleton f ⊎ (f ≡ names.Memory)) → IsRefused text (name_refusal e)
-  unresolved_refused within stands some = names_refused text skeleton e within stands (elim (subst (λ r. IfErr r (λ f. Refuses text skeleton f ⊎ (f ≡ names.Memory))) is some) [
-    | inl h ↦ h
-    | inr none ↦ absurd (real none)
-  ])
+  pub unresolved_refused : length text ≤ TEXT_LIMIT → StandsFor text skeleton
+      → IfErr result (λ f. Refuses text skeleton f ⊎ (f ≡ names.Memory)) → IsRefused text (name_refusal e)
+  unresolved_refused within stands some =
+      names_refused text skeleton e within stands (elim (subst (λ r. IfErr r (λ f. Refuses text skeleton f ⊎ (f ≡ names.Memory))) is some) [
+        | inl h ↦ h
+        | inr none ↦ absurd (real none)
+      ])
 
   -- and has no world
   pub unresolved_has_none : ((s t : Skeleton) → StandsFor text s → StandsFor text t → s ≡ t) → StandsFor text skeleton
       → (Resolve text skeleton → IsOk result ⊎ (result ≡ Err names.Memory)) → (w : TextWorld) → HasWorld text w → ⊥
-  unresolved_has_none one stands resolves w has = elim (resolves (subst (Resolve text) (one has.skeleton skeleton has.stands stands) has.resolve)) [
-    | inl fine ↦ false≢true (subst IsOk is fine)
-    | inr none ↦ real (one_error result e names.Memory is none)
-  ]
+  unresolved_has_none one stands resolves w has =
+      elim (resolves (subst (Resolve text) (one has.skeleton skeleton has.stands stands) has.resolve)) [
+        | inl fine ↦ false≢true (subst IsOk is fine)
+        | inr none ↦ real (one_error result e names.Memory is none)
+      ]
 
 -- ---- replies
 
@@ -125,19 +130,25 @@ refused_early text old refusal real (Err e) h refused none = ([], inl refl, grew
 
 module _ (text : List ℕ) (w : TextWorld) (has : HasWorld text w) (old new : Option (List Event)) where
   -- one that is checked
-  pub replies_checked : (all : List (Option Ready)) (result : Result Outcome AllocError) → Checks w old new (Ok all) → IfOk result (IsVerdict text) → Replies text old new result
+  pub replies_checked : (all : List (Option Ready)) (result : Result Outcome AllocError) → Checks w old new (Ok all)
+      → IfOk result (IsVerdict text) → Replies text old new result
   replies_checked all (Ok o) (told, checked, grew) verdict = (verdict, (told, inl (w, has, (None, checked)), grew))
   replies_checked all (Err e) (told, checked, grew) verdict = (told, inr (w, has, check_tells w checked), grew)
 
-  refused_so : (refused : Refused) (told : List Event) (o : Outcome) → refused ≢ Memory → IsChecked w (Some refused) told → o ≡ refused_with (machine_refusal refused) → IsVerdict text o
-  refused_so (Limit Rules trace) told o real checked is = inl (refusals.LimitRules limits.max_rules, (refl, (trace, (w, has, (told, checked)))), is)
-  refused_so (Limit Length trace) told o real checked is = inl (refusals.LimitLength limits.max_length, (refl, (trace, (w, has, (told, checked)))), is)
+  refused_so : (refused : Refused) (told : List Event) (o : Outcome) → refused ≢ Memory → IsChecked w (Some refused) told
+      → o ≡ refused_with (machine_refusal refused) → IsVerdict text o
+  refused_so (Limit Rules trace) told o real checked is =
+      inl (refusals.LimitRules limits.max_rules, (refl, (trace, (w, has, (told, checked)))), is)
+  refused_so (Limit Length trace) told o real checked is =
+      inl (refusals.LimitLength limits.max_length, (refl, (trace, (w, has, (told, checked)))), is)
   refused_so (NotATypeParameter at) told o real checked is = inl (refusals.NotATypeParameter at, (w, has, (told, checked)), is)
   refused_so Memory told o real checked is = absurd (real refl)
 
-  refused_or_lost : (refused : Refused) (result : Result Outcome AllocError) (told : List Event) → IsChecked w (Some refused) told → GrewBy old new told
+  refused_or_lost : (refused : Refused) (result : Result Outcome AllocError) (told : List Event) → IsChecked w (Some refused) told
+      → GrewBy old new told
       → IfOk result (λ o. (refused ≢ Memory) × (o ≡ refused_with (machine_refusal refused))) → Replies text old new result
-  refused_or_lost refused (Ok o) told checked grew (real, is) = (refused_so refused told o real checked is, (told, inl (w, has, (Some refused, checked)), grew))
+  refused_or_lost refused (Ok o) told checked grew (real, is) =
+      (refused_so refused told o real checked is, (told, inl (w, has, (Some refused, checked)), grew))
   refused_or_lost refused (Err e) told checked grew h = (told, inr (w, has, check_tells w checked), grew)
 
   -- one whose machines are refused
@@ -165,12 +176,14 @@ module _ (text : List ℕ) (old new : Option (List Event)) where
 
   module _ (one : (refusal other : RefusalKind) → IsRefused text refusal → IsRefused text other → refusal ≡ other)
       (never : (refusal : RefusalKind) (o : Outcome) → IsRefused text refusal → IsAnswered text o → ⊥) where
-    pub reply_refused : (result : Result Outcome AllocError) → Replies text old new result → (refusal : RefusalKind) → IsRefused text refusal → IfOk result (λ o. o ≡ refused_with refusal)
+    pub reply_refused : (result : Result Outcome AllocError) → Replies text old new result → (refusal : RefusalKind)
+        → IsRefused text refusal → IfOk result (λ o. o ≡ refused_with refusal)
     reply_refused (Ok o) (inl (other, too, is), told) refusal has = is ∙ ap refused_with (one other refusal too has)
     reply_refused (Ok o) (inr answered, told) refusal has = absurd (never refusal o has answered)
     reply_refused (Err e) h refusal has = tt
 
-  pub reply_answered : (result : Result Outcome AllocError) → Replies text old new result → ((refusal : RefusalKind) → IsRefused text refusal → ⊥) → IfOk result (IsAnswered text)
+  pub reply_answered : (result : Result Outcome AllocError) → Replies text old new result
+      → ((refusal : RefusalKind) → IsRefused text refusal → ⊥) → IfOk result (IsAnswered text)
   reply_answered (Ok o) (inl (refusal, has, is), told) none = absurd (none refusal has)
   reply_answered (Ok o) (inr answered, told) none = answered
   reply_answered (Err e) h none = tt
@@ -214,7 +227,8 @@ written status (inr (inr three)) five = absurd (omega (arith, three, five))
 
 -- and is 0, 1 or 3
 pub verdict_status : (text : List ℕ) (o : Outcome) → IsVerdict text o → (o.status ≡ 0) ⊎ ((o.status ≡ 1) ⊎ (o.status ≡ 3))
-verdict_status text o (inl (refusal, has, is)) = inr (subst (λ (n : ℕ). (n ≡ 1) ⊎ (n ≡ 3)) (sym (ap (λ (z : Outcome). z.status) is)) (by refusal))
+verdict_status text o (inl (refusal, has, is)) =
+    inr (subst (λ (n : ℕ). (n ≡ 1) ⊎ (n ≡ 3)) (sym (ap (λ (z : Outcome). z.status) is)) (by refusal))
   where
     by : (r : RefusalKind) → (status_of r ≡ 1) ⊎ (status_of r ≡ 3)
     by refusals.TooLarge = inl refl
@@ -240,7 +254,8 @@ verdict_status text o (inl (refusal, has, is)) = inr (subst (λ (n : ℕ). (n �
 verdict_status text o (inr answered) = inl answered.status
 
 -- a text that was read to its end is read
-pub read_whole : (left rest : Option (List ℕ)) (text : List ℕ) → Consumes left rest text → IsAtEnd rest → length text ≤ TEXT_LIMIT → IsRead left rest
+pub read_whole : (left rest : Option (List ℕ)) (text : List ℕ) → Consumes left rest text → IsAtEnd rest → length text ≤ TEXT_LIMIT
+    → IsRead left rest
 read_whole None rest text came end within = tt
 read_whole (Some all) None text came end within = absurd came
 read_whole (Some all) (Some rest) text came end within =
@@ -261,14 +276,16 @@ none_given (Some all) = ([], refl, refl)
 -- ---- what a run tells
 
 -- what was told of a text that was read to its end was told of all that the source had left
-pub whole_told : (left rest : Option (List ℕ)) (text : List ℕ) (old new : Option (List Event)) → Consumes left rest text → IsAtEnd rest → WasTold text old new → TellsVerdict left old new
+pub whole_told : (left rest : Option (List ℕ)) (text : List ℕ) (old new : Option (List Event)) → Consumes left rest text → IsAtEnd rest
+    → WasTold text old new → TellsVerdict left old new
 whole_told None rest text old new came end told = tt
 whole_told (Some all) None text old new came end told = absurd came
 whole_told (Some all) (Some rest) text old new came end told =
     let whole : all ≡ text = came ∙ ap (λ (l : List ℕ). text ++ l) end ∙ append-nil text in
     subst (λ (t : List ℕ). WasTold t old new) (sym whole) told
 
-pub whole_part : (left rest : Option (List ℕ)) (text : List ℕ) (old new : Option (List Event)) → Consumes left rest text → IsAtEnd rest → WasToldPart text old new → TellsSome left old new
+pub whole_part : (left rest : Option (List ℕ)) (text : List ℕ) (old new : Option (List Event)) → Consumes left rest text → IsAtEnd rest
+    → WasToldPart text old new → TellsSome left old new
 whole_part None rest text old new came end told = tt
 whole_part (Some all) None text old new came end told = absurd came
 whole_part (Some all) (Some rest) text old new came end told =
@@ -286,7 +303,8 @@ nothing_told None old = tt
 nothing_told (Some text) old = inr ([], inl refl, grew_none old)
 
 -- a text that is too long tells nothing
-pub too_large_told : (left rest : Option (List ℕ)) (old : Option (List Event)) → GivesCount left rest (TEXT_LIMIT + 1) → TellsVerdict left old old
+pub too_large_told : (left rest : Option (List ℕ)) (old : Option (List Event)) → GivesCount left rest (TEXT_LIMIT + 1)
+    → TellsVerdict left old old
 too_large_told None rest old came = tt
 too_large_told (Some all) None old came = absurd came.1
 too_large_told (Some all) (Some rest) old came =

@@ -1,7 +1,6 @@
 -- What is written depends on a lexicon by its names, its associated types and what they refer to alone.
-use Rattle.std.proofs.Common.{◌≡◌, ◌∙◌, refl, sym, ap, ap₂, subst, ℕ, ◌+◌, cond, List, [], ◌∷◌, ◌++◌, Option, Some, None, map, slice_get}
+use Rattle.std.proofs.Common.{◌≡◌, ◌∙◌, refl, ap, ap₂, ℕ, ◌+◌, cond, List, [], ◌∷◌, ◌++◌, Option, Some, None, map, slice_get}
 use Rattle.std.specs.List.{flat_map}
-use Rattle.swreq_param.specs.declared.ids.Step.{Step}
 use Rattle.swreq_param.specs.Terms.{Term, self, with_steps}
 use Rattle.swreq_param.specs.Terms.Term.{Generic}
 use Rattle.swreq_decl.specs.declared.skeleton.Ask.{Ask}
@@ -22,14 +21,14 @@ use Rattle.swreq_decl.specs.declared.skeleton.TypeDecl.{TypeDecl}
 use Rattle.swreq_names.specs.declared.signature.Signature.{Signature}
 use Rattle.swreq_names.specs.declared.signature.Signature.TheVariants.{Struct, Function, Nested}
 use Rattle.swreq_names.specs.declared.signature.Param.TheVariants.{Own}
-use Rattle.swreq_names.specs.Spaces.{protocol_of, word}
+use Rattle.swreq_names.specs.Spaces.{protocol_of}
 use Rattle.swreq_ranks.specs.Views.{LexiconView}
 use Rattle.swreq_written.specs.declared.ids.FuncId.{FuncId}
 use Rattle.swreq_written.specs.declared.scope.Scope.{Scope}
 use Rattle.swreq_written.specs.declared.scope.Scope.TheVariants as scopes
 use Rattle.swreq_written.specs.Queries.TermQuery.{AsksAnyObject, AsksConforms, AsksEquals, AsksReduced}
-use Rattle.swreq_written.specs.Queries.{TermQuery, asked_of, asked_signature, query_of, signature_named}
-use Rattle.swreq_written.specs.Requirements.{PlacedRequirement, bound_of, equality, of_one_side, arguments, argument, in_bound, in_bounds, in_clause, in_function, in_member, in_members, in_nested, in_param, in_params, in_protocol, in_requirement, in_signature, in_struct}
+use Rattle.swreq_written.specs.Queries.{asked_of, asked_signature, query_of, signature_named}
+use Rattle.swreq_written.specs.Requirements.{PlacedRequirement, bound_of, equality, of_one_side, arguments, argument, in_bound, in_bounds, in_clause, in_member, in_params, in_protocol, in_requirement, in_signature, in_struct}
 use Rattle.swreq_written.specs.Signatures.{func_id, functions_of, in_order, own_depth, params_of}
 use Rattle.swreq_written.specs.Types.{head_in, member_named, param_id, step_of, type_in}
 use Rattle.swreq_written.specs.Words.{WordsView, declared, primaries_named, proto_of}
@@ -74,10 +73,12 @@ module _ (w : WordsView) where
     argument_same : (t : Term) (at : ℕ) (a : Span) (u : TypeDecl) → argument (bare_words w) scope t at a u ≡ argument w scope t at a u
     argument_same t at a u = ap (λ (v : Term). equality (member_named w t a) at v u.head.start) (type_same scope u)
 
-    arguments_same : (t : Term) (at : ℕ) (names : List Span) (us : List TypeDecl) → arguments (bare_words w) scope t at names us ≡ arguments w scope t at names us
+    arguments_same : (t : Term) (at : ℕ) (names : List Span) (us : List TypeDecl)
+        → arguments (bare_words w) scope t at names us ≡ arguments w scope t at names us
     arguments_same t at [] us = refl
     arguments_same t at (a ∷ names) [] = refl
-    arguments_same t at (a ∷ names) (u ∷ us) = ap₂ (λ (x : PlacedRequirement) (xs : List PlacedRequirement). x ∷ xs) (argument_same t at a u) (arguments_same t at names us)
+    arguments_same t at (a ∷ names) (u ∷ us) =
+        ap₂ (λ (x : PlacedRequirement) (xs : List PlacedRequirement). x ∷ xs) (argument_same t at a u) (arguments_same t at names us)
 
     in_bound_same : (t : Term) (at : ℕ) (e : Entity) → in_bound (bare_words w) scope t at e ≡ in_bound w scope t at e
     in_bound_same t at e =
@@ -88,7 +89,8 @@ module _ (w : WordsView) where
 
     in_requirement_same : (r : ReqDecl) → in_requirement (bare_words w) scope r ≡ in_requirement w scope r
     in_requirement_same (requirements.Bound t bounds) =
-        ap (λ (v : Term). in_bounds (bare_words w) scope v t.head.start bounds) (type_same scope t) ∙ in_bounds_same (type_in w scope t) t.head.start bounds
+        ap (λ (v : Term). in_bounds (bare_words w) scope v t.head.start bounds) (type_same scope t)
+        ∙ in_bounds_same (type_in w scope t) t.head.start bounds
     in_requirement_same (requirements.Same t u) =
         ap₂ (λ (v z : Term). equality v t.head.start z u.head.start ∷ []) (type_same scope t) (type_same scope u)
 
@@ -186,13 +188,15 @@ module _ (w : WordsView) where
   signature_same order g = ap₂ (made order g) (name_same g) (list_of_same g)
 
   pub signatures_same : signatures (bare_words w) ≡ signatures w
-  signatures_same = alike (signature_in (bare_words w) (in_order w.skeleton)) (signature_in w (in_order w.skeleton)) (signature_same (in_order w.skeleton)) (in_order w.skeleton)
+  signatures_same =
+      alike (signature_in (bare_words w) (in_order w.skeleton)) (signature_in w (in_order w.skeleton)) (signature_same (in_order w.skeleton)) (in_order w.skeleton)
 
   -- queries
   asked_same : (g : Signature) (f : FuncId) (ask : Ask) → asked_of (bare_words w) g f ask ≡ asked_of w g f ask
   asked_same g f asks.Signature = refl
   asked_same g f (asks.Reduced t) = ap (AsksReduced f) (type_same (scopes.Signature g) t)
-  asked_same g f (asks.Is t e) = ap (λ (v : Term). cond e.layout (AsksAnyObject f v) (AsksConforms f v (proto_of w e.span))) (type_same (scopes.Signature g) t)
+  asked_same g f (asks.Is t e) =
+      ap (λ (v : Term). cond e.layout (AsksAnyObject f v) (AsksConforms f v (proto_of w e.span))) (type_same (scopes.Signature g) t)
   asked_same g f (asks.Same t u) = ap₂ (AsksEquals f) (type_same (scopes.Signature g) t) (type_same (scopes.Signature g) u)
 
   named_same : (outer : Option Span) (f : Span) → signature_named (bare_words w) outer f ≡ signature_named w outer f
