@@ -1,20 +1,23 @@
 -- Which signatures queries ask.
-use Rattle.std.proofs.Common.{◌≡◌, ◌≢◌, ◌⊎◌, ◌∙◌, inl, inr, refl, sym, ap, ℕ, ◌+◌, ◌<◌, ◌||◌, Bool, true, false, nat_eq, List, [], ◌∷◌, ◌++◌, get_or, set, length, None, true≢false, arith, eq-eqb, ne_eqb}
+use Rattle.std.proofs.Common.{◌≡◌, ◌≢◌, ◌⊎◌, ◌∙◌, inl, inr, refl, sym, ap, subst, ℕ, ◌+◌, ◌<◌, ◌||◌, Bool, true, false, nat_eq, List, [], ◌∷◌, ◌++◌, get_or, set, length, map, Contains, None, true≢false, arith, eq-eqb, ne_eqb}
 use Rattle.std.specs.List.{list_any}
 use Rattle.std.proofs.lemmas.Bool.{cases_eq}
-use Rattle.std.proofs.lemmas.List.{get_or-set_other, get_or-set_same, length-set}
+use Rattle.std.proofs.lemmas.List.{get_or-set_other, get_or-set_same, length-map, length-set}
+use Rattle.std.proofs.lemmas.List.Elements.{All-contains}
 use Rattle.std.proofs.lemmas.List.Folds.{list_any-append}
 use Rattle.swreq_param.specs.Terms.{Term}
-use Rattle.swreq_rounds.proofs.Members.{contains_of_map}
+use Rattle.swreq_rounds.proofs.Members.{contains_map, contains_of_map}
 use Rattle.swreq_written.specs.declared.ids.FuncId.{FuncId}
 use Rattle.swreq_written.specs.declared.ids.Query.{Query}
 use Rattle.swreq_written.specs.declared.ids.Query.TheVariants as queries
 use Rattle.swreq_written.specs.ByTable.{query_by}
 use Rattle.swreq_written.specs.Queries.{TermQuery}
-use Rattle.swreq_world.specs.ByTable.{world_by}
+use Rattle.swreq_world.specs.ByTable.{signature_by, world_by}
+use Rattle.swreq_world.specs.Closed.{IsClosed, IsQueryOf}
 use Rattle.swreq_world.specs.Worlds.{IdWorld}
 use Rattle.swreq_top.specs.Ready.{AreAsked, IsKept, function_of}
 use Rattle.swreq_top.specs.Verdict.{signature_of}
+use Rattle.swreq_top.proofs.Lines.{query_signature}
 use Rattle.swreq_top.proofs.OneWorld.{any_in}
 
 abbrev asks : ℕ → Query → Bool
@@ -66,3 +69,12 @@ not_kept w terms f flags asked within unset q c e =
     let same : (function_of of.0).place ≡ f.place = ap (λ (g : FuncId). g.place) (sym (asked_alike terms of.0))
     ∙ ap (λ (z : TermQuery). (signature_of z).place) (sym of.2) ∙ e in
     true≢false (sym (any_in (asks f.place) w.queries of.0 of.1 (eq-eqb _ _ same)) ∙ sym (asked.set f.place within) ∙ unset)
+
+-- each query asks a signature of the world
+pub asked_within : (w : IdWorld) (terms : List Term) → IsClosed (world_by terms w) → (q : Query) → Contains w.queries q
+    → (function_of q).place < length w.signatures
+asked_within w terms closed q c =
+    let of : IsQueryOf (world_by terms w) (query_by terms q) =
+    All-contains (IsQueryOf (world_by terms w)) (map (query_by terms) w.queries) (query_by terms q) closed.queries (contains_map (query_by terms) w.queries q c) in
+    let within : (signature_of (query_by terms q)).place < length (map (signature_by terms) w.signatures) = query_signature (world_by terms w) (query_by terms q) of in
+    subst (λ (f : FuncId). f.place < length w.signatures) (asked_alike terms q) (omega (arith, length-map w.signatures (signature_by terms), within))

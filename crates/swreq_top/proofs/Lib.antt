@@ -1,6 +1,7 @@
-pub mod Flags
 pub mod Checked
+pub mod Flags
 pub mod Lines
+pub mod OfLists
 pub mod OfSignatures
 pub mod OneCheck
 pub mod OneRefusal

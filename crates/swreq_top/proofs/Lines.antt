@@ -69,7 +69,8 @@ module _ (guarded : Bool) (w : TextWorld) where
 
 -- ---- by the book's rules
 
-query_signature : (w : TextWorld) (q : TermQuery) → IsQueryOf w q → (signature_of q).place < length w.signatures
+-- a query asks a signature of the world
+pub query_signature : (w : TextWorld) (q : TermQuery) → IsQueryOf w q → (signature_of q).place < length w.signatures
 query_signature w (AsksSignature f) h = h
 query_signature w (AsksReduced f t) h = h.0
 query_signature w (AsksConforms f t p) h = h.0
