@@ -171,17 +171,3 @@ fn a_type_has_at_most_1000_members(rt: HostRuntime) -> Result<(), Fail> {
         "error: unsupported long type at 2021\n",
     )
 }
-
-/// Two members with the relation aba = bab, which no finite system of rules over its members decides.
-const INFINITE: &str =
-    "protocol P { associatedtype A: P associatedtype B: P where A.B.A == B.A.B }\n";
-
-#[test]
-fn a_system_without_end_passes_a_limit(rt: HostRuntime) -> Result<(), Fail> {
-    let alloc = rt.alloc();
-    let words = vec![in alloc; String::from_str(alloc, "answer")?]?;
-    let mut src = MemSource::new(INFINITE.as_bytes().to_vec(alloc)?, 10, Vec::new(alloc));
-    let mut out = MemSink::new(alloc, 1000, 1000, Vec::new(alloc))?;
-    assert_eq!(rt; run(alloc, &words, &mut src, &mut out, &mut Quiet), 3);
-    Ok(())
-}
