@@ -4,15 +4,29 @@ use Rattle.std.specs.List.{slice_get}
 use Rattle.std.specs.declared.alloc.Global.{Global}
 use Rattle.std.proofs.Math.ListN.{set}
 use Rattle.swreq_trie.specs.declared.spots.Spot.{Spot}
-use Rattle.swreq_trie.specs.Marks.{SameEnds, Holds, IsListed, KeepsListed}
+use Rattle.swreq_trie.specs.Marks.{SameEnds, Marked, Holds, IsListed, KeepsListed}
 use Rattle.swreq_word.proofs.Lists.{get_left, get_last, get_cases}
-use Rattle.swreq_trie.proofs.Changed.{set_here, set_kept}
+use Rattle.swreq_trie.proofs.Changed.{set_here, set_kept, set_cases}
 
 pub room_made : (old ends new : List (Option ℕ)) → SameEnds old ends → new ≡ ends ++ None ∷ [] → SameEnds old new
 room_made old ends new s e node place = (
   (λ h. rw e (get_left ends (None ∷ []) node (Some place) ((s node place).0 h))),
   (λ h. elim (get_cases ends None node (Some place) (subst (λ x. slice_get x node ≡ Some (Some place)) e h)) [ inl g ↦ (s node place).1 g | inr g ↦ cc (g.1) ]),
 )
+
+pub marked_first : (ends new : List (Option ℕ)) (node number : ℕ) → node < length ends → slice_get ends node ≡ Some None → new ≡ set ends node (Some number)
+    → Marked ends new node number
+marked_first ends new node number l none e = rw e (record {
+  here = (number, set_here ends node (Some number) l);
+  kept = λ n p h. elim (set_kept ends node (Some number) n (Some p) h) [
+    | inl g ↦ g
+    | inr g ↦ absurd (let f : slice_get ends node ≡ Some (Some p) = subst (λ x. slice_get ends x ≡ Some (Some p)) g.0 h in cc)
+  ];
+  only = λ n p h. elim (set_cases ends node (Some number) n (Some p) h) [
+    | inl g ↦ inl g
+    | inr g ↦ inr (g.0, (let f = g.1 in cc), (λ earlier h. cc))
+  ];
+})
 
 pub keeps_itself : (lists : List (Vec Spot Global)) → KeepsListed lists lists
 keeps_itself lists node spot h = h

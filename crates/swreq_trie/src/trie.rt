@@ -28,8 +28,8 @@ pub struct Trie {
     pub(crate) entries: Vec<Entry>,
     // Lead along each side, and from the root by each symbol of one.
     pub(crate) edges: Edges,
-    // The index of the first side that ends at each node.
-    pub(crate) ends: Vec<Option<usize>>,
+    // The number of the first side that ends at each node.
+    pub(crate) ends: Vec<Option<u32>>,
     // The sides on whose way each node lies.
     pub(crate) passing: Vec<Vec<Spot>>,
     // At each node to which one symbol leads from the root, the places past the begins of sides at which this symbol stands.
@@ -98,7 +98,7 @@ impl Trie {
             left,
         )?;
         self.entries.push(Entry { left: word, number })?;
-        mark(&mut self.ends, node, side);
+        mark(&mut self.ends, node, number);
         self.longest = self.longest.max(left.len());
         Ok(())
     }
@@ -109,10 +109,7 @@ impl Trie {
         requires { at ≤ length w.now }
         ensures { MatchOption result (NoneBegins self.now (drop at w.now)) (λ number. Shortest self.now (drop at w.now) number) }
     {
-        match find(&self.edges, &self.ends, &w[at..]) {
-            Some(side) => Some(self.entries[side].number),
-            None => None,
-        }
+        find(&self.edges, &self.ends, &w[at..])
     }
 
     /// All places of the pairs of the rule that has this side and number with the stored ones whose number is below it, and with itself,

@@ -13,10 +13,10 @@ use crate::spots::{Spot, add_spot};
 use std::alloc::{AllocError, Global};
 use swreq_word::Symbol;
 
-// The index of the shortest side that begins the word: the one that ends at the first node on its way where one does.
-pub(crate) fn find(edges: &Edges, ends: &[Option<usize>], w: &[Symbol]) -> Option<usize>
+// The number of the shortest side that begins the word: the one that ends at the first node on its way where one does.
+pub(crate) fn find(edges: &Edges, ends: &[Option<u32>], w: &[Symbol]) -> Option<u32>
     requires { IsForked edges.now }
-    ensures { MatchOption result (NoEnd edges.now ends.now w.now) (λ side. FirstEnd edges.now ends.now w.now side) }
+    ensures { MatchOption result (NoEnd edges.now ends.now w.now) (λ number. FirstEnd edges.now ends.now w.now number) }
 {
     let mut node = 0;
     for symbol in w {
@@ -24,7 +24,7 @@ pub(crate) fn find(edges: &Edges, ends: &[Option<usize>], w: &[Symbol]) -> Optio
             None => return None,
             Some(child) => {
                 match end_at(ends, child) {
-                    Some(side) => return Some(side),
+                    Some(number) => return Some(number),
                     None => {}
                 }
                 node = child;
@@ -35,8 +35,8 @@ pub(crate) fn find(edges: &Edges, ends: &[Option<usize>], w: &[Symbol]) -> Optio
 }
 
 // Puts the node last, if a side ends at it.
-fn add_ended(ends: &[Option<usize>], node: usize, nodes: &mut Vec<usize>) -> Result<(), AllocError>
-    ensures ended { OnOk result ((side : ℕ) → EndsAt ends.now node side → Holds nodes.new.items node) }
+fn add_ended(ends: &[Option<u32>], node: usize, nodes: &mut Vec<usize>) -> Result<(), AllocError>
+    ensures ended { OnOk result ((number : ℕ) → EndsAt ends.now node number → Holds nodes.new.items node) }
     ensures kept { OnOk result ((other : ℕ) → Holds nodes.old.items other → Holds nodes.new.items other) }
 {
     match end_at(ends, node) {
@@ -50,7 +50,7 @@ fn add_ended(ends: &[Option<usize>], node: usize, nodes: &mut Vec<usize>) -> Res
 pub(crate) fn nodes_met(
     alloc: Global,
     edges: &Edges,
-    ends: &[Option<usize>],
+    ends: &[Option<u32>],
     w: &[Symbol],
 ) -> Result<Vec<usize>, AllocError>
     requires { IsForked edges.now }
@@ -156,7 +156,7 @@ fn add_inside(
 pub(crate) fn make_way(
     alloc: Global,
     edges: &mut Edges,
-    ends: &mut Vec<Option<usize>>,
+    ends: &mut Vec<Option<u32>>,
     passing: &mut Vec<Vec<Spot>>,
     inside: &mut Vec<Vec<Spot>>,
     side: usize,
