@@ -6,7 +6,9 @@ ghost use Rattle.swreq_trie.specs.Stored.{NoneBegins, NoneLonger, Shortest};
 
 use crate::edges::Edges;
 use crate::ends::mark;
-use crate::ordered::places_of;
+use crate::found::Found;
+use crate::ordered::write_places;
+use crate::overlaps::Key;
 use crate::spots::Spot;
 use crate::walk::{find, make_way};
 use std::alloc::{AllocError, Global};
@@ -123,8 +125,46 @@ impl Trie {
         requires { 0 < length left.now }
         ensures { IfOk result (λ v. ArePlaces self.now left.now number v.items) }
     {
-        let mut keys = self.collect(alloc, left, number)?;
+        let mut nodes: Vec<usize> = Vec::new(alloc);
+        let mut keys: Vec<Key> = Vec::new(alloc);
+        let mut places: Vec<Place> = Vec::new(alloc);
+        self.write_overlaps(left, number, &mut nodes, &mut keys, &mut places)?;
+        Ok(places)
+    }
+
+    /// Finds the same places, in room that is kept from one rule to the next.
+    pub fn find_overlaps(
+        &self,
+        left: &[Symbol],
+        number: u32,
+        found: &mut Found,
+    ) -> Result<(), AllocError>
+        requires { 0 < length left.now }
+        ensures { OnOk result (ArePlaces self.now left.now number found.new) }
+    {
+        self.write_overlaps(
+            left,
+            number,
+            &mut found.nodes,
+            &mut found.keys,
+            &mut found.places,
+        )
+    }
+
+    // Puts the places in order, in place of those that were there. Nodes and keys are put where the others were, too.
+    fn write_overlaps(
+        &self,
+        left: &[Symbol],
+        number: u32,
+        nodes: &mut Vec<usize>,
+        keys: &mut Vec<Key>,
+        places: &mut Vec<Place>,
+    ) -> Result<(), AllocError>
+        requires { 0 < length left.now }
+        ensures { OnOk result (ArePlaces self.now left.now number places.new.items) }
+    {
+        self.collect(left, number, nodes, keys)?;
         keys.sort_unstable();
-        places_of(alloc, &keys)
+        write_places(keys, places)
     }
 }

@@ -46,29 +46,29 @@ fn add_ended(ends: &[Option<u32>], node: usize, nodes: &mut Vec<usize>) -> Resul
     Ok(())
 }
 
-// The nodes on the way of the word at which a side ends, and the one to which the whole word leads.
-pub(crate) fn nodes_met(
-    alloc: Global,
+// Puts the nodes on the way of the word at which a side ends, and the one to which the whole word leads, in place of those that were there.
+pub(crate) fn find_met(
     edges: &Edges,
     ends: &[Option<u32>],
     w: &[Symbol],
-) -> Result<Vec<usize>, AllocError>
+    nodes: &mut Vec<usize>,
+) -> Result<(), AllocError>
     requires { IsForked edges.now }
-    ensures { IfOk result (λ v. AreMet edges.now ends.now w.now v.items) }
+    ensures { OnOk result (AreMet edges.now ends.now w.now nodes.new.items) }
 {
-    let mut nodes: Vec<usize> = Vec::new(alloc);
+    nodes.clear();
     let mut node = 0;
     for symbol in w {
         match edges.child(node, *symbol) {
-            None => return Ok(nodes),
+            None => return Ok(()),
             Some(child) => {
-                add_ended(ends, child, &mut nodes)?;
+                add_ended(ends, child, nodes)?;
                 node = child;
             }
         }
     }
     nodes.push(node)?;
-    Ok(nodes)
+    Ok(())
 }
 
 // Goes on by the symbol, by an edge that is made where there is none, and lists the side at the node to which it leads.
