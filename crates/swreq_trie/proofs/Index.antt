@@ -10,12 +10,13 @@ use Rattle.swreq_trie.specs.declared.edges.Edge.{Edge}
 use Rattle.swreq_trie.specs.declared.spots.Spot.{Spot}
 use Rattle.swreq_trie.specs.declared.trie.Entry.{Entry}
 use Rattle.swreq_trie.specs.Paths.{IsForked, IsGrown, Leads}
-use Rattle.swreq_trie.specs.Marks.{EndsAt, NoneEndsAt, SameEnds, Marked, IsListed, KeepsListed}
+use Rattle.swreq_trie.specs.Marks.{EndsAt, NoneEndsAt, SameEnds, Marked, IsListed, KeepsListed, AreCopies}
 use Rattle.swreq_trie.specs.Walk.{NoEnd, FirstEnd}
 use Rattle.swreq_trie.specs.Stored.{NoneBegins, Shortest}
 use Rattle.swreq_trie.specs.Index.{IsIndex, FirstThere, HasSpot, IsPassing, IsPassingUpTo, IsInside, IsInsideBelow}
 use Rattle.swreq_word.proofs.Lists.{get_left, get_last, get_cases}
-use Rattle.swreq_trie.proofs.Paths.{child_kept, leads_kept, one_end, one_word}
+use Rattle.swreq_trie.proofs.Paths.{grown_itself, child_kept, leads_kept, one_end, one_word}
+use Rattle.swreq_trie.proofs.Marks.{copies_keep}
 use Rattle.swreq_trie.proofs.Ways.{front_is}
 
 pub has_spot_kept : (edges edges' : List Edge) (inside inside' : List (Vec Spot Global)) → IsGrown edges edges' → KeepsListed inside inside'
@@ -93,6 +94,14 @@ module _ (edges edges' : List Edge) (ends ends' : List (Option ℕ)) (passing pa
     is_inside = λ k entry e at symbol some l g. has_spot_kept edges edges' inside inside' grown within k at symbol
         (index.is_inside k entry e at symbol some l g);
   }
+
+-- a copy of all that it has
+pub index_copied : (edges edges' : List Edge) (ends ends' : List (Option ℕ)) (passing passing' inside inside' : List (Vec Spot Global)) (longest : ℕ)
+    (stored stored' : List Entry) → IsIndex edges ends passing inside longest stored → edges' ≡ edges → ends' ≡ ends → AreCopies passing passing'
+    → AreCopies inside inside' → stored' ≡ stored → IsIndex edges' ends' passing' inside' longest stored'
+index_copied edges edges' ends ends' passing passing' inside inside' longest stored stored' index e f begun within g =
+    rw (e, f, g) (index_grown edges edges ends ends passing passing' inside inside' longest stored index (grown_itself edges) index.forked
+    (λ node number. ((λ h. h), (λ h. h))) (copies_keep passing passing' begun) (copies_keep inside inside' within))
 
 -- a side more
 module _ (edges : List Edge) (ends ends' : List (Option ℕ)) (passing inside : List (Vec Spot Global)) (longest : ℕ)

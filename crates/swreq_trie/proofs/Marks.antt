@@ -1,10 +1,12 @@
 -- What stands at nodes, as ends and spots are added.
-use Rattle.std.proofs.Common.{◌≡◌, inl, inr, ℕ, ◌<◌, List, [], ◌∷◌, ◌++◌, length, sym, subst, Option, Some, None, Result, Ok, Err, OnOk, Vec}
+use Rattle.std.proofs.Common.{◌≡◌, inl, inr, ℕ, ◌+◌, ◌<◌, get_or, take, List, [], ◌∷◌, ◌++◌, length, length-append, refl, sym, ◌∙◌, ap, subst, arith, Option, Some, None, Result, Ok, Err, OnOk, Vec}
 use Rattle.std.specs.List.{slice_get}
 use Rattle.std.specs.declared.alloc.Global.{Global}
 use Rattle.std.proofs.Math.ListN.{set}
+use Rattle.std.proofs.Math.Seq.{take-length}
+use Rattle.std.proofs.lemmas.List.{take_more}
 use Rattle.swreq_trie.specs.declared.spots.Spot.{Spot}
-use Rattle.swreq_trie.specs.Marks.{SameEnds, Marked, Holds, IsListed, KeepsListed}
+use Rattle.swreq_trie.specs.Marks.{SameEnds, Marked, Holds, IsListed, KeepsListed, AreCopies}
 use Rattle.swreq_word.proofs.Lists.{get_left, get_last, get_cases}
 use Rattle.swreq_trie.proofs.Changed.{set_here, set_kept, set_cases}
 
@@ -66,3 +68,29 @@ on_ok (Err e) f h = h
 
 pub keeps_on : (a b c : List (Vec Spot Global)) → KeepsListed a b → KeepsListed b c → KeepsListed a c
 keeps_on a b c p q node spot h = q node spot (p node spot h)
+
+pub copies_keep : (old new : List (Vec Spot Global)) → AreCopies old new → KeepsListed old new
+copies_keep old new c node spot h = let r = c.each node h.0 h.1 in (r.0, r.1, subst (λ x. Holds x spot) (sym r.2) h.2)
+
+pub no_copies : AreCopies [] []
+no_copies = record { as_many = refl; each = λ node list e. cc }
+
+one_more : (old new : List (Vec Spot Global)) (list copy : Vec Spot Global) → AreCopies old new → copy.items ≡ list.items → AreCopies (old ++ list ∷ []) (new ++ copy ∷ [])
+one_more old new list copy c same = record {
+  as_many = (let l = c.as_many in simp length-append (omega (arith, l)));
+  each = λ node other e. elim (get_cases old list node other e) [
+    | inl h ↦ (let r = c.each node other h in (r.0, get_left new (copy ∷ []) node r.0 r.1, r.2))
+    | inr h ↦ (
+      copy,
+      subst (λ n. slice_get (new ++ copy ∷ []) n ≡ Some copy) (c.as_many ∙ sym h.0) (get_last new copy),
+      subst (λ (x : Vec Spot Global). copy.items ≡ x.items) (sym h.1) same,
+    )
+  ];
+}
+
+pub copies_more : (lists copies new : List (Vec Spot Global)) (n : ℕ) (d copy : Vec Spot Global) → n < length lists → AreCopies (take n lists) copies
+    → copy.items ≡ (get_or lists n d).items → new ≡ copies ++ copy ∷ [] → AreCopies (take (n + 1) lists) new
+copies_more lists copies new n d copy l c same e = rw (e, take_more lists n d l) (one_more (take n lists) copies (get_or lists n d) copy c same)
+
+pub all_copies : (lists copies : List (Vec Spot Global)) (n : ℕ) → n ≡ length lists → AreCopies (take n lists) copies → AreCopies lists copies
+all_copies lists copies n e = subst (λ x. AreCopies x copies) (ap (λ k. take k lists) e ∙ take-length lists)

@@ -1,5 +1,5 @@
 -- What stands at the nodes of a trie: which side ends there, and which sides are listed there.
-use Rattle.std.specs.Prelude.{◌≡◌, ◌⊎◌, ℕ, List, slice_get, Option, Some, Vec}
+use Rattle.std.specs.Prelude.{◌≡◌, ◌⊎◌, ℕ, List, length, slice_get, Option, Some, Vec}
 use Rattle.std.specs.declared.alloc.Global.{Global}
 use Rattle.swreq_trie.specs.declared.spots.Spot.{Spot}
 
@@ -32,3 +32,9 @@ IsListed lists node spot = (list : Vec Spot Global) × (slice_get lists node ≡
 -- what is listed stays listed
 abbrev pub KeepsListed : List (Vec Spot Global) → List (Vec Spot Global) → Type 0
 KeepsListed old new = (node : ℕ) (spot : Spot) → IsListed old node spot → IsListed new node spot
+
+-- as many lists, each with the spots of the other
+pub record AreCopies (old new : List (Vec Spot Global)) : Type 0 where
+  pub as_many : length new ≡ length old
+  pub each : (node : ℕ) (list : Vec Spot Global) → slice_get old node ≡ Some list
+      → (copy : Vec Spot Global) × (slice_get new node ≡ Some copy) × (copy.items ≡ list.items)

@@ -9,7 +9,7 @@ use crate::ends::mark;
 use crate::found::Found;
 use crate::ordered::write_places;
 use crate::overlaps::Key;
-use crate::spots::Spot;
+use crate::spots::{Spot, copy_lists};
 use crate::walk::{find, make_way};
 use std::alloc::{AllocError, Global};
 use std::marker::Model;
@@ -52,6 +52,21 @@ impl Model for Trie {
     ghost invariant = { λ t. IsIndex t.edges t.ends.items t.passing.items t.inside.items t.longest t.entries.items };
 }
 
+// The same entries once more.
+fn copy_entries(alloc: Global, entries: &[Entry]) -> Result<Vec<Entry>, AllocError>
+    ensures { IfOk result (λ copies. copies.items ≡ entries.now) }
+{
+    let mut copies: Vec<Entry> = Vec::with_capacity(alloc, entries.len())?;
+    for entry in entries {
+        let left = entry.left.clone()?;
+        copies.push(Entry {
+            left,
+            number: entry.number,
+        })?;
+    }
+    Ok(copies)
+}
+
 impl Trie {
     /// A trie that stores nothing, which takes no memory.
     pub fn new(alloc: Global) -> Trie
@@ -80,6 +95,26 @@ impl Trie {
         ensures { NoneLonger self.now result }
     {
         self.longest
+    }
+
+    /// The same sides once more.
+    pub fn copy(&self, alloc: Global) -> Result<Trie, AllocError>
+        ensures { IfOk result (λ copy. copy ≡ self.now) }
+    {
+        let entries = copy_entries(alloc, &self.entries)?;
+        let edges = self.edges.copy()?;
+        let ends = Vec::from_slice(alloc, &self.ends)?;
+        let passing = copy_lists(alloc, &self.passing)?;
+        let inside = copy_lists(alloc, &self.inside)?;
+        Ok(Trie {
+            alloc,
+            entries,
+            edges,
+            ends,
+            passing,
+            inside,
+            longest: self.longest,
+        })
     }
 
     /// Stores the side with the number, as the last one. For want of memory all is as before.
