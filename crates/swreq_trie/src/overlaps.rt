@@ -1,6 +1,6 @@
 //! The places at which a new side and the stored ones overlap, or the one stands in the other.
 
-ghost use Rattle.std.specs.Prelude.{◌≡◌, ℕ, ◌<◌, ◌++◌, ◌∷◌, [], length, slice_get, Some, MatchOption, IfOk, OnOk};
+ghost use Rattle.std.specs.Prelude.{◌≡◌, ℕ, ◌<◌, ◌++◌, ◌∷◌, [], length, slice_get, Some, MatchOption, OnOk};
 ghost use Rattle.std.specs.Bool.{Decides};
 ghost use Rattle.swreq_trie.specs.declared.spots.Spot.{Spot};
 ghost use Rattle.swreq_trie.specs.declared.trie.Entry.{Entry};

@@ -167,7 +167,8 @@ impl Trie {
         Ok(places)
     }
 
-    /// Finds the same places, in room that is kept from one rule to the next.
+    /// Finds the same places, in room that is kept from one rule to the next. For want of memory it is not said which places are there,
+    /// and the next call begins anew.
     pub fn find_overlaps(
         &self,
         left: &[Symbol],
