@@ -1,6 +1,6 @@
 use Rattle.std.proofs.Common.{arith}
 use Rattle.swreq_trie.proofs.Ways.{one_further, met_more, met_all, met_whole}
-use Rattle.swreq_trie.proofs.walk.nodes_met.Goals as goal
+use Rattle.swreq_trie.proofs.walk.find_met.Goals as goal
 
 pub returns-in-None : goal.returns-in-None
 returns-in-None c =

@@ -1,7 +1,7 @@
 use Rattle.std.proofs.Common.{take}
 use Rattle.swreq_trie.specs.Paths.{Leads}
 use Rattle.swreq_trie.specs.Walk.{AreMetUpTo}
-use Rattle.swreq_trie.proofs.walk.nodes_met.Given as goal
+use Rattle.swreq_trie.proofs.walk.find_met.Given as goal
 
 abbrev pub invariant-loop-symbol : goal.invariant-loop-symbol
 invariant-loop-symbol l = record {
