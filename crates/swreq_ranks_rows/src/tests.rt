@@ -1,12 +1,15 @@
 //! Texts, and the ranks of what they have.
+ghost use Rattle.std.specs.Prelude.{◌≤◌, length};
+ghost use Rattle.swreq_decl.specs.Skeletons.{StandsFor};
 
 use std::alloc::Global;
 use std::process::Abort;
 use std::test::Fail;
-use swreq_decl::parse;
+use swreq_decl::{Skeleton, parse};
 use swreq_names::resolve_names;
 use swreq_param::{NameId, ProtoId};
-use swreq_ranks::{Lexicon, is_small};
+use swreq_ranks::Lexicon;
+use swreq_written::laws::lists_are_short;
 
 fn with_names(alloc: Global, text: &[u8], skeleton: &Skeleton) -> Result<Lexicon, Fail>
     requires limit { length text.now ≤ 1048576 }
