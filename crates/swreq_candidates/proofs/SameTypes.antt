@@ -172,7 +172,7 @@ module _ (m : Symbols) (f : TermFacts) (ps : List ParamId) (list : List TermRequ
       less_symbol t j l cj s w e o ie =
           let wr : w ≡ r = one_reduced m f ps list fit ranges n ranked t r w r o b s in
           let neq : (name_of m j).rank ≡ (name_of m k).rank → ⊥ = λ h. none j l (read_same m f L t r (MemberSymbol j) s cj).0 (same_name_id h) in
-          let le : (name_of m j).rank ≤ (name_of m k).rank = ranked.symbols j k l in
+          let le : (name_of m j).rank ≤ (name_of m k).rank = ranked.symbols j k l c.0 in
           let not_after : d.rank < e.rank → ⊥ = λ h.
           let y : (name_of m k).rank ≤ (name_of m j).rank = ranked.assocs i.proto (name_of m k) d ie.proto (name_of m j) e i.declares ie.declares h in neq (omega arith) in
           let not_same : e.rank ≡ d.rank → ⊥ = λ h. neq (ap (λ (y : NameId). y.rank)
