@@ -165,7 +165,7 @@ module _ (f : TermFacts) (ps : List ParamId) (terms : List Term) (now : List Req
         out,
         others,
         dropped leaves (subst (λ z. Derivable f (Written ps (front ++ out)) (Requires z)) (one_is terms now k d l front out r is e)
-        (subst (λ z. Derivable f (Written ps z) (Requires (requirement_of terms (get_or now k d)))) others h)),
+            (subst (λ z. Derivable f (Written ps z) (Requires (requirement_of terms (get_or now k d)))) others h)),
       )
 
   pub one_kept : (Derives → ⊥) → LeavesNow (insert (remove now k) k (get_or now k d))
@@ -174,7 +174,7 @@ module _ (f : TermFacts) (ps : List ParamId) (terms : List Term) (now : List Req
         r ∷ out,
         ap (listed terms) (put_back terms now k d l) ∙ is,
         kept leaves (λ h. n (subst (λ z. Derivable f (Written ps z) (Requires (requirement_of terms (get_or now k d)))) (sym others)
-        (subst (λ z. Derivable f (Written ps (front ++ out)) (Requires z)) (sym (one_is terms now k d l front out r is e)) h))),
+            (subst (λ z. Derivable f (Written ps (front ++ out)) (Requires z)) (sym (one_is terms now k d l front out r is e)) h))),
       )
 
 -- ---- the next one to be dropped

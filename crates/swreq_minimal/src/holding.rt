@@ -89,12 +89,7 @@ fn least(alloc: Global, rules: &CompleteRules, word: &Word) -> Result<Vec<Symbol
 }
 
 /// Whether the rules link two words.
-fn are_linked(
-    alloc: Global,
-    rules: &CompleteRules,
-    u: &Word,
-    v: &Word,
-) -> Result<bool, AllocError>
+fn are_linked(alloc: Global, rules: &CompleteRules, u: &Word, v: &Word) -> Result<bool, AllocError>
     ensures { IfOk result (λ b. IsTrue b ↔ Links rules.now u.now v.now) }
 {
     let left = least(alloc, rules, u)?;

@@ -133,7 +133,15 @@ fn generators<W: Watch>(
     let mut taken: Vec<Requirement> = Vec::new(alloc);
     for k in 0..candidates.len() {
         match take(
-            alloc, world, table, protocols, params, &mut taken, candidates[k], limits, watch,
+            alloc,
+            world,
+            table,
+            protocols,
+            params,
+            &mut taken,
+            candidates[k],
+            limits,
+            watch,
         ) {
             Ok(()) => {}
             Err(failed) => return Err(failed),

@@ -19,8 +19,8 @@ ghost use Rattle.swreq_shown.specs.Vanishing.{IsLeastBy, Links};
 ghost use Rattle.swreq_minimal.specs.Typed.{Finds, Identifies, IsFirstGiven, IsTypeBy, SaysBy, SpeaksBy};
 
 use crate::given::first_given;
-use crate::words::are_same;
 use crate::typed::{bound, symbol_type, type_of};
+use crate::words::are_same;
 use std::alloc::{AllocError, Global};
 use swreq_complete::CompleteRules;
 use swreq_derive::{Params, Requirement};
@@ -142,7 +142,15 @@ fn spoken(
     if last == 0 {
         return symbol_type(params, table, left[0]);
     }
-    spoken_behind(alloc, world, rules, params, table, &left[..last], left[last])
+    spoken_behind(
+        alloc,
+        world,
+        rules,
+        params,
+        table,
+        &left[..last],
+        left[last],
+    )
 }
 
 /// The symbol that stands behind the right side in the left side, or None where the left side is no such word.
@@ -190,12 +198,7 @@ fn property(world: &World, symbol: Symbol, t: TermId) -> Option<Requirement>
 }
 
 /// The conformance or the layout of t, the type of the right side, that the rule says, or None where it says none.
-fn property_said(
-    world: &World,
-    left: &[Symbol],
-    right: &[Symbol],
-    t: TermId,
-) -> Option<Requirement>
+fn property_said(world: &World, left: &[Symbol], right: &[Symbol], t: TermId) -> Option<Requirement>
     ensures { MatchOption result
         (((p : ProtoId) → left.now ≡ right.now ++ Proto p.rank ∷ [] → IsProtocol world.now.lexicon p → ⊥) × (left.now ≡ right.now ++ Layout ∷ [] → ⊥))
         (λ r. ((p : ProtoId) × (left.now ≡ right.now ++ Proto p.rank ∷ []) × IsProtocol world.now.lexicon p × (r ≡ Conf t p))

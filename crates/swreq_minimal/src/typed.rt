@@ -20,11 +20,7 @@ use swreq_word::Symbol;
 use swreq_world::World;
 
 /// The type of the word of a generic parameter's symbol, or None where the generic parameter is none of these.
-fn generic(
-    params: Params,
-    table: &mut ParamTable,
-    g: ParamId,
-) -> Result<Option<TermId>, AllocError>
+fn generic(params: Params, table: &mut ParamTable, g: ParamId) -> Result<Option<TermId>, AllocError>
     ensures typed { (x : LexiconView) (rules : List Rule) → IfOk result (Identifies (IsTypeBy x rules params (Param g.depth g.index ∷ [])) table.new) }
     ensures extends { Extends table.old table.new }
 {
@@ -146,7 +142,8 @@ pub(crate) fn type_of(
     let mut test: Vec<Symbol> = Vec::with_capacity(alloc, word.len() + 1)?;
     let mut at = begin(params, table, word)?;
     for k in 1..word.len() {
-        at = go_on(world, rules, table, at, &word[..k], word[k], &mut test)?;
+        let next = go_on(world, rules, table, at, &word[..k], word[k], &mut test)?;
+        at = next;
     }
     Ok(at)
 }

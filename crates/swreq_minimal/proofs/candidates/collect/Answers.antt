@@ -23,7 +23,7 @@ add-requires-clause-minimal c =
 pub add-requires-clause-least : goal.add-requires-clause-least
 add-requires-clause-least c =
     (c.requires.each c.loop-k.k c.index-system-k.result
-    (slice_get_read c.args.system.now (length c.args.system.now) c.loop-k.k c.index-system-k.result refl c.loop-k-test.true c.index-system-k.is)).1.1
+    (slice_get_read c.args.system.now (length c.args.system.now) c.loop-k.k c.index-system-k.result refl c.loop-k-test.true c.index-system-k.is)).2
 
 pub returns-in_err-add-clause-extends : goal.returns-in_err-add-clause-extends
 returns-in_err-add-clause-extends c = onward c.args.table.now c.loop-k.table c.add.new.table c.loop-k.invariant.extends c.add.ensures.extends

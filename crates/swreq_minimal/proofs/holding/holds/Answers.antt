@@ -15,7 +15,7 @@ pub returns-then-not-valid : goal.returns-then-not-valid
 returns-then-not-valid c list is = (
   (λ h. cc),
   λ e. absurd (not_held (world_by c.args.table.now c.args.world.now) c.requires.text.closed c.args.machine.now list is (requirement_of c.args.table.now c.args.r)
-  (λ u. let a = c.in_ok-valid.ensures.1 u in let b = c.if-not-valid.true in cc) e),
+      (λ u. let a = c.in_ok-valid.ensures.1 u in let b = c.if-not-valid.true in cc) e),
 )
 
 pub returns : goal.returns

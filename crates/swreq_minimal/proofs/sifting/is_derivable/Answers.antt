@@ -29,8 +29,8 @@ returns-in-Ok-holds-clause-told g c =
     one_part c.args.limits (list_of (world_by c.args.table.now c.args.world.now) (last_rules c.args.protocols.now.rounds) c.args.params)
     (listed c.args.table.now c.args.list.now) (g.W.Watch.told c.args.watch.now) (g.W.Watch.told c.core.new.watch) (last_rules c.in-Ok.machine.rounds) c.in-Ok.ensures.answer
 
-pub returns-in-Err-holds-clause-failed : goal.returns-in-Err-holds-clause-failed
-returns-in-Err-holds-clause-failed g c =
+pub returns-clause-failed : goal.returns-clause-failed
+returns-clause-failed g c =
     let plan = list_of (world_by c.args.table.now c.args.world.now) (last_rules c.args.protocols.now.rounds) c.args.params in
     let list = listed c.args.table.now c.args.list.now in
     wants_memory c.args.limits plan (λ l. l ≡ list) (g.W.Watch.told c.args.watch.now) (g.W.Watch.told c.core.new.watch)

@@ -29,8 +29,8 @@ go_on-requires-clause-fits c =
     let e = length-take-le c.loop-k.k c.args.word.now (omega (arith, t)) in
     omega (arith, t, r, e)
 
-pub returns-in_err-at-2-clause-extends : goal.returns-in_err-at-2-clause-extends
-returns-in_err-at-2-clause-extends c =
+pub returns-in_err-next-clause-extends : goal.returns-in_err-next-clause-extends
+returns-in_err-next-clause-extends c =
     onward c.args.table.now c.begin.new.table c.go_on.new.table c.begin.ensures.extends
     (onward c.begin.new.table c.loop-k.table c.go_on.new.table c.loop-k.invariant.extends c.go_on.ensures.extends)
 
@@ -39,9 +39,9 @@ loop-k-preserved c =
     let r = c.loop-k.invariant.room in
     let m = c.go_on.ensures.room in
     record {
-      typed = subst (λ z. Identifies (IsTypeBy c.args.world.now.lexicon c.args.rules.now c.args.params z) c.go_on.new.table _)
+      typed = subst (λ z. Identifies (IsTypeBy c.args.world.now.lexicon c.args.rules.now c.args.params z) c.go_on.new.table c.in_ok-next.next)
           (sym (one_longer c.args.word.now c.loop-k.k (Proto 0) c.loop-k-test.true))
-          (c.in_ok-at-2.ensures.typed c.args.params c.loop-k.invariant.typed);
+          (c.in_ok-next.ensures.typed c.args.params c.loop-k.invariant.typed);
       extends = onward c.begin.new.table c.loop-k.table c.go_on.new.table c.loop-k.invariant.extends c.go_on.ensures.extends;
       room = omega (arith, r, m);
     }
