@@ -1,0 +1,4 @@
+pub mod Typed
+pub mod Sorted
+pub mod Passed
+pub mod Told

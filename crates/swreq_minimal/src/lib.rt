@@ -1,0 +1,14 @@
+//! The minimised list of a machine's list.
+#![tactic(auto)]
+
+mod candidates;
+mod given;
+mod holding;
+mod minimised;
+mod order;
+mod sifting;
+mod spoken;
+mod typed;
+mod words;
+
+pub use minimised::minimise;
