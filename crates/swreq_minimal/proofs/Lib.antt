@@ -11,3 +11,5 @@ pub mod Completing
 pub mod Passing
 pub mod Telling
 pub mod Whole
+pub mod Inheriting
+pub mod Named

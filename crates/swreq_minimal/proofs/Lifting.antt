@@ -33,7 +33,8 @@ use Rattle.swreq_world.specs.Closed.{IsClosed}
 use Rattle.swreq_world.specs.Worlds.{TextWorld}
 use Rattle.swreq_valid.specs.Machines.{IsMachineOf, MachineView}
 use Rattle.swreq_valid.specs.Rounds.{last_rules}
-use Rattle.swreq_minimal.specs.Typed.{IsFirstGiven, IsTypeBy, SaysBy, SpeaksBy}
+use Rattle.swreq_valid.specs.LeastTypes.{IsFirstBehind}
+use Rattle.swreq_minimal.specs.Typed.{IsTypeBy, SaysBy, SpeaksBy}
 
 -- ---- the fronts of words of a type
 
@@ -85,13 +86,13 @@ module _ (w : TextWorld) (closed : IsClosed w) (machine : MachineView) (list : L
         let law = conforming_words m f (symbols_law w closed) L (text_law w closed) is.in_text t p v in
         law.1 (joined (turn_all (behind (Proto p.rank ∷ []))) (joined ((is.rules (u ++ Proto p.rank ∷ []) u).0 l) alone))
 
-    to_given : (a : NameId) (d : AssocId) → IsFirstFor f L t a d → IsFirstGiven w.lexicon rules u a d
+    to_given : (a : NameId) (d : AssocId) → IsFirstFor f L t a d → IsFirstBehind w.lexicon rules u a d
     to_given a d i = record {
       given = (i.proto, i.declares, to_vanish i.proto i.conforms);
       first = λ e g. i.first g.0 e g.1 (from_vanish g.0 g.2);
     }
 
-    from_given : (a : NameId) (d : AssocId) → IsFirstGiven w.lexicon rules u a d → IsFirstFor f L t a d
+    from_given : (a : NameId) (d : AssocId) → IsFirstBehind w.lexicon rules u a d → IsFirstFor f L t a d
     from_given a d i = record {
       proto = i.given.0;
       declares = i.given.1;

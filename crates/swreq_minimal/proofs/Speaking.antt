@@ -27,7 +27,8 @@ use Rattle.swreq_shown.specs.Known.{IsRequirementIn}
 use Rattle.swreq_shown.specs.Meaning.{symbols_of}
 use Rattle.swreq_world.specs.Closed.{IsTermOf}
 use Rattle.swreq_written.proofs.Growing.{of_stays}
-use Rattle.swreq_minimal.specs.Typed.{Finds, Identifies, IsFirstGiven, IsGiven, IsTypeBy, SaysBy, SpeaksBy}
+use Rattle.swreq_valid.specs.LeastTypes.{IsFirstBehind, IsGiven}
+use Rattle.swreq_minimal.specs.Typed.{Finds, Identifies, IsTypeBy, SaysBy, SpeaksBy}
 use Rattle.swreq_minimal.proofs.Passing.{parted}
 use Rattle.swreq_minimal.proofs.Typing.{given_of_text, none_of_nothing, not_empty, nothing_before, one_first, one_type, type_of_text}
 
@@ -86,15 +87,15 @@ module _ (x : LexiconView) (rules : List Rule) (params : Params) where
 
   -- the first associated type of the name for which a symbol stands
   pub named_first : (front : Word) (y : Symbol) (a : NameId) → IsNamed (symbols_of x) y a → (o : Option AssocId)
-      → MatchOption o ((d : AssocId) → IsGiven x rules front a d → ⊥) (IsFirstGiven x rules front a)
-      → MatchOption o ((b : NameId) (d : AssocId) → IsNamed (symbols_of x) y b → IsFirstGiven x rules front b d → ⊥)
-      (λ d. (b : NameId) × IsNamed (symbols_of x) y b × IsFirstGiven x rules front b d)
+      → MatchOption o ((d : AssocId) → IsGiven x rules front a d → ⊥) (IsFirstBehind x rules front a)
+      → MatchOption o ((b : NameId) (d : AssocId) → IsNamed (symbols_of x) y b → IsFirstBehind x rules front b d → ⊥)
+      (λ d. (b : NameId) × IsNamed (symbols_of x) y b × IsFirstBehind x rules front b d)
   named_first front y a named None n = λ b d m f. n d (subst (λ z. IsGiven x rules front z d) (one_name (symbols_of x) y b a m named) f.given)
   named_first front y a named (Some d) f = (a, named, f)
 
   spoken_behind : (front : Word) (y : Symbol) (t : Term) → 0 < length front → SpeaksBy x rules params (front ++ y ∷ []) t
       → (z : Term) × (d : AssocId) × (a : NameId) × (t ≡ Member z (Bound d)) × IsTypeBy x rules params front z × IsNamed (symbols_of x) y a
-      × IsFirstGiven x rules front a d
+      × IsFirstBehind x rules front a d
   spoken_behind front y (Generic g) l (c, e) =
       let (f, s) = nothing_before (Param g.depth g.index) y front (sym e) in
       absurd (let n : length front ≡ 0 = ap length f in omega (arith, l, n))
@@ -106,7 +107,7 @@ module _ (x : LexiconView) (rules : List Rule) (params : Params) where
         refl,
         subst (λ v. IsTypeBy x rules params v z) (sym f) h,
         subst (λ v. IsNamed (symbols_of x) v a) (sym q) n,
-        subst (λ v. IsFirstGiven x rules v a d) (sym f) m,
+        subst (λ v. IsFirstBehind x rules v a d) (sym f) m,
       )
   spoken_behind front y (Member z (Name a)) l h = absurd h
 
@@ -115,8 +116,8 @@ module _ (x : LexiconView) (rules : List Rule) (params : Params) where
   none_behind front y l n t h = let (z, d, a, e, k, m, f) = spoken_behind front y t l h in n z k
 
   pub some_behind : (front : Word) (y : Symbol) → 0 < length front → (old new : List Term) (id : TermId) → IsTypeBy x rules params front (term_at old id) → (o : Option TermId)
-      → MatchOption o ((a : NameId) (d : AssocId) → IsNamed (symbols_of x) y a → IsFirstGiven x rules front a d → ⊥)
-      (λ u. (a : NameId) × (d : AssocId) × IsNamed (symbols_of x) y a × IsFirstGiven x rules front a d × IsOf new u × (term_at new u ≡ Member (term_at old id) (Bound d)))
+      → MatchOption o ((a : NameId) (d : AssocId) → IsNamed (symbols_of x) y a → IsFirstBehind x rules front a d → ⊥)
+      (λ u. (a : NameId) × (d : AssocId) × IsNamed (symbols_of x) y a × IsFirstBehind x rules front a d × IsOf new u × (term_at new u ≡ Member (term_at old id) (Bound d)))
       → Identifies (SpeaksBy x rules params (front ++ y ∷ [])) new o
   some_behind front y l old new id h None n = λ t k. let (z, d, a, e, j, m, f) = spoken_behind front y t l k in n a d m f
   some_behind front y l old new id h (Some u) (a, d, n, f, of, is) =
@@ -134,7 +135,7 @@ module _ (x : LexiconView) (rules : List Rule) (params : Params) where
       let j' : IsTypeBy x rules params front z = subst (λ v. IsTypeBy x rules params v z) (sym p) j in
       let m' : IsNamed (symbols_of x) y c = subst (λ v. IsNamed (symbols_of x) v c) (sym q) m in
       let names : c ≡ a = one_name (symbols_of x) y c a m' n in
-      let g' : IsFirstGiven x rules front a b = subst (λ v. IsFirstGiven x rules front v b) names (subst (λ v. IsFirstGiven x rules v c b) (sym p) g) in
+      let g' : IsFirstBehind x rules front a b = subst (λ v. IsFirstBehind x rules front v b) names (subst (λ v. IsFirstBehind x rules v c b) (sym p) g) in
       λ i. Member (one_type x rules params t z front h j' i) (Bound (one_first x rules front a d b f g' i))
   one_spoken (Member t (Name a)) w l h k = absurd h
   one_spoken (Generic g) (Member t (Name a)) l h k = absurd k

@@ -26,7 +26,8 @@ use Rattle.swreq_candidates.proofs.ReadOff.{same_push}
 use Rattle.swreq_shown.specs.Meaning.{symbols_of}
 use Rattle.swreq_shown.proofs.Declared.{at_rank}
 use Rattle.swreq_world.specs.Closed.{IsTermOf}
-use Rattle.swreq_minimal.specs.Typed.{Identifies, IsFirstGiven, IsMemberBehind, IsTypeBy}
+use Rattle.swreq_valid.specs.LeastTypes.{IsFirstBehind}
+use Rattle.swreq_minimal.specs.Typed.{Identifies, IsMemberBehind, IsTypeBy}
 
 -- ---- words
 
@@ -77,7 +78,7 @@ same_ranks e = cc
 module _ (x : LexiconView) (rules : List Rule) where
   -- ---- the member behind a word is one
 
-  pub one_first : (w : Word) (a : NameId) (d e : AssocId) → IsFirstGiven x rules w a d → IsFirstGiven x rules w a e → d ≡ e
+  pub one_first : (w : Word) (a : NameId) (d e : AssocId) → IsFirstBehind x rules w a d → IsFirstBehind x rules w a e → d ≡ e
   one_first w a d e h k =
       let l = h.first e k.given in
       let r = k.first d h.given in
@@ -86,7 +87,7 @@ module _ (x : LexiconView) (rules : List Rule) where
 
   pub one_member : (w : Word) (y : Symbol) (d e : AssocId) → IsMemberBehind x rules w y d → IsMemberBehind x rules w y e → d ≡ e
   one_member w y d e (k, p, r, v, f) (j, q, s, u, g) =
-      one_first w (name_of (symbols_of x) k) d e f (subst (λ n. IsFirstGiven x rules w (name_of (symbols_of x) n) e) (same_ranks (sym q ∙ p)) g)
+      one_first w (name_of (symbols_of x) k) d e f (subst (λ n. IsFirstBehind x rules w (name_of (symbols_of x) n) e) (same_ranks (sym q ∙ p)) g)
 
   module _ (params : Params) where
     -- ---- words of no symbol, and of one
@@ -169,7 +170,7 @@ module _ (x : LexiconView) (rules : List Rule) where
 
     -- ---- its members are of the text
 
-    pub given_of_text : (w : Word) (a : NameId) (d : AssocId) → IsFirstGiven x rules w a d → d.rank < length x.associated
+    pub given_of_text : (w : Word) (a : NameId) (d : AssocId) → IsFirstBehind x rules w a d → d.rank < length x.associated
     given_of_text w a d h = let (p, c, v) = h.given in slice_get_within x.associated d.rank (pair p a) (at_rank x p a d c)
 
     pub type_of_text : (t : Term) (u : Word) → IsTypeBy x rules params u t → IsTermOf x t

@@ -21,23 +21,14 @@ use Rattle.swreq_reading.specs.Symbols.{IsRank, Word, name_of, proto_of}
 use Rattle.swreq_candidates.specs.Candidates.{IsNamed}
 use Rattle.swreq_shown.specs.Known.{IsRequirementIn}
 use Rattle.swreq_shown.specs.Meaning.{symbols_of}
-use Rattle.swreq_shown.specs.Vanishing.{IsDeclared}
 use Rattle.swreq_map.specs.Properties.{Vanishes}
-
--- d is an associated type A of a protocol whose symbol vanishes behind the word.
-abbrev pub IsGiven : LexiconView → List Rule → Word → NameId → AssocId → Type 0
-IsGiven x rules w a d = (p : ProtoId) × IsDeclared x p a d × Vanishes rules w (Proto p.rank)
-
--- It is the first such associated type.
-pub record IsFirstGiven (x : LexiconView) (rules : List Rule) (w : Word) (a : NameId) (d : AssocId) : Type 0 where
-  pub given : IsGiven x rules w a d
-  pub first : (e : AssocId) → IsGiven x rules w a e → d.rank ≤ e.rank
+use Rattle.swreq_valid.specs.LeastTypes.{IsFirstBehind}
 
 -- Behind the word the symbol `[P:A]` stands for the bound member d: `[P]` vanishes there, and d is the first associated type A given there.
 abbrev pub IsMemberBehind : LexiconView → List Rule → Word → Symbol → AssocId → Type 0
 IsMemberBehind x rules w y d =
     (k : ℕ) × (y ≡ MemberSymbol k) × IsRank (symbols_of x) k × Vanishes rules w (Proto (proto_of (symbols_of x) k).rank)
-    × IsFirstGiven x rules w (name_of (symbols_of x) k) d
+    × IsFirstBehind x rules w (name_of (symbols_of x) k) d
 
 -- By the rules T is the type of the word: of a generic parameter's symbol that generic parameter, and of a word with a member symbol behind it
 -- the bound member for which the symbol stands there.
@@ -53,7 +44,7 @@ abbrev pub SpeaksBy : LexiconView → List Rule → Params → Word → Term →
 SpeaksBy x rules params l (Generic g) = IsTypeBy x rules params l (Generic g)
 SpeaksBy x rules params l (Member t (Bound d)) =
     (front : Word) × (y : Symbol) × (a : NameId) × (l ≡ front ++ y ∷ []) × IsTypeBy x rules params front t × IsNamed (symbols_of x) y a
-    × IsFirstGiven x rules front a d
+    × IsFirstBehind x rules front a d
 SpeaksBy x rules params l (Member t (Name a)) = ⊥
 
 -- By the rules this is what the rule `l => r` says.

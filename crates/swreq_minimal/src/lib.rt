@@ -4,6 +4,7 @@
 mod candidates;
 mod given;
 mod holding;
+pub mod laws;
 mod minimised;
 mod order;
 mod sifting;
@@ -12,3 +13,6 @@ mod typed;
 mod words;
 
 pub use minimised::minimise;
+
+#[cfg(test)]
+mod tests;

@@ -34,7 +34,7 @@ use swreq_world::World;
 /// It derives what the list derives and is derived from it, and none of its members is derivable from the others. Its members are
 /// canonical and strictly sorted. `Failed::Limit` comes only where the rounds of a list pass a limit that is met on the way: for a candidate
 /// the candidates that were taken before it, or for a generator, from the last to the first, what is then left without it. The watcher
-/// is told the events of the rounds of such lists. The table grows, and its ids stay.
+/// is told the events of the rounds of such lists. The table grows, its ids stay, and so does the world over it.
 pub fn minimise<W: Watch>(
     alloc: Global,
     world: &World,
@@ -66,6 +66,8 @@ pub fn minimise<W: Watch>(
         (IsPassedOf (symbols_of world.now.lexicon) (facts_of (world_by table.old world.now)) (generic_params machine.now.params) list) (W.told watch.old) (W.told watch.new)) }
     ensures known { IfOk result (λ v. AreKnown table.new world.now.lexicon v.items) }
     ensures extends { Extends table.old table.new }
+    ensures world { world_by table.new world.now ≡ world_by table.old world.now }
+    ensures text { IsTextOver table.new world.now }
 {
     let _of_protocols = protocols.rules().rules();
     let _of_list = machine.rules().rules();

@@ -16,15 +16,16 @@ ghost use Rattle.swreq_candidates.specs.Candidates.{IsNamed};
 ghost use Rattle.swreq_ranks.specs.Views.{IsProtocol};
 ghost use Rattle.swreq_shown.specs.Meaning.{symbols_of};
 ghost use Rattle.swreq_shown.specs.Vanishing.{IsLeastBy, Links};
-ghost use Rattle.swreq_minimal.specs.Typed.{Finds, Identifies, IsFirstGiven, IsTypeBy, SaysBy, SpeaksBy};
+ghost use Rattle.swreq_valid.specs.LeastTypes.{IsFirstBehind};
+ghost use Rattle.swreq_minimal.specs.Typed.{Finds, Identifies, IsTypeBy, SaysBy, SpeaksBy};
 
-use crate::given::first_given;
 use crate::typed::{bound, symbol_type, type_of};
 use crate::words::are_same;
 use std::alloc::{AllocError, Global};
 use swreq_complete::CompleteRules;
 use swreq_derive::{Params, Requirement};
 use swreq_param::{AssocId, NameId, ParamTable, ProtoId, TermId};
+use swreq_valid::first_behind;
 use swreq_word::Symbol;
 use swreq_world::World;
 
@@ -66,12 +67,12 @@ fn first_named(
     requires least { IsLeastBy rules.now front.now }
     requires fits { length front.now + 1 ≤ vec_capacity test.old }
     ensures answer { MatchOption result
-        ((a : NameId) (d : AssocId) → IsNamed (symbols_of world.now.lexicon) symbol a → IsFirstGiven world.now.lexicon rules.now front.now a d → ⊥)
-        (λ d. (a : NameId) × IsNamed (symbols_of world.now.lexicon) symbol a × IsFirstGiven world.now.lexicon rules.now front.now a d) }
+        ((a : NameId) (d : AssocId) → IsNamed (symbols_of world.now.lexicon) symbol a → IsFirstBehind world.now.lexicon rules.now front.now a d → ⊥)
+        (λ d. (a : NameId) × IsNamed (symbols_of world.now.lexicon) symbol a × IsFirstBehind world.now.lexicon rules.now front.now a d) }
 {
     match name_of(world, symbol) {
         None => None,
-        Some(a) => first_given(world, rules, front, a, test),
+        Some(a) => first_behind(world, rules, front, a, test),
     }
 }
 
@@ -88,8 +89,8 @@ fn last_member(
     requires t { IsOf table.old t }
     requires least { IsLeastBy rules.now front.now }
     ensures member { IfOk result (λ o. MatchOption o
-        ((a : NameId) (d : AssocId) → IsNamed (symbols_of world.now.lexicon) symbol a → IsFirstGiven world.now.lexicon rules.now front.now a d → ⊥)
-        (λ id. (a : NameId) × (d : AssocId) × IsNamed (symbols_of world.now.lexicon) symbol a × IsFirstGiven world.now.lexicon rules.now front.now a d
+        ((a : NameId) (d : AssocId) → IsNamed (symbols_of world.now.lexicon) symbol a → IsFirstBehind world.now.lexicon rules.now front.now a d → ⊥)
+        (λ id. (a : NameId) × (d : AssocId) × IsNamed (symbols_of world.now.lexicon) symbol a × IsFirstBehind world.now.lexicon rules.now front.now a d
         × IsOf table.new id × (term_at table.new id ≡ Member (term_at table.old t) (Bound d)))) }
     ensures extends { Extends table.old table.new }
 {

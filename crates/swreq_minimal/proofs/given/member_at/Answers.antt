@@ -14,4 +14,4 @@ returns-then-not-vanishes-clause-answer c =
 pub returns-clause-answer : goal.returns-clause-answer
 returns-clause-answer c =
     member_given c.args.world.now.lexicon c.args.rules.now c.args.word.now c.args.rank c.member_at-symbol.result c.member_at-symbol.ensures
-    (c.vanishes.ensures.answer.0 c.if-not-vanishes.false) c.first_given.result c.first_given.ensures.answer
+    (c.vanishes.ensures.answer.0 c.if-not-vanishes.false) c.first_behind.result c.first_behind.ensures.answer

@@ -162,3 +162,15 @@ returns-in-Ok-clause-failed g c list is =
     (subst (λ (z : Params). TellsFailure c.args.limits (list_of (world_by new w) protocols z) (IsPassed (facts_of (world_by new w)) (generic_params z) (listed new found)) a b e) c.params.ensures
     (subst (λ (z : List Requirement). TellsFailure c.args.limits (list_of (world_by new w) protocols c.params.result) (IsPassed (facts_of (world_by new w)) (generic_params c.params.result) (listed new z)) a b e) c.deref.ensures.value s)))
     c.sift.ensures.failed
+
+pub returns-in-Err-clause-world : goal.returns-in-Err-clause-world
+returns-in-Err-clause-world g c = world_stays c.args.table.now c.candidates.new.table c.candidates.ensures.extends c.args.world.now c.requires.text.table
+
+pub returns-in-Err-clause-text : goal.returns-in-Err-clause-text
+returns-in-Err-clause-text g c = text_stays c.args.table.now c.candidates.new.table c.candidates.ensures.extends c.args.world.now c.requires.text
+
+pub returns-in-Ok-clause-world : goal.returns-in-Ok-clause-world
+returns-in-Ok-clause-world g c = world_stays c.args.table.now c.candidates.new.table c.candidates.ensures.extends c.args.world.now c.requires.text.table
+
+pub returns-in-Ok-clause-text : goal.returns-in-Ok-clause-text
+returns-in-Ok-clause-text g c = text_stays c.args.table.now c.candidates.new.table c.candidates.ensures.extends c.args.world.now c.requires.text
