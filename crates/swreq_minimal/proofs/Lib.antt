@@ -7,9 +7,10 @@ pub mod ByEquation
 pub mod Inserting
 pub mod Collecting
 pub mod Growing
+pub mod Named
 pub mod Completing
 pub mod Passing
 pub mod Telling
 pub mod Whole
 pub mod Inheriting
-pub mod Named
+pub mod Leading

@@ -18,7 +18,6 @@ use Rattle.swreq_canonical.specs.Generators.{AreEnough}
 use Rattle.swreq_canonical.specs.Minimised.{IsIndependent, IsMinimised}
 use Rattle.swreq_canonical.proofs.Agreement.{minimised_canonical, minimised_independent, minimised_same, minimised_sorted}
 use Rattle.swreq_canonical.proofs.Taking.{generator_list, generators_told}
-use Rattle.swreq_candidates.specs.Blocks.{AreMembersNamed}
 use Rattle.swreq_candidates.specs.Candidates.{IsCandidateList}
 use Rattle.swreq_candidates.specs.Completed.{IsCompleted}
 use Rattle.swreq_candidates.proofs.Completions.{enough_here, reduced_here}
@@ -29,6 +28,7 @@ use Rattle.swreq_world.specs.ByTable.{world_by}
 use Rattle.swreq_world.specs.Worlds.{IdWorld, TextWorld}
 use Rattle.swreq_valid.specs.Machines.{AreRulesOf, IsMachineOf, MachineView, list_of}
 use Rattle.swreq_valid.specs.Rounds.{last_rules}
+use Rattle.swreq_minimal.specs.Inheritance.{IsInheritanceWritten}
 use Rattle.swreq_minimal.specs.Passed.{IsPassed, IsPassedOf, IsSifted}
 use Rattle.swreq_minimal.specs.Told.{TellsFailure, TellsParts}
 use Rattle.swreq_minimal.proofs.Completing.{completed}
@@ -36,7 +36,7 @@ use Rattle.swreq_minimal.proofs.Growing.{world_stays}
 use Rattle.swreq_minimal.proofs.Telling.{failure_of, tells_of}
 
 module _ (old new : List Term) (w : IdWorld) (text : IsTextOver old w) (more : Extends old new)
-    (named : AreMembersNamed (symbols_of w.lexicon) (facts_of (world_by old w)))
+    (written : IsInheritanceWritten (world_by old w))
     (protocols : List Rule) (complete : IsComplete protocols) (rules : AreRulesOf (world_by old w) protocols)
     (machine : MachineView) (complete_too : IsComplete (last_rules machine.rounds)) (list : List TermRequirement) (is : IsMachineOf (world_by old w) list machine) where
   abbrev m : Symbols
@@ -49,7 +49,7 @@ module _ (old new : List Term) (w : IdWorld) (text : IsTextOver old w) (more : E
   ps = generic_params machine.params
 
   pub ended : IsCompleted m f ps list
-  ended = completed (world_by old w) text.closed named protocols complete rules list machine complete_too is
+  ended = completed (world_by old w) text.closed written protocols complete rules list machine complete_too is
 
   same_world : world_by new w ≡ world_by old w
   same_world = world_stays old new more w text.table

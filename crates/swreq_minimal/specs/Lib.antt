@@ -1,3 +1,4 @@
+pub mod Inheritance
 pub mod Typed
 pub mod Sorted
 pub mod Passed

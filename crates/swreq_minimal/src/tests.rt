@@ -2,14 +2,13 @@
 ghost use Rattle.std.specs.Prelude.{◌≡◌, ◌<◌, ◌≤◌, IfOk, length};
 ghost use Rattle.swreq_complete.specs.Limits.{AreInRange};
 ghost use Rattle.swreq_decl.specs.Skeletons.{StandsFor};
-ghost use Rattle.swreq_candidates.specs.Blocks.{AreMembersNamed};
 ghost use Rattle.swreq_shown.specs.Known.{IsTextOver};
-ghost use Rattle.swreq_shown.specs.Meaning.{facts_of, symbols_of};
 ghost use Rattle.swreq_world.specs.ByTable.{world_by};
 ghost use Rattle.swreq_valid.specs.Machines.{AreRulesOf};
 ghost use Rattle.swreq_valid.specs.Rounds.{last_rules};
+ghost use Rattle.swreq_minimal.specs.Inheritance.{IsInheritanceWritten};
 
-use crate::laws::members_are_named;
+use crate::laws::inheritance_is_written;
 use crate::minimise;
 use std::alloc::Global;
 use std::process::Abort;
@@ -193,10 +192,10 @@ fn world_of(
     requires limit { length text.now ≤ 1048576 }
     requires stands { StandsFor text.now skeleton.now }
     ensures text { IfOk result (IsTextOver table.new) }
-    ensures named { IfOk result (λ w. AreMembersNamed (symbols_of w.lexicon) (facts_of (world_by table.new w))) }
+    ensures inheritance { IfOk result (λ w. IsInheritanceWritten (world_by table.new w)) }
 {
     worlds_are_closed(text);
-    members_are_named(text);
+    inheritance_is_written();
     World::resolve(alloc, text, skeleton, table)
 }
 
@@ -212,7 +211,7 @@ fn add_minimised(
     out: &mut Vec<u8>,
 ) -> Result<(), Fail>
     requires text { IsTextOver table.old world.now }
-    requires named { AreMembersNamed (symbols_of world.now.lexicon) (facts_of (world_by table.old world.now)) }
+    requires inheritance { IsInheritanceWritten (world_by table.old world.now) }
     requires protocols { AreRulesOf (world_by table.old world.now) (last_rules protocols.now.rounds) }
     requires limits { AreInRange limits }
     ensures world { world_by table.new world.now ≡ world_by table.old world.now }
@@ -241,7 +240,7 @@ fn add_signature(
     out: &mut Vec<u8>,
 ) -> Result<(), Fail>
     requires text { IsTextOver table.old world.now }
-    requires named { AreMembersNamed (symbols_of world.now.lexicon) (facts_of (world_by table.old world.now)) }
+    requires inheritance { IsInheritanceWritten (world_by table.old world.now) }
     requires protocols { AreRulesOf (world_by table.old world.now) (last_rules protocols.now.rounds) }
     requires f { f.place < length world.now.signatures }
     requires limits { AreInRange limits }
@@ -276,7 +275,7 @@ fn add_signatures(
     out: &mut Vec<u8>,
 ) -> Result<(), Fail>
     requires text { IsTextOver table.old world.now }
-    requires named { AreMembersNamed (symbols_of world.now.lexicon) (facts_of (world_by table.old world.now)) }
+    requires inheritance { IsInheritanceWritten (world_by table.old world.now) }
     requires protocols { AreRulesOf (world_by table.old world.now) (last_rules protocols.now.rounds) }
     requires limits { AreInRange limits }
 {

@@ -42,11 +42,11 @@ returns-in-Ok-clause-minimised g c list is =
     let protocols = last_rules c.args.protocols.now.rounds in
     let complete = subst IsComplete c.rules.ensures c.rules-of_protocols.ensures.complete in
     let complete_too = subst IsComplete c.rules-2.ensures c.rules-of_list.ensures.complete in
-    let end = ended old new w c.requires.text more c.requires.named protocols complete c.requires.protocols c.args.machine.now complete_too list is in
+    let end = ended old new w c.requires.text more c.requires.inheritance protocols complete c.requires.protocols c.args.machine.now complete_too list is in
     let found = c.in-Ok.found.items in
     let cl = c.in-Ok.ensures.candidates list is end in
     IfOk-weaker c.sift.result _ _ (λ v s.
-    is_minimised old new w c.requires.text more c.requires.named protocols complete c.requires.protocols c.args.machine.now complete_too list is (listed new found) cl (listed new v.items)
+    is_minimised old new w c.requires.text more c.requires.inheritance protocols complete c.requires.protocols c.args.machine.now complete_too list is (listed new found) cl (listed new v.items)
     (subst (λ (z : Params). IsSifted (facts_of (world_by new w)) (generic_params z) (listed new found) (listed new v.items)) c.params.ensures
     (subst (λ (z : List Requirement). IsSifted (facts_of (world_by new w)) (generic_params c.params.result) (listed new z) (listed new v.items)) c.deref.ensures.value s)))
     c.sift.ensures.sifted
@@ -60,11 +60,11 @@ returns-in-Ok-clause-same g c list is =
     let protocols = last_rules c.args.protocols.now.rounds in
     let complete = subst IsComplete c.rules.ensures c.rules-of_protocols.ensures.complete in
     let complete_too = subst IsComplete c.rules-2.ensures c.rules-of_list.ensures.complete in
-    let end = ended old new w c.requires.text more c.requires.named protocols complete c.requires.protocols c.args.machine.now complete_too list is in
+    let end = ended old new w c.requires.text more c.requires.inheritance protocols complete c.requires.protocols c.args.machine.now complete_too list is in
     let found = c.in-Ok.found.items in
     let cl = c.in-Ok.ensures.candidates list is end in
     IfOk-weaker c.sift.result _ _ (λ v s.
-    is_same old new w c.requires.text more c.requires.named protocols complete c.requires.protocols c.args.machine.now complete_too list is (listed new found) cl (listed new v.items)
+    is_same old new w c.requires.text more c.requires.inheritance protocols complete c.requires.protocols c.args.machine.now complete_too list is (listed new found) cl (listed new v.items)
     (subst (λ (z : Params). IsSifted (facts_of (world_by new w)) (generic_params z) (listed new found) (listed new v.items)) c.params.ensures
     (subst (λ (z : List Requirement). IsSifted (facts_of (world_by new w)) (generic_params c.params.result) (listed new z) (listed new v.items)) c.deref.ensures.value s)))
     c.sift.ensures.sifted
@@ -78,11 +78,11 @@ returns-in-Ok-clause-independent g c list is =
     let protocols = last_rules c.args.protocols.now.rounds in
     let complete = subst IsComplete c.rules.ensures c.rules-of_protocols.ensures.complete in
     let complete_too = subst IsComplete c.rules-2.ensures c.rules-of_list.ensures.complete in
-    let end = ended old new w c.requires.text more c.requires.named protocols complete c.requires.protocols c.args.machine.now complete_too list is in
+    let end = ended old new w c.requires.text more c.requires.inheritance protocols complete c.requires.protocols c.args.machine.now complete_too list is in
     let found = c.in-Ok.found.items in
     let cl = c.in-Ok.ensures.candidates list is end in
     IfOk-weaker c.sift.result _ _ (λ v s.
-    is_independent old new w c.requires.text more c.requires.named protocols complete c.requires.protocols c.args.machine.now complete_too list is (listed new found) cl (listed new v.items)
+    is_independent old new w c.requires.text more c.requires.inheritance protocols complete c.requires.protocols c.args.machine.now complete_too list is (listed new found) cl (listed new v.items)
     (subst (λ (z : Params). IsSifted (facts_of (world_by new w)) (generic_params z) (listed new found) (listed new v.items)) c.params.ensures
     (subst (λ (z : List Requirement). IsSifted (facts_of (world_by new w)) (generic_params c.params.result) (listed new z) (listed new v.items)) c.deref.ensures.value s)))
     c.sift.ensures.sifted
@@ -96,11 +96,11 @@ returns-in-Ok-clause-canonical g c list is =
     let protocols = last_rules c.args.protocols.now.rounds in
     let complete = subst IsComplete c.rules.ensures c.rules-of_protocols.ensures.complete in
     let complete_too = subst IsComplete c.rules-2.ensures c.rules-of_list.ensures.complete in
-    let end = ended old new w c.requires.text more c.requires.named protocols complete c.requires.protocols c.args.machine.now complete_too list is in
+    let end = ended old new w c.requires.text more c.requires.inheritance protocols complete c.requires.protocols c.args.machine.now complete_too list is in
     let found = c.in-Ok.found.items in
     let cl = c.in-Ok.ensures.candidates list is end in
     IfOk-weaker c.sift.result _ _ (λ v s.
-    is_canonical old new w c.requires.text more c.requires.named protocols complete c.requires.protocols c.args.machine.now complete_too list is (listed new found) cl (listed new v.items)
+    is_canonical old new w c.requires.text more c.requires.inheritance protocols complete c.requires.protocols c.args.machine.now complete_too list is (listed new found) cl (listed new v.items)
     (subst (λ (z : Params). IsSifted (facts_of (world_by new w)) (generic_params z) (listed new found) (listed new v.items)) c.params.ensures
     (subst (λ (z : List Requirement). IsSifted (facts_of (world_by new w)) (generic_params c.params.result) (listed new z) (listed new v.items)) c.deref.ensures.value s)))
     c.sift.ensures.sifted
@@ -114,11 +114,11 @@ returns-in-Ok-clause-sorted g c list is =
     let protocols = last_rules c.args.protocols.now.rounds in
     let complete = subst IsComplete c.rules.ensures c.rules-of_protocols.ensures.complete in
     let complete_too = subst IsComplete c.rules-2.ensures c.rules-of_list.ensures.complete in
-    let end = ended old new w c.requires.text more c.requires.named protocols complete c.requires.protocols c.args.machine.now complete_too list is in
+    let end = ended old new w c.requires.text more c.requires.inheritance protocols complete c.requires.protocols c.args.machine.now complete_too list is in
     let found = c.in-Ok.found.items in
     let cl = c.in-Ok.ensures.candidates list is end in
     IfOk-weaker c.sift.result _ _ (λ v s.
-    is_sorted old new w c.requires.text more c.requires.named protocols complete c.requires.protocols c.args.machine.now complete_too list is (listed new found) cl (listed new v.items)
+    is_sorted old new w c.requires.text more c.requires.inheritance protocols complete c.requires.protocols c.args.machine.now complete_too list is (listed new found) cl (listed new v.items)
     (subst (λ (z : Params). IsSifted (facts_of (world_by new w)) (generic_params z) (listed new found) (listed new v.items)) c.params.ensures
     (subst (λ (z : List Requirement). IsSifted (facts_of (world_by new w)) (generic_params c.params.result) (listed new z) (listed new v.items)) c.deref.ensures.value s)))
     c.sift.ensures.sifted
@@ -132,13 +132,13 @@ returns-in-Ok-clause-told g c list is =
     let protocols = last_rules c.args.protocols.now.rounds in
     let complete = subst IsComplete c.rules.ensures c.rules-of_protocols.ensures.complete in
     let complete_too = subst IsComplete c.rules-2.ensures c.rules-of_list.ensures.complete in
-    let end = ended old new w c.requires.text more c.requires.named protocols complete c.requires.protocols c.args.machine.now complete_too list is in
+    let end = ended old new w c.requires.text more c.requires.inheritance protocols complete c.requires.protocols c.args.machine.now complete_too list is in
     let found = c.in-Ok.found.items in
     let cl = c.in-Ok.ensures.candidates list is end in
     let a = g.W.Watch.told c.args.watch.now in
     let b = g.W.Watch.told c.sift.new.watch in
     IfOk-weaker c.sift.result _ _ (λ v s.
-    tells old new w c.requires.text more c.requires.named protocols complete c.requires.protocols c.args.machine.now complete_too list is (listed new found) cl c.args.limits a b
+    tells old new w c.requires.text more c.requires.inheritance protocols complete c.requires.protocols c.args.machine.now complete_too list is (listed new found) cl c.args.limits a b
     (subst (λ (z : Params). TellsParts c.args.limits (list_of (world_by new w) protocols z) (IsPassed (facts_of (world_by new w)) (generic_params z) (listed new found)) a b) c.params.ensures
     (subst (λ (z : List Requirement). TellsParts c.args.limits (list_of (world_by new w) protocols c.params.result) (IsPassed (facts_of (world_by new w)) (generic_params c.params.result) (listed new z)) a b) c.deref.ensures.value s)))
     c.sift.ensures.told
@@ -152,13 +152,13 @@ returns-in-Ok-clause-failed g c list is =
     let protocols = last_rules c.args.protocols.now.rounds in
     let complete = subst IsComplete c.rules.ensures c.rules-of_protocols.ensures.complete in
     let complete_too = subst IsComplete c.rules-2.ensures c.rules-of_list.ensures.complete in
-    let end = ended old new w c.requires.text more c.requires.named protocols complete c.requires.protocols c.args.machine.now complete_too list is in
+    let end = ended old new w c.requires.text more c.requires.inheritance protocols complete c.requires.protocols c.args.machine.now complete_too list is in
     let found = c.in-Ok.found.items in
     let cl = c.in-Ok.ensures.candidates list is end in
     let a = g.W.Watch.told c.args.watch.now in
     let b = g.W.Watch.told c.sift.new.watch in
     IfErr-weaker c.sift.result _ _ (λ e s.
-    fails old new w c.requires.text more c.requires.named protocols complete c.requires.protocols c.args.machine.now complete_too list is (listed new found) cl c.args.limits a b e
+    fails old new w c.requires.text more c.requires.inheritance protocols complete c.requires.protocols c.args.machine.now complete_too list is (listed new found) cl c.args.limits a b e
     (subst (λ (z : Params). TellsFailure c.args.limits (list_of (world_by new w) protocols z) (IsPassed (facts_of (world_by new w)) (generic_params z) (listed new found)) a b e) c.params.ensures
     (subst (λ (z : List Requirement). TellsFailure c.args.limits (list_of (world_by new w) protocols c.params.result) (IsPassed (facts_of (world_by new w)) (generic_params c.params.result) (listed new z)) a b e) c.deref.ensures.value s)))
     c.sift.ensures.failed
