@@ -126,8 +126,8 @@ module _ (text : Bytes) (s : Skeleton) (names : HasNames text s) where
           of_text = subst (λ n. IsProtocol x (proto_by x.protocols n)) e (protocol_is text s x is.lexicon j r stands);
           stands = meant text s x is.lexicon name j placed;
           leads = further l (subst (λ z. Contains (map (λ (t : PlacedRequirement). t.requirement) z) (Conforms self (proto_of words says.name))) (sym (written_in p h q at))
-          (subst (Contains (map (λ (t : PlacedRequirement). t.requirement) (in_protocol words q))) says.is
-          (contains_map (λ (t : PlacedRequirement). t.requirement) (in_protocol words q) says.requirement says.among)));
+              (subst (Contains (map (λ (t : PlacedRequirement). t.requirement) (in_protocol words q))) says.is
+              (contains_map (λ (t : PlacedRequirement). t.requirement) (in_protocol words q) says.requirement says.among)));
         }
 
     steps : (o p : ProtoId) → IsProtocol x p → LeadsTo f o p → (i j : ℕ) → place_of x p ≡ i → Leads (inheritance text s) i j → Reaches o j

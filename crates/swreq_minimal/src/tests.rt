@@ -217,9 +217,7 @@ fn add_minimised(
     ensures world { world_by table.new world.now ≡ world_by table.old world.now }
     ensures text { IsTextOver table.new world.now }
 {
-    match minimise(
-        alloc, world, table, protocols, machine, limits, &mut Quiet,
-    ) {
+    match minimise(alloc, world, table, protocols, machine, limits, &mut Quiet) {
         Ok(list) => signature_text(alloc, world.lexicon(), table, machine.params(), &list, out)?,
         Err(Failed::Limit { .. }) => out.extend_from_slice(b"limit")?,
         Err(Failed::Memory) => panic!(rt; "no memory"),
@@ -257,9 +255,7 @@ fn add_signature(
         LIMITS,
         &mut Quiet,
     ) {
-        Ok(machine) => add_minimised(
-            rt, alloc, world, table, protocols, &machine, limits, out,
-        ),
+        Ok(machine) => add_minimised(rt, alloc, world, table, protocols, &machine, limits, out),
         Err(_) => panic!(rt; "no machine"),
     }
 }
@@ -308,9 +304,7 @@ fn signatures_of(
         Ok(protocols) => protocols,
         Err(_) => panic!(rt; "no rules"),
     };
-    add_signatures(
-        rt, alloc, &world, &mut table, &protocols, limits, &mut out,
-    )?;
+    add_signatures(rt, alloc, &world, &mut table, &protocols, limits, &mut out)?;
     Ok(out)
 }
 
