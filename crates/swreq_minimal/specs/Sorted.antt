@@ -24,7 +24,8 @@ pub record BelongsAt (terms : List Term) (found : List Requirement) (r : Require
   pub place_is : length before ≡ place
   pub not_same : (q : Requirement) → Contains before q → requirement_of terms q ≡ requirement_of terms r → ⊥
   pub not_later : (q : Requirement) → Contains before q → RequirementBefore (requirement_of terms r) (requirement_of terms q) → ⊥
-  pub next : (q : Requirement) (rest : List Requirement) → after ≡ q ∷ rest → RequirementBefore (requirement_of terms r) (requirement_of terms q)
+  pub next : (q : Requirement) (rest : List Requirement) → after ≡ q ∷ rest
+      → RequirementBefore (requirement_of terms r) (requirement_of terms q)
 
 -- one of the first so many rules of the system says it
 abbrev pub IsSaidBefore : LexiconView → List Rule → Params → List Rule → ℕ → TermRequirement → Type 0
@@ -32,6 +33,8 @@ IsSaidBefore x rules params system n q =
     (k : ℕ) × (rule : Rule) × (k < n) × (slice_get system k ≡ Some rule) × SaysBy x rules params rule.left rule.right q
 
 -- What the first so many rules say, and only that. It is strictly sorted where it is canonical.
-pub record IsSaidList (x : LexiconView) (rules : List Rule) (params : Params) (system : List Rule) (n : ℕ) (found : List TermRequirement) : Type 0 where
+pub record IsSaidList (x : LexiconView) (rules : List Rule) (params : Params) (system : List Rule) (n : ℕ)
+    (found : List TermRequirement) : Type 0 where
   pub members : (q : TermRequirement) → Contains found q ↔ IsSaidBefore x rules params system n q
-  pub sorted : (f : TermFacts) (s : Source) → ((q : TermRequirement) → IsSaidBefore x rules params system n q → IsCanonical f s q) → IsStrictlySorted found
+  pub sorted : (f : TermFacts) (s : Source) → ((q : TermRequirement) → IsSaidBefore x rules params system n q → IsCanonical f s q)
+      → IsStrictlySorted found

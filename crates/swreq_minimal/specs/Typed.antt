@@ -30,16 +30,16 @@ IsMemberBehind x rules w y d =
     (k : ℕ) × (y ≡ MemberSymbol k) × IsRank (symbols_of x) k × Vanishes rules w (Proto (proto_of (symbols_of x) k).rank)
     × IsFirstBehind x rules w (name_of (symbols_of x) k) d
 
--- By the rules T is the type of the word: of a generic parameter's symbol that generic parameter, and of a word with a member symbol behind it
--- the bound member for which the symbol stands there.
+-- By the rules T is the type of the word: of a generic parameter's symbol that generic parameter, and of a word with a member symbol behind
+-- it the bound member for which the symbol stands there.
 abbrev pub IsTypeBy : LexiconView → List Rule → Params → Word → Term → Type 0
 IsTypeBy x rules params u (Generic g) = Contains (generic_params params) g × (u ≡ Param g.depth g.index ∷ [])
 IsTypeBy x rules params u (Member t (Bound d)) =
     (front : Word) × (y : Symbol) × (u ≡ front ++ y ∷ []) × IsTypeBy x rules params front t × IsMemberBehind x rules front y d
 IsTypeBy x rules params u (Member t (Name a)) = ⊥
 
--- By the rules a left side speaks of V: it is the symbol of a generic parameter V, or the symbol of a member or a name behind a word, where V
--- is the bound member of the word's type with the first associated type of that name given there.
+-- By the rules a left side speaks of V: it is the symbol of a generic parameter V, or the symbol of a member or a name behind a word, where
+-- V is the bound member of the word's type with the first associated type of that name given there.
 abbrev pub SpeaksBy : LexiconView → List Rule → Params → Word → Term → Type 0
 SpeaksBy x rules params l (Generic g) = IsTypeBy x rules params l (Generic g)
 SpeaksBy x rules params l (Member t (Bound d)) =

@@ -73,7 +73,8 @@ fn put_sorted(
     ensures sorted { OnOk result ((f : TermFacts) (s : Source)
         → ((q : TermRequirement) → Contains (listed table.now found.old.items) q ⊎ (q ≡ requirement_of table.now r) → IsCanonical f s q)
         → IsStrictlySorted (listed table.now found.old.items) → IsStrictlySorted (listed table.now found.new.items)) }
-    ensures known { (x : LexiconView) → AreKnown table.now x found.old.items → IsRequirementIn table.now x r → OnOk result (AreKnown table.now x found.new.items) }
+    ensures known { (x : LexiconView) → AreKnown table.now x found.old.items → IsRequirementIn table.now x r
+        → OnOk result (AreKnown table.now x found.new.items) }
 {
     match place_of(table, found, r) {
         None => Ok(()),
@@ -97,7 +98,8 @@ fn add(
     ensures members { OnOk result ((q : TermRequirement) → Contains (listed table.new found.new.items) q
         ↔ (Contains (listed table.old found.old.items) q ⊎ SaysBy world.now.lexicon rules.now params rule.now.left rule.now.right q)) }
     ensures sorted { OnOk result ((f : TermFacts) (s : Source)
-        → ((q : TermRequirement) → Contains (listed table.old found.old.items) q ⊎ SaysBy world.now.lexicon rules.now params rule.now.left rule.now.right q → IsCanonical f s q)
+        → ((q : TermRequirement) → Contains (listed table.old found.old.items) q
+        ⊎ SaysBy world.now.lexicon rules.now params rule.now.left rule.now.right q → IsCanonical f s q)
         → IsStrictlySorted (listed table.old found.old.items) → IsStrictlySorted (listed table.new found.new.items)) }
     ensures known { OnOk result (AreKnown table.new world.now.lexicon found.new.items) }
     ensures extends { Extends table.old table.new }
@@ -121,7 +123,8 @@ fn collect(
     system: &[Rule],
 ) -> Result<Vec<Requirement>, AllocError>
     requires { IsReducedSystem (Links rules.now) system.now }
-    ensures said { IfOk result (λ v. IsSaidList world.now.lexicon rules.now params system.now (length system.now) (listed table.new v.items)) }
+    ensures said { IfOk result (λ v. IsSaidList world.now.lexicon rules.now params system.now (length system.now)
+        (listed table.new v.items)) }
     ensures known { IfOk result (λ v. AreKnown table.new world.now.lexicon v.items) }
     ensures extends { Extends table.old table.new }
 {
@@ -143,7 +146,8 @@ pub(crate) fn candidates(
     requires { IsTextOver table.old world.now }
     ensures candidates { (list : List TermRequirement) → IsMachineOf (world_by table.old world.now) list machine.now
         → IsCompleted (symbols_of world.now.lexicon) (facts_of (world_by table.old world.now)) (generic_params machine.now.params) list
-        → IfOk result (λ v. IsCandidateList (symbols_of world.now.lexicon) (facts_of (world_by table.old world.now)) (Written (generic_params machine.now.params) list) (listed table.new v.items)) }
+        → IfOk result (λ v. IsCandidateList (symbols_of world.now.lexicon) (facts_of (world_by table.old world.now))
+        (Written (generic_params machine.now.params) list) (listed table.new v.items)) }
     ensures known { IfOk result (λ v. AreKnown table.new world.now.lexicon v.items) }
     ensures extends { Extends table.old table.new }
 {

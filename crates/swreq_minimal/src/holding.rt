@@ -35,8 +35,8 @@ fn is_valid(
 ) -> Result<bool, AllocError>
     requires text { IsTextOver table.now world.now }
     requires t { IsTypeIn table.now world.now.lexicon t }
-    ensures { IfOk result (λ b. IsTrue b ↔ ShowsValid (symbols_of world.now.lexicon) (facts_of (world_by table.now world.now)) (source_of (Signature machine.now.params))
-        (Links (last_rules machine.now.rounds)) (term_at table.now t)) }
+    ensures { IfOk result (λ b. IsTrue b ↔ ShowsValid (symbols_of world.now.lexicon) (facts_of (world_by table.now world.now))
+        (source_of (Signature machine.now.params)) (Links (last_rules machine.now.rounds)) (term_at table.now t)) }
 {
     let room = table.members(t).checked_add(2).ok_or(AllocError)?;
     let mut word: Vec<Symbol> = Vec::with_capacity(alloc, room)?;
@@ -62,8 +62,8 @@ fn has_valid_sides(
 ) -> Result<bool, AllocError>
     requires text { IsTextOver table.now world.now }
     requires r { IsRequirementIn table.now world.now.lexicon r }
-    ensures { IfOk result (λ b. IsTrue b ↔ ShowsUsable (symbols_of world.now.lexicon) (facts_of (world_by table.now world.now)) (source_of (Signature machine.now.params))
-        (Links (last_rules machine.now.rounds)) (requirement_of table.now r)) }
+    ensures { IfOk result (λ b. IsTrue b ↔ ShowsUsable (symbols_of world.now.lexicon) (facts_of (world_by table.now world.now))
+        (source_of (Signature machine.now.params)) (Links (last_rules machine.now.rounds)) (requirement_of table.now r)) }
 {
     match r {
         Requirement::Conf { subject, .. } => is_valid(alloc, world, table, machine, subject),
@@ -109,7 +109,8 @@ pub(crate) fn holds(
     requires text { IsTextOver table.now world.now }
     requires r { IsRequirementIn table.now world.now.lexicon r }
     ensures { (list : List TermRequirement) → IsMachineOf (world_by table.now world.now) list machine.now → IfOk result (λ b. IsTrue b
-        ↔ Derivable (facts_of (world_by table.now world.now)) (Written (generic_params machine.now.params) list) (Requires (requirement_of table.now r))) }
+        ↔ Derivable (facts_of (world_by table.now world.now)) (Written (generic_params machine.now.params) list)
+        (Requires (requirement_of table.now r))) }
 {
     let valid = has_valid_sides(alloc, world, table, machine, r)?;
     if !valid {

@@ -32,9 +32,10 @@ use swreq_world::World;
 /// The minimised list of the machine's list.
 ///
 /// It derives what the list derives and is derived from it, and none of its members is derivable from the others. Its members are
-/// canonical and strictly sorted. `Failed::Limit` comes only where the rounds of a list pass a limit that is met on the way: for a candidate
-/// the candidates that were taken before it, or for a generator, from the last to the first, what is then left without it. The watcher
-/// is told the events of the rounds of such lists. The table grows, its ids stay, and so does the world over it.
+/// canonical and strictly sorted. `Failed::Limit` comes only where the rounds of a list that is met on the way pass a limit, with the
+/// trace of the round that passes it. These lists are for each candidate those that were taken before it, and for each of the taken,
+/// from the last to the first, what is then left without it. The watcher is told the events of the rounds of such lists. The table
+/// grows, its ids stay, and so does the world over it.
 pub fn minimise<W: Watch>(
     alloc: Global,
     world: &World,
@@ -49,21 +50,27 @@ pub fn minimise<W: Watch>(
     requires protocols { AreRulesOf (world_by table.old world.now) (last_rules protocols.now.rounds) }
     requires limits { AreInRange limits }
     ensures minimised { (list : List TermRequirement) → IsMachineOf (world_by table.old world.now) list machine.now
-        → IfOk result (λ v. IsMinimised (facts_of (world_by table.old world.now)) (generic_params machine.now.params) list (listed table.new v.items)) }
+        → IfOk result (λ v. IsMinimised (facts_of (world_by table.old world.now)) (generic_params machine.now.params) list
+        (listed table.new v.items)) }
     ensures same { (list : List TermRequirement) → IsMachineOf (world_by table.old world.now) list machine.now
-        → IfOk result (λ v. AreEquivalent (facts_of (world_by table.old world.now)) (generic_params machine.now.params) list (listed table.new v.items)) }
+        → IfOk result (λ v. AreEquivalent (facts_of (world_by table.old world.now)) (generic_params machine.now.params) list
+        (listed table.new v.items)) }
     ensures independent { (list : List TermRequirement) → IsMachineOf (world_by table.old world.now) list machine.now
-        → IfOk result (λ v. IsIndependent (facts_of (world_by table.old world.now)) (generic_params machine.now.params) (listed table.new v.items)) }
+        → IfOk result (λ v. IsIndependent (facts_of (world_by table.old world.now)) (generic_params machine.now.params)
+        (listed table.new v.items)) }
     ensures canonical { (list : List TermRequirement) → IsMachineOf (world_by table.old world.now) list machine.now
-        → IfOk result (λ v. (r : TermRequirement) → Contains (listed table.new v.items) r → IsCanonical (facts_of (world_by table.old world.now)) (Written (generic_params machine.now.params) list) r) }
+        → IfOk result (λ v. (r : TermRequirement) → Contains (listed table.new v.items) r
+        → IsCanonical (facts_of (world_by table.old world.now)) (Written (generic_params machine.now.params) list) r) }
     ensures sorted { (list : List TermRequirement) → IsMachineOf (world_by table.old world.now) list machine.now
         → IfOk result (λ v. IsStrictlySorted (listed table.new v.items)) }
     ensures told { (list : List TermRequirement) → IsMachineOf (world_by table.old world.now) list machine.now
         → IfOk result (λ _. TellsParts limits (list_of (world_by table.old world.now) (last_rules protocols.now.rounds) machine.now.params)
-        (IsPassedOf (symbols_of world.now.lexicon) (facts_of (world_by table.old world.now)) (generic_params machine.now.params) list) (W.told watch.old) (W.told watch.new)) }
+        (IsPassedOf (symbols_of world.now.lexicon) (facts_of (world_by table.old world.now)) (generic_params machine.now.params) list)
+        (W.told watch.old) (W.told watch.new)) }
     ensures failed { (list : List TermRequirement) → IsMachineOf (world_by table.old world.now) list machine.now
         → IfErr result (TellsFailure limits (list_of (world_by table.old world.now) (last_rules protocols.now.rounds) machine.now.params)
-        (IsPassedOf (symbols_of world.now.lexicon) (facts_of (world_by table.old world.now)) (generic_params machine.now.params) list) (W.told watch.old) (W.told watch.new)) }
+        (IsPassedOf (symbols_of world.now.lexicon) (facts_of (world_by table.old world.now)) (generic_params machine.now.params) list)
+        (W.told watch.old) (W.told watch.new)) }
     ensures known { IfOk result (λ v. AreKnown table.new world.now.lexicon v.items) }
     ensures extends { Extends table.old table.new }
     ensures world { world_by table.new world.now ≡ world_by table.old world.now }

@@ -44,7 +44,8 @@ fn is_derivable<W: Watch>(
     requires r { IsRequirementIn table.now world.now.lexicon r }
     requires limits { AreInRange limits }
     ensures answer { IfOk result (λ b. IsTrue b
-        ↔ Derivable (facts_of (world_by table.now world.now)) (Written (generic_params params) (listed table.now list.now)) (Requires (requirement_of table.now r))) }
+        ↔ Derivable (facts_of (world_by table.now world.now)) (Written (generic_params params) (listed table.now list.now))
+        (Requires (requirement_of table.now r))) }
     ensures told { IfOk result (λ _. TellsParts limits (list_of (world_by table.now world.now) (last_rules protocols.now.rounds) params)
         (λ l. l ≡ listed table.now list.now) (W.told watch.old) (W.told watch.new)) }
     ensures failed { IfErr result (TellsFailure limits (list_of (world_by table.now world.now) (last_rules protocols.now.rounds) params)
@@ -89,7 +90,8 @@ fn take<W: Watch>(
     requires limits { AreInRange limits }
     ensures takes { OnOk result ((before : List TermRequirement)
         → Takes (facts_of (world_by table.now world.now)) (generic_params params) [] before (listed table.now taken.old.items)
-        → Takes (facts_of (world_by table.now world.now)) (generic_params params) [] (before ++ requirement_of table.now candidate ∷ []) (listed table.now taken.new.items)) }
+        → Takes (facts_of (world_by table.now world.now)) (generic_params params) [] (before ++ requirement_of table.now candidate ∷ [])
+        (listed table.now taken.new.items)) }
     ensures known { OnOk result (AreKnown table.now world.now.lexicon taken.new.items) }
     ensures told { OnOk result (TellsParts limits (list_of (world_by table.now world.now) (last_rules protocols.now.rounds) params)
         (λ l. l ≡ listed table.now taken.old.items) (W.told watch.old) (W.told watch.new)) }
@@ -123,12 +125,15 @@ fn generators<W: Watch>(
     requires protocols { AreRulesOf (world_by table.now world.now) (last_rules protocols.now.rounds) }
     requires candidates { AreKnown table.now world.now.lexicon candidates.now }
     requires limits { AreInRange limits }
-    ensures takes { IfOk result (λ v. Takes (facts_of (world_by table.now world.now)) (generic_params params) [] (listed table.now candidates.now) (listed table.now v.items)) }
+    ensures takes { IfOk result (λ v. Takes (facts_of (world_by table.now world.now)) (generic_params params) []
+        (listed table.now candidates.now) (listed table.now v.items)) }
     ensures known { IfOk result (λ v. AreKnown table.now world.now.lexicon v.items) }
     ensures told { IfOk result (λ _. TellsParts limits (list_of (world_by table.now world.now) (last_rules protocols.now.rounds) params)
-        (IsTakenBefore (facts_of (world_by table.now world.now)) (generic_params params) (listed table.now candidates.now)) (W.told watch.old) (W.told watch.new)) }
+        (IsTakenBefore (facts_of (world_by table.now world.now)) (generic_params params) (listed table.now candidates.now))
+        (W.told watch.old) (W.told watch.new)) }
     ensures failed { IfErr result (TellsFailure limits (list_of (world_by table.now world.now) (last_rules protocols.now.rounds) params)
-        (IsTakenBefore (facts_of (world_by table.now world.now)) (generic_params params) (listed table.now candidates.now)) (W.told watch.old) (W.told watch.new)) }
+        (IsTakenBefore (facts_of (world_by table.now world.now)) (generic_params params) (listed table.now candidates.now))
+        (W.told watch.old) (W.told watch.new)) }
 {
     let mut taken: Vec<Requirement> = Vec::new(alloc);
     for k in 0..candidates.len() {
@@ -218,12 +223,15 @@ fn drop_derivable<W: Watch>(
     requires protocols { AreRulesOf (world_by table.now world.now) (last_rules protocols.now.rounds) }
     requires left { AreKnown table.now world.now.lexicon left.old.items }
     requires limits { AreInRange limits }
-    ensures leaves { OnOk result (Leaves (facts_of (world_by table.now world.now)) (generic_params params) [] (listed table.now left.old.items) (listed table.now left.new.items)) }
+    ensures leaves { OnOk result (Leaves (facts_of (world_by table.now world.now)) (generic_params params) []
+        (listed table.now left.old.items) (listed table.now left.new.items)) }
     ensures known { OnOk result (AreKnown table.now world.now.lexicon left.new.items) }
     ensures told { OnOk result (TellsParts limits (list_of (world_by table.now world.now) (last_rules protocols.now.rounds) params)
-        (IsLeftWithout (facts_of (world_by table.now world.now)) (generic_params params) (listed table.now left.old.items)) (W.told watch.old) (W.told watch.new)) }
+        (IsLeftWithout (facts_of (world_by table.now world.now)) (generic_params params) (listed table.now left.old.items))
+        (W.told watch.old) (W.told watch.new)) }
     ensures failed { IfErr result (TellsFailure limits (list_of (world_by table.now world.now) (last_rules protocols.now.rounds) params)
-        (IsLeftWithout (facts_of (world_by table.now world.now)) (generic_params params) (listed table.now left.old.items)) (W.told watch.old) (W.told watch.new)) }
+        (IsLeftWithout (facts_of (world_by table.now world.now)) (generic_params params) (listed table.now left.old.items))
+        (W.told watch.old) (W.told watch.new)) }
 {
     let mut count = left.len();
     while count > 0 {
@@ -253,12 +261,15 @@ pub(crate) fn sift<W: Watch>(
     requires protocols { AreRulesOf (world_by table.now world.now) (last_rules protocols.now.rounds) }
     requires candidates { AreKnown table.now world.now.lexicon candidates.now }
     requires limits { AreInRange limits }
-    ensures sifted { IfOk result (λ v. IsSifted (facts_of (world_by table.now world.now)) (generic_params params) (listed table.now candidates.now) (listed table.now v.items)) }
+    ensures sifted { IfOk result (λ v. IsSifted (facts_of (world_by table.now world.now)) (generic_params params)
+        (listed table.now candidates.now) (listed table.now v.items)) }
     ensures known { IfOk result (λ v. AreKnown table.now world.now.lexicon v.items) }
     ensures told { IfOk result (λ _. TellsParts limits (list_of (world_by table.now world.now) (last_rules protocols.now.rounds) params)
-        (IsPassed (facts_of (world_by table.now world.now)) (generic_params params) (listed table.now candidates.now)) (W.told watch.old) (W.told watch.new)) }
+        (IsPassed (facts_of (world_by table.now world.now)) (generic_params params) (listed table.now candidates.now))
+        (W.told watch.old) (W.told watch.new)) }
     ensures failed { IfErr result (TellsFailure limits (list_of (world_by table.now world.now) (last_rules protocols.now.rounds) params)
-        (IsPassed (facts_of (world_by table.now world.now)) (generic_params params) (listed table.now candidates.now)) (W.told watch.old) (W.told watch.new)) }
+        (IsPassed (facts_of (world_by table.now world.now)) (generic_params params) (listed table.now candidates.now))
+        (W.told watch.old) (W.told watch.new)) }
 {
     match generators(
         alloc, world, table, protocols, params, candidates, limits, watch,

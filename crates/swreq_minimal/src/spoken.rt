@@ -67,7 +67,8 @@ fn first_named(
     requires least { IsLeastBy rules.now front.now }
     requires fits { length front.now + 1 ≤ vec_capacity test.old }
     ensures answer { MatchOption result
-        ((a : NameId) (d : AssocId) → IsNamed (symbols_of world.now.lexicon) symbol a → IsFirstBehind world.now.lexicon rules.now front.now a d → ⊥)
+        ((a : NameId) (d : AssocId) → IsNamed (symbols_of world.now.lexicon) symbol a
+        → IsFirstBehind world.now.lexicon rules.now front.now a d → ⊥)
         (λ d. (a : NameId) × IsNamed (symbols_of world.now.lexicon) symbol a × IsFirstBehind world.now.lexicon rules.now front.now a d) }
 {
     match name_of(world, symbol) {
@@ -89,8 +90,10 @@ fn last_member(
     requires t { IsOf table.old t }
     requires least { IsLeastBy rules.now front.now }
     ensures member { IfOk result (λ o. MatchOption o
-        ((a : NameId) (d : AssocId) → IsNamed (symbols_of world.now.lexicon) symbol a → IsFirstBehind world.now.lexicon rules.now front.now a d → ⊥)
-        (λ id. (a : NameId) × (d : AssocId) × IsNamed (symbols_of world.now.lexicon) symbol a × IsFirstBehind world.now.lexicon rules.now front.now a d
+        ((a : NameId) (d : AssocId) → IsNamed (symbols_of world.now.lexicon) symbol a
+        → IsFirstBehind world.now.lexicon rules.now front.now a d → ⊥)
+        (λ id. (a : NameId) × (d : AssocId) × IsNamed (symbols_of world.now.lexicon) symbol a
+        × IsFirstBehind world.now.lexicon rules.now front.now a d
         × IsOf table.new id × (term_at table.new id ≡ Member (term_at table.old t) (Bound d)))) }
     ensures extends { Extends table.old table.new }
 {
@@ -189,7 +192,8 @@ fn conformance(world: &World, rank: u32, t: TermId) -> Option<Requirement>
 fn property(world: &World, symbol: Symbol, t: TermId) -> Option<Requirement>
     ensures { MatchOption result
         (((p : ProtoId) → symbol ≡ Proto p.rank → IsProtocol world.now.lexicon p → ⊥) × (symbol ≡ Layout → ⊥))
-        (λ r. ((p : ProtoId) × (symbol ≡ Proto p.rank) × IsProtocol world.now.lexicon p × (r ≡ Conf t p)) ⊎ ((symbol ≡ Layout) × (r ≡ LayoutOf t))) }
+        (λ r. ((p : ProtoId) × (symbol ≡ Proto p.rank) × IsProtocol world.now.lexicon p × (r ≡ Conf t p))
+        ⊎ ((symbol ≡ Layout) × (r ≡ LayoutOf t))) }
 {
     match symbol {
         Symbol::Proto(rank) => conformance(world, rank, t),
@@ -201,7 +205,8 @@ fn property(world: &World, symbol: Symbol, t: TermId) -> Option<Requirement>
 /// The conformance or the layout of t, the type of the right side, that the rule says, or None where it says none.
 fn property_said(world: &World, left: &[Symbol], right: &[Symbol], t: TermId) -> Option<Requirement>
     ensures { MatchOption result
-        (((p : ProtoId) → left.now ≡ right.now ++ Proto p.rank ∷ [] → IsProtocol world.now.lexicon p → ⊥) × (left.now ≡ right.now ++ Layout ∷ [] → ⊥))
+        (((p : ProtoId) → left.now ≡ right.now ++ Proto p.rank ∷ [] → IsProtocol world.now.lexicon p → ⊥)
+        × (left.now ≡ right.now ++ Layout ∷ [] → ⊥))
         (λ r. ((p : ProtoId) × (left.now ≡ right.now ++ Proto p.rank ∷ []) × IsProtocol world.now.lexicon p × (r ≡ Conf t p))
         ⊎ ((left.now ≡ right.now ++ Layout ∷ []) × (r ≡ LayoutOf t))) }
 {

@@ -21,7 +21,8 @@ use swreq_world::World;
 
 /// The type of the word of a generic parameter's symbol, or None where the generic parameter is none of these.
 fn generic(params: Params, table: &mut ParamTable, g: ParamId) -> Result<Option<TermId>, AllocError>
-    ensures typed { (x : LexiconView) (rules : List Rule) → IfOk result (Identifies (IsTypeBy x rules params (Param g.depth g.index ∷ [])) table.new) }
+    ensures typed { (x : LexiconView) (rules : List Rule) → IfOk result
+        (Identifies (IsTypeBy x rules params (Param g.depth g.index ∷ [])) table.new) }
     ensures extends { Extends table.old table.new }
 {
     if !params.has(g) {
@@ -68,7 +69,8 @@ pub(crate) fn bound(
     d: AssocId,
 ) -> Result<Option<TermId>, AllocError>
     requires { IsOf table.old t }
-    ensures bound { IfOk result (λ o. MatchOption o ⊥ (λ id. IsOf table.new id × (term_at table.new id ≡ Member (term_at table.old t) (Bound d)))) }
+    ensures bound { IfOk result (λ o. MatchOption o ⊥ (λ id. IsOf table.new id
+        × (term_at table.new id ≡ Member (term_at table.old t) (Bound d)))) }
     ensures extends { Extends table.old table.new }
 {
     let u = table.member(t, Step::Bound(d))?;
