@@ -13,6 +13,3 @@ mod typed;
 mod words;
 
 pub use minimised::minimise;
-
-#[cfg(test)]
-mod tests;
