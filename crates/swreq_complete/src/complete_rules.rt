@@ -1,6 +1,6 @@
 //! Complete lists of rules, and the completion that makes them.
 
-ghost use Rattle.std.specs.Prelude.{◌≡◌, ◌⊎◌, ◌-◌, ◌<◌, ◌≤◌, ◌^◌, [], length, IfOk, vec_len, vec_capacity};
+ghost use Rattle.std.specs.Prelude.{◌≡◌, ◌⊎◌, ◌≤◌, [], IfOk, vec_len, vec_capacity};
 ghost use Rattle.swreq_word.specs.Relations.{Linked};
 ghost use Rattle.swreq_rule.specs.Steps.{Step};
 ghost use Rattle.swreq_complete.specs.declared.limit.Failed.TheVariants.{Limit, Memory};
@@ -44,18 +44,6 @@ impl Model for CompleteRules {
     ghost invariant = { λ c. IsComplete c.list };
 }
 
-// The same rules once more.
-fn copied(alloc: Global, rules: &[Rule]) -> Result<Indexed, AllocError>
-    requires { length rules.now < 2 ^ 32 - 1 }
-    ensures { IfOk result (λ c. c ≡ rules.now) }
-{
-    let mut new = Indexed::new(alloc);
-    for rule in rules {
-        new.push(rule.clone()?)?;
-    }
-    Ok(new)
-}
-
 impl CompleteRules {
     /// No rules, which takes no memory.
     pub fn empty(alloc: Global) -> CompleteRules
@@ -95,7 +83,7 @@ impl CompleteRules {
     pub fn copy(&self, alloc: Global) -> Result<CompleteRules, AllocError>
         ensures { IfOk result (λ c. c ≡ self.now) }
     {
-        let list = copied(alloc, self.list.rules())?;
+        let list = self.list.copy(alloc)?;
         Ok(CompleteRules { list })
     }
 

@@ -14,6 +14,7 @@ use crate::task::{Sides, Task};
 use std::alloc::Global;
 use swreq_pair::write_sides;
 use swreq_rule::{Birth, Place};
+use swreq_trie::Found;
 use swreq_watch::Watch;
 
 // Settles the pair of two rules at the place.
@@ -39,15 +40,18 @@ fn settle_place<W: Watch>(
     }
 }
 
-// All places of pairs with this greater number, in order.
-fn places_of(alloc: Global, rules: &Indexed, greater: u32) -> Result<Vec<Place>, Stop>
+// Finds all places of pairs with this greater number, in order.
+fn find_places(rules: &Indexed, greater: u32, found: &mut Found) -> Result<(), Stop>
     requires { IsNumberOf rules.now greater }
-    ensures { MatchResult result (λ v. AreAllPlaces rules.now greater v.items) (λ s. s ≡ Memory) }
+    ensures { MatchResult result (λ _. AreAllPlaces rules.now greater found.new) (λ s. s ≡ Memory) }
 {
     let all = rules.rules();
     let rule = &all[greater as usize - 1];
-    match rules.index().overlaps(alloc, rule.left.symbols(), greater) {
-        Ok(places) => Ok(places),
+    match rules
+        .index()
+        .find_overlaps(rule.left.symbols(), greater, found)
+    {
+        Ok(()) => Ok(()),
         Err(_) => Err(Stop::Memory),
     }
 }
@@ -86,10 +90,10 @@ fn settle_places<W: Watch>(
 
 // Settles the pairs with this greater number in order.
 fn settle_greater<W: Watch>(
-    alloc: Global,
     task: &Task,
     rules: &mut Indexed,
     watch: &mut W,
+    found: &mut Found,
     sides: &mut Sides,
     greater: u32,
 ) -> Result<(), Stop>
@@ -100,8 +104,8 @@ fn settle_greater<W: Watch>(
         (λ _. HasCome task.now.limits task.now.base task.now.given.now (UpTo (greater + 1)) rules.old rules.new (W.told watch.old) (W.told watch.new))
         (λ s. HasStopped task.now.limits task.now.base task.now.given.now rules.old rules.new (W.told watch.old) (W.told watch.new) s) }
 {
-    let places = places_of(alloc, rules, greater)?;
-    settle_places(task, rules, watch, sides, greater, &places)
+    find_places(rules, greater, found)?;
+    settle_places(task, rules, watch, sides, greater, found.places())
 }
 
 // Completes the rules, which are those of the base, by the equations.
@@ -119,10 +123,11 @@ pub(crate) fn complete<W: Watch>(
         (λ s. HasStopped task.now.limits task.now.base task.now.given.now rules.old rules.new (W.told watch.old) (W.told watch.new) s) }
 {
     let mut sides = Sides::new(alloc);
+    let mut found = Found::new(alloc);
     settle_given(task, rules, watch, &mut sides)?;
     let mut greater: u32 = task.base as u32 + 1;
     'greater: while greater as usize <= rules.rules().len() {
-        settle_greater(alloc, task, rules, watch, &mut sides, greater)?;
+        settle_greater(task, rules, watch, &mut found, &mut sides, greater)?;
         greater += 1;
     }
     Ok(())

@@ -1,6 +1,6 @@
 //! Rules with the trie of their left sides.
 
-ghost use Rattle.std.specs.Prelude.{◌≡◌, ◌-◌, ◌<◌, ◌≤◌, ◌^◌, List, [], ◌∷◌, ◌++◌, length, MatchOption, OnOk, OnErr, vec_len, vec_capacity};
+ghost use Rattle.std.specs.Prelude.{◌≡◌, ◌-◌, ◌<◌, ◌≤◌, ◌^◌, List, [], ◌∷◌, ◌++◌, length, MatchOption, IfOk, OnOk, OnErr, vec_len, vec_capacity};
 ghost use Rattle.std.specs.Bool.{OnFalse, OnTrue};
 ghost use Rattle.swreq_word.specs.declared.symbols.Symbol.{Symbol};
 ghost use Rattle.swreq_word.specs.Relations.{IsIrreducible};
@@ -90,6 +90,20 @@ fn reduce_by(rules: &[Rule], trie: &Trie, w: &mut Vec<Symbol>)
     }
 }
 
+// The same rules once more.
+fn copied(alloc: Global, rules: &[Rule]) -> Result<RuleList, AllocError>
+    ensures { IfOk result (λ copies. copies ≡ rules.now) }
+{
+    let mut copies = RuleList::new(alloc);
+    for rule in rules {
+        let copy = rule.clone()?;
+        if let Err(_) = copies.push(copy) {
+            return Err(AllocError);
+        }
+    }
+    Ok(copies)
+}
+
 impl Indexed {
     /// No rules, which takes no memory.
     pub fn new(alloc: Global) -> Indexed
@@ -99,6 +113,15 @@ impl Indexed {
             list: RuleList::new(alloc),
             trie: Trie::new(alloc),
         }
+    }
+
+    /// The same rules once more.
+    pub fn copy(&self, alloc: Global) -> Result<Indexed, AllocError>
+        ensures { IfOk result (λ copy. copy ≡ self.now) }
+    {
+        let list = copied(alloc, self.list.rules())?;
+        let trie = self.trie.copy(alloc)?;
+        Ok(Indexed { list, trie })
     }
 
     /// The rules in order.

@@ -22,6 +22,3 @@ pub use resolve::{Names, resolve_names};
 pub use signature::{Param, Signature};
 pub use sorted::Ranks;
 pub use words::word;
-
-#[cfg(test)]
-mod tests;

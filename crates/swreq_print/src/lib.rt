@@ -16,6 +16,3 @@ pub use refusal::{
 pub use rules::{rule_text, trace_text};
 pub use signatures::{requirement_text, self_text, signature_text};
 pub use types::{steps_text, type_text};
-
-#[cfg(test)]
-mod tests;

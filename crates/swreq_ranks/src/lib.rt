@@ -7,12 +7,7 @@ mod lexicon;
 mod pair;
 mod protocols;
 mod ranked;
-mod small;
 mod symbols;
 
 pub use lexicon::Lexicon;
 pub use pair::ProtocolName;
-pub use small::is_small;
-
-#[cfg(test)]
-mod tests;

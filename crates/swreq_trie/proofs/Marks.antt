@@ -1,18 +1,34 @@
 -- What stands at nodes, as ends and spots are added.
-use Rattle.std.proofs.Common.{◌≡◌, inl, inr, ℕ, ◌<◌, List, [], ◌∷◌, ◌++◌, length, sym, subst, Option, Some, None, Result, Ok, Err, OnOk, Vec}
+use Rattle.std.proofs.Common.{◌≡◌, inl, inr, ℕ, ◌+◌, ◌<◌, get_or, take, List, [], ◌∷◌, ◌++◌, length, length-append, refl, sym, ◌∙◌, ap, subst, arith, Option, Some, None, Result, Ok, Err, OnOk, Vec}
 use Rattle.std.specs.List.{slice_get}
 use Rattle.std.specs.declared.alloc.Global.{Global}
 use Rattle.std.proofs.Math.ListN.{set}
+use Rattle.std.proofs.Math.Seq.{take-length}
+use Rattle.std.proofs.lemmas.List.{take_more}
 use Rattle.swreq_trie.specs.declared.spots.Spot.{Spot}
-use Rattle.swreq_trie.specs.Marks.{SameEnds, Holds, IsListed, KeepsListed}
+use Rattle.swreq_trie.specs.Marks.{SameEnds, Marked, Holds, IsListed, KeepsListed, AreCopies}
 use Rattle.swreq_word.proofs.Lists.{get_left, get_last, get_cases}
-use Rattle.swreq_trie.proofs.Changed.{set_here, set_kept}
+use Rattle.swreq_trie.proofs.Changed.{set_here, set_kept, set_cases}
 
 pub room_made : (old ends new : List (Option ℕ)) → SameEnds old ends → new ≡ ends ++ None ∷ [] → SameEnds old new
 room_made old ends new s e node place = (
   (λ h. rw e (get_left ends (None ∷ []) node (Some place) ((s node place).0 h))),
   (λ h. elim (get_cases ends None node (Some place) (subst (λ x. slice_get x node ≡ Some (Some place)) e h)) [ inl g ↦ (s node place).1 g | inr g ↦ cc (g.1) ]),
 )
+
+pub marked_first : (ends new : List (Option ℕ)) (node number : ℕ) → node < length ends → slice_get ends node ≡ Some None → new ≡ set ends node (Some number)
+    → Marked ends new node number
+marked_first ends new node number l none e = rw e (record {
+  here = (number, set_here ends node (Some number) l);
+  kept = λ n p h. elim (set_kept ends node (Some number) n (Some p) h) [
+    | inl g ↦ g
+    | inr g ↦ absurd (let f : slice_get ends node ≡ Some (Some p) = subst (λ x. slice_get ends x ≡ Some (Some p)) g.0 h in cc)
+  ];
+  only = λ n p h. elim (set_cases ends node (Some number) n (Some p) h) [
+    | inl g ↦ inl g
+    | inr g ↦ inr (g.0, (let f = g.1 in cc), (λ earlier h. cc))
+  ];
+})
 
 pub keeps_itself : (lists : List (Vec Spot Global)) → KeepsListed lists lists
 keeps_itself lists node spot h = h
@@ -52,3 +68,29 @@ on_ok (Err e) f h = h
 
 pub keeps_on : (a b c : List (Vec Spot Global)) → KeepsListed a b → KeepsListed b c → KeepsListed a c
 keeps_on a b c p q node spot h = q node spot (p node spot h)
+
+pub copies_keep : (old new : List (Vec Spot Global)) → AreCopies old new → KeepsListed old new
+copies_keep old new c node spot h = let r = c.each node h.0 h.1 in (r.0, r.1, subst (λ x. Holds x spot) (sym r.2) h.2)
+
+pub no_copies : AreCopies [] []
+no_copies = record { as_many = refl; each = λ node list e. cc }
+
+one_more : (old new : List (Vec Spot Global)) (list copy : Vec Spot Global) → AreCopies old new → copy.items ≡ list.items → AreCopies (old ++ list ∷ []) (new ++ copy ∷ [])
+one_more old new list copy c same = record {
+  as_many = (let l = c.as_many in simp length-append (omega (arith, l)));
+  each = λ node other e. elim (get_cases old list node other e) [
+    | inl h ↦ (let r = c.each node other h in (r.0, get_left new (copy ∷ []) node r.0 r.1, r.2))
+    | inr h ↦ (
+      copy,
+      subst (λ n. slice_get (new ++ copy ∷ []) n ≡ Some copy) (c.as_many ∙ sym h.0) (get_last new copy),
+      subst (λ (x : Vec Spot Global). copy.items ≡ x.items) (sym h.1) same,
+    )
+  ];
+}
+
+pub copies_more : (lists copies new : List (Vec Spot Global)) (n : ℕ) (d copy : Vec Spot Global) → n < length lists → AreCopies (take n lists) copies
+    → copy.items ≡ (get_or lists n d).items → new ≡ copies ++ copy ∷ [] → AreCopies (take (n + 1) lists) new
+copies_more lists copies new n d copy l c same e = rw (e, take_more lists n d l) (one_more (take n lists) copies (get_or lists n d) copy c same)
+
+pub all_copies : (lists copies : List (Vec Spot Global)) (n : ℕ) → n ≡ length lists → AreCopies (take n lists) copies → AreCopies lists copies
+all_copies lists copies n e = subst (λ x. AreCopies x copies) (ap (λ k. take k lists) e ∙ take-length lists)

@@ -26,13 +26,13 @@ one_further edges w n node walked d l child c =
 
 module _ (edges : List Edge) (ends : List (Option ℕ)) (w : List Symbol) where
   pub none_yet : NoEndUpTo edges ends w 0
-  none_yet front rest node place e l m p h = omega (arith, l, m)
+  none_yet front rest node number e l m p h = omega (arith, l, m)
 
   module _ (n node : ℕ) (walked : Leads edges 0 (take n w) node) (none : NoEndUpTo edges ends w n) (d : Symbol) (l : n < length w) where
     -- where no edge leads on
     pub way_ends : IsForked edges → NoChild edges node (get_or w n d) → NoEnd edges ends w
-    way_ends f stop front rest end place e some short p h = elim (cases_lt n (length front)) [
-      | inr m ↦ none front rest end place e some m p h
+    way_ends f stop front rest end number e some short p h = elim (cases_lt n (length front)) [
+      | inr m ↦ none front rest end number e some m p h
       | inl m ↦ (let first : take (n + 1) front ≡ take (n + 1) w = sym (ap (take (n + 1)) e ∙ take-append-le (n + 1) front rest (omega (arith, m))) in
           let r = leads_cut edges (take (n + 1) front) (drop (n + 1) front) 0 end (subst (λ x. Leads edges 0 x end) (sym (take-append-drop (n + 1) front)) p) in
           let t = leads_cut edges (take n w) (get_or w n d ∷ []) 0 r.0 (subst (λ x. Leads edges 0 x r.0) (first ∙ take_more w n d l) r.1) in
@@ -44,16 +44,16 @@ module _ (edges : List Edge) (ends : List (Option ℕ)) (w : List Symbol) where
       pub walked_on : Leads edges 0 (take (n + 1) w) child
       walked_on = one_further edges w n node walked d l child c
 
-      pub none_on : IsForked edges → ((place : ℕ) → EndsAt ends child place → ⊥) → NoEndUpTo edges ends w (n + 1)
-      none_on f stop front rest end place e some short p h = elim (cases_lt n (length front)) [
-        | inr m ↦ none front rest end place e some m p h
+      pub none_on : IsForked edges → ((number : ℕ) → EndsAt ends child number → ⊥) → NoEndUpTo edges ends w (n + 1)
+      none_on f stop front rest end number e some short p h = elim (cases_lt n (length front)) [
+        | inr m ↦ none front rest end number e some m p h
         | inl m ↦ (let front_is_it = front_is w front rest (n + 1) e (omega (arith, m, short)) in
             let same : end ≡ child = one_end edges f (take (n + 1) w) 0 end child (subst (λ x. Leads edges 0 x end) front_is_it p) walked_on in
-            stop place (subst (λ x. EndsAt ends x place) same h))
+            stop number (subst (λ x. EndsAt ends x number) same h))
       ]
 
-      pub found : (place : ℕ) → EndsAt ends child place → FirstEnd edges ends w place
-      found place h = record {
+      pub found : (number : ℕ) → EndsAt ends child number → FirstEnd edges ends w number
+      found number h = record {
         count = n;
         front = take (n + 1) w;
         rest = drop (n + 1) w;
@@ -80,33 +80,33 @@ module _ (edges : List Edge) (ends : List (Option ℕ)) (w : List Symbol) where
 
       pub met_all : AreMet edges ends w nodes
       met_all = record {
-        ended = λ front rest end side e some m p h. elim (cases_lt n (length front)) [
+        ended = λ front rest end number e some m p h. elim (cases_lt n (length front)) [
           | inl long ↦ absurd (leads_nowhere front rest end e long p)
-          | inr short ↦ met front rest end side e some short p h
+          | inr short ↦ met front rest end number e some short p h
         ];
         last = λ end p. absurd (leads_nowhere w [] end (sym (append-nil w)) l p);
       }
 
     -- one more
     pub met_more : (child : ℕ) (more : List ℕ) → IsForked edges → IsChild edges node (get_or w n d) child
-        → ((side : ℕ) → EndsAt ends child side → Holds more child) → ((other : ℕ) → Holds nodes other → Holds more other) → AreMetUpTo edges ends w (n + 1) more
-    met_more child more forked c ended kept front rest end side e some short p h = elim (cases_lt n (length front)) [
-      | inr m ↦ kept end (met front rest end side e some m p h)
+        → ((number : ℕ) → EndsAt ends child number → Holds more child) → ((other : ℕ) → Holds nodes other → Holds more other) → AreMetUpTo edges ends w (n + 1) more
+    met_more child more forked c ended kept front rest end number e some short p h = elim (cases_lt n (length front)) [
+      | inr m ↦ kept end (met front rest end number e some m p h)
       | inl m ↦ (let front_is_it = front_is w front rest (n + 1) e (omega (arith, m, short)) in
           let same : end ≡ child = one_end edges forked (take (n + 1) w) 0 end child (subst (λ x. Leads edges 0 x end) front_is_it p)
           (one_further edges w n node walked d l child c) in
-          subst (Holds more) (sym same) (ended side (subst (λ x. EndsAt ends x side) same h)))
+          subst (Holds more) (sym same) (ended number (subst (λ x. EndsAt ends x number) same h)))
     ]
 
   pub none_met : (nodes : List ℕ) → AreMetUpTo edges ends w 0 nodes
-  none_met nodes front rest node side e some short p h = absurd (omega (arith, some, short))
+  none_met nodes front rest node number e some short p h = absurd (omega (arith, some, short))
 
   -- the whole way was gone
   pub met_whole : (n node : ℕ) → n ≡ length w → Leads edges 0 (take n w) node → IsForked edges → (nodes more : List ℕ) → AreMetUpTo edges ends w n nodes
       → more ≡ nodes ++ node ∷ [] → AreMet edges ends w more
   met_whole n node size walked forked nodes more met is = record {
-    ended = λ front rest end side e some short p h. subst (λ x. Holds x end) (sym is)
-        (holds_more nodes (node ∷ []) end (met front rest end side e some (omega (arith, short, size)) p h));
+    ended = λ front rest end number e some short p h. subst (λ x. Holds x end) (sym is)
+        (holds_more nodes (node ∷ []) end (met front rest end number e some (omega (arith, short, size)) p h));
     last = λ end p. (let whole : take n w ≡ w = ap (λ k. take k w) size ∙ take-length w in
         let same : end ≡ node = one_end edges forked w 0 end node p (subst (λ x. Leads edges 0 x node) whole walked) in
         subst (λ x. Holds x end) (sym is) (subst (Holds (nodes ++ node ∷ [])) (sym same) (holds_last nodes node)));

@@ -9,14 +9,18 @@ use Rattle.swreq_trie.specs.Paths.{IsChild, IsForked, Leads}
 use Rattle.swreq_trie.specs.Marks.{EndsAt, IsListed}
 use Rattle.swreq_trie.specs.Stored.{NoneLonger}
 
--- Where a side ends at a node, edges lead to the node by its symbols.
-abbrev pub EndsRight : List Edge → List (Option ℕ) → List Entry → Type 0
-EndsRight edges ends stored = (node side : ℕ) → EndsAt ends node side
-    → (entry : Entry) × (slice_get stored side ≡ Some entry) × Leads edges 0 entry.left node
+-- Edges lead to the node by the symbols of a side with this number, and none before it is the same.
+pub record FirstThere (edges : List Edge) (stored : List Entry) (node number : ℕ) : Type 0 where
+  pub side : ℕ
+  pub entry : Entry
+  pub is_entry : slice_get stored side ≡ Some entry
+  pub number_is : entry.number ≡ number
+  pub leads : Leads edges 0 entry.left node
+  pub first : (k : ℕ) (other : Entry) → slice_get stored k ≡ Some other → other.left ≡ entry.left → side ≤ k
 
--- Edges lead by its symbols to a node at which it ends, or an earlier one that is the same.
-abbrev pub HasEnd : List Edge → List (Option ℕ) → ℕ → List Symbol → Type 0
-HasEnd edges ends k left = (node : ℕ) × (side : ℕ) × Leads edges 0 left node × EndsAt ends node side × (side ≤ k)
+-- Edges lead by its symbols to a node at which a side ends.
+abbrev pub HasEnd : List Edge → List (Option ℕ) → List Symbol → Type 0
+HasEnd edges ends left = (node : ℕ) × (number : ℕ) × Leads edges 0 left node × EndsAt ends node number
 
 -- Its first symbols, up to so many, lead to nodes at which it is listed.
 abbrev pub IsPassingUpTo : List Edge → List (Vec Spot Global) → ℕ → List Symbol → ℕ → Type 0
@@ -44,7 +48,7 @@ pub record IsIndex (edges : List Edge) (ends : List (Option ℕ)) (passing insid
   pub forked : IsForked edges
   pub some : (k : ℕ) (entry : Entry) → slice_get stored k ≡ Some entry → 0 < length entry.left
   pub none_longer : NoneLonger stored longest
-  pub ends_right : EndsRight edges ends stored
-  pub has_end : (k : ℕ) (entry : Entry) → slice_get stored k ≡ Some entry → HasEnd edges ends k entry.left
+  pub ends_right : (node number : ℕ) → EndsAt ends node number → FirstThere edges stored node number
+  pub has_end : (k : ℕ) (entry : Entry) → slice_get stored k ≡ Some entry → HasEnd edges ends entry.left
   pub is_passing : (k : ℕ) (entry : Entry) → slice_get stored k ≡ Some entry → IsPassing edges passing k entry.left
   pub is_inside : (k : ℕ) (entry : Entry) → slice_get stored k ≡ Some entry → IsInside edges inside k entry.left

@@ -1,21 +1,25 @@
 -- What stands at the nodes of a trie: which side ends there, and which sides are listed there.
-use Rattle.std.specs.Prelude.{◌≡◌, ◌⊎◌, ℕ, List, slice_get, Option, Some, Vec}
+use Rattle.std.specs.Prelude.{◌≡◌, ◌⊎◌, ℕ, List, length, slice_get, Option, Some, Vec}
 use Rattle.std.specs.declared.alloc.Global.{Global}
 use Rattle.swreq_trie.specs.declared.spots.Spot.{Spot}
 
--- the side with this index ends at the node
+-- the side with this number ends at the node
 abbrev pub EndsAt : List (Option ℕ) → ℕ → ℕ → Type 0
-EndsAt ends node side = slice_get ends node ≡ Some (Some side)
+EndsAt ends node number = slice_get ends node ≡ Some (Some number)
 
 -- the same ends at each node
 abbrev pub SameEnds : List (Option ℕ) → List (Option ℕ) → Type 0
-SameEnds old new = (node side : ℕ) → (EndsAt old node side → EndsAt new node side) × (EndsAt new node side → EndsAt old node side)
+SameEnds old new = (node number : ℕ) → (EndsAt old node number → EndsAt new node number) × (EndsAt new node number → EndsAt old node number)
 
--- the side ends at the node, or the one that ended there before, and the same as before at each other node
-pub record Marked (old new : List (Option ℕ)) (node side : ℕ) : Type 0 where
-  pub here : EndsAt new node side ⊎ ((earlier : ℕ) × EndsAt old node earlier)
+-- none ends at the node
+abbrev pub NoneEndsAt : List (Option ℕ) → ℕ → Type 0
+NoneEndsAt ends node = (number : ℕ) → EndsAt ends node number → ⊥
+
+-- the side with the number ends at the node, or the one that ended there before, and the same as before at each other node
+pub record Marked (old new : List (Option ℕ)) (node number : ℕ) : Type 0 where
+  pub here : (p : ℕ) × EndsAt new node p
   pub kept : (n p : ℕ) → EndsAt old n p → EndsAt new n p
-  pub only : (n p : ℕ) → EndsAt new n p → EndsAt old n p ⊎ ((n ≡ node) × (p ≡ side))
+  pub only : (n p : ℕ) → EndsAt new n p → EndsAt old n p ⊎ ((n ≡ node) × (p ≡ number) × NoneEndsAt old node)
 
 -- it stands in the list
 abbrev pub Holds : {X : Type 0} → List X → X → Type 0
@@ -28,3 +32,9 @@ IsListed lists node spot = (list : Vec Spot Global) × (slice_get lists node ≡
 -- what is listed stays listed
 abbrev pub KeepsListed : List (Vec Spot Global) → List (Vec Spot Global) → Type 0
 KeepsListed old new = (node : ℕ) (spot : Spot) → IsListed old node spot → IsListed new node spot
+
+-- as many lists, each with the spots of the other
+pub record AreCopies (old new : List (Vec Spot Global)) : Type 0 where
+  pub as_many : length new ≡ length old
+  pub each : (node : ℕ) (list : Vec Spot Global) → slice_get old node ≡ Some list
+      → (copy : Vec Spot Global) × (slice_get new node ≡ Some copy) × (copy.items ≡ list.items)

@@ -40,6 +40,14 @@ impl Edges {
         }
     }
 
+    /// The same edges once more.
+    pub fn copy(&self) -> Result<Edges, AllocError>
+        ensures { IfOk result (λ copy. copy ≡ self.now) }
+    {
+        let set = self.set.clone()?;
+        Ok(Edges { set })
+    }
+
     /// The node to which an edge leads from this node by the symbol, or None where there is none.
     pub fn child(&self, node: usize, symbol: Symbol) -> Option<usize>
         ensures found { MatchOption result (NoChild self.now node symbol) (λ child. IsChild self.now node symbol child) }

@@ -3,12 +3,14 @@
 
 mod edges;
 mod ends;
+mod found;
 mod ordered;
 mod overlaps;
 mod spots;
 mod trie;
 mod walk;
 
+pub use found::Found;
 pub use trie::{Entry, Trie};
 
 #[cfg(test)]

@@ -1,6 +1,6 @@
 //! The places at which a new side and the stored ones overlap, or the one stands in the other.
 
-ghost use Rattle.std.specs.Prelude.{◌≡◌, ℕ, ◌<◌, ◌++◌, ◌∷◌, [], length, slice_get, Some, MatchOption, IfOk, OnOk};
+ghost use Rattle.std.specs.Prelude.{◌≡◌, ℕ, ◌<◌, ◌++◌, ◌∷◌, [], length, slice_get, Some, MatchOption, OnOk};
 ghost use Rattle.std.specs.Bool.{Decides};
 ghost use Rattle.swreq_trie.specs.declared.spots.Spot.{Spot};
 ghost use Rattle.swreq_trie.specs.declared.trie.Entry.{Entry};
@@ -9,9 +9,9 @@ ghost use Rattle.swreq_trie.specs.Places.{IsFrom, IsOnto, IsOwn, IsPlace, Meets}
 ghost use Rattle.swreq_trie.specs.Keys.{Added};
 
 use crate::spots::{Spot, spots_of};
-use crate::walk::nodes_met;
+use crate::walk::find_met;
 use crate::{Entry, Trie};
-use std::alloc::{AllocError, Global};
+use std::alloc::AllocError;
 use swreq_rule::{contains, overlaps};
 use swreq_word::Symbol;
 
@@ -213,9 +213,9 @@ impl Trie {
     // Adds the places at the begins of stored sides in which the new one stands there.
     fn add_onto_begins(
         &self,
-        alloc: Global,
         left: &[Symbol],
         number: u32,
+        nodes: &mut Vec<usize>,
         keys: &mut Vec<Key>,
     ) -> Result<(), AllocError>
         requires { 0 < length left.now }
@@ -223,8 +223,8 @@ impl Trie {
             (λ place. (k : ℕ) × IsOnto self.now left.now number k 0 place)
             self.now left.now number keys.old.items keys.new.items) }
     {
-        let nodes = nodes_met(alloc, &self.edges, &self.ends, left)?;
-        add_onto_nodes(&self.entries, &self.passing, &nodes, left, number, keys)
+        find_met(&self.edges, &self.ends, left, nodes)?;
+        add_onto_nodes(&self.entries, &self.passing, nodes, left, number, keys)
     }
 
     // Adds the places within stored sides, past their begins, at which they and the new one have pairs.
@@ -254,10 +254,10 @@ impl Trie {
     // Adds the place in the new side for each stored one with which it has a pair there.
     fn add_from_at(
         &self,
-        alloc: Global,
         left: &[Symbol],
         at: usize,
         number: u32,
+        nodes: &mut Vec<usize>,
         keys: &mut Vec<Key>,
     ) -> Result<(), AllocError>
         requires { at < length left.now }
@@ -265,16 +265,16 @@ impl Trie {
             (λ place. (k : ℕ) × IsFrom self.now left.now number k at place)
             self.now left.now number keys.old.items keys.new.items) }
     {
-        let nodes = nodes_met(alloc, &self.edges, &self.ends, &left[at..])?;
-        add_from_nodes(&self.entries, &self.passing, &nodes, left, at, number, keys)
+        find_met(&self.edges, &self.ends, &left[at..], nodes)?;
+        add_from_nodes(&self.entries, &self.passing, nodes, left, at, number, keys)
     }
 
     // Adds all places in the new side at which it and stored ones have pairs.
     fn add_all_from(
         &self,
-        alloc: Global,
         left: &[Symbol],
         number: u32,
+        nodes: &mut Vec<usize>,
         keys: &mut Vec<Key>,
     ) -> Result<(), AllocError>
         ensures { OnOk result (Added
@@ -282,26 +282,27 @@ impl Trie {
             self.now left.now number keys.old.items keys.new.items) }
     {
         for at in 0..left.len() {
-            self.add_from_at(alloc, left, at, number, keys)?;
+            self.add_from_at(left, at, number, nodes, keys)?;
         }
         Ok(())
     }
 
-    // The keys of all places of the pairs of the new side with the stored ones that have a number below its own, and with itself.
+    // Puts the keys of all places of the pairs of the new side with the stored ones that have a number below its own, and with itself,
+    // in place of those that were there.
     pub(crate) fn collect(
         &self,
-        alloc: Global,
         left: &[Symbol],
         number: u32,
-    ) -> Result<Vec<Key>, AllocError>
+        nodes: &mut Vec<usize>,
+        keys: &mut Vec<Key>,
+    ) -> Result<(), AllocError>
         requires { 0 < length left.now }
-        ensures { IfOk result (λ v. Added (IsPlace self.now left.now number) self.now left.now number [] v.items) }
+        ensures { OnOk result (Added (IsPlace self.now left.now number) self.now left.now number [] keys.new.items) }
     {
-        let mut keys: Vec<Key> = Vec::new(alloc);
-        self.add_onto_begins(alloc, left, number, &mut keys)?;
-        self.add_onto_insides(left, number, &mut keys)?;
-        self.add_all_from(alloc, left, number, &mut keys)?;
-        add_all_own(&self.entries, left, number, &mut keys)?;
-        Ok(keys)
+        keys.clear();
+        self.add_onto_begins(left, number, nodes, keys)?;
+        self.add_onto_insides(left, number, keys)?;
+        self.add_all_from(left, number, nodes, keys)?;
+        add_all_own(&self.entries, left, number, keys)
     }
 }

@@ -1,8 +1,8 @@
 //! Which stored sides are listed at each node.
 
-ghost use Rattle.std.specs.Prelude.{◌<◌, length, OnOk};
+ghost use Rattle.std.specs.Prelude.{◌<◌, length, IfOk, OnOk};
 ghost use Rattle.swreq_trie.specs.declared.spots.Spot.{Spot};
-ghost use Rattle.swreq_trie.specs.Marks.{Holds, IsListed, KeepsListed};
+ghost use Rattle.swreq_trie.specs.Marks.{AreCopies, Holds, IsListed, KeepsListed};
 
 use std::alloc::{AllocError, Global};
 
@@ -56,4 +56,15 @@ pub(crate) fn add_spot(
 {
     make_room(alloc, lists, node)?;
     push(&mut lists[node], spot)
+}
+
+// The same lists once more.
+pub(crate) fn copy_lists(alloc: Global, lists: &[Vec<Spot>]) -> Result<Vec<Vec<Spot>>, AllocError>
+    ensures { IfOk result (λ copies. AreCopies lists.now copies.items) }
+{
+    let mut copies: Vec<Vec<Spot>> = Vec::with_capacity(alloc, lists.len())?;
+    for list in lists {
+        copies.push(Vec::from_slice(alloc, list)?)?;
+    }
+    Ok(copies)
 }

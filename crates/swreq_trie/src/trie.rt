@@ -6,8 +6,10 @@ ghost use Rattle.swreq_trie.specs.Stored.{NoneBegins, NoneLonger, Shortest};
 
 use crate::edges::Edges;
 use crate::ends::mark;
-use crate::ordered::places_of;
-use crate::spots::Spot;
+use crate::found::Found;
+use crate::ordered::write_places;
+use crate::overlaps::Key;
+use crate::spots::{Spot, copy_lists};
 use crate::walk::{find, make_way};
 use std::alloc::{AllocError, Global};
 use std::marker::Model;
@@ -28,8 +30,8 @@ pub struct Trie {
     pub(crate) entries: Vec<Entry>,
     // Lead along each side, and from the root by each symbol of one.
     pub(crate) edges: Edges,
-    // The index of the first side that ends at each node.
-    pub(crate) ends: Vec<Option<usize>>,
+    // The number of the first side that ends at each node.
+    pub(crate) ends: Vec<Option<u32>>,
     // The sides on whose way each node lies.
     pub(crate) passing: Vec<Vec<Spot>>,
     // At each node to which one symbol leads from the root, the places past the begins of sides at which this symbol stands.
@@ -48,6 +50,21 @@ impl Model for Trie {
     ghost view = { λ t. t.entries.items };
 
     ghost invariant = { λ t. IsIndex t.edges t.ends.items t.passing.items t.inside.items t.longest t.entries.items };
+}
+
+// The same entries once more.
+fn copy_entries(alloc: Global, entries: &[Entry]) -> Result<Vec<Entry>, AllocError>
+    ensures { IfOk result (λ copies. copies.items ≡ entries.now) }
+{
+    let mut copies: Vec<Entry> = Vec::with_capacity(alloc, entries.len())?;
+    for entry in entries {
+        let left = entry.left.clone()?;
+        copies.push(Entry {
+            left,
+            number: entry.number,
+        })?;
+    }
+    Ok(copies)
 }
 
 impl Trie {
@@ -80,6 +97,26 @@ impl Trie {
         self.longest
     }
 
+    /// The same sides once more.
+    pub fn copy(&self, alloc: Global) -> Result<Trie, AllocError>
+        ensures { IfOk result (λ copy. copy ≡ self.now) }
+    {
+        let entries = copy_entries(alloc, &self.entries)?;
+        let edges = self.edges.copy()?;
+        let ends = Vec::from_slice(alloc, &self.ends)?;
+        let passing = copy_lists(alloc, &self.passing)?;
+        let inside = copy_lists(alloc, &self.inside)?;
+        Ok(Trie {
+            alloc,
+            entries,
+            edges,
+            ends,
+            passing,
+            inside,
+            longest: self.longest,
+        })
+    }
+
     /// Stores the side with the number, as the last one. For want of memory all is as before.
     pub fn insert(&mut self, left: &[Symbol], number: u32) -> Result<(), AllocError>
         requires { 0 < length left.now }
@@ -98,7 +135,7 @@ impl Trie {
             left,
         )?;
         self.entries.push(Entry { left: word, number })?;
-        mark(&mut self.ends, node, side);
+        mark(&mut self.ends, node, number);
         self.longest = self.longest.max(left.len());
         Ok(())
     }
@@ -109,10 +146,7 @@ impl Trie {
         requires { at ≤ length w.now }
         ensures { MatchOption result (NoneBegins self.now (drop at w.now)) (λ number. Shortest self.now (drop at w.now) number) }
     {
-        match find(&self.edges, &self.ends, &w[at..]) {
-            Some(side) => Some(self.entries[side].number),
-            None => None,
-        }
+        find(&self.edges, &self.ends, &w[at..])
     }
 
     /// All places of the pairs of the rule that has this side and number with the stored ones whose number is below it, and with itself,
@@ -126,8 +160,47 @@ impl Trie {
         requires { 0 < length left.now }
         ensures { IfOk result (λ v. ArePlaces self.now left.now number v.items) }
     {
-        let mut keys = self.collect(alloc, left, number)?;
+        let mut nodes: Vec<usize> = Vec::new(alloc);
+        let mut keys: Vec<Key> = Vec::new(alloc);
+        let mut places: Vec<Place> = Vec::new(alloc);
+        self.write_overlaps(left, number, &mut nodes, &mut keys, &mut places)?;
+        Ok(places)
+    }
+
+    /// Finds the same places, in room that is kept from one rule to the next. For want of memory it is not said which places are there,
+    /// and the next call begins anew.
+    pub fn find_overlaps(
+        &self,
+        left: &[Symbol],
+        number: u32,
+        found: &mut Found,
+    ) -> Result<(), AllocError>
+        requires { 0 < length left.now }
+        ensures { OnOk result (ArePlaces self.now left.now number found.new) }
+    {
+        self.write_overlaps(
+            left,
+            number,
+            &mut found.nodes,
+            &mut found.keys,
+            &mut found.places,
+        )
+    }
+
+    // Puts the places in order, in place of those that were there. Nodes and keys are put where the others were, too.
+    fn write_overlaps(
+        &self,
+        left: &[Symbol],
+        number: u32,
+        nodes: &mut Vec<usize>,
+        keys: &mut Vec<Key>,
+        places: &mut Vec<Place>,
+    ) -> Result<(), AllocError>
+        requires { 0 < length left.now }
+        ensures { OnOk result (ArePlaces self.now left.now number places.new.items) }
+    {
+        self.collect(left, number, nodes, keys)?;
         keys.sort_unstable();
-        places_of(alloc, &keys)
+        write_places(keys, places)
     }
 }

@@ -13,10 +13,10 @@ use crate::spots::{Spot, add_spot};
 use std::alloc::{AllocError, Global};
 use swreq_word::Symbol;
 
-// The index of the shortest side that begins the word: the one that ends at the first node on its way where one does.
-pub(crate) fn find(edges: &Edges, ends: &[Option<usize>], w: &[Symbol]) -> Option<usize>
+// The number of the shortest side that begins the word: the one that ends at the first node on its way where one does.
+pub(crate) fn find(edges: &Edges, ends: &[Option<u32>], w: &[Symbol]) -> Option<u32>
     requires { IsForked edges.now }
-    ensures { MatchOption result (NoEnd edges.now ends.now w.now) (λ side. FirstEnd edges.now ends.now w.now side) }
+    ensures { MatchOption result (NoEnd edges.now ends.now w.now) (λ number. FirstEnd edges.now ends.now w.now number) }
 {
     let mut node = 0;
     for symbol in w {
@@ -24,7 +24,7 @@ pub(crate) fn find(edges: &Edges, ends: &[Option<usize>], w: &[Symbol]) -> Optio
             None => return None,
             Some(child) => {
                 match end_at(ends, child) {
-                    Some(side) => return Some(side),
+                    Some(number) => return Some(number),
                     None => {}
                 }
                 node = child;
@@ -35,8 +35,8 @@ pub(crate) fn find(edges: &Edges, ends: &[Option<usize>], w: &[Symbol]) -> Optio
 }
 
 // Puts the node last, if a side ends at it.
-fn add_ended(ends: &[Option<usize>], node: usize, nodes: &mut Vec<usize>) -> Result<(), AllocError>
-    ensures ended { OnOk result ((side : ℕ) → EndsAt ends.now node side → Holds nodes.new.items node) }
+fn add_ended(ends: &[Option<u32>], node: usize, nodes: &mut Vec<usize>) -> Result<(), AllocError>
+    ensures ended { OnOk result ((number : ℕ) → EndsAt ends.now node number → Holds nodes.new.items node) }
     ensures kept { OnOk result ((other : ℕ) → Holds nodes.old.items other → Holds nodes.new.items other) }
 {
     match end_at(ends, node) {
@@ -46,29 +46,29 @@ fn add_ended(ends: &[Option<usize>], node: usize, nodes: &mut Vec<usize>) -> Res
     Ok(())
 }
 
-// The nodes on the way of the word at which a side ends, and the one to which the whole word leads.
-pub(crate) fn nodes_met(
-    alloc: Global,
+// Puts the nodes on the way of the word at which a side ends, and the one to which the whole word leads, in place of those that were there.
+pub(crate) fn find_met(
     edges: &Edges,
-    ends: &[Option<usize>],
+    ends: &[Option<u32>],
     w: &[Symbol],
-) -> Result<Vec<usize>, AllocError>
+    nodes: &mut Vec<usize>,
+) -> Result<(), AllocError>
     requires { IsForked edges.now }
-    ensures { IfOk result (λ v. AreMet edges.now ends.now w.now v.items) }
+    ensures { OnOk result (AreMet edges.now ends.now w.now nodes.new.items) }
 {
-    let mut nodes: Vec<usize> = Vec::new(alloc);
+    nodes.clear();
     let mut node = 0;
     for symbol in w {
         match edges.child(node, *symbol) {
-            None => return Ok(nodes),
+            None => return Ok(()),
             Some(child) => {
-                add_ended(ends, child, &mut nodes)?;
+                add_ended(ends, child, nodes)?;
                 node = child;
             }
         }
     }
     nodes.push(node)?;
-    Ok(nodes)
+    Ok(())
 }
 
 // Goes on by the symbol, by an edge that is made where there is none, and lists the side at the node to which it leads.
@@ -156,7 +156,7 @@ fn add_inside(
 pub(crate) fn make_way(
     alloc: Global,
     edges: &mut Edges,
-    ends: &mut Vec<Option<usize>>,
+    ends: &mut Vec<Option<u32>>,
     passing: &mut Vec<Vec<Spot>>,
     inside: &mut Vec<Vec<Spot>>,
     side: usize,

@@ -21,6 +21,7 @@ pub use having::Property;
 pub use kept::Kept;
 pub use machine::{Machine, core};
 pub use protocols::Protocols;
+pub use reduced::first_behind;
 pub use refused::Refused;
 pub use round::Round;
 pub use scratch::Scratch;

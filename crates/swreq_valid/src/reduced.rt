@@ -84,7 +84,7 @@ fn associated(world: &World) -> u32
 }
 
 /// The first associated type with this name whose protocol vanishes behind the word, or None where there is none.
-fn first_behind(
+pub fn first_behind(
     world: &World,
     rules: &CompleteRules,
     word: &[Symbol],

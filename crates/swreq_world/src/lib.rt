@@ -20,8 +20,3 @@ mod world;
 pub use facts::FunctionFacts;
 pub use swreq_written::{FuncId, Query, Written};
 pub use world::World;
-
-#[cfg(test)]
-mod shown;
-#[cfg(test)]
-mod tests;

@@ -23,8 +23,3 @@ pub use scope::Scope;
 pub use signatures::{of_function, of_nested, of_struct};
 pub use spelling::spell;
 pub use words::Words;
-
-#[cfg(test)]
-mod shown;
-#[cfg(test)]
-mod tests;

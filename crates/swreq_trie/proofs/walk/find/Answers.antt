@@ -9,7 +9,7 @@ returns-in-None c =
 pub returns-in-Some-end_at : goal.returns-in-Some-end_at
 returns-in-Some-end_at c =
     found c.args.edges.now c.args.ends.now c.args.w.now c.loop-symbol.symbol-index c.loop-symbol.node c.loop-symbol.invariant.walked
-    c.loop-symbol.invariant.none _ c.loop-symbol-test.true c.in-Some.child c.in-Some.ensures.found c.in-Some-end_at.side c.in-Some-end_at.ensures
+    c.loop-symbol.invariant.none _ c.loop-symbol-test.true c.in-Some.child c.in-Some.ensures.found c.in-Some-end_at.number c.in-Some-end_at.ensures
 
 pub loop-symbol-preserved : goal.loop-symbol-preserved
 loop-symbol-preserved c = record {

@@ -8,6 +8,6 @@ returns c =
     on_ok c.add_onto_nodes.result
     (begins_added t.edges t.ends.items t.passing.items t.inside.items t.longest t.entries.items c.self.invariant c.args.left.now c.args.number
     c.args.self.now c.deref-2.result.now c.self.view_is c.deref-2.ensures.value c.args.keys.now.items c.add_onto_nodes.new.keys.items
-    c.deref.result.now c.deref-3.result.now c.in_ok-nodes.nodes.items c.deref-4.result.now c.deref.ensures.value c.deref-3.ensures.value c.deref-4.ensures.value
-    c.requires c.in_ok-nodes.ensures)
+    c.deref.result.now c.deref-3.result.now c.find_met.new.nodes.items c.deref-4.result.now c.deref.ensures.value c.deref-3.ensures.value c.deref-4.ensures.value
+    c.requires c.in_ok-find_met.ensures)
     c.add_onto_nodes.ensures

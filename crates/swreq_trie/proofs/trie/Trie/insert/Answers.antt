@@ -1,6 +1,5 @@
 use Rattle.std.proofs.Common.{◌≡◌, ◌<◌, length, sym, ◌∙◌, ap, subst, arith}
 use Rattle.swreq_trie.specs.Paths.{Leads}
-use Rattle.swreq_trie.specs.Marks.{Marked}
 use Rattle.swreq_trie.specs.Index.{IsIndex, IsPassing, IsInside}
 use Rattle.swreq_trie.proofs.Index.{index_grown, index_more}
 use Rattle.swreq_trie.proofs.trie.Trie.insert.Goals as goal
@@ -37,7 +36,7 @@ invariant_of-self-2 c =
     c.self.invariant e.grown e.forked e.ends e.passing e.inside)
     (record { left = w; number = c.args.number }) node
     (subst (λ x. Leads n.edges 0 x node) same c.in_ok-node.ensures.leads)
-    (subst (Marked n.ends.items c.mark.new.ends.items node) count c.mark.ensures)
+    c.mark.ensures
     (subst (λ k. IsPassing n.edges n.passing.items k w) count (subst (IsPassing n.edges n.passing.items c.len-side.result) same c.in_ok-node.ensures.listed))
     (subst (λ k. IsInside n.edges n.inside.items k w) count (subst (IsInside n.edges n.inside.items c.len-side.result) same c.in_ok-node.ensures.spots))
     (subst (λ x. 0 < length x) same c.requires)

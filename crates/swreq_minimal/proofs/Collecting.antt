@@ -1,0 +1,125 @@
+-- What the rules of a reduced system say, one after the other.
+use Rattle.std.proofs.Common.{◌≡◌, ◌∙◌, ◌⊎◌, ◌↔◌, inl, inr, refl, sym, ap, subst, ◌<◌, ◌≤◌, ◌+◌, arith, ℕ, List, [], ◌∷◌, Contains, length, slice_get, Some}
+use Rattle.std.proofs.lemmas.Bool.{cases_eq}
+use Rattle.std.proofs.lemmas.Option.{same_Some, slice_get_within}
+use Rattle.swreq_param.specs.Terms.{Term}
+use Rattle.swreq_derive.specs.declared.known.Params.{Params}
+use Rattle.swreq_derive.specs.declared.requirements.Requirement.{Requirement}
+use Rattle.swreq_derive.specs.Derivation.{Source, TermFacts, TermRequirement}
+use Rattle.swreq_derive.specs.Derivation.Source.{Written}
+use Rattle.swreq_derive.specs.Facts.{generic_params, requirement_of}
+use Rattle.swreq_derive.proofs.Members.{no_member}
+use Rattle.swreq_word.specs.Relations.{Linked}
+use Rattle.swreq_rule.specs.declared.rules.Rule.{Rule}
+use Rattle.swreq_rule.specs.Steps.{Step}
+use Rattle.swreq_complete.specs.Reduced.{IsReducedSystem}
+use Rattle.swreq_ranks.specs.Views.{LexiconView}
+use Rattle.swreq_reading.specs.Equations.{AreCongruent, UsableEquation}
+use Rattle.swreq_reading.specs.Symbols.{Word}
+use Rattle.swreq_canonical.specs.Canonical.{IsCanonical}
+use Rattle.swreq_canonical.specs.CanonicalOrder.{IsStrictlySorted}
+use Rattle.swreq_candidates.specs.Candidates.{IsCandidate, IsCandidateList}
+use Rattle.swreq_candidates.specs.Completed.{IsCompleted}
+use Rattle.swreq_candidates.proofs.CandidateLists.{off_rules}
+use Rattle.swreq_candidates.proofs.Completions.{canonical_here}
+use Rattle.swreq_candidates.proofs.RulesGive.{reduced_system}
+use Rattle.swreq_shown.specs.Meaning.{facts_of, symbols_of}
+use Rattle.swreq_world.specs.Closed.{IsClosed}
+use Rattle.swreq_world.specs.Worlds.{TextWorld}
+use Rattle.swreq_valid.specs.Machines.{IsMachineOf, MachineView}
+use Rattle.swreq_valid.specs.Rounds.{last_rules}
+use Rattle.swreq_minimal.specs.Sorted.{IsSaidBefore, IsSaidList}
+use Rattle.swreq_minimal.specs.Typed.{SaysBy}
+use Rattle.swreq_minimal.proofs.Lifting.{from_said, to_said}
+use Rattle.swreq_minimal.proofs.Speaking.{one_said}
+
+-- ---- what one rule says, beside what was there
+
+module _ (x : LexiconView) (rules : List Rule) (params : Params) (l r : Word) (old new : List TermRequirement) (same : new ≡ old) where
+  pub nothing_more : ((q : TermRequirement) → SaysBy x rules params l r q → ⊥) → (q : TermRequirement)
+      → Contains new q ↔ (Contains old q ⊎ SaysBy x rules params l r q)
+  nothing_more n q = ((λ h. inl (subst (λ z. Contains z q) same h)), λ h. elim h [ inl i ↦ subst (λ z. Contains z q) (sym same) i | inr i ↦ absurd (n q i) ])
+
+  module _ (now : List TermRequirement) (said : TermRequirement) (says : SaysBy x rules params l r said) where
+    as_said : (q : TermRequirement) → Contains new q ⊎ (q ≡ said) → Contains old q ⊎ SaysBy x rules params l r q
+    as_said q h = elim h [ inl i ↦ inl (subst (λ z. Contains z q) same i) | inr i ↦ inr (subst (SaysBy x rules params l r) (sym i) says) ]
+
+    pub one_more : ((q : TermRequirement) → Contains now q ↔ (Contains new q ⊎ (q ≡ said)))
+        → (q : TermRequirement) → Contains now q ↔ (Contains old q ⊎ SaysBy x rules params l r q)
+    one_more h q = (
+      (λ i. as_said q ((h q).0 i)),
+      λ i. (h q).1 (elim i [ inl j ↦ inl (subst (λ z. Contains z q) (sym same) j) | inr j ↦ inr (one_said x rules params l r q said j says) ]),
+    )
+
+    pub one_more_sorted : ((f : TermFacts) (s : Source) → ((q : TermRequirement) → Contains new q ⊎ (q ≡ said) → IsCanonical f s q) → IsStrictlySorted new → IsStrictlySorted now)
+        → (f : TermFacts) (s : Source) → ((q : TermRequirement) → Contains old q ⊎ SaysBy x rules params l r q → IsCanonical f s q)
+        → IsStrictlySorted old → IsStrictlySorted now
+    one_more_sorted h f s can was = h f s (λ q i. can q (as_said q i)) (subst IsStrictlySorted (sym same) was)
+
+-- ---- what the first rules of a system say
+
+module _ (x : LexiconView) (rules : List Rule) (params : Params) (system : List Rule) where
+  abbrev Said : ℕ → TermRequirement → Type 0
+  Said n q = IsSaidBefore x rules params system n q
+
+  pub none_said : (found : List TermRequirement) → found ≡ [] → IsSaidList x rules params system 0 found
+  none_said found e = record {
+    members = λ q. ((λ h. no_member q (subst (λ z. Contains z q) e h)), λ h. let (k, rule, l, at, s) = h in absurd (omega (arith, l)));
+    sorted = λ f s h. subst IsStrictlySorted (sym e) tt;
+  }
+
+  module _ (k : ℕ) (rule : Rule) (at : slice_get system k ≡ Some rule) where
+    said_next : (q : TermRequirement) → Said k q ⊎ SaysBy x rules params rule.left rule.right q → Said (k + 1) q
+    said_next q (inl (j, r, l, e, s)) = (j, r, omega (arith, l), e, s)
+    said_next q (inr s) = (k, rule, omega arith, at, s)
+
+    said_back : (q : TermRequirement) → Said (k + 1) q → Said k q ⊎ SaysBy x rules params rule.left rule.right q
+    said_back q (j, r, l, e, s) = elim (cases_eq j k) [
+      | inl h ↦ (let one : rule ≡ r = same_Some rule r (sym at ∙ (ap (slice_get system) (sym h) ∙ e)) in
+          inr (subst (λ (z : Rule). SaysBy x rules params z.left z.right q) (sym one) s))
+      | inr h ↦ inl (j, r, omega (arith, l, h), e, s)
+    ]
+
+    pub more_said : (old new : List TermRequirement) → IsSaidList x rules params system k old
+        → ((q : TermRequirement) → Contains new q ↔ (Contains old q ⊎ SaysBy x rules params rule.left rule.right q))
+        → ((f : TermFacts) (s : Source) → ((q : TermRequirement) → Contains old q ⊎ SaysBy x rules params rule.left rule.right q → IsCanonical f s q)
+        → IsStrictlySorted old → IsStrictlySorted new) → IsSaidList x rules params system (k + 1) new
+    more_said old new was h sorted = record {
+      members = λ q. (
+        (λ i. said_next q (elim ((h q).0 i) [ inl j ↦ inl ((was.members q).0 j) | inr j ↦ inr j ])),
+        λ i. (h q).1 (elim (said_back q i) [ inl j ↦ inl ((was.members q).1 j) | inr j ↦ inr j ]),
+      );
+      sorted = λ f s can.
+          sorted f s (λ q i. can q (said_next q (elim i [ inl j ↦ inl ((was.members q).0 j) | inr j ↦ inr j ]))) (was.sorted f s (λ q i. can q (said_next q (inl i))));
+    }
+
+-- ---- all of them
+
+module _ (w : TextWorld) (closed : IsClosed w) (machine : MachineView) (list : List TermRequirement) (is : IsMachineOf w list machine)
+    (system : List Rule) (reduced : IsReducedSystem (Linked (Step (last_rules machine.rounds))) system) where
+  abbrev L : Source
+  L = Written (generic_params machine.params) list
+
+  in_classes : IsReducedSystem (AreCongruent (symbols_of w.lexicon) (facts_of w) L) system
+  in_classes = reduced_system (last_rules machine.rounds) (UsableEquation (symbols_of w.lexicon) (facts_of w) L) is.rules system reduced
+
+  from_rules : (n : ℕ) (q : TermRequirement) → IsSaidBefore w.lexicon (last_rules machine.rounds) machine.params system n q → IsCandidate (symbols_of w.lexicon) (facts_of w) L q
+  from_rules n q (k, rule, l, at, s) =
+      let (m, c, least) = in_classes.each k rule at in
+      (off_rules (symbols_of w.lexicon) (facts_of w) L system in_classes q).1 (k, rule, at, from_said w closed machine list is rule.left rule.right c q s)
+
+  to_rules : (n : ℕ) → length system ≤ n → (q : TermRequirement) → IsCandidate (symbols_of w.lexicon) (facts_of w) L q → IsSaidBefore w.lexicon (last_rules machine.rounds) machine.params system n q
+  to_rules n far q h =
+      let (k, rule, at, off) = (off_rules (symbols_of w.lexicon) (facts_of w) L system in_classes q).0 h in
+      let (m, c, least) = in_classes.each k rule at in
+      let within = slice_get_within system k rule at in
+      (k, rule, omega (arith, within, far), at, to_said w closed machine list is rule.left rule.right c q off)
+
+  pub are_candidates : IsCompleted (symbols_of w.lexicon) (facts_of w) (generic_params machine.params) list → (found : List TermRequirement)
+      → IsSaidList w.lexicon (last_rules machine.rounds) machine.params system (length system) found
+      → IsCandidateList (symbols_of w.lexicon) (facts_of w) L found
+  are_candidates ended found said = record {
+    sorted = said.sorted (facts_of w) L
+        (λ q h. canonical_here (symbols_of w.lexicon) (facts_of w) (generic_params machine.params) list ended q (from_rules (length system) q h));
+    members = λ q. ((λ h. from_rules (length system) q ((said.members q).0 h)), λ h. (said.members q).1 (to_rules (length system) (omega arith) q h));
+  }

@@ -1,0 +1,33 @@
+-- What the machines and the world give: the completions of the protocols and of the list have ended.
+use Rattle.std.proofs.Common.{List}
+use Rattle.swreq_derive.specs.Derivation.{TermRequirement}
+use Rattle.swreq_derive.specs.Facts.{generic_params}
+use Rattle.swreq_rule.specs.declared.rules.Rule.{Rule}
+use Rattle.swreq_complete.specs.Complete.{IsComplete}
+use Rattle.swreq_reading.specs.Equations.{UsableEquation}
+use Rattle.swreq_derive.specs.Derivation.Source.{Written}
+use Rattle.swreq_rounds.specs.Presents.{ProtocolEquation}
+use Rattle.swreq_candidates.specs.Completed.{IsCompleted}
+use Rattle.swreq_candidates.proofs.RulesGive.{least_words}
+use Rattle.swreq_shown.specs.Meaning.{facts_of, symbols_of}
+use Rattle.swreq_shown.proofs.Symbols.{ranks_law, symbols_law, text_law}
+use Rattle.swreq_world.specs.Closed.{IsClosed}
+use Rattle.swreq_world.specs.Worlds.{TextWorld}
+use Rattle.swreq_valid.specs.Machines.{AreRulesOf, IsMachineOf, MachineView}
+use Rattle.swreq_valid.specs.Rounds.{last_rules}
+use Rattle.swreq_minimal.specs.Inheritance.{IsInheritanceWritten}
+use Rattle.swreq_minimal.proofs.Named.{members_named}
+
+pub completed : (w : TextWorld) → IsClosed w → IsInheritanceWritten w
+    → (protocols : List Rule) → IsComplete protocols → AreRulesOf w protocols
+    → (list : List TermRequirement) (machine : MachineView) → IsComplete (last_rules machine.rounds) → IsMachineOf w list machine
+    → IsCompleted (symbols_of w.lexicon) (facts_of w) (generic_params machine.params) list
+completed w closed written protocols complete rules list machine complete_too is = record {
+  symbols = symbols_law w closed;
+  of_text = text_law w closed;
+  in_text = is.in_text;
+  ranked = ranks_law w closed;
+  named = members_named w closed written;
+  protocols = least_words protocols (ProtocolEquation (symbols_of w.lexicon) (facts_of w)) rules complete.meet;
+  of_list = least_words (last_rules machine.rounds) (UsableEquation (symbols_of w.lexicon) (facts_of w) (Written (generic_params machine.params) list)) is.rules complete_too.meet;
+}

@@ -1,0 +1,16 @@
+pub mod Equal
+pub mod Giving
+pub mod Typing
+pub mod Speaking
+pub mod Lifting
+pub mod ByEquation
+pub mod Inserting
+pub mod Collecting
+pub mod Growing
+pub mod Named
+pub mod Completing
+pub mod Passing
+pub mod Telling
+pub mod Whole
+pub mod Inheriting
+pub mod Leading

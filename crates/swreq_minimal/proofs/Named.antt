@@ -1,0 +1,40 @@
+-- Where inheritance is written, `Self` of each protocol conforms to a protocol that declares the name of a member symbol of it.
+use Rattle.std.proofs.Common.{◌≡◌, ◌∙◌, ⊎_elim, ap, subst, sym, ℕ, Some, Contains}
+use Rattle.std.proofs.lemmas.Option.{slice_get-get_or}
+use Rattle.swreq_param.specs.declared.ids.AssocId.{AssocId}
+use Rattle.swreq_param.specs.declared.ids.ProtoId.{ProtoId}
+use Rattle.swreq_derive.specs.Derivation.{Declares}
+use Rattle.swreq_derive.specs.Inheritance.{LeadsTo}
+use Rattle.swreq_derive.specs.Inheritance.LeadsTo.{here}
+use Rattle.swreq_ranks.specs.declared.pair.ProtocolName.{ProtocolName}
+use Rattle.swreq_ranks.specs.Lexicons.{pair}
+use Rattle.swreq_reading.specs.Symbols.{name_of, proto_of}
+use Rattle.swreq_world.specs.Closed.{IsClosed}
+use Rattle.swreq_world.specs.Worlds.{TextWorld}
+use Rattle.swreq_candidates.specs.Blocks.{AreMembersDeclared, AreMembersNamed}
+use Rattle.swreq_candidates.proofs.Inherited.{declared_named}
+use Rattle.swreq_shown.specs.Meaning.{facts_of, symbols_of}
+use Rattle.swreq_shown.proofs.Declared.{from_rank, member_is, of_rank, there}
+use Rattle.swreq_minimal.specs.Inheritance.{IsInheritanceWritten}
+
+module _ (w : TextWorld) (closed : IsClosed w) (written : IsInheritanceWritten w) where
+  members_declared : AreMembersDeclared (symbols_of w.lexicon) (facts_of w)
+  members_declared k h =
+      let (e, at) = of_rank w.lexicon k h in
+      let of_text = (closed.ids.symbols e.proto e.name).0 (there w.lexicon.symbols k e at) in
+      let is_it = member_is w.lexicon k e at in
+      by e (sym (ap (λ z. z.proto) is_it)) (sym (ap (λ z. z.name) is_it))
+      (⊎_elim (λ c. (e.proto, here, c))
+      (λ t. let (q, i, c) = t in (q, written e.proto q of_text.0 (closed.ids.associated (pair q e.name) c).0 i, c)) of_text.1)
+    where
+      by : (e : ProtocolName) → e.proto ≡ proto_of (symbols_of w.lexicon) k → e.name ≡ name_of (symbols_of w.lexicon) k
+          → ((q : ProtoId) × LeadsTo (facts_of w) e.proto q × Contains w.lexicon.associated (pair q e.name))
+          → (q : ProtoId) × (a : AssocId) × LeadsTo (facts_of w) (proto_of (symbols_of w.lexicon) k) q
+          × Declares (facts_of w) q (name_of (symbols_of w.lexicon) k) a
+      by e same_proto same_name (q, l, c) =
+          let a : AssocId = record { rank = c.0 } in
+          let at = slice_get-get_or w.lexicon.associated c.0 (pair q e.name) c.1 ∙ ap Some c.2 in
+          (q, a, subst (λ p. LeadsTo (facts_of w) p q) same_proto l, subst (λ n. Declares (facts_of w) q n a) same_name (from_rank w.lexicon q e.name a at))
+
+  pub members_named : AreMembersNamed (symbols_of w.lexicon) (facts_of w)
+  members_named = declared_named (symbols_of w.lexicon) (facts_of w) members_declared

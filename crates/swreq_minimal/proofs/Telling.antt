@@ -1,0 +1,105 @@
+-- Parts that are told one after the other.
+use Rattle.std.proofs.Common.{◌≡◌, ◌∙◌, ◌⊎◌, inl, inr, refl, sym, ap, subst, List, [], ◌∷◌, ◌++◌, Option, Ok, Err, append-nil, append_assoc}
+use Rattle.swreq_derive.specs.Derivation.{TermRequirement}
+use Rattle.swreq_rule.specs.declared.rules.Rule.{Rule}
+use Rattle.swreq_watch.specs.declared.events.Event.{Event}
+use Rattle.swreq_watch.specs.Told.{GrewBy}
+use Rattle.swreq_watch.proofs.Told.{grew_none, grew_on}
+use Rattle.swreq_complete.specs.declared.limit.Limits.{Limits}
+use Rattle.swreq_complete.specs.declared.limit.Failed.{Failed}
+use Rattle.swreq_complete.specs.declared.limit.Failed.TheVariants.{Limit, Memory}
+use Rattle.swreq_rounds.specs.Plan.{Plan}
+use Rattle.swreq_valid.specs.Answers.{Answers}
+use Rattle.swreq_minimal.specs.Told.{AreParts, FailsBy, IsCutOff, StopsAt, TellsFailure, TellsParts}
+use Rattle.swreq_minimal.specs.Told.AreParts.{a_part, no_part}
+
+module _ (limits : Limits) (plan : List TermRequirement → Plan) where
+  module _ (P : List TermRequirement → Type 0) where
+    parts_on : (a b : List Event) → AreParts limits plan P a → AreParts limits plan P b → AreParts limits plan P (a ++ b)
+    parts_on a b p no_part = subst (AreParts limits plan P) (sym (append-nil a)) p
+    parts_on a b p (a_part {before = before} {part = part} list rules q one outcome e) =
+        a_part list rules (parts_on a before p q) one outcome (ap (λ z. a ++ z) e ∙ sym (append_assoc a before part))
+
+    fails_on : (a b : List Event) → AreParts limits plan P a → (failed : Failed) → FailsBy limits plan P failed b → FailsBy limits plan P failed (a ++ b)
+    fails_on a b p (Limit which trace) s = record {
+      before = a ++ s.before;
+      part = s.part;
+      list = s.list;
+      parts = parts_on a s.before p s.parts;
+      is_one = s.is_one;
+      outcome = s.outcome;
+      told_is = ap (λ z. a ++ z) s.told_is ∙ sym (append_assoc a s.before s.part);
+    }
+    fails_on a b p Memory (inl q) = inl (parts_on a b p q)
+    fails_on a b p Memory (inr s) = inr (record {
+      before = a ++ s.before;
+      part = s.part;
+      list = s.list;
+      parts = parts_on a s.before p s.parts;
+      is_one = s.is_one;
+      comes = s.comes;
+      told_is = ap (λ z. a ++ z) s.told_is ∙ sym (append_assoc a s.before s.part);
+    })
+
+    pub tells_none : (told : Option (List Event)) → TellsParts limits plan P told told
+    tells_none told = ([], no_part, grew_none told)
+
+    pub tells_on : (old mid new : Option (List Event)) → TellsParts limits plan P old mid → TellsParts limits plan P mid new → TellsParts limits plan P old new
+    tells_on old mid new (a, p, g) (b, q, h) = (a ++ b, parts_on a b p q, grew_on old mid new a b g h)
+
+    pub fails_after : (old mid new : Option (List Event)) → TellsParts limits plan P old mid → (failed : Failed) → TellsFailure limits plan P mid new failed
+        → TellsFailure limits plan P old new failed
+    fails_after old mid new (a, p, g) failed (b, q, h) = (a ++ b, fails_on a b p failed q, grew_on old mid new a b g h)
+
+    pub wants_memory : (old new : Option (List Event)) → TellsParts limits plan P old new → TellsFailure limits plan P old new Memory
+    wants_memory old new (a, p, g) = (a, inl p, g)
+
+    pub wants_at_once : (told : Option (List Event)) → TellsFailure limits plan P told told Memory
+    wants_at_once told = wants_memory told told (tells_none told)
+
+  -- the same of other lists
+  module _ (P Q : List TermRequirement → Type 0) (to : (list : List TermRequirement) → P list → Q list) where
+    parts_of : (a : List Event) → AreParts limits plan P a → AreParts limits plan Q a
+    parts_of a no_part = no_part
+    parts_of a (a_part {before = before} list rules q one outcome e) = a_part list rules (parts_of before q) (to list one) outcome e
+
+    fails_of : (a : List Event) (failed : Failed) → FailsBy limits plan P failed a → FailsBy limits plan Q failed a
+    fails_of a (Limit which trace) s = record {
+      before = s.before;
+      part = s.part;
+      list = s.list;
+      parts = parts_of s.before s.parts;
+      is_one = to s.list s.is_one;
+      outcome = s.outcome;
+      told_is = s.told_is;
+    }
+    fails_of a Memory (inl q) = inl (parts_of a q)
+    fails_of a Memory (inr s) = inr (record {
+      before = s.before;
+      part = s.part;
+      list = s.list;
+      parts = parts_of s.before s.parts;
+      is_one = to s.list s.is_one;
+      comes = s.comes;
+      told_is = s.told_is;
+    })
+
+    pub tells_of : (old new : Option (List Event)) → TellsParts limits plan P old new → TellsParts limits plan Q old new
+    tells_of old new (a, p, g) = (a, parts_of a p, g)
+
+    pub failure_of : (old new : Option (List Event)) (failed : Failed) → TellsFailure limits plan P old new failed → TellsFailure limits plan Q old new failed
+    failure_of old new failed (a, p, g) = (a, fails_of a failed p, g)
+
+  -- the rounds of one list
+  module _ (list : List TermRequirement) where
+    abbrev IsIt : List TermRequirement → Type 0
+    IsIt l = l ≡ list
+
+    pub one_part : (old new : Option (List Event)) (rules : List Rule) → Answers limits (plan list) old new (Ok rules) → TellsParts limits plan IsIt old new
+    one_part old new rules (told, outcome, grew) = (told, a_part list rules no_part refl outcome refl, grew)
+
+    pub one_failure : (old new : Option (List Event)) (failed : Failed) → Answers limits (plan list) old new (Err failed) → TellsFailure limits plan IsIt old new failed
+    one_failure old new (Limit which trace) (told, outcome, grew) =
+        (told, record { before = []; part = told; list = list; parts = no_part; is_one = refl; outcome = outcome; told_is = refl }, grew)
+    one_failure old new Memory (told, comes, grew) =
+        (told, inr (record { before = []; part = told; list = list; parts = no_part; is_one = refl; comes = comes; told_is = refl }), grew)

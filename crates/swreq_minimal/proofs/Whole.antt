@@ -1,0 +1,100 @@
+-- What is left of the candidates of a machine's list is its minimised list.
+use Rattle.std.proofs.Common.{◌≡◌, sym, subst, List, Contains, Option}
+use Rattle.swreq_param.specs.declared.ids.ParamId.{ParamId}
+use Rattle.swreq_param.specs.Tables.{Extends}
+use Rattle.swreq_param.specs.Terms.{Term}
+use Rattle.swreq_derive.specs.Derivation.{TermFacts, TermRequirement}
+use Rattle.swreq_derive.specs.Derivation.Source.{Written}
+use Rattle.swreq_derive.specs.Equivalence.{AreEquivalent}
+use Rattle.swreq_derive.specs.Facts.{generic_params}
+use Rattle.swreq_rule.specs.declared.rules.Rule.{Rule}
+use Rattle.swreq_watch.specs.declared.events.Event.{Event}
+use Rattle.swreq_complete.specs.Complete.{IsComplete}
+use Rattle.swreq_complete.specs.declared.limit.Failed.{Failed}
+use Rattle.swreq_complete.specs.declared.limit.Limits.{Limits}
+use Rattle.swreq_canonical.specs.Canonical.{IsCanonical}
+use Rattle.swreq_canonical.specs.CanonicalOrder.{IsStrictlySorted}
+use Rattle.swreq_canonical.specs.Generators.{AreEnough}
+use Rattle.swreq_canonical.specs.Minimised.{IsIndependent, IsMinimised}
+use Rattle.swreq_canonical.proofs.Agreement.{minimised_canonical, minimised_independent, minimised_same, minimised_sorted}
+use Rattle.swreq_canonical.proofs.Taking.{generator_list, generators_told}
+use Rattle.swreq_candidates.specs.Candidates.{IsCandidateList}
+use Rattle.swreq_candidates.specs.Completed.{IsCompleted}
+use Rattle.swreq_candidates.proofs.Completions.{enough_here, reduced_here}
+use Rattle.swreq_reading.specs.Symbols.{Symbols}
+use Rattle.swreq_shown.specs.Known.{IsTextOver}
+use Rattle.swreq_shown.specs.Meaning.{facts_of, symbols_of}
+use Rattle.swreq_world.specs.ByTable.{world_by}
+use Rattle.swreq_world.specs.Worlds.{IdWorld, TextWorld}
+use Rattle.swreq_valid.specs.Machines.{AreRulesOf, IsMachineOf, MachineView, list_of}
+use Rattle.swreq_valid.specs.Rounds.{last_rules}
+use Rattle.swreq_minimal.specs.Inheritance.{IsInheritanceWritten}
+use Rattle.swreq_minimal.specs.Passed.{IsPassed, IsPassedOf, IsSifted}
+use Rattle.swreq_minimal.specs.Told.{TellsFailure, TellsParts}
+use Rattle.swreq_minimal.proofs.Completing.{completed}
+use Rattle.swreq_minimal.proofs.Growing.{world_stays}
+use Rattle.swreq_minimal.proofs.Telling.{failure_of, tells_of}
+
+module _ (old new : List Term) (w : IdWorld) (text : IsTextOver old w) (more : Extends old new)
+    (written : IsInheritanceWritten (world_by old w))
+    (protocols : List Rule) (complete : IsComplete protocols) (rules : AreRulesOf (world_by old w) protocols)
+    (machine : MachineView) (complete_too : IsComplete (last_rules machine.rounds)) (list : List TermRequirement) (is : IsMachineOf (world_by old w) list machine) where
+  abbrev m : Symbols
+  m = symbols_of w.lexicon
+
+  abbrev f : TermFacts
+  f = facts_of (world_by old w)
+
+  abbrev ps : List ParamId
+  ps = generic_params machine.params
+
+  pub ended : IsCompleted m f ps list
+  ended = completed (world_by old w) text.closed written protocols complete rules list machine complete_too is
+
+  same_world : world_by new w ≡ world_by old w
+  same_world = world_stays old new more w text.table
+
+  module _ (found : List TermRequirement) (candidates : IsCandidateList m f (Written ps list) found) where
+    enough : AreEnough f ps list found
+    enough = enough_here m f ps list ended found candidates
+
+    module _ (out : List TermRequirement) (sifted : IsSifted (facts_of (world_by new w)) ps found out) where
+      here : IsSifted f ps found out
+      here = subst (λ (z : TextWorld). IsSifted (facts_of z) ps found out) same_world sifted
+
+      pub is_minimised : IsMinimised f ps list out
+      is_minimised = record {
+        generators = here.generators;
+        are_generators = generator_list f ps list found here.generators enough here.takes;
+        leaves = here.leaves;
+      }
+
+      pub is_same : AreEquivalent f ps list out
+      is_same = minimised_same f ps list out (reduced_here m f ps list ended) (generators_told f ps list found here.generators enough here.takes) is_minimised
+
+      pub is_independent : IsIndependent f ps out
+      is_independent = minimised_independent f ps list out is_minimised
+
+      pub is_canonical : (r : TermRequirement) → Contains out r → IsCanonical f (Written ps list) r
+      is_canonical = minimised_canonical f ps list out is_minimised
+
+      pub is_sorted : IsStrictlySorted out
+      is_sorted = minimised_sorted f ps list out is_minimised
+
+    -- ---- what is told
+
+    passed : (l : List TermRequirement) → IsPassed (facts_of (world_by new w)) ps found l → IsPassedOf m f ps list l
+    passed l h = (found, candidates, subst (λ (z : TextWorld). IsPassed (facts_of z) ps found l) same_world h)
+
+    module _ (limits : Limits) (a b : Option (List Event)) where
+      pub tells : TellsParts limits (list_of (world_by new w) protocols machine.params) (IsPassed (facts_of (world_by new w)) ps found) a b
+          → TellsParts limits (list_of (world_by old w) protocols machine.params) (IsPassedOf m f ps list) a b
+      tells h =
+          tells_of limits (list_of (world_by old w) protocols machine.params) (IsPassed (facts_of (world_by new w)) ps found) (IsPassedOf m f ps list) passed a b
+          (subst (λ (z : TextWorld). TellsParts limits (list_of z protocols machine.params) (IsPassed (facts_of (world_by new w)) ps found) a b) same_world h)
+
+      pub fails : (failed : Failed) → TellsFailure limits (list_of (world_by new w) protocols machine.params) (IsPassed (facts_of (world_by new w)) ps found) a b failed
+          → TellsFailure limits (list_of (world_by old w) protocols machine.params) (IsPassedOf m f ps list) a b failed
+      fails failed h =
+          failure_of limits (list_of (world_by old w) protocols machine.params) (IsPassed (facts_of (world_by new w)) ps found) (IsPassedOf m f ps list) passed a b failed
+          (subst (λ (z : TextWorld). TellsFailure limits (list_of z protocols machine.params) (IsPassed (facts_of (world_by new w)) ps found) a b failed) same_world h)

@@ -1,0 +1,11 @@
+use Rattle.swreq_param.specs.Tables.{Extends}
+use Rattle.swreq_valid.specs.Plans.{AreKnown, listed}
+use Rattle.swreq_minimal.specs.Sorted.{IsSaidList}
+use Rattle.swreq_minimal.proofs.candidates.collect.Given as goal
+
+abbrev pub invariant-loop-k : goal.invariant-loop-k
+invariant-loop-k l = record {
+  said : IsSaidList l.world.lexicon l.rules l.params l.system l.k (listed l.table l.found.items);
+  known : AreKnown l.table l.world.lexicon l.found.items;
+  extends : Extends l.initial.table l.table;
+}

@@ -1,0 +1,35 @@
+use Rattle.std.proofs.Common.{◌≡◌, length, take, get_or, refl, subst, arith, Contains}
+use Rattle.std.proofs.lemmas.List.Elements.{Contains-get_or}
+use Rattle.swreq_valid.specs.Plans.{listed}
+use Rattle.swreq_minimal.proofs.Inserting.{any, belongs_here, belongs_last, in_listed, none_more, nothing_yet}
+use Rattle.swreq_minimal.proofs.candidates.place_of.Goals as goal
+
+pub is_same-requires-clause-r : goal.is_same-requires-clause-r
+is_same-requires-clause-r c =
+    c.requires.found (get_or c.args.found.now c.loop-k.k any) (Contains-get_or c.args.found.now c.loop-k.k any c.loop-k-test.true)
+
+pub is_before-requires-clause-q : goal.is_before-requires-clause-q
+is_before-requires-clause-q c =
+    c.requires.found (get_or c.args.found.now c.loop-k.k any) (Contains-get_or c.args.found.now c.loop-k.k any c.loop-k-test.true)
+
+pub returns-then-is_same : goal.returns-then-is_same
+returns-then-is_same c =
+    subst (Contains (listed c.args.table.now c.args.found.now)) (c.is_same.ensures.0 c.if-is_same.true)
+    (in_listed c.args.table.now (get_or c.args.found.now c.loop-k.k any) c.args.found.now (Contains-get_or c.args.found.now c.loop-k.k any c.loop-k-test.true))
+
+pub returns-then-is_before : goal.returns-then-is_before
+returns-then-is_before c =
+    belongs_here c.args.table.now c.args.found.now c.args.r c.loop-k.k any c.loop-k-test.true c.loop-k.invariant (c.is_before.ensures.0 c.if-is_before.true)
+
+pub loop-k-init : goal.loop-k-init
+loop-k-init c = nothing_yet c.args.table.now c.args.found.now c.args.r
+
+pub loop-k-preserved : goal.loop-k-preserved
+loop-k-preserved c =
+    none_more c.args.table.now c.args.found.now c.args.r c.loop-k.k any c.loop-k-test.true c.loop-k.invariant
+    (λ e. let a = c.is_same.ensures.1 e in let b = c.if-is_same.false in cc)
+    (λ e. let a = c.is_before.ensures.1 e in let b = c.if-is_before.false in cc)
+
+pub returns : goal.returns
+returns c =
+    belongs_last c.args.table.now c.args.found.now c.args.r c.loop-k.k (length c.args.found.now) c.loop-k-test.false refl c.loop-k.invariant

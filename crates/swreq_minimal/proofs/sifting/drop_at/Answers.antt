@@ -1,0 +1,106 @@
+use Rattle.std.proofs.Common.{◌≡◌, ◌∙◌, ap, sym, subst, List, Contains, get_or}
+use Rattle.std.specs.Prelude.{insert, remove}
+use Rattle.std.proofs.lemmas.List.Elements.{Contains-get_or}
+use Rattle.std.proofs.lemmas.Result.{IfErr-weaker, on_ok_weaker}
+use Rattle.swreq_derive.specs.Derivation.{Derivable}
+use Rattle.swreq_derive.specs.Derivation.Source.{Written}
+use Rattle.swreq_derive.specs.Derivation.TermStatement.{Requires}
+use Rattle.swreq_derive.specs.Facts.{generic_params, requirement_of}
+use Rattle.swreq_shown.specs.Known.{IsRequirementIn}
+use Rattle.swreq_shown.specs.Meaning.{facts_of}
+use Rattle.swreq_world.specs.ByTable.{world_by}
+use Rattle.swreq_valid.specs.Machines.{list_of}
+use Rattle.swreq_valid.specs.Plans.{AreKnown, listed}
+use Rattle.swreq_valid.specs.Rounds.{last_rules}
+use Rattle.swreq_minimal.specs.Told.{TellsFailure}
+use Rattle.swreq_minimal.proofs.Passing.{LeavesNow, one_dropped, one_kept, put_back, there_before}
+use Rattle.swreq_minimal.proofs.Telling.{failure_of, tells_of, wants_memory}
+use Rattle.swreq_minimal.proofs.sifting.drop_at.Goals as goal
+
+pub is_derivable-requires-clause-list : goal.is_derivable-requires-clause-list
+is_derivable-requires-clause-list g c =
+    subst (AreKnown c.args.table.now c.args.world.now.lexicon) (sym (c.deref.ensures.value ∙ c.remove-one.ensures.items))
+    (λ r h. c.requires.left r (there_before c.args.table.now c.args.left.now.items c.args.place c.remove-one.result c.requires.place r h))
+
+pub is_derivable-requires-clause-r : goal.is_derivable-requires-clause-r
+is_derivable-requires-clause-r g c =
+    subst (IsRequirementIn c.args.table.now c.args.world.now.lexicon) (sym c.remove-one.ensures.value)
+    (c.requires.left (get_or c.args.left.now.items c.args.place c.remove-one.result) (Contains-get_or c.args.left.now.items c.args.place c.remove-one.result c.requires.place))
+
+pub returns-in-Err-clause-failed : goal.returns-in-Err-clause-failed
+returns-in-Err-clause-failed g c =
+    failure_of c.args.limits (list_of (world_by c.args.table.now c.args.world.now) (last_rules c.args.protocols.now.rounds) c.args.params)
+    (λ l. l ≡ listed c.args.table.now c.deref.result.now) (λ l. l ≡ listed c.args.table.now (remove c.args.left.now.items c.args.place))
+    (λ l e. e ∙ ap (listed c.args.table.now) (c.deref.ensures.value ∙ c.remove-one.ensures.items))
+    (g.W.Watch.told c.args.watch.now) (g.W.Watch.told c.is_derivable.new.watch) c.in-Err.failed c.in-Err.ensures.failed
+
+pub returns-then-derivable-clause-leaves : goal.returns-then-derivable-clause-leaves
+returns-then-derivable-clause-leaves g c =
+    let terms = c.args.table.now in
+    let f = facts_of (world_by terms c.args.world.now) in
+    let ps = generic_params c.args.params in
+    let now = c.args.left.now.items in
+    subst (LeavesNow f ps terms now c.args.place c.remove-one.result c.requires.place) (sym c.remove-one.ensures.items)
+    (one_dropped f ps terms now c.args.place c.remove-one.result c.requires.place
+    (subst (λ z. Derivable f (Written ps (listed terms z)) (Requires (requirement_of terms (get_or now c.args.place c.remove-one.result)))) (c.deref.ensures.value ∙ c.remove-one.ensures.items)
+    (subst (λ z. Derivable f (Written ps (listed terms c.deref.result.now)) (Requires (requirement_of terms z))) c.remove-one.ensures.value
+    (c.in-Ok.ensures.answer.0 c.if-derivable.true))))
+
+pub returns-then-derivable-clause-known : goal.returns-then-derivable-clause-known
+returns-then-derivable-clause-known g c =
+    subst (AreKnown c.args.table.now c.args.world.now.lexicon) (sym c.remove-one.ensures.items)
+    (λ r h. c.requires.left r (there_before c.args.table.now c.args.left.now.items c.args.place c.remove-one.result c.requires.place r h))
+
+pub returns-then-derivable-clause-told : goal.returns-then-derivable-clause-told
+returns-then-derivable-clause-told g c =
+    tells_of c.args.limits (list_of (world_by c.args.table.now c.args.world.now) (last_rules c.args.protocols.now.rounds) c.args.params)
+    (λ l. l ≡ listed c.args.table.now c.deref.result.now) (λ l. l ≡ listed c.args.table.now (remove c.args.left.now.items c.args.place))
+    (λ l e. e ∙ ap (listed c.args.table.now) (c.deref.ensures.value ∙ c.remove-one.ensures.items))
+    (g.W.Watch.told c.args.watch.now) (g.W.Watch.told c.is_derivable.new.watch) c.in-Ok.ensures.told
+
+pub returns-clause-leaves : goal.returns-clause-leaves
+returns-clause-leaves g c =
+    let terms = c.args.table.now in
+    let f = facts_of (world_by terms c.args.world.now) in
+    let ps = generic_params c.args.params in
+    let now = c.args.left.now.items in
+    let k = c.args.place in
+    let one = c.remove-one.result in
+    on_ok_weaker c.put_at.result (λ e.
+    subst (LeavesNow f ps terms now k one c.requires.place)
+    (sym (e ∙ (ap (λ z. insert z k one) c.remove-one.ensures.items ∙ ap (λ z. insert (remove now k) k z) c.remove-one.ensures.value)))
+    (one_kept f ps terms now k one c.requires.place
+    (λ h. let a = c.in-Ok.ensures.answer.1
+    (subst (λ z. Derivable f (Written ps (listed terms z)) (Requires (requirement_of terms one))) (sym (c.deref.ensures.value ∙ c.remove-one.ensures.items))
+    (subst (λ z. Derivable f (Written ps (listed terms (remove now k))) (Requires (requirement_of terms z))) (sym c.remove-one.ensures.value) h)) in
+    let b = c.if-derivable.false in cc)))
+    c.put_at.ensures.put
+
+pub returns-clause-known : goal.returns-clause-known
+returns-clause-known g c =
+    let now = c.args.left.now.items in
+    let k = c.args.place in
+    let one = c.remove-one.result in
+    on_ok_weaker c.put_at.result (λ e. subst (AreKnown c.args.table.now c.args.world.now.lexicon)
+    (sym (e ∙ (ap (λ z. insert z k one) c.remove-one.ensures.items ∙ (ap (λ z. insert (remove now k) k z) c.remove-one.ensures.value ∙ put_back c.args.table.now now k one c.requires.place))))
+    c.requires.left) c.put_at.ensures.put
+
+pub returns-clause-told : goal.returns-clause-told
+returns-clause-told g c =
+    on_ok_weaker c.put_at.result (λ e.
+    tells_of c.args.limits (list_of (world_by c.args.table.now c.args.world.now) (last_rules c.args.protocols.now.rounds) c.args.params)
+    (λ l. l ≡ listed c.args.table.now c.deref.result.now) (λ l. l ≡ listed c.args.table.now (remove c.args.left.now.items c.args.place))
+    (λ l h. h ∙ ap (listed c.args.table.now) (c.deref.ensures.value ∙ c.remove-one.ensures.items))
+    (g.W.Watch.told c.args.watch.now) (g.W.Watch.told c.is_derivable.new.watch) c.in-Ok.ensures.told) c.put_at.ensures.put
+
+pub returns-clause-failed : goal.returns-clause-failed
+returns-clause-failed g c =
+    let plan = list_of (world_by c.args.table.now c.args.world.now) (last_rules c.args.protocols.now.rounds) c.args.params in
+    let told = tells_of c.args.limits plan
+    (λ l. l ≡ listed c.args.table.now c.deref.result.now) (λ l. l ≡ listed c.args.table.now (remove c.args.left.now.items c.args.place))
+    (λ l h. h ∙ ap (listed c.args.table.now) (c.deref.ensures.value ∙ c.remove-one.ensures.items))
+    (g.W.Watch.told c.args.watch.now) (g.W.Watch.told c.is_derivable.new.watch) c.in-Ok.ensures.told in
+    IfErr-weaker c.put_at.result _ _ (λ failed e.
+    subst (TellsFailure c.args.limits plan (λ l. l ≡ listed c.args.table.now (remove c.args.left.now.items c.args.place)) (g.W.Watch.told c.args.watch.now) (g.W.Watch.told c.is_derivable.new.watch)) (sym e)
+    (wants_memory c.args.limits plan (λ l. l ≡ listed c.args.table.now (remove c.args.left.now.items c.args.place)) (g.W.Watch.told c.args.watch.now) (g.W.Watch.told c.is_derivable.new.watch) told))
+    c.put_at.ensures.memory

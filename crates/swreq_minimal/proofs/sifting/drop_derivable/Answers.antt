@@ -1,0 +1,97 @@
+use Rattle.std.proofs.Common.{◌≡◌, ◌∙◌, ◌<◌, ◌≤◌, ◌+◌, ◌-◌, ap, sym, subst, take, drop, get_or, length, List, arith}
+use Rattle.std.specs.Prelude.{remove}
+use Rattle.std.proofs.lemmas.List.{length-map}
+use Rattle.swreq_derive.specs.Facts.{generic_params, requirement_of}
+use Rattle.swreq_shown.specs.Meaning.{facts_of}
+use Rattle.swreq_world.specs.ByTable.{world_by}
+use Rattle.swreq_valid.specs.Machines.{list_of}
+use Rattle.swreq_valid.specs.Plans.{listed}
+use Rattle.swreq_valid.specs.Rounds.{last_rules}
+use Rattle.swreq_minimal.specs.Passed.{IsLeftWithout}
+use Rattle.swreq_minimal.proofs.Inserting.{any}
+use Rattle.swreq_minimal.proofs.Passing.{IsLeftFrom, all_passed, all_there, is_without, front_length, leaves_behind, next_left, now_is, within_now}
+use Rattle.swreq_minimal.proofs.Telling.{failure_of, fails_after, tells_none, tells_of, tells_on}
+use Rattle.swreq_minimal.proofs.sifting.drop_derivable.Goals as goal
+
+pub loop-count-init : goal.loop-count-init
+loop-count-init g c =
+    let all = listed c.args.table.now c.args.left.now.items in
+    let n : length all ≡ length c.args.left.now.items = length-map c.args.left.now.items (requirement_of c.args.table.now) in
+    let e = c.len-count.ensures in
+    record {
+      within = omega (arith, e, n);
+      left = all_there (facts_of (world_by c.args.table.now c.args.world.now)) (generic_params c.args.params) c.len-count.result all (omega (arith, e, n));
+      known = c.requires.left;
+      told = tells_none c.args.limits (list_of (world_by c.args.table.now c.args.world.now) (last_rules c.args.protocols.now.rounds) c.args.params)
+          (IsLeftWithout (facts_of (world_by c.args.table.now c.args.world.now)) (generic_params c.args.params) all) (g.W.Watch.told c.args.watch.now);
+    }
+
+pub drop_at-requires-clause-place : goal.drop_at-requires-clause-place
+drop_at-requires-clause-place g c =
+    let terms = c.args.table.now in
+    let f = facts_of (world_by terms c.args.world.now) in
+    let ps = generic_params c.args.params in
+    let all = listed terms c.args.left.now.items in
+    let k = c.loop-count.count - 1 in
+    let t = c.loop-count-test.true in
+    let e : c.loop-count.count ≡ k + 1 = omega (arith, t) in
+    let w = c.loop-count.invariant.within in
+    within_now f ps terms all c.loop-count.left.items k (requirement_of terms any) (let l : k < length all = omega (arith, w, e) in l) (subst (λ n. IsLeftFrom f ps n all (listed terms c.loop-count.left.items)) e c.loop-count.invariant.left)
+
+pub returns-in-Err-clause-failed : goal.returns-in-Err-clause-failed
+returns-in-Err-clause-failed g c =
+    let terms = c.args.table.now in
+    let f = facts_of (world_by terms c.args.world.now) in
+    let ps = generic_params c.args.params in
+    let all = listed terms c.args.left.now.items in
+    let now = c.loop-count.left.items in
+    let k = c.loop-count.count - 1 in
+    let t = c.loop-count-test.true in
+    let e : c.loop-count.count ≡ k + 1 = omega (arith, t) in
+    let w = c.loop-count.invariant.within in
+    let l : k < length all = omega (arith, w, e) in
+    let left = subst (λ n. IsLeftFrom f ps n all (listed terms now)) e c.loop-count.invariant.left in
+    let plan = list_of (world_by terms c.args.world.now) (last_rules c.args.protocols.now.rounds) c.args.params in
+    let P = IsLeftWithout f ps all in
+    fails_after c.args.limits plan P (g.W.Watch.told c.args.watch.now) (g.W.Watch.told c.loop-count.watch) (g.W.Watch.told c.drop_at.new.watch) c.loop-count.invariant.told c.in-Err.failed
+    (failure_of c.args.limits plan (λ l. l ≡ listed terms (remove now k)) P
+    (λ z h. subst P (sym h) (is_without f ps terms all now k (requirement_of terms any) l left any))
+    (g.W.Watch.told c.loop-count.watch) (g.W.Watch.told c.drop_at.new.watch) c.in-Err.failed c.in-Err.ensures.failed)
+
+pub loop-count-preserved : goal.loop-count-preserved
+loop-count-preserved g c =
+    let terms = c.args.table.now in
+    let f = facts_of (world_by terms c.args.world.now) in
+    let ps = generic_params c.args.params in
+    let all = listed terms c.args.left.now.items in
+    let now = c.loop-count.left.items in
+    let k = c.loop-count.count - 1 in
+    let t = c.loop-count-test.true in
+    let e : c.loop-count.count ≡ k + 1 = omega (arith, t) in
+    let w = c.loop-count.invariant.within in
+    let l : k < length all = omega (arith, w, e) in
+    let left = subst (λ n. IsLeftFrom f ps n all (listed terms now)) e c.loop-count.invariant.left in
+    let plan = list_of (world_by terms c.args.world.now) (last_rules c.args.protocols.now.rounds) c.args.params in
+    let P = IsLeftWithout f ps all in
+    let d = requirement_of terms any in
+    let more = c.in-Ok.ensures.leaves (take k all) (drop (k + 1) all) left.0 (get_or all k d)
+    (now_is f ps all (listed terms now) k d l left) (front_length f ps all (listed terms now) k d l left) (leaves_behind f ps all (listed terms now) k d l left) in
+    record {
+      within = omega (arith, w, e);
+      left = next_left f ps all (listed terms now) k d l left (listed terms c.drop_at.new.left.items) more.0 more.1 more.2;
+      known = c.in-Ok.ensures.known;
+      told = tells_on c.args.limits plan P (g.W.Watch.told c.args.watch.now) (g.W.Watch.told c.loop-count.watch) (g.W.Watch.told c.drop_at.new.watch) c.loop-count.invariant.told
+          (tells_of c.args.limits plan (λ l. l ≡ listed terms (remove now k)) P
+          (λ z h. subst P (sym h) (is_without f ps terms all now k d l left any))
+          (g.W.Watch.told c.loop-count.watch) (g.W.Watch.told c.drop_at.new.watch) c.in-Ok.ensures.told);
+    }
+
+pub returns-clause-leaves : goal.returns-clause-leaves
+returns-clause-leaves g c =
+    let terms = c.args.table.now in
+    let f = facts_of (world_by terms c.args.world.now) in
+    let ps = generic_params c.args.params in
+    let all = listed terms c.args.left.now.items in
+    let t = c.loop-count-test.false in
+    let e : c.loop-count.count ≡ 0 = omega (arith, t) in
+    all_passed f ps all (listed terms c.loop-count.left.items) (subst (λ n. IsLeftFrom f ps n all (listed terms c.loop-count.left.items)) e c.loop-count.invariant.left)

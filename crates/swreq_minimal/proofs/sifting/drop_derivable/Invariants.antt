@@ -1,0 +1,23 @@
+use Rattle.std.proofs.Common.{◌≤◌, length}
+use Rattle.swreq_derive.specs.Facts.{generic_params}
+use Rattle.swreq_shown.specs.Meaning.{facts_of}
+use Rattle.swreq_world.specs.ByTable.{world_by}
+use Rattle.swreq_valid.specs.Machines.{list_of}
+use Rattle.swreq_valid.specs.Plans.{AreKnown, listed}
+use Rattle.swreq_valid.specs.Rounds.{last_rules}
+use Rattle.swreq_minimal.specs.Passed.{IsLeftWithout}
+use Rattle.swreq_minimal.specs.Told.{TellsParts}
+use Rattle.swreq_minimal.proofs.Passing.{IsLeftFrom}
+use Rattle.swreq_minimal.proofs.sifting.drop_derivable.Given as goal
+
+abbrev pub invariant-loop-count : goal.invariant-loop-count
+invariant-loop-count g l = record {
+  within : l.count ≤ length (listed l.table l.initial.left.items);
+  left : IsLeftFrom (facts_of (world_by l.table l.world)) (generic_params l.params) l.count (listed l.table l.initial.left.items) (listed l.table l.left.items);
+  known : AreKnown l.table l.world.lexicon l.left.items;
+  told : TellsParts l.limits (list_of (world_by l.table l.world) (last_rules l.protocols.rounds) l.params)
+      (IsLeftWithout (facts_of (world_by l.table l.world)) (generic_params l.params) (listed l.table l.initial.left.items)) (g.W.Watch.told l.initial.watch) (g.W.Watch.told l.watch);
+}
+
+abbrev pub decreases-loop-count : goal.decreases-loop-count
+decreases-loop-count g l = l.count

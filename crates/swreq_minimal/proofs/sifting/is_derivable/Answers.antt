@@ -1,0 +1,37 @@
+use Rattle.std.proofs.Common.{◌≡◌, ◌↔◌, subst, List}
+use Rattle.std.specs.Bool.{IsTrue}
+use Rattle.swreq_derive.specs.declared.known.Params.{Params}
+use Rattle.swreq_derive.specs.Derivation.{Derivable}
+use Rattle.swreq_derive.specs.Derivation.Source.{Written}
+use Rattle.swreq_derive.specs.Derivation.TermStatement.{Requires}
+use Rattle.swreq_derive.specs.Facts.{generic_params, requirement_of}
+use Rattle.swreq_shown.specs.Meaning.{facts_of}
+use Rattle.swreq_world.specs.ByTable.{world_by}
+use Rattle.swreq_valid.specs.Machines.{list_of}
+use Rattle.swreq_valid.specs.Plans.{listed}
+use Rattle.swreq_valid.specs.Rounds.{last_rules}
+use Rattle.swreq_minimal.proofs.Telling.{one_failure, one_part, wants_memory}
+use Rattle.swreq_minimal.proofs.sifting.is_derivable.Goals as goal
+
+pub returns-in-Err-clause-failed : goal.returns-in-Err-clause-failed
+returns-in-Err-clause-failed g c =
+    one_failure c.args.limits (list_of (world_by c.args.table.now c.args.world.now) (last_rules c.args.protocols.now.rounds) c.args.params)
+    (listed c.args.table.now c.args.list.now) (g.W.Watch.told c.args.watch.now) (g.W.Watch.told c.core.new.watch) c.in-Err.failed c.in-Err.ensures.answer
+
+pub returns-in-Ok-holds-clause-answer : goal.returns-in-Ok-holds-clause-answer
+returns-in-Ok-holds-clause-answer g c =
+    subst (λ (z : Params). IsTrue c.in-Ok-holds.derivable
+    ↔ Derivable (facts_of (world_by c.args.table.now c.args.world.now)) (Written (generic_params z) (listed c.args.table.now c.args.list.now)) (Requires (requirement_of c.args.table.now c.args.r)))
+    c.in-Ok.ensures.params (c.in-Ok-holds.ensures (listed c.args.table.now c.args.list.now) c.in-Ok.ensures.machine)
+
+pub returns-in-Ok-holds-clause-told : goal.returns-in-Ok-holds-clause-told
+returns-in-Ok-holds-clause-told g c =
+    one_part c.args.limits (list_of (world_by c.args.table.now c.args.world.now) (last_rules c.args.protocols.now.rounds) c.args.params)
+    (listed c.args.table.now c.args.list.now) (g.W.Watch.told c.args.watch.now) (g.W.Watch.told c.core.new.watch) (last_rules c.in-Ok.machine.rounds) c.in-Ok.ensures.answer
+
+pub returns-clause-failed : goal.returns-clause-failed
+returns-clause-failed g c =
+    let plan = list_of (world_by c.args.table.now c.args.world.now) (last_rules c.args.protocols.now.rounds) c.args.params in
+    let list = listed c.args.table.now c.args.list.now in
+    wants_memory c.args.limits plan (λ l. l ≡ list) (g.W.Watch.told c.args.watch.now) (g.W.Watch.told c.core.new.watch)
+    (one_part c.args.limits plan list (g.W.Watch.told c.args.watch.now) (g.W.Watch.told c.core.new.watch) (last_rules c.in-Ok.machine.rounds) c.in-Ok.ensures.answer)

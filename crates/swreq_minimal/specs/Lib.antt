@@ -1,0 +1,5 @@
+pub mod Inheritance
+pub mod Typed
+pub mod Sorted
+pub mod Passed
+pub mod Told

@@ -1,0 +1,45 @@
+-- The lists that minimising may complete.
+use Rattle.std.specs.Prelude.{◌≡◌, ◌⊎◌, List, [], ◌∷◌, ◌++◌}
+use Rattle.swreq_param.specs.declared.ids.ParamId.{ParamId}
+use Rattle.swreq_derive.specs.Derivation.{TermFacts, TermRequirement}
+use Rattle.swreq_derive.specs.Derivation.Source.{Written}
+use Rattle.swreq_canonical.specs.Generators.{Takes}
+use Rattle.swreq_canonical.specs.Minimised.{Leaves}
+use Rattle.swreq_candidates.specs.Candidates.{IsCandidateList}
+use Rattle.swreq_reading.specs.Symbols.{Symbols}
+
+-- for a candidate, those that were taken before it
+pub record IsTakenBefore (f : TermFacts) (params : List ParamId) (candidates list : List TermRequirement) : Type 0 where
+  pub before : List TermRequirement
+  pub candidate : TermRequirement
+  pub after : List TermRequirement
+  pub split : candidates ≡ before ++ candidate ∷ after
+  pub taken : Takes f params [] before list
+
+-- for a generator, from the last to the first, what is then left without it
+pub record IsLeftWithout (f : TermFacts) (params : List ParamId) (generators list : List TermRequirement) : Type 0 where
+  pub front : List TermRequirement
+  pub generator : TermRequirement
+  pub behind : List TermRequirement
+  pub left : List TermRequirement
+  pub split : generators ≡ front ++ generator ∷ behind
+  pub leaves : Leaves f params (front ++ generator ∷ []) behind left
+  pub list_is : list ≡ front ++ left
+
+-- one of these, for the candidates and the generators among them
+abbrev pub IsPassed : TermFacts → List ParamId → List TermRequirement → List TermRequirement → Type 0
+IsPassed f params candidates list =
+    IsTakenBefore f params candidates list
+    ⊎ ((generators : List TermRequirement) × Takes f params [] candidates generators × IsLeftWithout f params generators list)
+
+-- one of these, for the candidates of a list
+abbrev pub IsPassedOf : Symbols → TermFacts → List ParamId → List TermRequirement → List TermRequirement → Type 0
+IsPassedOf m f params list passed =
+    (candidates : List TermRequirement) × IsCandidateList m f (Written params list) candidates × IsPassed f params candidates passed
+
+-- What is left of candidates: of those that one takes going through them in order, those that are left when one then drops from the last to
+-- the first.
+pub record IsSifted (f : TermFacts) (params : List ParamId) (candidates left : List TermRequirement) : Type 0 where
+  pub generators : List TermRequirement
+  pub takes : Takes f params [] candidates generators
+  pub leaves : Leaves f params [] generators left

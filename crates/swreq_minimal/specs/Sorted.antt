@@ -1,0 +1,40 @@
+-- Where a requirement belongs among others, and what was said by the first rules of a system.
+use Rattle.std.specs.Prelude.{◌≡◌, ◌↔◌, ◌<◌, ℕ, List, ◌∷◌, ◌++◌, Some, length, slice_get, Contains}
+use Rattle.swreq_param.specs.Terms.{Term}
+use Rattle.swreq_derive.specs.declared.known.Params.{Params}
+use Rattle.swreq_derive.specs.declared.requirements.Requirement.{Requirement}
+use Rattle.swreq_derive.specs.Derivation.{Source, TermFacts, TermRequirement}
+use Rattle.swreq_derive.specs.Facts.{requirement_of}
+use Rattle.swreq_rule.specs.declared.rules.Rule.{Rule}
+use Rattle.swreq_ranks.specs.Views.{LexiconView}
+use Rattle.swreq_written.specs.ByTable.{HasIdsOf}
+use Rattle.swreq_canonical.specs.Canonical.{IsCanonical}
+use Rattle.swreq_canonical.specs.CanonicalOrder.{IsStrictlySorted, RequirementBefore}
+use Rattle.swreq_minimal.specs.Typed.{SaysBy}
+
+-- The ids of the requirements are of the table.
+abbrev pub AreHere : List Term → List Requirement → Type 0
+AreHere terms found = (r : Requirement) → Contains found r → HasIdsOf terms r
+
+-- The place is that of the first requirement that comes after r, or the end, and none before it is r.
+pub record BelongsAt (terms : List Term) (found : List Requirement) (r : Requirement) (place : ℕ) : Type 0 where
+  pub before : List Requirement
+  pub after : List Requirement
+  pub split : found ≡ before ++ after
+  pub place_is : length before ≡ place
+  pub not_same : (q : Requirement) → Contains before q → requirement_of terms q ≡ requirement_of terms r → ⊥
+  pub not_later : (q : Requirement) → Contains before q → RequirementBefore (requirement_of terms r) (requirement_of terms q) → ⊥
+  pub next : (q : Requirement) (rest : List Requirement) → after ≡ q ∷ rest
+      → RequirementBefore (requirement_of terms r) (requirement_of terms q)
+
+-- one of the first so many rules of the system says it
+abbrev pub IsSaidBefore : LexiconView → List Rule → Params → List Rule → ℕ → TermRequirement → Type 0
+IsSaidBefore x rules params system n q =
+    (k : ℕ) × (rule : Rule) × (k < n) × (slice_get system k ≡ Some rule) × SaysBy x rules params rule.left rule.right q
+
+-- What the first so many rules say, and only that. It is strictly sorted where it is canonical.
+pub record IsSaidList (x : LexiconView) (rules : List Rule) (params : Params) (system : List Rule) (n : ℕ)
+    (found : List TermRequirement) : Type 0 where
+  pub members : (q : TermRequirement) → Contains found q ↔ IsSaidBefore x rules params system n q
+  pub sorted : (f : TermFacts) (s : Source) → ((q : TermRequirement) → IsSaidBefore x rules params system n q → IsCanonical f s q)
+      → IsStrictlySorted found

@@ -1,0 +1,56 @@
+-- What a watcher is told of the rounds of several lists.
+use Rattle.std.specs.Prelude.{◌≡◌, ◌⊎◌, List, [], ◌++◌, Option, Ok, Err}
+use Rattle.swreq_derive.specs.Derivation.{TermRequirement}
+use Rattle.swreq_rule.specs.declared.rules.Rule.{Rule}
+use Rattle.swreq_watch.specs.declared.events.Event.{Event}
+use Rattle.swreq_watch.specs.Told.{GrewBy}
+use Rattle.swreq_complete.specs.declared.limit.Limits.{Limits}
+use Rattle.swreq_complete.specs.declared.limit.Failed.{Failed}
+use Rattle.swreq_complete.specs.declared.limit.Failed.TheVariants.{Limit, Memory}
+use Rattle.swreq_rounds.specs.Plan.{Plan}
+use Rattle.swreq_rounds.specs.Rounds.{ComesTo, IsOutcome}
+
+-- Parts, one after the other: each is what the rounds of one of these lists tell, which ended.
+pub data AreParts (limits : Limits) (plan : List TermRequirement → Plan) (IsOne : List TermRequirement → Type 0) : List Event → Type 0 where
+  no_part : AreParts limits plan IsOne []
+  a_part : {before part told : List Event} (list : List TermRequirement) (rules : List Rule)
+      → AreParts limits plan IsOne before → IsOne list
+      → IsOutcome limits (plan list) (Ok rules) part → told ≡ before ++ part → AreParts limits plan IsOne told
+
+-- The rounds of one of these lists pass the limit, with this trace, and the last part is what they tell.
+pub record StopsAt (limits : Limits) (plan : List TermRequirement → Plan) (IsOne : List TermRequirement → Type 0)
+    (failed : Failed) (told : List Event) : Type 0 where
+  pub before : List Event
+  pub part : List Event
+  pub list : List TermRequirement
+  pub parts : AreParts limits plan IsOne before
+  pub is_one : IsOne list
+  pub outcome : IsOutcome limits (plan list) (Err failed) part
+  pub told_is : told ≡ before ++ part
+
+-- The last part is so far as the rounds of one of these lists came.
+pub record IsCutOff (limits : Limits) (plan : List TermRequirement → Plan) (IsOne : List TermRequirement → Type 0)
+    (told : List Event) : Type 0 where
+  pub before : List Event
+  pub part : List Event
+  pub list : List TermRequirement
+  pub parts : AreParts limits plan IsOne before
+  pub is_one : IsOne list
+  pub comes : ComesTo limits (plan list) part
+  pub told_is : told ≡ before ++ part
+
+-- A limit is one that the rounds of one of these lists pass, with its trace. For want of memory parts are told, and maybe the beginning of
+-- one.
+abbrev pub FailsBy : Limits → (List TermRequirement → Plan) → (List TermRequirement → Type 0) → Failed → List Event → Type 0
+FailsBy limits plan IsOne (Limit which trace) told = StopsAt limits plan IsOne (Limit which trace) told
+FailsBy limits plan IsOne Memory told = AreParts limits plan IsOne told ⊎ IsCutOff limits plan IsOne told
+
+-- the watcher was told parts
+abbrev pub TellsParts : Limits → (List TermRequirement → Plan) → (List TermRequirement → Type 0)
+    → Option (List Event) → Option (List Event) → Type 0
+TellsParts limits plan IsOne old new = (told : List Event) × AreParts limits plan IsOne told × GrewBy old new told
+
+-- the watcher was told what was told when it failed
+abbrev pub TellsFailure : Limits → (List TermRequirement → Plan) → (List TermRequirement → Type 0)
+    → Option (List Event) → Option (List Event) → Failed → Type 0
+TellsFailure limits plan IsOne old new failed = (told : List Event) × FailsBy limits plan IsOne failed told × GrewBy old new told

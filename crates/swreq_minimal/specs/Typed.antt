@@ -1,0 +1,64 @@
+-- What the rules of a machine say of words: their types, and what is read off rules.
+use Rattle.std.specs.Prelude.{◌≡◌, ◌≤◌, ℕ, List, [], ◌∷◌, ◌++◌, Option, MatchOption, Contains}
+use Rattle.swreq_param.specs.declared.ids.AssocId.{AssocId}
+use Rattle.swreq_param.specs.declared.ids.NameId.{NameId}
+use Rattle.swreq_param.specs.declared.ids.ProtoId.{ProtoId}
+use Rattle.swreq_param.specs.declared.ids.Step.TheVariants.{Bound, Name}
+use Rattle.swreq_param.specs.declared.ids.TermId.{TermId}
+use Rattle.swreq_param.specs.Tables.{IsOf, term_at}
+use Rattle.swreq_param.specs.Terms.{Term}
+use Rattle.swreq_param.specs.Terms.Term.{Generic, Member}
+use Rattle.swreq_derive.specs.declared.known.Params.{Params}
+use Rattle.swreq_derive.specs.declared.requirements.Requirement.{Requirement}
+use Rattle.swreq_derive.specs.Derivation.{TermRequirement}
+use Rattle.swreq_derive.specs.Derivation.TermRequirement.{Conforms, IsAnyObject, Equals}
+use Rattle.swreq_derive.specs.Facts.{generic_params, requirement_of}
+use Rattle.swreq_word.specs.declared.symbols.Symbol.{Symbol}
+use Rattle.swreq_word.specs.declared.symbols.Symbol.TheVariants.{Proto, Member as MemberSymbol, Param, Layout}
+use Rattle.swreq_rule.specs.declared.rules.Rule.{Rule}
+use Rattle.swreq_ranks.specs.Views.{IsProtocol, LexiconView}
+use Rattle.swreq_reading.specs.Symbols.{IsRank, Word, name_of, proto_of}
+use Rattle.swreq_candidates.specs.Candidates.{IsNamed}
+use Rattle.swreq_shown.specs.Known.{IsRequirementIn}
+use Rattle.swreq_shown.specs.Meaning.{symbols_of}
+use Rattle.swreq_map.specs.Properties.{Vanishes}
+use Rattle.swreq_valid.specs.LeastTypes.{IsFirstBehind}
+
+-- Behind the word the symbol `[P:A]` stands for the bound member d: `[P]` vanishes there, and d is the first associated type A given there.
+abbrev pub IsMemberBehind : LexiconView → List Rule → Word → Symbol → AssocId → Type 0
+IsMemberBehind x rules w y d =
+    (k : ℕ) × (y ≡ MemberSymbol k) × IsRank (symbols_of x) k × Vanishes rules w (Proto (proto_of (symbols_of x) k).rank)
+    × IsFirstBehind x rules w (name_of (symbols_of x) k) d
+
+-- By the rules T is the type of the word: of a generic parameter's symbol that generic parameter, and of a word with a member symbol behind
+-- it the bound member for which the symbol stands there.
+abbrev pub IsTypeBy : LexiconView → List Rule → Params → Word → Term → Type 0
+IsTypeBy x rules params u (Generic g) = Contains (generic_params params) g × (u ≡ Param g.depth g.index ∷ [])
+IsTypeBy x rules params u (Member t (Bound d)) =
+    (front : Word) × (y : Symbol) × (u ≡ front ++ y ∷ []) × IsTypeBy x rules params front t × IsMemberBehind x rules front y d
+IsTypeBy x rules params u (Member t (Name a)) = ⊥
+
+-- By the rules a left side speaks of V: it is the symbol of a generic parameter V, or the symbol of a member or a name behind a word, where
+-- V is the bound member of the word's type with the first associated type of that name given there.
+abbrev pub SpeaksBy : LexiconView → List Rule → Params → Word → Term → Type 0
+SpeaksBy x rules params l (Generic g) = IsTypeBy x rules params l (Generic g)
+SpeaksBy x rules params l (Member t (Bound d)) =
+    (front : Word) × (y : Symbol) × (a : NameId) × (l ≡ front ++ y ∷ []) × IsTypeBy x rules params front t × IsNamed (symbols_of x) y a
+    × IsFirstBehind x rules front a d
+SpeaksBy x rules params l (Member t (Name a)) = ⊥
+
+-- By the rules this is what the rule `l => r` says.
+abbrev pub SaysBy : LexiconView → List Rule → Params → Word → Word → TermRequirement → Type 0
+SaysBy x rules params l r (Conforms t p) = IsTypeBy x rules params r t × IsProtocol x p × (l ≡ r ++ Proto p.rank ∷ [])
+SaysBy x rules params l r (IsAnyObject t) = IsTypeBy x rules params r t × (l ≡ r ++ Layout ∷ [])
+SaysBy x rules params l r (Equals u v) = IsTypeBy x rules params r u × SpeaksBy x rules params l v × (u ≡ v → ⊥)
+
+-- ---- what the code answers
+
+-- an id of a type parameter of which P holds, or None where there is none
+abbrev pub Identifies : (Term → Type 0) → List Term → Option TermId → Type 0
+Identifies P terms answer = MatchOption answer ((t : Term) → P t → ⊥) (λ id. IsOf terms id × P (term_at terms id))
+
+-- a requirement of which P holds, with ids of the table and the text, or None where there is none
+abbrev pub Finds : (TermRequirement → Type 0) → List Term → LexiconView → Option Requirement → Type 0
+Finds P terms x answer = MatchOption answer ((r : TermRequirement) → P r → ⊥) (λ r. IsRequirementIn terms x r × P (requirement_of terms r))

@@ -1,0 +1,157 @@
+//! The candidates of a machine's list, read off the reduced system of its rules.
+ghost use Rattle.std.specs.Prelude.{◌≡◌, ◌⊎◌, ◌↔◌, ◌≤◌, ◌<◌, List, length, insert, Contains, IfOk, OnOk, MatchOption};
+ghost use Rattle.swreq_param.specs.Tables.{Extends};
+ghost use Rattle.swreq_derive.specs.Derivation.{Source, TermFacts, TermRequirement};
+ghost use Rattle.swreq_derive.specs.Derivation.Source.{Written};
+ghost use Rattle.swreq_derive.specs.Facts.{generic_params, requirement_of};
+ghost use Rattle.swreq_word.specs.Least.{IsMinimal};
+ghost use Rattle.swreq_complete.specs.Reduced.{IsReducedSystem};
+ghost use Rattle.swreq_written.specs.ByTable.{HasIdsOf};
+ghost use Rattle.swreq_canonical.specs.Canonical.{IsCanonical};
+ghost use Rattle.swreq_canonical.specs.CanonicalOrder.{IsStrictlySorted};
+ghost use Rattle.swreq_candidates.specs.Candidates.{IsCandidateList};
+ghost use Rattle.swreq_candidates.specs.Completed.{IsCompleted};
+ghost use Rattle.swreq_ranks.specs.Views.{LexiconView};
+ghost use Rattle.swreq_shown.specs.Known.{IsRequirementIn, IsTextOver};
+ghost use Rattle.swreq_shown.specs.Meaning.{facts_of, symbols_of};
+ghost use Rattle.swreq_shown.specs.Vanishing.{IsLeastBy, Links};
+ghost use Rattle.swreq_world.specs.ByTable.{world_by};
+ghost use Rattle.swreq_valid.specs.Machines.{IsMachineOf};
+ghost use Rattle.swreq_valid.specs.Plans.{AreKnown, listed};
+ghost use Rattle.swreq_minimal.specs.Sorted.{AreHere, BelongsAt, IsSaidList};
+ghost use Rattle.swreq_minimal.specs.Typed.{SaysBy};
+
+use crate::order::{is_before, is_same};
+use crate::spoken::said;
+use std::alloc::{AllocError, Global};
+use swreq_complete::CompleteRules;
+use swreq_derive::{Params, Requirement};
+use swreq_param::ParamTable;
+use swreq_rule::Rule;
+use swreq_valid::Machine;
+use swreq_world::World;
+
+/// The place at which a requirement belongs, or None where it is there.
+fn place_of(table: &ParamTable, found: &[Requirement], r: Requirement) -> Option<usize>
+    requires found { AreHere table.now found.now }
+    requires r { HasIdsOf table.now r }
+    ensures { MatchOption result (Contains (listed table.now found.now) (requirement_of table.now r)) (BelongsAt table.now found.now r) }
+{
+    for k in 0..found.len() {
+        let one = found[k];
+        if is_same(table, one, r) {
+            return None;
+        }
+        if is_before(table, r, one) {
+            return Some(k);
+        }
+    }
+    Some(found.len())
+}
+
+/// Puts a requirement at a place.
+fn put_in(found: &mut Vec<Requirement>, place: usize, r: Requirement) -> Result<(), AllocError>
+    requires { place ≤ length found.old.items }
+    ensures { OnOk result (found.new.items ≡ insert found.old.items place r) }
+{
+    match found.insert(place, r) {
+        Ok(()) => Ok(()),
+        Err(_) => Err(AllocError),
+    }
+}
+
+/// Puts a requirement where it belongs, unless it is there.
+fn put_sorted(
+    table: &ParamTable,
+    found: &mut Vec<Requirement>,
+    r: Requirement,
+) -> Result<(), AllocError>
+    requires found { AreHere table.now found.old.items }
+    requires r { HasIdsOf table.now r }
+    ensures members { OnOk result ((q : TermRequirement) → Contains (listed table.now found.new.items) q
+        ↔ (Contains (listed table.now found.old.items) q ⊎ (q ≡ requirement_of table.now r))) }
+    ensures sorted { OnOk result ((f : TermFacts) (s : Source)
+        → ((q : TermRequirement) → Contains (listed table.now found.old.items) q ⊎ (q ≡ requirement_of table.now r) → IsCanonical f s q)
+        → IsStrictlySorted (listed table.now found.old.items) → IsStrictlySorted (listed table.now found.new.items)) }
+    ensures known { (x : LexiconView) → AreKnown table.now x found.old.items → IsRequirementIn table.now x r
+        → OnOk result (AreKnown table.now x found.new.items) }
+{
+    match place_of(table, found, r) {
+        None => Ok(()),
+        Some(place) => put_in(found, place, r),
+    }
+}
+
+/// Adds what a rule of the reduced system says, unless it is there.
+fn add(
+    alloc: Global,
+    world: &World,
+    rules: &CompleteRules,
+    params: Params,
+    table: &mut ParamTable,
+    rule: &Rule,
+    found: &mut Vec<Requirement>,
+) -> Result<(), AllocError>
+    requires minimal { IsMinimal (Links rules.now) rule.now.left }
+    requires least { IsLeastBy rules.now rule.now.right }
+    requires known { AreKnown table.old world.now.lexicon found.old.items }
+    ensures members { OnOk result ((q : TermRequirement) → Contains (listed table.new found.new.items) q
+        ↔ (Contains (listed table.old found.old.items) q ⊎ SaysBy world.now.lexicon rules.now params rule.now.left rule.now.right q)) }
+    ensures sorted { OnOk result ((f : TermFacts) (s : Source)
+        → ((q : TermRequirement) → Contains (listed table.old found.old.items) q
+        ⊎ SaysBy world.now.lexicon rules.now params rule.now.left rule.now.right q → IsCanonical f s q)
+        → IsStrictlySorted (listed table.old found.old.items) → IsStrictlySorted (listed table.new found.new.items)) }
+    ensures known { OnOk result (AreKnown table.new world.now.lexicon found.new.items) }
+    ensures extends { Extends table.old table.new }
+{
+    let left = rule.left.symbols();
+    let right = rule.right.symbols();
+    let one = said(alloc, world, rules, params, table, left, right)?;
+    match one {
+        None => Ok(()),
+        Some(r) => put_sorted(table, found, r),
+    }
+}
+
+/// What the rules of the reduced system say, in order, each once.
+fn collect(
+    alloc: Global,
+    world: &World,
+    rules: &CompleteRules,
+    params: Params,
+    table: &mut ParamTable,
+    system: &[Rule],
+) -> Result<Vec<Requirement>, AllocError>
+    requires { IsReducedSystem (Links rules.now) system.now }
+    ensures said { IfOk result (λ v. IsSaidList world.now.lexicon rules.now params system.now (length system.now)
+        (listed table.new v.items)) }
+    ensures known { IfOk result (λ v. AreKnown table.new world.now.lexicon v.items) }
+    ensures extends { Extends table.old table.new }
+{
+    let mut found: Vec<Requirement> = Vec::new(alloc);
+    for k in 0..system.len() {
+        let rule = &system[k];
+        add(alloc, world, rules, params, table, rule, &mut found)?;
+    }
+    Ok(found)
+}
+
+/// The candidates of the machine's list, in order. They are read off the reduced system of its rules.
+pub(crate) fn candidates(
+    alloc: Global,
+    world: &World,
+    table: &mut ParamTable,
+    machine: &Machine,
+) -> Result<Vec<Requirement>, AllocError>
+    requires { IsTextOver table.old world.now }
+    ensures candidates { (list : List TermRequirement) → IsMachineOf (world_by table.old world.now) list machine.now
+        → IsCompleted (symbols_of world.now.lexicon) (facts_of (world_by table.old world.now)) (generic_params machine.now.params) list
+        → IfOk result (λ v. IsCandidateList (symbols_of world.now.lexicon) (facts_of (world_by table.old world.now))
+        (Written (generic_params machine.now.params) list) (listed table.new v.items)) }
+    ensures known { IfOk result (λ v. AreKnown table.new world.now.lexicon v.items) }
+    ensures extends { Extends table.old table.new }
+{
+    let rules = machine.rules();
+    let system = rules.canonical(alloc)?;
+    collect(alloc, world, rules, machine.params(), table, &system)
+}

@@ -1,0 +1,59 @@
+//! Which bound member a symbol stands for behind a word.
+ghost use Rattle.std.specs.Prelude.{◌+◌, ◌≤◌, length, vec_capacity, MatchOption};
+ghost use Rattle.swreq_param.specs.declared.ids.AssocId.{AssocId};
+ghost use Rattle.swreq_word.specs.declared.symbols.Symbol.TheVariants.{Member as MemberSymbol};
+ghost use Rattle.swreq_shown.specs.Vanishing.{IsLeastBy};
+ghost use Rattle.swreq_minimal.specs.Typed.{IsMemberBehind};
+
+use swreq_complete::CompleteRules;
+use swreq_map::vanishes;
+use swreq_param::AssocId;
+use swreq_valid::first_behind;
+use swreq_word::Symbol;
+use swreq_world::World;
+
+/// The bound member for which the member symbol of this rank stands behind the word, or None where it stands for none.
+fn member_at(
+    world: &World,
+    rules: &CompleteRules,
+    word: &[Symbol],
+    rank: u64,
+    test: &mut Vec<Symbol>,
+) -> Option<AssocId>
+    requires least { IsLeastBy rules.now word.now }
+    requires fits { length word.now + 1 ≤ vec_capacity test.old }
+    ensures answer { MatchOption result
+        ((d : AssocId) → IsMemberBehind world.now.lexicon rules.now word.now (MemberSymbol rank) d → ⊥)
+        (IsMemberBehind world.now.lexicon rules.now word.now (MemberSymbol rank)) }
+    ensures room { vec_capacity test.old ≤ vec_capacity test.new }
+{
+    if rank >= world.members() {
+        return None;
+    }
+    let symbol = world.member_at(rank);
+    if !vanishes(rules, word, Symbol::Proto(symbol.proto.rank), test) {
+        return None;
+    }
+    first_behind(world, rules, word, symbol.name, test)
+}
+
+/// The bound member for which the symbol stands behind the word, or None where it stands for none.
+pub(crate) fn member_behind(
+    world: &World,
+    rules: &CompleteRules,
+    word: &[Symbol],
+    x: Symbol,
+    test: &mut Vec<Symbol>,
+) -> Option<AssocId>
+    requires least { IsLeastBy rules.now word.now }
+    requires fits { length word.now + 1 ≤ vec_capacity test.old }
+    ensures answer { MatchOption result
+        ((d : AssocId) → IsMemberBehind world.now.lexicon rules.now word.now x d → ⊥)
+        (IsMemberBehind world.now.lexicon rules.now word.now x) }
+    ensures room { vec_capacity test.old ≤ vec_capacity test.new }
+{
+    match x {
+        Symbol::Member(rank) => member_at(world, rules, word, rank, test),
+        _ => None,
+    }
+}

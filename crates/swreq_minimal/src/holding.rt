@@ -1,0 +1,121 @@
+//! Whether a requirement is derivable from the list of a machine.
+ghost use Rattle.std.specs.Prelude.{◌≡◌, ◌↔◌, IfOk, IsTrue, List};
+ghost use Rattle.swreq_param.specs.Tables.{term_at};
+ghost use Rattle.swreq_derive.specs.Derivation.{Derivable, TermRequirement};
+ghost use Rattle.swreq_derive.specs.Derivation.Source.{Written};
+ghost use Rattle.swreq_derive.specs.Derivation.TermStatement.{Requires};
+ghost use Rattle.swreq_derive.specs.Facts.{generic_params, requirement_of};
+ghost use Rattle.swreq_reading.specs.Shown.{ShowsUsable, ShowsValid};
+ghost use Rattle.swreq_shown.specs.declared.over.Over.TheVariants.{Signature};
+ghost use Rattle.swreq_shown.specs.Known.{IsRequirementIn, IsTextOver, IsTypeIn};
+ghost use Rattle.swreq_shown.specs.Meaning.{facts_of, symbols_of};
+ghost use Rattle.swreq_shown.specs.Overs.{source_of};
+ghost use Rattle.swreq_shown.specs.Vanishing.{IsLeastBy, Links};
+ghost use Rattle.swreq_world.specs.ByTable.{world_by};
+ghost use Rattle.swreq_valid.specs.Machines.{IsMachineOf};
+ghost use Rattle.swreq_valid.specs.Rounds.{last_rules};
+
+use crate::words::are_same;
+use std::alloc::{AllocError, Global};
+use swreq_complete::CompleteRules;
+use swreq_derive::Requirement;
+use swreq_param::{ParamTable, TermId};
+use swreq_shown::{Over, equation, least_word};
+use swreq_valid::Machine;
+use swreq_word::{Symbol, Word};
+use swreq_world::World;
+
+/// Whether the rules of the machine show that a type parameter is valid.
+fn is_valid(
+    alloc: Global,
+    world: &World,
+    table: &ParamTable,
+    machine: &Machine,
+    t: TermId,
+) -> Result<bool, AllocError>
+    requires text { IsTextOver table.now world.now }
+    requires t { IsTypeIn table.now world.now.lexicon t }
+    ensures { IfOk result (λ b. IsTrue b ↔ ShowsValid (symbols_of world.now.lexicon) (facts_of (world_by table.now world.now))
+        (source_of (Signature machine.now.params)) (Links (last_rules machine.now.rounds)) (term_at table.now t)) }
+{
+    let room = table.members(t).checked_add(2).ok_or(AllocError)?;
+    let mut word: Vec<Symbol> = Vec::with_capacity(alloc, room)?;
+    let mut test: Vec<Symbol> = Vec::with_capacity(alloc, room)?;
+    Ok(least_word(
+        world,
+        table,
+        machine.rules(),
+        Over::Signature(machine.params()),
+        t,
+        &mut word,
+        &mut test,
+    ))
+}
+
+/// Whether the rules of the machine show that the type parameters of a requirement are valid.
+fn has_valid_sides(
+    alloc: Global,
+    world: &World,
+    table: &ParamTable,
+    machine: &Machine,
+    r: Requirement,
+) -> Result<bool, AllocError>
+    requires text { IsTextOver table.now world.now }
+    requires r { IsRequirementIn table.now world.now.lexicon r }
+    ensures { IfOk result (λ b. IsTrue b ↔ ShowsUsable (symbols_of world.now.lexicon) (facts_of (world_by table.now world.now))
+        (source_of (Signature machine.now.params)) (Links (last_rules machine.now.rounds)) (requirement_of table.now r)) }
+{
+    match r {
+        Requirement::Conf { subject, .. } => is_valid(alloc, world, table, machine, subject),
+        Requirement::Layout { subject } => is_valid(alloc, world, table, machine, subject),
+        Requirement::Same { left, right } => {
+            if is_valid(alloc, world, table, machine, left)? {
+                is_valid(alloc, world, table, machine, right)
+            } else {
+                Ok(false)
+            }
+        }
+    }
+}
+
+/// The least word that the rules link to a word.
+fn least(alloc: Global, rules: &CompleteRules, word: &Word) -> Result<Vec<Symbol>, AllocError>
+    ensures linked { IfOk result (λ v. Links rules.now word.now v.items) }
+    ensures least { IfOk result (λ v. IsLeastBy rules.now v.items) }
+{
+    let mut least = Vec::from_slice(alloc, word.symbols())?;
+    rules.reduce(&mut least);
+    Ok(least)
+}
+
+/// Whether the rules link two words.
+fn are_linked(alloc: Global, rules: &CompleteRules, u: &Word, v: &Word) -> Result<bool, AllocError>
+    ensures { IfOk result (λ b. IsTrue b ↔ Links rules.now u.now v.now) }
+{
+    let left = least(alloc, rules, u)?;
+    let right = least(alloc, rules, v)?;
+    Ok(are_same(&left, &right))
+}
+
+/// Whether a requirement is derivable from the list of the machine: whether its type parameters are valid, and the rules link the two
+/// sides of its equation.
+pub(crate) fn holds(
+    alloc: Global,
+    world: &World,
+    table: &ParamTable,
+    machine: &Machine,
+    r: Requirement,
+) -> Result<bool, AllocError>
+    requires text { IsTextOver table.now world.now }
+    requires r { IsRequirementIn table.now world.now.lexicon r }
+    ensures { (list : List TermRequirement) → IsMachineOf (world_by table.now world.now) list machine.now → IfOk result (λ b. IsTrue b
+        ↔ Derivable (facts_of (world_by table.now world.now)) (Written (generic_params machine.now.params) list)
+        (Requires (requirement_of table.now r))) }
+{
+    let valid = has_valid_sides(alloc, world, table, machine, r)?;
+    if !valid {
+        return Ok(false);
+    }
+    let sides = equation(alloc, world, table, None, &r)?;
+    are_linked(alloc, machine.rules(), &sides.0, &sides.1)
+}

@@ -1,0 +1,94 @@
+//! The minimised list of a machine's list.
+ghost use Rattle.std.specs.Prelude.{◌≡◌, List, Contains, IfErr, IfOk};
+ghost use Rattle.swreq_param.specs.Tables.{Extends};
+ghost use Rattle.swreq_derive.specs.Derivation.{TermRequirement};
+ghost use Rattle.swreq_derive.specs.Derivation.Source.{Written};
+ghost use Rattle.swreq_derive.specs.Equivalence.{AreEquivalent};
+ghost use Rattle.swreq_derive.specs.Facts.{generic_params};
+ghost use Rattle.swreq_complete.specs.Limits.{AreInRange};
+ghost use Rattle.swreq_canonical.specs.Canonical.{IsCanonical};
+ghost use Rattle.swreq_canonical.specs.CanonicalOrder.{IsStrictlySorted};
+ghost use Rattle.swreq_canonical.specs.Minimised.{IsIndependent, IsMinimised};
+ghost use Rattle.swreq_shown.specs.Known.{IsTextOver};
+ghost use Rattle.swreq_shown.specs.Meaning.{facts_of, symbols_of};
+ghost use Rattle.swreq_world.specs.ByTable.{world_by};
+ghost use Rattle.swreq_valid.specs.Machines.{AreRulesOf, IsMachineOf, list_of};
+ghost use Rattle.swreq_valid.specs.Plans.{AreKnown, listed};
+ghost use Rattle.swreq_valid.specs.Rounds.{last_rules};
+ghost use Rattle.swreq_minimal.specs.Inheritance.{IsInheritanceWritten};
+ghost use Rattle.swreq_minimal.specs.Passed.{IsPassedOf};
+ghost use Rattle.swreq_minimal.specs.Told.{TellsFailure, TellsParts};
+
+use crate::candidates::candidates;
+use crate::sifting::sift;
+use std::alloc::Global;
+use swreq_complete::{Failed, Limits};
+use swreq_derive::Requirement;
+use swreq_param::ParamTable;
+use swreq_valid::{Machine, Protocols};
+use swreq_watch::Watch;
+use swreq_world::World;
+
+/// The minimised list of the machine's list.
+///
+/// It derives what the list derives and is derived from it, and none of its members is derivable from the others. Its members are
+/// canonical and strictly sorted. `Failed::Limit` comes only where the rounds of a list that is met on the way pass a limit, with the
+/// trace of the round that passes it. These lists are for each candidate those that were taken before it, and for each of the taken,
+/// from the last to the first, what is then left without it. The watcher is told the events of the rounds of such lists. The table
+/// grows, its ids stay, and so does the world over it.
+pub fn minimise<W: Watch>(
+    alloc: Global,
+    world: &World,
+    table: &mut ParamTable,
+    protocols: &Protocols,
+    machine: &Machine,
+    limits: Limits,
+    watch: &mut W,
+) -> Result<Vec<Requirement>, Failed>
+    requires text { IsTextOver table.old world.now }
+    requires inheritance { IsInheritanceWritten (world_by table.old world.now) }
+    requires protocols { AreRulesOf (world_by table.old world.now) (last_rules protocols.now.rounds) }
+    requires limits { AreInRange limits }
+    ensures minimised { (list : List TermRequirement) → IsMachineOf (world_by table.old world.now) list machine.now
+        → IfOk result (λ v. IsMinimised (facts_of (world_by table.old world.now)) (generic_params machine.now.params) list
+        (listed table.new v.items)) }
+    ensures same { (list : List TermRequirement) → IsMachineOf (world_by table.old world.now) list machine.now
+        → IfOk result (λ v. AreEquivalent (facts_of (world_by table.old world.now)) (generic_params machine.now.params) list
+        (listed table.new v.items)) }
+    ensures independent { (list : List TermRequirement) → IsMachineOf (world_by table.old world.now) list machine.now
+        → IfOk result (λ v. IsIndependent (facts_of (world_by table.old world.now)) (generic_params machine.now.params)
+        (listed table.new v.items)) }
+    ensures canonical { (list : List TermRequirement) → IsMachineOf (world_by table.old world.now) list machine.now
+        → IfOk result (λ v. (r : TermRequirement) → Contains (listed table.new v.items) r
+        → IsCanonical (facts_of (world_by table.old world.now)) (Written (generic_params machine.now.params) list) r) }
+    ensures sorted { (list : List TermRequirement) → IsMachineOf (world_by table.old world.now) list machine.now
+        → IfOk result (λ v. IsStrictlySorted (listed table.new v.items)) }
+    ensures told { (list : List TermRequirement) → IsMachineOf (world_by table.old world.now) list machine.now
+        → IfOk result (λ _. TellsParts limits (list_of (world_by table.old world.now) (last_rules protocols.now.rounds) machine.now.params)
+        (IsPassedOf (symbols_of world.now.lexicon) (facts_of (world_by table.old world.now)) (generic_params machine.now.params) list)
+        (W.told watch.old) (W.told watch.new)) }
+    ensures failed { (list : List TermRequirement) → IsMachineOf (world_by table.old world.now) list machine.now
+        → IfErr result (TellsFailure limits (list_of (world_by table.old world.now) (last_rules protocols.now.rounds) machine.now.params)
+        (IsPassedOf (symbols_of world.now.lexicon) (facts_of (world_by table.old world.now)) (generic_params machine.now.params) list)
+        (W.told watch.old) (W.told watch.new)) }
+    ensures known { IfOk result (λ v. AreKnown table.new world.now.lexicon v.items) }
+    ensures extends { Extends table.old table.new }
+    ensures world { world_by table.new world.now ≡ world_by table.old world.now }
+    ensures text { IsTextOver table.new world.now }
+{
+    let _of_protocols = protocols.rules().rules();
+    let _of_list = machine.rules().rules();
+    match candidates(alloc, world, table, machine) {
+        Err(_) => Err(Failed::Memory),
+        Ok(found) => sift(
+            alloc,
+            world,
+            table,
+            protocols,
+            machine.params(),
+            &found,
+            limits,
+            watch,
+        ),
+    }
+}

@@ -1,0 +1,151 @@
+//! The type of a word, as rules tell it.
+ghost use Rattle.std.specs.Prelude.{◌≡◌, ◌+◌, ◌≤◌, ◌<◌, ◌∷◌, ◌++◌, [], length, take, vec_capacity, List, IfOk, MatchOption};
+ghost use Rattle.swreq_param.specs.declared.ids.AssocId.{AssocId};
+ghost use Rattle.swreq_param.specs.declared.ids.Step.TheVariants.{Bound};
+ghost use Rattle.swreq_param.specs.Tables.{Extends, IsOf, term_at};
+ghost use Rattle.swreq_param.specs.Terms.Term.{Member};
+ghost use Rattle.swreq_derive.specs.declared.known.Params.{Params};
+ghost use Rattle.swreq_word.specs.declared.symbols.Symbol.TheVariants.{Param};
+ghost use Rattle.swreq_rule.specs.declared.rules.Rule.{Rule};
+ghost use Rattle.swreq_ranks.specs.Views.{LexiconView};
+ghost use Rattle.swreq_shown.specs.Vanishing.{IsLeastBy};
+ghost use Rattle.swreq_minimal.specs.Typed.{Identifies, IsMemberBehind, IsTypeBy};
+
+use crate::given::member_behind;
+use std::alloc::{AllocError, Global};
+use swreq_complete::CompleteRules;
+use swreq_derive::Params;
+use swreq_param::{AssocId, ParamId, ParamTable, Step, TermId};
+use swreq_word::Symbol;
+use swreq_world::World;
+
+/// The type of the word of a generic parameter's symbol, or None where the generic parameter is none of these.
+fn generic(params: Params, table: &mut ParamTable, g: ParamId) -> Result<Option<TermId>, AllocError>
+    ensures typed { (x : LexiconView) (rules : List Rule) → IfOk result
+        (Identifies (IsTypeBy x rules params (Param g.depth g.index ∷ [])) table.new) }
+    ensures extends { Extends table.old table.new }
+{
+    if !params.has(g) {
+        return Ok(None);
+    }
+    let t = table.param(g)?;
+    Ok(Some(t))
+}
+
+/// The type of the word of one symbol, or None where it has none.
+pub(crate) fn symbol_type(
+    params: Params,
+    table: &mut ParamTable,
+    symbol: Symbol,
+) -> Result<Option<TermId>, AllocError>
+    ensures typed { (x : LexiconView) (rules : List Rule) → IfOk result (Identifies (IsTypeBy x rules params (symbol ∷ [])) table.new) }
+    ensures extends { Extends table.old table.new }
+{
+    match symbol {
+        Symbol::Param(depth, index) => generic(params, table, ParamId { depth, index }),
+        _ => Ok(None),
+    }
+}
+
+/// The type of the first symbol of a word, or None where it has none.
+fn begin(
+    params: Params,
+    table: &mut ParamTable,
+    word: &[Symbol],
+) -> Result<Option<TermId>, AllocError>
+    ensures typed { (x : LexiconView) (rules : List Rule) → IfOk result (Identifies (IsTypeBy x rules params (take 1 word.now)) table.new) }
+    ensures extends { Extends table.old table.new }
+{
+    if word.is_empty() {
+        return Ok(None);
+    }
+    symbol_type(params, table, word[0])
+}
+
+/// The id of the bound member.
+pub(crate) fn bound(
+    table: &mut ParamTable,
+    t: TermId,
+    d: AssocId,
+) -> Result<Option<TermId>, AllocError>
+    requires { IsOf table.old t }
+    ensures bound { IfOk result (λ o. MatchOption o ⊥ (λ id. IsOf table.new id
+        × (term_at table.new id ≡ Member (term_at table.old t) (Bound d)))) }
+    ensures extends { Extends table.old table.new }
+{
+    let u = table.member(t, Step::Bound(d))?;
+    Ok(Some(u))
+}
+
+/// The bound member of t for which the symbol stands behind a word of the type t, or None where it stands for none.
+fn step(
+    world: &World,
+    rules: &CompleteRules,
+    table: &mut ParamTable,
+    t: TermId,
+    front: &[Symbol],
+    symbol: Symbol,
+    test: &mut Vec<Symbol>,
+) -> Result<Option<TermId>, AllocError>
+    requires t { IsOf table.old t }
+    requires least { IsLeastBy rules.now front.now }
+    requires fits { length front.now + 1 ≤ vec_capacity test.old }
+    ensures member { IfOk result (λ o. MatchOption o
+        ((d : AssocId) → IsMemberBehind world.now.lexicon rules.now front.now symbol d → ⊥)
+        (λ id. (d : AssocId) × IsMemberBehind world.now.lexicon rules.now front.now symbol d
+        × IsOf table.new id × (term_at table.new id ≡ Member (term_at table.old t) (Bound d)))) }
+    ensures extends { Extends table.old table.new }
+    ensures room { vec_capacity test.old ≤ vec_capacity test.new }
+{
+    match member_behind(world, rules, front, symbol, test) {
+        None => Ok(None),
+        Some(d) => bound(table, t, d),
+    }
+}
+
+/// The type of a word with this symbol behind it, where that of the word is known.
+fn go_on(
+    world: &World,
+    rules: &CompleteRules,
+    table: &mut ParamTable,
+    at: Option<TermId>,
+    front: &[Symbol],
+    symbol: Symbol,
+    test: &mut Vec<Symbol>,
+) -> Result<Option<TermId>, AllocError>
+    requires at { MatchOption at (Unit {0}) (IsOf table.old) }
+    requires some { 0 < length front.now }
+    requires least { IsLeastBy rules.now front.now }
+    requires fits { length front.now + 1 ≤ vec_capacity test.old }
+    ensures typed { (params : Params) → Identifies (IsTypeBy world.now.lexicon rules.now params front.now) table.old at
+        → IfOk result (Identifies (IsTypeBy world.now.lexicon rules.now params (front.now ++ symbol ∷ [])) table.new) }
+    ensures extends { Extends table.old table.new }
+    ensures room { vec_capacity test.old ≤ vec_capacity test.new }
+{
+    match at {
+        None => Ok(None),
+        Some(t) => step(world, rules, table, t, front, symbol, test),
+    }
+}
+
+/// The type of a word, by these rules, or None where it has none.
+pub(crate) fn type_of(
+    alloc: Global,
+    world: &World,
+    rules: &CompleteRules,
+    params: Params,
+    table: &mut ParamTable,
+    word: &[Symbol],
+) -> Result<Option<TermId>, AllocError>
+    requires { IsLeastBy rules.now word.now }
+    ensures typed { IfOk result (Identifies (IsTypeBy world.now.lexicon rules.now params word.now) table.new) }
+    ensures extends { Extends table.old table.new }
+{
+    let mut test: Vec<Symbol> = Vec::with_capacity(alloc, word.len() + 1)?;
+    let mut at = begin(params, table, word)?;
+    for k in 1..word.len() {
+        let next = go_on(world, rules, table, at, &word[..k], word[k], &mut test)?;
+        at = next;
+    }
+    Ok(at)
+}

@@ -1,0 +1,5 @@
+//! Texts, and the first name of each that is refused.
+#![tactic(auto)]
+
+#[cfg(test)]
+mod tests;

@@ -1,0 +1,5 @@
+//! Printed texts of worked values.
+#![tactic(auto)]
+
+#[cfg(test)]
+mod tests;

@@ -1,0 +1,5 @@
+//! Texts, and the ranks of what they have.
+#![tactic(auto)]
+
+#[cfg(test)]
+mod tests;

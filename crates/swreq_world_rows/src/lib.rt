@@ -1,0 +1,7 @@
+//! Texts, and their worlds.
+#![tactic(auto)]
+
+#[cfg(test)]
+mod shown;
+#[cfg(test)]
+mod tests;
