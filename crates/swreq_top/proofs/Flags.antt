@@ -53,7 +53,7 @@ module _ (qs : List Query) (count : ℕ) (flags : List Bool) (q : Query) (h : Ar
   pub asked_more : AreAsked (qs ++ q ∷ []) count (set flags at true)
   asked_more = record { counted = length-set flags at true ∙ h.counted; set = λ k below. flag_of k below (cases_eq k at) }
 
-asked_alike : (terms : List Term) (q : Query) → signature_of (query_by terms q) ≡ function_of q
+pub asked_alike : (terms : List Term) (q : Query) → signature_of (query_by terms q) ≡ function_of q
 asked_alike terms (queries.Signature f) = refl
 asked_alike terms (queries.Reduced f t) = refl
 asked_alike terms (queries.Conf f t p) = refl

@@ -2,6 +2,7 @@ pub mod Checked
 pub mod Flags
 pub mod Lines
 pub mod OfLists
+pub mod OfQueries
 pub mod OfSignatures
 pub mod OneCheck
 pub mod OneRefusal
