@@ -1,8 +1,10 @@
 -- The lines of queries.
-use Rattle.std.proofs.Common.{◌≡◌, ◌∙◌, refl, sym, ap, subst, ℕ, ◌+◌, ◌<◌, ◌≤◌, Bool, true, false, List, [], ◌∷◌, ◌++◌, append_assoc, append-nil, take, get_or, length, map, Contains, None}
+use Rattle.std.proofs.Common.{◌≡◌, ◌∙◌, refl, sym, ap, subst, ℕ, ◌+◌, ◌<◌, ◌≤◌, Bool, true, false, List, [], ◌∷◌, ◌++◌, append_assoc, append-nil, take, get_or, length, map, Contains, None, inl, inr, IfOk, Result, Ok, Err}
 use Rattle.std.specs.List.{list_any}
 use Rattle.std.proofs.lemmas.List.{take_all, take_more}
 use Rattle.std.proofs.lemmas.List.Elements.{All-contains, Contains-get_or}
+use Rattle.swreq_print.specs.declared.refusal.RefusalKind.TheVariants.{NotBuilt}
+use Rattle.std.specs.declared.alloc.AllocError.{AllocError}
 use Rattle.swreq_derive.specs.Derivation.{BookDerivable, Derivable}
 use Rattle.swreq_derive.specs.Derivation.Source.{Written}
 use Rattle.swreq_derive.specs.Facts.{generic_params}
@@ -30,7 +32,8 @@ use Rattle.swreq_query.proofs.Along.{along}
 use Rattle.swreq_top.specs.declared.ready.Ready.{Ready}
 use Rattle.swreq_top.specs.Machines.{IsChecked, source_of, written_list}
 use Rattle.swreq_top.specs.Ready.{IsReady, asks_signature}
-use Rattle.swreq_top.specs.Verdict.{AreLinesOf, AsksOneSignature, IsLineOf, signature_of}
+use Rattle.swreq_top.specs.Verdict.{AreLinesOf, AsksOneSignature, IsLineOf, IsVerdict, IsWhole, refused_with, signature_of}
+use Rattle.swreq_top.specs.declared.outcome.Outcome.{Outcome}
 use Rattle.swreq_top.specs.Verdict.AreLinesOf.{none, more}
 use Rattle.swreq_top.proofs.Checked.{is_formed}
 use Rattle.swreq_top.proofs.OneWorld.{any_in, any_of}
@@ -101,6 +104,12 @@ pub by_book : (w : TextWorld) (output : List ℕ) → IsClosed w → ((told : Li
 by_book w output closed (told, checked) lines =
     lines_by_book w (is_formed w closed checked) (λ q c. All-contains (IsQueryOf w) w.queries q closed.queries c) lines
 
+-- a text that is checked without a refusal is answered so
+pub all_answered : (text : List ℕ) (w : TextWorld) → IsWhole text w → IsClosed w → (o : Outcome) → o.status ≡ 0 → AreLinesOf true w w.queries o.output
+    → IsVerdict text o
+all_answered text w whole closed o status lines =
+    inr (record { world = w; whole = whole; status = status; answers = by_book w o.output closed (whole.told, whole.checked) lines })
+
 -- ---- queries for signatures
 
 asking : (terms : List Term) (q : Query) → asks_signature q ≡ true → (f : FuncId) × (query_by terms q ≡ AsksSignature f)
@@ -115,6 +124,12 @@ one_asks w terms h =
     let q = any_of asks_signature w.queries h in
     let f = asking terms q.0 q.2 in
     (f.0, subst (Contains (map (query_by terms) w.queries)) f.1 (contains_map (query_by terms) w.queries q.0 q.1))
+
+-- a text with such a query is refused so
+pub not_built : (text : List ℕ) (w : TextWorld) → IsWhole text w → AsksOneSignature w → (result : Result Outcome AllocError)
+    → IfOk result (λ o. o ≡ refused_with NotBuilt) → IfOk result (IsVerdict text)
+not_built text w whole asks (Ok o) is = inl (NotBuilt, (w, whole, asks), is)
+not_built text w whole asks (Err e) h = tt
 
 of_types : (terms : List Term) (q : Query) → asks_signature q ≡ false → IsOfTypes (query_by terms q)
 of_types terms (queries.Signature f) h g e = (let clash : true ≡ false = h in cc)

@@ -82,6 +82,10 @@ module _ (w : TextWorld) (base : List Rule) (g : SignatureOver PlacedRequirement
 abbrev pub CameFirst : TextWorld → List Rule → ℕ → Option (List Event) → Option (List Event) → Type 0
 CameFirst w base k old new = (told : List Event) × SignaturesCome w base (take k w.signatures) None told × GrewBy old new told
 
+-- before the first of them nothing is kept
+pub none_kept : (w : TextWorld) → AreKept w []
+none_kept w k entry e = absurd (let clash : (let o : Option (Option Ready) = None in o) ≡ Some entry = e in cc)
+
 -- before the first of them nothing was told
 pub none_checked : (w : TextWorld) (base : List Rule) (old : Option (List Event)) → ChecksAll w base old old (Err Memory)
 none_checked w base old = ([], nothing_yet, grew_none old)

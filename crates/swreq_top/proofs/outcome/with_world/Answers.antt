@@ -5,7 +5,7 @@ use Rattle.swreq_top.proofs.outcome.with_world.Goals as goal
 pub check-requires : goal.check-requires
 check-requires g c = record {
   table = c.requires.over;
-  closed = c.worlds_are_closed.ensures c.requires.world.skeleton _ c.requires.world.stands c.requires.world.world c.requires.world.resolve;
+  closed = c.worlds_are_closed.ensures.closed c.requires.world.skeleton _ c.requires.world.stands c.requires.world.world c.requires.world.resolve;
 }
 
 pub checked-requires-clause-checked : goal.checked-requires-clause-checked
