@@ -3,7 +3,7 @@ use Rattle.swreq_top.specs.Reports.{refusal_of}
 use Rattle.swreq_top.proofs.outcome.read.Given as given
 use Rattle.swreq_top.proofs.outcome.read.Goals as goal
 
-exact : (g : given.Over) (c : goal.After-parse g) → IsExact c.args.text.now c.parse.result
+exact : (g : given.Over) (c : goal.After-unread g) → IsExact c.args.text.now c.parse.result
 exact g c = record {
   within = c.requires;
   ok = c.parse.ensures.ok;

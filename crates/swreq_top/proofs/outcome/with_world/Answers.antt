@@ -4,6 +4,14 @@ use Rattle.swreq_top.proofs.outcome.with_world.Goals as goal
 
 pub check-requires : goal.check-requires
 check-requires g c = record {
+  text = record {
+    table = c.requires.over;
+    closed = c.worlds_are_closed.ensures.closed c.requires.world.skeleton _ c.requires.world.stands c.requires.world.world c.requires.world.resolve;
+  };
+}
+
+pub checked-requires-clause-text : goal.checked-requires-clause-text
+checked-requires-clause-text g c = record {
   table = c.requires.over;
   closed = c.worlds_are_closed.ensures.closed c.requires.world.skeleton _ c.requires.world.stands c.requires.world.world c.requires.world.resolve;
 }
