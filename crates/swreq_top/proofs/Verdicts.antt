@@ -37,7 +37,7 @@ use Rattle.swreq_top.specs.Replies.{Replies}
 use Rattle.swreq_top.specs.Reports.{machine_refusal, name_refusal, refusal_of}
 use Rattle.swreq_top.specs.Told.{WasTold, WasToldPart}
 use Rattle.swreq_top.proofs.Checked.{check_tells}
-use Rattle.swreq_top.specs.Runs.{DeliversVerdict, IsOutput, IsRead, TellsSome, TellsVerdict}
+use Rattle.swreq_top.specs.Runs.{DeliversVerdict, IsNotRefused, IsOutput, IsRead, IsRefusedWith, TellsSome, TellsVerdict}
 use Rattle.swreq_top.specs.Verdict.{IsAnswered, IsRefused, IsVerdict, refused_with, status_of}
 
 -- what a text was read with is exact
@@ -310,3 +310,55 @@ too_large_told (Some all) None old came = absurd came.1
 too_large_told (Some all) (Some rest) old came =
     let long : TEXT_LIMIT < length all = omega (arith, ap length came.1, length-append came.0 rest, came.2) in
     ([], inr (λ w has. omega (arith, long, has.within), refl), grew_none old)
+
+-- ---- statuses
+
+-- no refusal has the status of an answered text
+never_zero : (refusal : RefusalKind) → status_of refusal ≢ 0
+never_zero refusals.TooLarge is = (cc)
+never_zero (refusals.NotUtf8 at) is = (cc)
+never_zero (refusals.BadCharacter at) is = (cc)
+never_zero (refusals.OpenComment at) is = (cc)
+never_zero (refusals.Syntax at) is = (cc)
+never_zero (refusals.Unsupported at kind) is = (cc)
+never_zero (refusals.Duplicate at) is = (cc)
+never_zero (refusals.NotAProtocol at) is = (cc)
+never_zero (refusals.ConcreteType at) is = (cc)
+never_zero (refusals.NoSuchMember at) is = (cc)
+never_zero (refusals.UnknownSignature at) is = (cc)
+never_zero (refusals.WrongArity at) is = (cc)
+never_zero (refusals.Cycle at) is = (cc)
+never_zero (refusals.NotATypeParameter at) is = (cc)
+never_zero (refusals.LimitRules max) is = (cc)
+never_zero (refusals.LimitLength max) is = (cc)
+never_zero refusals.NotBuilt is = (cc)
+never_zero refusals.ReadFault is = (cc)
+never_zero refusals.OutOfMemory is = (cc)
+never_zero refusals.Usage is = (cc)
+
+not_answered : (status : ℕ) → (status ≡ 1) ⊎ (status ≡ 3) → status ≡ 0 → ⊥
+not_answered status (inl one) zero = absurd (omega (arith, one, zero))
+not_answered status (inr three) zero = absurd (omega (arith, three, zero))
+
+-- a verdict with the status of a refusal is one
+pub refused_with_status : (left : Option (List ℕ)) (output : List ℕ) (status : ℕ)
+    → IfSome left (λ all. IsVerdict all (record { status = status; output = output })) → (status ≡ 1) ⊎ (status ≡ 3) → IsRefusedWith left status
+refused_with_status None output status verdict some = tt
+refused_with_status (Some all) output status (inl (refusal, has, is)) some = (refusal, has, ap (λ (o : Outcome). o.status) is)
+refused_with_status (Some all) output status (inr answered) some = absurd (not_answered status some answered.status)
+
+pub too_large_refused : (left rest : Option (List ℕ)) → GivesCount left rest (TEXT_LIMIT + 1) → IsRefusedWith left 1
+too_large_refused None rest came = tt
+too_large_refused (Some all) None came = absurd came.1
+too_large_refused (Some all) (Some rest) came =
+    let long : TEXT_LIMIT < length all = omega (arith, ap length came.1, length-append came.0 rest, came.2) in
+    (refusals.TooLarge, long, refl)
+
+-- a source that was read to its end had a text that nothing refuses, where it is answered
+pub whole_not_refused : (left rest : Option (List ℕ)) (text : List ℕ) (o : Outcome) → Consumes left rest text → IsAtEnd rest
+    → ((refusal : RefusalKind) → IsRefused text refusal → o ≡ refused_with refusal) → o.status ≡ 0 → IsNotRefused left
+whole_not_refused None rest text o came end refused zero = tt
+whole_not_refused (Some all) None text o came end refused zero = absurd came
+whole_not_refused (Some all) (Some rest) text o came end refused zero refusal has =
+    let whole : all ≡ text = came ∙ ap (λ (l : List ℕ). text ++ l) end ∙ append-nil text in
+    never_zero refusal (sym (ap (λ (p : Outcome). p.status) (refused refusal (subst (λ (t : List ℕ). IsRefused t refusal) whole has))) ∙ zero)

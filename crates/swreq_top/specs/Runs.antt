@@ -6,7 +6,8 @@ use Rattle.swreq_lex.specs.declared.lexer.TheConstants.{TEXT_LIMIT}
 use Rattle.swreq_print.specs.declared.refusal.TheConstants.{OUT_OF_MEMORY, READ_FAULT, USAGE}
 use Rattle.swreq_watch.specs.declared.events.Event.{Event}
 use Rattle.swreq_top.specs.Told.{WasTold, WasToldPart}
-use Rattle.swreq_top.specs.Verdict.{IsVerdict}
+use Rattle.swreq_print.specs.declared.refusal.RefusalKind.{RefusalKind}
+use Rattle.swreq_top.specs.Verdict.{IsRefused, IsVerdict, status_of}
 
 -- The words of the command line are the one word `answer`.
 abbrev pub AreRight : List (List ℕ) → Type 0
@@ -25,6 +26,14 @@ IsRead left rest =
 abbrev pub DeliversVerdict : Option (List ℕ) → Option (List ℕ) → Option (List ℕ) → ℕ → Type 0
 DeliversVerdict left old new status =
     IfSome left (λ text. (output : List ℕ) × IsVerdict text (record { status = status; output = output }) × Appends old new output)
+
+-- The text that the source had left has a refusal with this status.
+abbrev pub IsRefusedWith : Option (List ℕ) → ℕ → Type 0
+IsRefusedWith left status = IfSome left (λ text. (refusal : RefusalKind) × IsRefused text refusal × (status ≡ status_of refusal))
+
+-- It has none.
+abbrev pub IsNotRefused : Option (List ℕ) → Type 0
+IsNotRefused left = IfSome left (λ text. (refusal : RefusalKind) → IsRefused text refusal → ⊥)
 
 -- It is a verdict's output on the text that the source had left.
 abbrev pub IsOutput : Option (List ℕ) → List ℕ → Type 0

@@ -3,7 +3,7 @@ ghost use Rattle.std.specs.Prelude.{◌≡◌, ◌≢◌, ◌+◌, ◌≤◌, �
 ghost use Rattle.std.specs.Io.KnownBytes.{Appends};
 ghost use Rattle.swreq_text.specs.Faults.{HasRisen};
 ghost use Rattle.swreq_text.specs.Given.{AppendsPart, GivesCount};
-ghost use Rattle.swreq_top.specs.Runs.{AreRight, AreWrong, DeliversVerdict, IsPrinted, IsRead, TellsSome, TellsVerdict};
+ghost use Rattle.swreq_top.specs.Runs.{AreRight, AreWrong, DeliversVerdict, IsNotRefused, IsPrinted, IsRead, IsRefusedWith, TellsSome, TellsVerdict};
 ghost use Rattle.swreq_watch.specs.Told.{GrewBy};
 
 use crate::outcome::reply;
@@ -36,6 +36,10 @@ pub fn run<S: Source, K: Sink, W: Watch>(
     // What the text is answered with.
     ensures verdict { (result ≡ 0) ⊎ ((result ≡ 1) ⊎ (result ≡ 3)) →
         DeliversVerdict (S.left src.old) (K.taken out.old) (K.taken out.new) result }
+
+    // A text that is refused has the status of its refusal, and one that is answered has none.
+    ensures refused { (result ≡ 1) ⊎ (result ≡ 3) → IsRefusedWith (S.left src.old) result }
+    ensures answered { result ≡ 0 → IsNotRefused (S.left src.old) }
 
     // The words.
     ensures wrong_words { AreWrong (map string_bytes words.now) → (result ≡ 2) ⊎ (result ≡ 5) }

@@ -1,10 +1,10 @@
-use Rattle.std.proofs.Common.{◌≢◌, ℕ, List, IfSome, Err, ap, subst, sym, inl, inr}
+use Rattle.std.proofs.Common.{◌≡◌, ◌≢◌, ◌⊎◌, ◌∙◌, ℕ, List, IfSome, Err, ap, subst, sym, inl, inr}
 use Rattle.std.specs.Io.KnownBytes.{Appends}
 use Rattle.swreq_text.specs.Given.{AppendsPart}
-use Rattle.swreq_top.specs.Runs.{DeliversVerdict, TellsVerdict}
+use Rattle.swreq_top.specs.Runs.{DeliversVerdict, IsRefusedWith, TellsVerdict}
 use Rattle.swreq_top.specs.Told.{WasTold}
-use Rattle.swreq_top.specs.Verdict.{IsVerdict}
-use Rattle.swreq_top.proofs.Verdicts.{delivered, output_of, read_too_large, read_whole, told_some, too_large_output, too_large_told, whole_output, whole_part, whole_told, written}
+use Rattle.swreq_top.specs.Verdict.{IsRefused, IsVerdict}
+use Rattle.swreq_top.proofs.Verdicts.{delivered, output_of, read_too_large, read_whole, refused_with_status, told_some, too_large_output, too_large_refused, too_large_told, whole_not_refused, whole_output, whole_part, whole_told, written}
 use Rattle.swreq_top.proofs.program.run.Given as given
 use Rattle.swreq_top.proofs.program.run.Goals as goal
 
@@ -69,3 +69,23 @@ returns-in-Err-TooLarge-clause-told g c answered = too_large_told _ _ _ (c.in-Er
 
 pub returns-in-Err-TooLarge-clause-told_part : goal.returns-in-Err-TooLarge-clause-told_part
 returns-in-Err-TooLarge-clause-told_part g c = told_some _ _ _ (too_large_told _ _ _ (c.in-Err-TooLarge.ensures.too_large (ap Err c.in-Err-TooLarge.field-0-is)))
+
+pub returns-in-Ok-reply-clause-refused : goal.returns-in-Ok-reply-clause-refused
+returns-in-Ok-reply-clause-refused g c some =
+    let finish = c.finish-in-Ok-reply in
+    let same = finish.ensures.status (written finish.result (inr some)) in
+    subst (λ (n : ℕ). IsRefusedWith (g.S.Source.left c.args.src.now) n) (sym same)
+    (refused_with_status _ c.in-Ok-reply.outcome.output c.in-Ok-reply.outcome.status (answered_text g c) (subst (λ (n : ℕ). (n ≡ 1) ⊎ (n ≡ 3)) same some))
+
+pub returns-in-Err-TooLarge-clause-refused : goal.returns-in-Err-TooLarge-clause-refused
+returns-in-Err-TooLarge-clause-refused g c some =
+    let finish = c.finish-in-Err-TooLarge in
+    subst (λ (n : ℕ). IsRefusedWith (g.S.Source.left c.args.src.now) n) (sym (finish.ensures.status (written finish.result (inr some))))
+    (too_large_refused _ _ (c.in-Err-TooLarge.ensures.too_large (ap Err c.in-Err-TooLarge.field-0-is)))
+
+pub returns-in-Ok-reply-clause-answered : goal.returns-in-Ok-reply-clause-answered
+returns-in-Ok-reply-clause-answered g c zero =
+    let finish = c.finish-in-Ok-reply in
+    whole_not_refused _ _ c.in-Ok.text.items c.in-Ok-reply.outcome c.in-Ok.ensures.all c.in-Ok.ensures.end
+    (λ refusal has. c.in-Ok-reply.ensures.refused refusal (subst (λ (t : List ℕ). IsRefused t refusal) (sym c.deref.ensures.value) has))
+    (sym (finish.ensures.status (written finish.result (inl zero))) ∙ zero)
