@@ -43,8 +43,7 @@ module _ (w : IdWorld) (terms : List Term) (f : FuncId) where
       let member : Contains g.requirements r = subst (λ (rs : List Written). Contains rs r) e c in
       let within : f.place < length (map (signature_by terms) w.signatures) = omega (arith, length-map w.signatures (signature_by terms), l) in
       let own : HasOwn w.lexicon (signature_by terms g) = subst (HasOwn w.lexicon) (signature_is w terms f)
-      (All-get_or (HasOwn w.lexicon) (map (signature_by terms) w.signatures) f.place no_signature within text.closed.signatures) in
-      (
+      (All-get_or (HasOwn w.lexicon) (map (signature_by terms) w.signatures) f.place no_signature within text.closed.signatures) in (
         All-contains (λ (q : Written). HasIdsOf terms q.requirement) g.requirements r
             (All-get_or (λ (h : SignatureOver Written). AreOf terms h.requirements) w.signatures f.place no_signature l text.table.signatures) member,
         (All-contains (IsOfSignature w.lexicon g.params) (placed terms g.requirements) (placed_by terms r) own

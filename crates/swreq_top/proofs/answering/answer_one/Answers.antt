@@ -38,7 +38,7 @@ returns c =
     c.function_of.result c.function_of.ensures c.index-all-function_of.result c.in-Some.ready c.index-all-function_of.is c.in-Some.is in
     record {
       line = on_ok_weaker c.answer.result
-        (λ h. machine_line (world_by c.args.table.now c.args.world.now) (query_by c.args.table.now c.args.query.now) c.in-Some.ready _ _ ready
-        (h (written_list (signature_at (world_by c.args.table.now c.args.world.now) (signature_of (query_by c.args.table.now c.args.query.now)))) ready.machine))
-        c.answer.ensures.ok;
+          (λ h. machine_line (world_by c.args.table.now c.args.world.now) (query_by c.args.table.now c.args.query.now) c.in-Some.ready _ _ ready
+          (h (written_list (signature_at (world_by c.args.table.now c.args.world.now) (signature_of (query_by c.args.table.now c.args.query.now)))) ready.machine))
+          c.answer.ensures.ok;
     }
