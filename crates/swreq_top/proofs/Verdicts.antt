@@ -359,6 +359,6 @@ pub whole_not_refused : (left rest : Option (List ℕ)) (text : List ℕ) (o : O
     → ((refusal : RefusalKind) → IsRefused text refusal → o ≡ refused_with refusal) → o.status ≡ 0 → IsNotRefused left
 whole_not_refused None rest text o came end refused zero = tt
 whole_not_refused (Some all) None text o came end refused zero = absurd came
-whole_not_refused (Some all) (Some rest) text o came end refused zero refusal has =
+whole_not_refused (Some all) (Some rest) text o came end refused zero =
     let whole : all ≡ text = came ∙ ap (λ (l : List ℕ). text ++ l) end ∙ append-nil text in
-    never_zero refusal (sym (ap (λ (p : Outcome). p.status) (refused refusal (subst (λ (t : List ℕ). IsRefused t refusal) whole has))) ∙ zero)
+    λ refusal has. never_zero refusal (sym (ap (λ (p : Outcome). p.status) (refused refusal (subst (λ (t : List ℕ). IsRefused t refusal) whole has))) ∙ zero)
