@@ -20,13 +20,7 @@ fn main(rt: HostRuntime) -> ExitCode {
     };
     let mut src = StdSource::new(rt.stdin());
     let mut out = StdSink::new(rt.stdout());
-    ExitCode::from(run(
-        rt.alloc(),
-        &words,
-        &mut src,
-        &mut out,
-        &mut Quiet,
-    ))
+    ExitCode::from(run(rt.alloc(), &words, &mut src, &mut out, &mut Quiet))
 }
 
 /// The words of the command line, without the name of the program.
