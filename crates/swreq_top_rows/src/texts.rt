@@ -238,4 +238,8 @@ func f<T: N>() where T.A.A.A.A.A.A.A.A.A.A.A.A.A.A.A.A.A.A.A.A.A.A.A.A.A.A.A.A.A
 func g<T>() where T.A == T
 ---- 3
 error: rule longer than 64 symbols
+====
+protocol P { associatedtype A: P associatedtype B: P where A.B.A == B.A.B }
+---- 3
+error: rule longer than 64 symbols
 ";
