@@ -17,7 +17,7 @@ use Rattle.swreq_rule.specs.Places.{place_cmp}
 use Rattle.swreq_trie.specs.declared.trie.Entry.{Entry}
 use Rattle.swreq_trie.specs.Marks.{Holds}
 use Rattle.swreq_trie.specs.Places.{IsPlace, ArePlaces}
-use Rattle.swreq_trie.specs.Keys.{Added, AreTheirPlaces, ArePlacesBelow, place_of, key_of, key_cmp}
+use Rattle.swreq_trie.specs.Keys.{Gains, AreTheirPlaces, ArePlacesBelow, place_of, key_of, key_cmp}
 use Rattle.swreq_word.proofs.Lists.{get_cases}
 use Rattle.swreq_trie.proofs.Marks.{holds_last, holds_more}
 
@@ -143,11 +143,11 @@ greater_is stored left number p (inr (inr h)) = rw h.1.place_is (omega arith)
 
 -- the places of the keys that were collected, once they are sorted
 pub collected : (stored : List Entry) (left : List Symbol) (number : ℕ) (keys sorted : List (ℕ × ℕ × ℕ)) (places : List Place)
-    → Added (IsPlace stored left number) stored left number [] keys → IsPermutation keys sorted → AreTheirPlaces sorted places
+    → Gains (λ key. IsPlace stored left number (place_of key)) [] keys → IsPermutation keys sorted → AreTheirPlaces sorted places
     → ArePlaces stored left number places
 collected stored left number keys sorted places added moved of = record {
   each = is_place;
-  all = λ p h. of.all (key_of p) (holds_along keys sorted (key_of p) moved (added.all p h));
+  all = λ p h. of.all (key_of p) (holds_along keys sorted (key_of p) moved (added.all (key_of p) h));
   ordered = λ j k p q l e f. place_less p q (greater_is stored left number p (is_place j p e) ∙ sym (greater_is stored left number q (is_place k q f)))
       (of.ordered j k p q l e f);
 }

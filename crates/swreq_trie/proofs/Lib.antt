@@ -5,4 +5,6 @@ pub mod Paths
 pub mod Ways
 pub mod Index
 pub mod Collecting
+pub mod Listed
+pub mod Forgetting
 pub mod InOrder

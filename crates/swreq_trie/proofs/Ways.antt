@@ -1,5 +1,5 @@
 -- A symbol more on the way of a word.
-use Rattle.std.proofs.Common.{◌≡◌, inl, inr, ℕ, ◌+◌, ◌<◌, List, [], ◌∷◌, ◌++◌, length, length-append, length-take, take, drop, take-append-drop, append-nil, get_or, sym, ◌∙◌, ap, subst, arith, Option}
+use Rattle.std.proofs.Common.{◌≡◌, ◌⊎◌, inl, inr, ℕ, ◌+◌, ◌<◌, List, [], ◌∷◌, ◌++◌, length, length-append, length-take, take, drop, take-append-drop, append-nil, get_or, sym, ◌∙◌, ap, subst, arith, Option}
 use Rattle.std.proofs.Math.Seq.{take-length}
 use Rattle.std.proofs.lemmas.Bool.{cases_lt}
 use Rattle.std.proofs.lemmas.List.{take_more, take-append-le}
@@ -8,8 +8,9 @@ use Rattle.swreq_word.proofs.Cuts.{same_cut}
 use Rattle.swreq_trie.specs.declared.edges.Edge.{Edge}
 use Rattle.swreq_trie.specs.Paths.{IsChild, NoChild, IsForked, Leads}
 use Rattle.swreq_trie.specs.Marks.{EndsAt, Holds}
-use Rattle.swreq_trie.specs.Walk.{NoEndUpTo, NoEnd, FirstEnd, AreMetUpTo, AreMet}
-use Rattle.swreq_trie.proofs.Marks.{holds_last, holds_more}
+use Rattle.swreq_trie.specs.Walk.{NoEndUpTo, NoEnd, FirstEnd, IsMet, AreMetUpTo, AreMet}
+use Rattle.swreq_trie.specs.declared.walk.Met.{Met}
+use Rattle.swreq_trie.proofs.Marks.{holds_last, holds_more, holds_one_more}
 use Rattle.swreq_trie.proofs.Paths.{leads_one_more, leads_cut, one_end}
 
 -- a front of a word is its first symbols
@@ -67,7 +68,7 @@ module _ (edges : List Edge) (ends : List (Option ℕ)) (w : List Symbol) where
       }
 
   -- the nodes that were met, so far
-  module _ (n node : ℕ) (walked : Leads edges 0 (take n w) node) (nodes : List ℕ) (met : AreMetUpTo edges ends w n nodes) (d : Symbol) (l : n < length w) where
+  module _ (n node : ℕ) (walked : Leads edges 0 (take n w) node) (d : Symbol) (l : n < length w) where
     -- where no edge leads on
     module _ (forked : IsForked edges) (stop : NoChild edges node (get_or w n d)) where
       leads_nowhere : (front rest : List Symbol) (end : ℕ) → w ≡ front ++ rest → n < length front → Leads edges 0 front end → ⊥
@@ -78,39 +79,68 @@ module _ (edges : List Edge) (ends : List (Option ℕ)) (w : List Symbol) where
           let same : t.0 ≡ node = one_end edges forked (take n w) 0 t.0 node t.1 walked in
           stop t.2.0 (subst (λ x. IsChild edges x (get_or w n d) t.2.0) same t.2.1)
 
-      pub met_all : AreMet edges ends w nodes
-      met_all = record {
-        ended = λ front rest end number e some m p h. elim (cases_lt n (length front)) [
+      pub leads_to_none : (end : ℕ) → Leads edges 0 w end → ⊥
+      leads_to_none end p = leads_nowhere w [] end (sym (append-nil w)) l p
+
+      pub met_all : (nodes : List Met) → AreMetUpTo edges ends w n nodes → AreMet edges ends w nodes
+      met_all nodes met = record {
+        right = met.right;
+        ended = λ front rest end number e some p h. elim (cases_lt n (length front)) [
           | inl long ↦ absurd (leads_nowhere front rest end e long p)
-          | inr short ↦ met front rest end number e some short p h
+          | inr short ↦ met.ended front rest end number e some short p h
         ];
-        last = λ end p. absurd (leads_nowhere w [] end (sym (append-nil w)) l p);
+        last = λ end p. absurd (leads_to_none end p);
       }
 
     -- one more
-    pub met_more : (child : ℕ) (more : List ℕ) → IsForked edges → IsChild edges node (get_or w n d) child
-        → ((number : ℕ) → EndsAt ends child number → Holds more child) → ((other : ℕ) → Holds nodes other → Holds more other) → AreMetUpTo edges ends w (n + 1) more
-    met_more child more forked c ended kept front rest end number e some short p h = elim (cases_lt n (length front)) [
-      | inr m ↦ kept end (met front rest end number e some m p h)
-      | inl m ↦ (let front_is_it = front_is w front rest (n + 1) e (omega (arith, m, short)) in
-          let same : end ≡ child = one_end edges forked (take (n + 1) w) 0 end child (subst (λ x. Leads edges 0 x end) front_is_it p)
-          (one_further edges w n node walked d l child c) in
-          subst (Holds more) (sym same) (ended number (subst (λ x. EndsAt ends x number) same h)))
-    ]
+    pub met_more : (nodes more : List Met) → AreMetUpTo edges ends w n nodes → IsForked edges → (child depth : ℕ) → IsChild edges node (get_or w n d) child
+        → depth ≡ n + 1 → ((number : ℕ) → EndsAt ends child number → Holds more (record { node = child; depth = depth }))
+        → ((other : Met) → Holds nodes other → Holds more other) → ((other : Met) → Holds more other → Holds nodes other ⊎ (other ≡ record { node = child; depth = depth }))
+        → AreMetUpTo edges ends w (n + 1) more
+    met_more nodes more met forked child depth c deep ended kept only = record {
+      right = λ m h. elim (only m h) [
+        | inl i ↦ met.right m i
+        | inr i ↦ subst (IsMet edges w) (sym i) (record {
+          front = take (n + 1) w;
+          rest = drop (n + 1) w;
+          cut = sym (take-append-drop (n + 1) w);
+          depth_is = deep ∙ sym (rw length-take (omega (arith, l)));
+          leads = one_further edges w n node walked d l child c;
+        })
+      ];
+      ended = λ front rest end number e some short p h. elim (cases_lt n (length front)) [
+        | inr m ↦ kept (record { node = end; depth = length front }) (met.ended front rest end number e some m p h)
+        | inl m ↦ (let front_is_it = front_is w front rest (n + 1) e (omega (arith, m, short)) in
+            let same : end ≡ child = one_end edges forked (take (n + 1) w) 0 end child (subst (λ x. Leads edges 0 x end) front_is_it p)
+            (one_further edges w n node walked d l child c) in
+            let as_deep : depth ≡ length front = omega (arith, deep, m, short) in
+            subst (λ x. Holds more (record { node = x; depth = length front })) (sym same)
+            (subst (λ x. Holds more (record { node = child; depth = x })) as_deep (ended number (subst (λ x. EndsAt ends x number) same h))))
+      ];
+    }
 
-  pub none_met : (nodes : List ℕ) → AreMetUpTo edges ends w 0 nodes
-  none_met nodes front rest node number e some short p h = absurd (omega (arith, some, short))
+  pub none_met : (nodes : List Met) → nodes ≡ [] → AreMetUpTo edges ends w 0 nodes
+  none_met nodes is = rw is (record { right = λ m h. (let e = h.1 in cc); ended = λ front rest node number e some short p h. absurd (omega (arith, some, short)) })
 
   -- the whole way was gone
-  pub met_whole : (n node : ℕ) → n ≡ length w → Leads edges 0 (take n w) node → IsForked edges → (nodes more : List ℕ) → AreMetUpTo edges ends w n nodes
-      → more ≡ nodes ++ node ∷ [] → AreMet edges ends w more
-  met_whole n node size walked forked nodes more met is = record {
-    ended = λ front rest end number e some short p h. subst (λ x. Holds x end) (sym is)
-        (holds_more nodes (node ∷ []) end (met front rest end number e some (omega (arith, short, size)) p h));
-    last = λ end p. (let whole : take n w ≡ w = ap (λ k. take k w) size ∙ take-length w in
-        let same : end ≡ node = one_end edges forked w 0 end node p (subst (λ x. Leads edges 0 x node) whole walked) in
-        subst (λ x. Holds x end) (sym is) (subst (Holds (nodes ++ node ∷ [])) (sym same) (holds_last nodes node)));
-  }
+  pub met_whole : (n node : ℕ) → n ≡ length w → Leads edges 0 (take n w) node → IsForked edges → (nodes more : List Met) (depth : ℕ)
+      → AreMetUpTo edges ends w n nodes → depth ≡ length w → more ≡ nodes ++ (record { node = node; depth = depth }) ∷ [] → AreMet edges ends w more
+  met_whole n node size walked forked nodes more depth met deep is =
+      let last : Met = record { node = node; depth = depth } in
+      let whole : take n w ≡ w = ap (λ k. take k w) size ∙ take-length w in
+      let leads : Leads edges 0 w node = subst (λ x. Leads edges 0 x node) whole walked in
+      record {
+        right = λ m h. elim (holds_one_more nodes more last is m h) [
+          | inl i ↦ met.right m i
+          | inr i ↦ subst (IsMet edges w) (sym i) (record { front = w; rest = []; cut = sym (append-nil w); depth_is = deep; leads = leads })
+        ];
+        ended = λ front rest end number e some p h. subst (λ x. Holds x (record { node = end; depth = length front })) (sym is)
+            (holds_more nodes (last ∷ []) (record { node = end; depth = length front })
+            (met.ended front rest end number e some (let s = simp length-append at (ap length e) in omega (arith, s, size)) p h));
+        last = λ end p. (let same : end ≡ node = one_end edges forked w 0 end node p leads in
+            subst (λ x. Holds more (record { node = x; depth = length w })) (sym same)
+            (subst (λ x. Holds more (record { node = node; depth = x })) deep (subst (λ x. Holds x last) (sym is) (holds_last nodes last))));
+      }
 
   pub none_at_end : (n : ℕ) → n ≡ length w → NoEndUpTo edges ends w n → NoEnd edges ends w
   none_at_end n e = subst (NoEndUpTo edges ends w) e

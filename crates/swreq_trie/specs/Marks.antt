@@ -1,5 +1,5 @@
 -- What stands at the nodes of a trie: which side ends there, and which sides are listed there.
-use Rattle.std.specs.Prelude.{◌≡◌, ◌⊎◌, ℕ, List, length, slice_get, Option, Some, Vec}
+use Rattle.std.specs.Prelude.{◌≡◌, ◌⊎◌, ℕ, ◌<◌, ◌≤◌, List, length, slice_get, Option, Some, Vec}
 use Rattle.std.specs.declared.alloc.Global.{Global}
 use Rattle.swreq_trie.specs.declared.spots.Spot.{Spot}
 
@@ -32,6 +32,27 @@ IsListed lists node spot = (list : Vec Spot Global) × (slice_get lists node ≡
 -- what is listed stays listed
 abbrev pub KeepsListed : List (Vec Spot Global) → List (Vec Spot Global) → Type 0
 KeepsListed old new = (node : ℕ) (spot : Spot) → IsListed old node spot → IsListed new node spot
+
+-- what is listed was listed, or is one of these
+abbrev pub ListsOnly : List (Vec Spot Global) → List (Vec Spot Global) → (ℕ → Spot → Type 0) → Type 0
+ListsOnly old new New = (node : ℕ) (spot : Spot) → IsListed new node spot → IsListed old node spot ⊎ New node spot
+
+-- of the spots those in sides before this one, and no others
+pub record Retains (old new : List Spot) (side : ℕ) : Type 0 where
+  pub only : (spot : Spot) → Holds new spot → Holds old spot × (spot.side < side)
+  pub all : (spot : Spot) → Holds old spot → spot.side < side → Holds new spot
+
+-- the same of each list
+pub record Forgets (old new : List (Vec Spot Global)) (side : ℕ) : Type 0 where
+  pub only : (node : ℕ) (spot : Spot) → IsListed new node spot → IsListed old node spot × (spot.side < side)
+  pub all : (node : ℕ) (spot : Spot) → IsListed old node spot → spot.side < side → IsListed new node spot
+
+-- the same of the first lists, so many, and the others as they were
+pub record ForgetsBelow (old new : List (Vec Spot Global)) (side count : ℕ) : Type 0 where
+  pub as_many : length new ≡ length old
+  pub done : (node : ℕ) (list : Vec Spot Global) → node < count → slice_get new node ≡ Some list
+      → (before : Vec Spot Global) × (slice_get old node ≡ Some before) × Retains before.items list.items side
+  pub same : (node : ℕ) → count ≤ node → slice_get new node ≡ slice_get old node
 
 -- as many lists, each with the spots of the other
 pub record AreCopies (old new : List (Vec Spot Global)) : Type 0 where

@@ -21,6 +21,9 @@ pub record Shortest (stored : List Entry) (w : List Symbol) (number : ℕ) : Typ
   pub least : (k : ℕ) (other : Entry) → slice_get stored k ≡ Some other → Begins other w
       → (length entry.left < length other.left) ⊎ ((length entry.left ≡ length other.left) × (side ≤ k))
 
+abbrev pub NoneEmpty : List Entry → Type 0
+NoneEmpty stored = (k : ℕ) (entry : Entry) → slice_get stored k ≡ Some entry → 0 < length entry.left
+
 -- no stored side is longer than this
 abbrev pub NoneLonger : List Entry → ℕ → Type 0
 NoneLonger stored n = (k : ℕ) (entry : Entry) → slice_get stored k ≡ Some entry → length entry.left ≤ n

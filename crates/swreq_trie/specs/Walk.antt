@@ -2,6 +2,7 @@
 use Rattle.std.specs.Prelude.{◌≡◌, ℕ, ◌+◌, ◌<◌, ◌≤◌, List, ◌++◌, length, Option}
 use Rattle.swreq_word.specs.declared.symbols.Symbol.{Symbol}
 use Rattle.swreq_trie.specs.declared.edges.Edge.{Edge}
+use Rattle.swreq_trie.specs.declared.walk.Met.{Met}
 use Rattle.swreq_trie.specs.Paths.{Leads}
 use Rattle.swreq_trie.specs.Marks.{EndsAt, Holds}
 
@@ -27,12 +28,23 @@ pub record FirstEnd (edges : List Edge) (ends : List (Option ℕ)) (w : List Sym
   pub none_before : NoEndUpTo edges ends w count
   pub next : length front ≤ count + 1
 
+-- the first symbols of the word lead to the node, so many
+pub record IsMet (edges : List Edge) (w : List Symbol) (met : Met) : Type 0 where
+  pub front : List Symbol
+  pub rest : List Symbol
+  pub cut : w ≡ front ++ rest
+  pub depth_is : met.depth ≡ length front
+  pub leads : Leads edges 0 front met.node
+
 -- the nodes at which a side ends, and to which the first symbols of the word lead, up to so many of them, stand in the list
-abbrev pub AreMetUpTo : List Edge → List (Option ℕ) → List Symbol → ℕ → List ℕ → Type 0
-AreMetUpTo edges ends w count nodes = (front rest : List Symbol) (node number : ℕ) → w ≡ front ++ rest → 0 < length front → length front ≤ count
-    → Leads edges 0 front node → EndsAt ends node number → Holds nodes node
+pub record AreMetUpTo (edges : List Edge) (ends : List (Option ℕ)) (w : List Symbol) (count : ℕ) (nodes : List Met) : Type 0 where
+  pub right : (met : Met) → Holds nodes met → IsMet edges w met
+  pub ended : (front rest : List Symbol) (node number : ℕ) → w ≡ front ++ rest → 0 < length front → length front ≤ count
+      → Leads edges 0 front node → EndsAt ends node number → Holds nodes (record { node = node; depth = length front })
 
 -- those of the whole way, and the node to which the word leads
-pub record AreMet (edges : List Edge) (ends : List (Option ℕ)) (w : List Symbol) (nodes : List ℕ) : Type 0 where
-  pub ended : AreMetUpTo edges ends w (length w) nodes
-  pub last : (node : ℕ) → Leads edges 0 w node → Holds nodes node
+pub record AreMet (edges : List Edge) (ends : List (Option ℕ)) (w : List Symbol) (nodes : List Met) : Type 0 where
+  pub right : (met : Met) → Holds nodes met → IsMet edges w met
+  pub ended : (front rest : List Symbol) (node number : ℕ) → w ≡ front ++ rest → 0 < length front
+      → Leads edges 0 front node → EndsAt ends node number → Holds nodes (record { node = node; depth = length front })
+  pub last : (node : ℕ) → Leads edges 0 w node → Holds nodes (record { node = node; depth = length w })

@@ -3,6 +3,7 @@
 ghost use Rattle.std.specs.Prelude.{◌≡◌, []};
 
 use crate::overlaps::Key;
+use crate::walk::Met;
 use std::alloc::Global;
 use std::marker::Model;
 use swreq_rule::Place;
@@ -10,7 +11,7 @@ use swreq_rule::Place;
 /// The places that were found last, with the room for those of one rule after the other.
 #[derive(Drop)]
 pub struct Found {
-    pub(crate) nodes: Vec<usize>,
+    pub(crate) nodes: Vec<Met>,
     pub(crate) keys: Vec<Key>,
     pub(crate) places: Vec<Place>,
 }

@@ -1,15 +1,16 @@
 //! The places at which a new side and the stored ones overlap, or the one stands in the other.
 
-ghost use Rattle.std.specs.Prelude.{◌≡◌, ℕ, ◌<◌, ◌++◌, ◌∷◌, [], length, slice_get, Some, MatchOption, OnOk};
+ghost use Rattle.std.specs.Prelude.{◌≡◌, ℕ, ◌+◌, ◌<◌, ◌≤◌, ◌++◌, ◌∷◌, [], length, OnOk};
 ghost use Rattle.std.specs.Bool.{Decides};
 ghost use Rattle.swreq_trie.specs.declared.spots.Spot.{Spot};
-ghost use Rattle.swreq_trie.specs.declared.trie.Entry.{Entry};
+ghost use Rattle.swreq_trie.specs.declared.walk.Met.{Met};
 ghost use Rattle.swreq_trie.specs.Marks.{Holds, IsListed};
-ghost use Rattle.swreq_trie.specs.Places.{IsFrom, IsOnto, IsOwn, IsPlace, Meets};
-ghost use Rattle.swreq_trie.specs.Keys.{Added};
+ghost use Rattle.swreq_trie.specs.Stored.{NoneEmpty};
+ghost use Rattle.swreq_trie.specs.Places.{IsFrom, IsOnto, IsPlace, Meets};
+ghost use Rattle.swreq_trie.specs.Keys.{Gains, IsBeginKey, IsEnded, IsFromKey, IsInsideKey, IsOwnKey, MeetsAt, place_of};
 
 use crate::spots::{Spot, spots_of};
-use crate::walk::find_met;
+use crate::walk::{Met, end_of, find_met};
 use crate::{Entry, Trie};
 use std::alloc::AllocError;
 use swreq_rule::{contains, overlaps};
@@ -30,160 +31,170 @@ fn meets(l: &[Symbol], m: &[Symbol], at: usize) -> bool
 
 // Puts the key last.
 fn push(keys: &mut Vec<Key>, key: Key) -> Result<(), AllocError>
-    ensures { OnOk result (keys.new.items ≡ keys.old.items ++ key ∷ []) }
+    ensures { OnOk result (Gains (λ k. k ≡ key) keys.old.items keys.new.items) }
 {
     keys.push(key)?;
     Ok(())
 }
 
-// The stored side with this index, if its number is below this one.
-fn below(entries: &[Entry], side: usize, number: u32) -> Option<&Entry>
-    ensures { MatchOption result
-        ((entry : Entry) → slice_get entries.now side ≡ Some entry → entry.number < number → ⊥)
-        (λ entry. (slice_get entries.now side ≡ Some entry.now) × (entry.now.number < number)) }
+// Adds the place at the begin of the side of the spot, where its number is below this one.
+fn add_begin(spot: Spot, number: u32, keys: &mut Vec<Key>) -> Result<(), AllocError>
+    ensures { OnOk result (Gains (IsBeginKey number spot) keys.old.items keys.new.items) }
 {
-    if entries.len() <= side {
-        return None;
+    if spot.number < number {
+        push(keys, (spot.number, number, 0))
+    } else {
+        Ok(())
     }
-    let entry = &entries[side];
-    if number <= entry.number {
-        return None;
-    }
-    Some(entry)
 }
 
-// Adds the place of the spot, if the side there and the new one have a pair there.
-fn add_onto_one(
+// Adds the places at the begins of the sides of these spots.
+fn add_begins(spots: &[Spot], number: u32, keys: &mut Vec<Key>) -> Result<(), AllocError>
+    ensures { OnOk result (Gains (λ key. (spot : Spot) × Holds spots.now spot × IsBeginKey number spot key) keys.old.items keys.new.items) }
+{
+    for spot in spots {
+        add_begin(*spot, number, keys)?;
+    }
+    Ok(())
+}
+
+// Whether the side of the spot, which has the first symbol of the new one there, and the new one have a pair there. The words are
+// compared only where the side goes on after this symbol.
+fn meets_at(entries: &[Entry], spot: Spot, left: &[Symbol]) -> bool
+    ensures { Decides result (MeetsAt entries.now left.now spot) }
+{
+    if spot.rest == 1 {
+        return true;
+    }
+    if entries.len() <= spot.side {
+        return false;
+    }
+    let entry = &entries[spot.side];
+    meets(entry.left.symbols(), left, spot.at)
+}
+
+// Adds the place of the spot, if its side and the new one have a pair there.
+fn add_inside(
     entries: &[Entry],
     spot: Spot,
     left: &[Symbol],
     number: u32,
     keys: &mut Vec<Key>,
 ) -> Result<(), AllocError>
-    ensures { OnOk result (Added (IsOnto entries.now left.now number spot.side spot.at) entries.now left.now number keys.old.items keys.new.items) }
+    ensures { OnOk result (Gains (IsInsideKey entries.now left.now number spot) keys.old.items keys.new.items) }
 {
-    match below(entries, spot.side, number) {
-        None => Ok(()),
-        Some(entry) => {
-            if meets(entry.left.symbols(), left, spot.at) {
-                push(keys, (entry.number, number, spot.at))
-            } else {
-                Ok(())
-            }
-        }
+    if number <= spot.number {
+        return Ok(());
+    }
+    if meets_at(entries, spot, left) {
+        push(keys, (spot.number, number, spot.at))
+    } else {
+        Ok(())
     }
 }
 
-// Adds the places of the spots at which the sides there and the new one have pairs.
-fn add_onto(
+// Adds the places of the spots at which their sides and the new one have pairs.
+fn add_insides(
     entries: &[Entry],
     spots: &[Spot],
     left: &[Symbol],
     number: u32,
     keys: &mut Vec<Key>,
 ) -> Result<(), AllocError>
-    ensures { OnOk result (Added
-        (λ place. (spot : Spot) × Holds spots.now spot × IsOnto entries.now left.now number spot.side spot.at place)
-        entries.now left.now number keys.old.items keys.new.items) }
+    ensures { OnOk result (Gains
+        (λ key. (spot : Spot) × Holds spots.now spot × IsInsideKey entries.now left.now number spot key)
+        keys.old.items keys.new.items) }
 {
     for spot in spots {
-        add_onto_one(entries, *spot, left, number, keys)?;
+        add_inside(entries, *spot, left, number, keys)?;
     }
     Ok(())
 }
 
-// Adds the places of the spots of these nodes at which the sides there and the new one have pairs.
-fn add_onto_nodes(
-    entries: &[Entry],
-    lists: &[Vec<Spot>],
-    nodes: &[usize],
-    left: &[Symbol],
-    number: u32,
-    keys: &mut Vec<Key>,
-) -> Result<(), AllocError>
-    ensures { OnOk result (Added
-        (λ place. (node : ℕ) × Holds nodes.now node × ((spot : Spot) × IsListed lists.now node spot
-        × IsOnto entries.now left.now number spot.side spot.at place))
-        entries.now left.now number keys.old.items keys.new.items) }
+// Whether the side of the spot ends after so many symbols, or the new side does, past the begin of which the place is.
+fn is_ended(spot: Spot, at: usize, long: usize, depth: usize) -> bool
+    requires { at ≤ long }
+    ensures { Decides result (IsEnded at long depth spot) }
 {
-    for node in nodes {
-        add_onto(entries, spots_of(lists, *node), left, number, keys)?;
+    if spot.rest == depth {
+        return true;
     }
-    Ok(())
+    if at == 0 {
+        return false;
+    }
+    depth == long - at
 }
 
-// Adds the place in the new side, if it and the stored one have a pair there.
+// Adds the place in the new side, if the side of the spot, which stands there so far, has a pair with it there.
 fn add_from_one(
-    entries: &[Entry],
-    side: usize,
-    left: &[Symbol],
-    at: usize,
+    spot: Spot,
     number: u32,
+    at: usize,
+    long: usize,
+    depth: usize,
     keys: &mut Vec<Key>,
 ) -> Result<(), AllocError>
-    ensures { OnOk result (Added (IsFrom entries.now left.now number side at) entries.now left.now number keys.old.items keys.new.items) }
+    requires { at ≤ long }
+    ensures { OnOk result (Gains (IsFromKey number at long depth spot) keys.old.items keys.new.items) }
 {
-    match below(entries, side, number) {
-        None => Ok(()),
-        Some(entry) => {
-            if meets(left, entry.left.symbols(), at) {
-                push(keys, (number, entry.number, at))
-            } else {
-                Ok(())
-            }
-        }
+    if number <= spot.number {
+        return Ok(());
+    }
+    if is_ended(spot, at, long, depth) {
+        push(keys, (number, spot.number, at))
+    } else {
+        Ok(())
     }
 }
 
-// Adds the place in the new side for each side of the spots with which it has a pair there.
+// Adds the place in the new side for each of these spots of a node.
 fn add_from(
-    entries: &[Entry],
     spots: &[Spot],
-    left: &[Symbol],
-    at: usize,
     number: u32,
+    at: usize,
+    long: usize,
+    depth: usize,
     keys: &mut Vec<Key>,
 ) -> Result<(), AllocError>
-    ensures { OnOk result (Added
-        (λ place. (spot : Spot) × Holds spots.now spot × IsFrom entries.now left.now number spot.side at place)
-        entries.now left.now number keys.old.items keys.new.items) }
+    requires { at ≤ long }
+    ensures { OnOk result (Gains
+        (λ key. (spot : Spot) × Holds spots.now spot × IsFromKey number at long depth spot key)
+        keys.old.items keys.new.items) }
 {
     for spot in spots {
-        add_from_one(entries, spot.side, left, at, number, keys)?;
+        add_from_one(*spot, number, at, long, depth, keys)?;
     }
     Ok(())
 }
 
-// Adds the place in the new side for each side of the spots of these nodes with which it has a pair there.
+// Adds the place in the new side for the spots of these nodes.
 fn add_from_nodes(
-    entries: &[Entry],
     lists: &[Vec<Spot>],
-    nodes: &[usize],
-    left: &[Symbol],
-    at: usize,
+    nodes: &[Met],
     number: u32,
+    at: usize,
+    long: usize,
     keys: &mut Vec<Key>,
 ) -> Result<(), AllocError>
-    ensures { OnOk result (Added
-        (λ place. (node : ℕ) × Holds nodes.now node × ((spot : Spot) × IsListed lists.now node spot
-        × IsFrom entries.now left.now number spot.side at place))
-        entries.now left.now number keys.old.items keys.new.items) }
+    requires { at ≤ long }
+    ensures { OnOk result (Gains
+        (λ key. (met : Met) × Holds nodes.now met × ((spot : Spot) × IsListed lists.now met.node spot × IsFromKey number at long met.depth spot key))
+        keys.old.items keys.new.items) }
 {
-    for node in nodes {
-        add_from(entries, spots_of(lists, *node), left, at, number, keys)?;
+    for met in nodes {
+        add_from(spots_of(lists, met.node), number, at, long, met.depth, keys)?;
     }
     Ok(())
 }
 
 // Adds the place, if the new side overlaps itself there.
 fn add_own_one(
-    entries: &[Entry],
     left: &[Symbol],
     at: usize,
     number: u32,
     keys: &mut Vec<Key>,
 ) -> Result<(), AllocError>
-    ensures { OnOk result (Added (IsOwn left.now number at) entries.now left.now number keys.old.items keys.new.items) }
+    ensures { OnOk result (Gains (IsOwnKey left.now number at) keys.old.items keys.new.items) }
 {
     if overlaps(left, left, at) {
         push(keys, (number, number, at))
@@ -193,18 +204,13 @@ fn add_own_one(
 }
 
 // Adds all places at which the new side overlaps itself.
-fn add_all_own(
-    entries: &[Entry],
-    left: &[Symbol],
-    number: u32,
-    keys: &mut Vec<Key>,
-) -> Result<(), AllocError>
-    ensures { OnOk result (Added
-        (λ place. (at : ℕ) × IsOwn left.now number at place)
-        entries.now left.now number keys.old.items keys.new.items) }
+fn add_all_own(left: &[Symbol], number: u32, keys: &mut Vec<Key>) -> Result<(), AllocError>
+    ensures { OnOk result (Gains
+        (λ key. (at : ℕ) × (at < length left.now) × IsOwnKey left.now number at key)
+        keys.old.items keys.new.items) }
 {
     for at in 0..left.len() {
-        add_own_one(entries, left, at, number, keys)?;
+        add_own_one(left, at, number, keys)?;
     }
     Ok(())
 }
@@ -215,16 +221,18 @@ impl Trie {
         &self,
         left: &[Symbol],
         number: u32,
-        nodes: &mut Vec<usize>,
         keys: &mut Vec<Key>,
     ) -> Result<(), AllocError>
         requires { 0 < length left.now }
-        ensures { OnOk result (Added
-            (λ place. (k : ℕ) × IsOnto self.now left.now number k 0 place)
-            self.now left.now number keys.old.items keys.new.items) }
+        ensures gains { OnOk result (Gains
+            (λ key. (k : ℕ) × IsOnto self.now left.now number k 0 (place_of key))
+            keys.old.items keys.new.items) }
+        ensures some { NoneEmpty self.now }
     {
-        find_met(&self.edges, &self.ends, left, nodes)?;
-        add_onto_nodes(&self.entries, &self.passing, nodes, left, number, keys)
+        match end_of(&self.edges, left) {
+            None => Ok(()),
+            Some(node) => add_begins(spots_of(&self.passing, node), number, keys),
+        }
     }
 
     // Adds the places within stored sides, past their begins, at which they and the new one have pairs.
@@ -235,13 +243,13 @@ impl Trie {
         keys: &mut Vec<Key>,
     ) -> Result<(), AllocError>
         requires { 0 < length left.now }
-        ensures { OnOk result (Added
-            (λ place. (k : ℕ) × (at : ℕ) × (0 < at) × IsOnto self.now left.now number k at place)
-            self.now left.now number keys.old.items keys.new.items) }
+        ensures { OnOk result (Gains
+            (λ key. (k : ℕ) × (at : ℕ) × (0 < at) × IsOnto self.now left.now number k at (place_of key))
+            keys.old.items keys.new.items) }
     {
         match self.edges.child(0, left[0]) {
             None => Ok(()),
-            Some(node) => add_onto(
+            Some(node) => add_insides(
                 &self.entries,
                 spots_of(&self.inside, node),
                 left,
@@ -257,16 +265,16 @@ impl Trie {
         left: &[Symbol],
         at: usize,
         number: u32,
-        nodes: &mut Vec<usize>,
+        nodes: &mut Vec<Met>,
         keys: &mut Vec<Key>,
     ) -> Result<(), AllocError>
         requires { at < length left.now }
-        ensures { OnOk result (Added
-            (λ place. (k : ℕ) × IsFrom self.now left.now number k at place)
-            self.now left.now number keys.old.items keys.new.items) }
+        ensures { OnOk result (Gains
+            (λ key. (k : ℕ) × IsFrom self.now left.now number k at (place_of key))
+            keys.old.items keys.new.items) }
     {
         find_met(&self.edges, &self.ends, &left[at..], nodes)?;
-        add_from_nodes(&self.entries, &self.passing, nodes, left, at, number, keys)
+        add_from_nodes(&self.passing, nodes, number, at, left.len(), keys)
     }
 
     // Adds all places in the new side at which it and stored ones have pairs.
@@ -274,12 +282,12 @@ impl Trie {
         &self,
         left: &[Symbol],
         number: u32,
-        nodes: &mut Vec<usize>,
+        nodes: &mut Vec<Met>,
         keys: &mut Vec<Key>,
     ) -> Result<(), AllocError>
-        ensures { OnOk result (Added
-            (λ place. (k : ℕ) × (at : ℕ) × (at < length left.now) × IsFrom self.now left.now number k at place)
-            self.now left.now number keys.old.items keys.new.items) }
+        ensures { OnOk result (Gains
+            (λ key. (at : ℕ) × (at < length left.now) × ((k : ℕ) × IsFrom self.now left.now number k at (place_of key)))
+            keys.old.items keys.new.items) }
     {
         for at in 0..left.len() {
             self.add_from_at(left, at, number, nodes, keys)?;
@@ -293,16 +301,16 @@ impl Trie {
         &self,
         left: &[Symbol],
         number: u32,
-        nodes: &mut Vec<usize>,
+        nodes: &mut Vec<Met>,
         keys: &mut Vec<Key>,
     ) -> Result<(), AllocError>
         requires { 0 < length left.now }
-        ensures { OnOk result (Added (IsPlace self.now left.now number) self.now left.now number [] keys.new.items) }
+        ensures { OnOk result (Gains (λ key. IsPlace self.now left.now number (place_of key)) [] keys.new.items) }
     {
         keys.clear();
-        self.add_onto_begins(left, number, nodes, keys)?;
+        self.add_onto_begins(left, number, keys)?;
         self.add_onto_insides(left, number, keys)?;
         self.add_all_from(left, number, nodes, keys)?;
-        add_all_own(&self.entries, left, number, keys)
+        add_all_own(left, number, keys)
     }
 }

@@ -9,8 +9,8 @@ use crate::ends::mark;
 use crate::found::Found;
 use crate::ordered::write_places;
 use crate::overlaps::Key;
-use crate::spots::{Spot, copy_lists};
-use crate::walk::{find, make_way};
+use crate::spots::{Spot, copy_lists, forget};
+use crate::walk::{Met, find, make_way};
 use std::alloc::{AllocError, Global};
 use std::marker::Model;
 use swreq_rule::Place;
@@ -125,19 +125,29 @@ impl Trie {
     {
         let side = self.entries.len();
         let word = Word::new(Vec::from_slice(self.alloc, left)?);
-        let node = make_way(
+        self.entries.push(Entry { left: word, number })?;
+        match make_way(
             self.alloc,
             &mut self.edges,
             &mut self.ends,
             &mut self.passing,
             &mut self.inside,
             side,
+            number,
             left,
-        )?;
-        self.entries.push(Entry { left: word, number })?;
-        mark(&mut self.ends, node, number);
-        self.longest = self.longest.max(left.len());
-        Ok(())
+        ) {
+            Ok(node) => {
+                mark(&mut self.ends, node, number);
+                self.longest = self.longest.max(left.len());
+                Ok(())
+            }
+            Err(_) => {
+                let _entry = self.entries.pop();
+                forget(&mut self.passing, side);
+                forget(&mut self.inside, side);
+                Err(AllocError)
+            }
+        }
     }
 
     /// The number of the shortest stored side that begins at the place, of several that are the same the first, or None where none
@@ -160,7 +170,7 @@ impl Trie {
         requires { 0 < length left.now }
         ensures { IfOk result (λ v. ArePlaces self.now left.now number v.items) }
     {
-        let mut nodes: Vec<usize> = Vec::new(alloc);
+        let mut nodes: Vec<Met> = Vec::new(alloc);
         let mut keys: Vec<Key> = Vec::new(alloc);
         let mut places: Vec<Place> = Vec::new(alloc);
         self.write_overlaps(left, number, &mut nodes, &mut keys, &mut places)?;
@@ -192,7 +202,7 @@ impl Trie {
         &self,
         left: &[Symbol],
         number: u32,
-        nodes: &mut Vec<usize>,
+        nodes: &mut Vec<Met>,
         keys: &mut Vec<Key>,
         places: &mut Vec<Place>,
     ) -> Result<(), AllocError>

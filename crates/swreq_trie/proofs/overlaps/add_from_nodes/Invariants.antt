@@ -1,12 +1,11 @@
-use Rattle.std.proofs.Common.{◌≡◌, ℕ, ◌<◌, slice_get, Some}
+use Rattle.std.proofs.Common.{ℕ}
 use Rattle.swreq_trie.specs.declared.spots.Spot.{Spot}
 use Rattle.swreq_trie.specs.Marks.{IsListed}
-use Rattle.swreq_trie.specs.Places.{IsFrom}
-use Rattle.swreq_trie.specs.Keys.{Added}
+use Rattle.swreq_trie.specs.Keys.{Gains, IsFromKey}
+use Rattle.swreq_trie.proofs.Collecting.{GainedBelow}
 use Rattle.swreq_trie.proofs.overlaps.add_from_nodes.Given as goal
 
-abbrev pub invariant-loop-node : goal.invariant-loop-node
-invariant-loop-node l = Added
-    (λ place. (n : ℕ) × (node : ℕ) × (n < l.node-index) × (slice_get l.nodes n ≡ Some node)
-    × ((spot : Spot) × IsListed l.lists node spot × IsFrom l.entries l.left l.number spot.side l.at place))
-    l.entries l.left l.number l.initial.keys.items l.keys.items
+abbrev pub invariant-loop-met : goal.invariant-loop-met
+invariant-loop-met l = Gains
+    (GainedBelow l.nodes (λ met key. (spot : Spot) × IsListed l.lists met.node spot × IsFromKey l.number l.at l.long met.depth spot key) l.met-index)
+    l.initial.keys.items l.keys.items

@@ -1,12 +1,12 @@
-use Rattle.std.proofs.Common.{subst}
-use Rattle.swreq_trie.specs.Places.{Meets}
+use Rattle.std.proofs.Common.{◌≡◌, arith}
+use Rattle.swreq_trie.specs.Keys.{IsFromKey}
 use Rattle.swreq_trie.proofs.Marks.{on_ok}
-use Rattle.swreq_trie.proofs.Collecting.{one_from}
+use Rattle.swreq_trie.proofs.Collecting.{gains_like}
 use Rattle.swreq_trie.proofs.overlaps.add_from_one.Goals as goal
 
-pub returns-then-meets : goal.returns-then-meets
-returns-then-meets c =
+pub returns-then-is_ended : goal.returns-then-is_ended
+returns-then-is_ended c =
     on_ok c.push.result
-    (one_from c.args.entries.now c.args.left.now c.args.number c.args.side c.args.at c.in-Some.entry.now c.in-Some.ensures.0 c.in-Some.ensures.1
-    (subst (λ x. Meets c.args.left.now x c.args.at) c.symbols.ensures (c.meets.ensures.0 c.if-meets.true)) c.args.keys.now.items c.push.new.keys.items)
+    (gains_like (λ key. key ≡ (c.args.number, c.args.spot.number, c.args.at)) (IsFromKey c.args.number c.args.at c.args.long c.args.depth c.args.spot) c.args.keys.now.items c.push.new.keys.items
+    (λ key e. (omega arith, e, c.is_ended.ensures.0 c.if-is_ended.true)) (λ key w. w.1))
     c.push.ensures

@@ -1,7 +1,9 @@
-use Rattle.std.proofs.Common.{length}
+use Rattle.std.proofs.Common.{◌≡◌, length}
+use Rattle.swreq_trie.specs.declared.trie.Entry.{Entry}
+use Rattle.swreq_trie.specs.Index.{IsOnWay, begin_of}
 use Rattle.swreq_trie.proofs.Paths.{leads_kept}
-use Rattle.swreq_trie.proofs.Marks.{keeps_itself}
-use Rattle.swreq_trie.proofs.Index.{passing_kept}
+use Rattle.swreq_trie.proofs.Marks.{keeps_itself, only_like}
+use Rattle.swreq_trie.proofs.Index.{passing_kept, way_kept}
 use Rattle.swreq_trie.proofs.walk.make_way.Goals as goal
 
 pub returns-clause-leads : goal.returns-clause-leads
@@ -10,4 +12,18 @@ returns-clause-leads c = leads_kept c.make_path.new.edges c.add_inside.new.edges
 pub returns-clause-listed : goal.returns-clause-listed
 returns-clause-listed c =
     passing_kept c.make_path.new.edges c.add_inside.new.edges c.make_path.new.passing.items c.make_path.new.passing.items c.add_inside.ensures.grown
-    (keeps_itself c.make_path.new.passing.items) c.args.side c.args.left.now (length c.args.left.now) c.in_ok-node.ensures.listed
+    (keeps_itself c.make_path.new.passing.items) _ c.args.left.now (length c.args.left.now) c.in_ok-node.ensures.listed
+
+pub returns-clause-passes : goal.returns-clause-passes
+returns-clause-passes c =
+    let begin = begin_of c.args.side (record { left = c.args.left.now; number = c.args.number }) in
+    only_like (λ n s. (s ≡ begin) × IsOnWay c.make_path.new.edges c.args.left.now n) (λ n s. (s ≡ begin) × IsOnWay c.add_inside.new.edges c.args.left.now n)
+    c.args.passing.now.items c.make_path.new.passing.items
+    (λ n s h. (h.0, way_kept c.make_path.new.edges c.add_inside.new.edges c.add_inside.ensures.grown c.args.left.now n h.1)) c.make_path.ensures.only
+
+pub returns-in_err-add_inside-clause-passes : goal.returns-in_err-add_inside-clause-passes
+returns-in_err-add_inside-clause-passes c =
+    let begin = begin_of c.args.side (record { left = c.args.left.now; number = c.args.number }) in
+    only_like (λ n s. (s ≡ begin) × IsOnWay c.make_path.new.edges c.args.left.now n) (λ n s. (s ≡ begin) × IsOnWay c.add_inside.new.edges c.args.left.now n)
+    c.args.passing.now.items c.make_path.new.passing.items
+    (λ n s h. (h.0, way_kept c.make_path.new.edges c.add_inside.new.edges c.add_inside.ensures.grown c.args.left.now n h.1)) c.make_path.ensures.only

@@ -1,18 +1,33 @@
+use Rattle.std.proofs.Common.{ℕ, ◌<◌, sym, subst}
+use Rattle.swreq_trie.specs.declared.spots.Spot.{Spot}
+use Rattle.swreq_trie.specs.Marks.{Holds, IsListed}
+use Rattle.swreq_trie.specs.Places.{IsOnto}
+use Rattle.swreq_trie.specs.Keys.{Gains, IsInsideKey, place_of}
 use Rattle.swreq_trie.proofs.Marks.{on_ok}
-use Rattle.swreq_trie.proofs.Collecting.{no_insides, insides_added}
+use Rattle.swreq_trie.proofs.Collecting.{gains_none, gains_like}
+use Rattle.swreq_trie.proofs.Listed.{no_insides, inside_listed, listed_inside}
 use Rattle.swreq_trie.proofs.trie.Trie.add_onto_insides.Goals as goal
 
 pub returns-in-None : goal.returns-in-None
 returns-in-None c =
-    let t = c.self.inside in
-    no_insides t.edges t.ends.items t.passing.items t.inside.items t.longest t.entries.items c.self.invariant c.args.left.now c.args.number
-    c.args.self.now c.self.view_is _ c.requires c.in-None.ensures.found c.args.keys.now.items
+    let t = c.self.inside in let left = c.args.left.now in let number = c.args.number in let keys = c.args.keys.now.items in
+    subst (λ stored. Gains (λ key. (k : ℕ) × (at : ℕ) × (0 < at) × IsOnto stored left number k at (place_of key)) keys keys) c.self.view_is
+    (gains_none (λ key. (k : ℕ) × (at : ℕ) × (0 < at) × IsOnto t.entries.items left number k at (place_of key)) keys
+    (λ key o. no_insides t.edges t.ends.items t.passing.items t.inside.items t.longest t.entries.items c.self.invariant left number c.requires _ key
+    c.in-None.ensures.found o))
 
 pub returns-in-Some : goal.returns-in-Some
 returns-in-Some c =
-    let t = c.self.inside in
-    on_ok c.add_onto.result
-    (insides_added t.edges t.ends.items t.passing.items t.inside.items t.longest t.entries.items c.self.invariant c.args.left.now c.args.number
-    c.args.self.now c.deref.result.now c.self.view_is c.deref.ensures.value c.args.keys.now.items c.add_onto.new.keys.items
-    c.deref-in-Some.result.now c.deref-in-Some.ensures.value _ c.in-Some.node c.spots_of.result.now c.requires c.in-Some.ensures.found c.spots_of.ensures)
-    c.add_onto.ensures
+    let t = c.self.inside in let left = c.args.left.now in let number = c.args.number in
+    let old = c.args.keys.now.items in let new = c.add_insides.new.keys.items in let node = c.in-Some.node in
+    let is = c.deref-in-Some.ensures.value in
+    on_ok c.add_insides.result
+    (λ g. subst (λ stored. Gains (λ key. (k : ℕ) × (at : ℕ) × (0 < at) × IsOnto stored left number k at (place_of key)) old new) c.self.view_is
+    (gains_like (λ key. (spot : Spot) × Holds c.spots_of.result.now spot × IsInsideKey t.entries.items left number spot key)
+    (λ key. (k : ℕ) × (at : ℕ) × (0 < at) × IsOnto t.entries.items left number k at (place_of key)) old new
+    (λ key w. listed_inside t.edges t.ends.items t.passing.items t.inside.items t.longest t.entries.items c.self.invariant left number c.requires _ key node
+    c.in-Some.ensures.found (w.0, subst (λ x. IsListed x node w.0) is (c.spots_of.ensures.only w.0 w.1), w.2))
+    (λ key o. (let r = inside_listed t.edges t.ends.items t.passing.items t.inside.items t.longest t.entries.items c.self.invariant left number c.requires _ key node
+    c.in-Some.ensures.found o in (r.0, c.spots_of.ensures.all r.0 (subst (λ x. IsListed x node r.0) (sym is) r.1), r.2)))
+    (subst (λ stored. Gains (λ key. (spot : Spot) × Holds c.spots_of.result.now spot × IsInsideKey stored left number spot key) old new) c.deref.ensures.value g)))
+    c.add_insides.ensures

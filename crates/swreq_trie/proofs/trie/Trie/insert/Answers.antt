@@ -1,43 +1,51 @@
-use Rattle.std.proofs.Common.{◌≡◌, ◌<◌, length, sym, ◌∙◌, ap, subst, arith}
-use Rattle.swreq_trie.specs.Paths.{Leads}
-use Rattle.swreq_trie.specs.Index.{IsIndex, IsPassing, IsInside}
-use Rattle.swreq_trie.proofs.Index.{index_grown, index_more}
+use Rattle.std.proofs.Common.{◌≡◌, ℕ, ◌-◌, [], ◌∷◌, ◌++◌, length, take, refl, sym, ◌∙◌, ap, subst, arith, List}
+use Rattle.std.proofs.Math.Seq.{take-length}
+use Rattle.std.proofs.lemmas.List.{take-append-le}
+use Rattle.swreq_word.specs.declared.symbols.Symbol.{Symbol}
+use Rattle.swreq_trie.specs.declared.trie.Entry.{Entry}
+use Rattle.swreq_trie.specs.Marks.{ListsOnly}
+use Rattle.swreq_trie.specs.Index.{IsIndex, IsOnWay, IsPassing, IsInside, IsWithin, begin_of, spot_of}
+use Rattle.swreq_trie.proofs.Index.{index_forgot, index_more}
 use Rattle.swreq_trie.proofs.trie.Trie.insert.Goals as goal
 
-pub invariant_of-self : goal.invariant_of-self
-invariant_of-self c =
+pub invariant_of-self-in-Ok : goal.invariant_of-self-in-Ok
+invariant_of-self-in-Ok c =
     let t = c.self.inside in
     let n = c.make_way.new in
     let e = c.make_way.ensures in
-    index_grown t.edges n.edges t.ends.items n.ends.items t.passing.items n.passing.items t.inside.items n.inside.items t.longest t.entries.items
-    c.self.invariant e.grown e.forked e.ends e.passing e.inside
-
-pub invariant_of-self-in_err-push : goal.invariant_of-self-in_err-push
-invariant_of-self-in_err-push c =
-    let t = c.self.inside in
-    let n = c.make_way.new in
-    let e = c.make_way.ensures in
-    subst (IsIndex n.edges n.ends.items n.passing.items n.inside.items t.longest) (sym c.in_err-push.ensures.items)
-    (index_grown t.edges n.edges t.ends.items n.ends.items t.passing.items n.passing.items t.inside.items n.inside.items t.longest t.entries.items
-    c.self.invariant e.grown e.forked e.ends e.passing e.inside)
-
-pub invariant_of-self-2 : goal.invariant_of-self-2
-invariant_of-self-2 c =
-    let t = c.self.inside in
-    let n = c.make_way.new in
-    let e = c.make_way.ensures in
-    let node = c.in_ok-node.node in
     let stored = t.entries.items in
-    let w = c.new-word.result in
-    let same : c.args.left.now ≡ w = sym (c.new-word.ensures ∙ c.in_ok-from_slice.ensures.items) in
+    let left = c.args.left.now in
+    let entry : Entry = record { left = left; number = c.args.number } in
+    let same : c.new-word.result ≡ left = c.new-word.ensures ∙ c.in_ok-from_slice.ensures.items in
     let count : c.len-side.result ≡ length stored = omega (arith, c.len-side.ensures, t.entries.ok.0) in
-    index_more n.edges n.ends.items c.mark.new.ends.items n.passing.items n.inside.items t.longest stored
-    (index_grown t.edges n.edges t.ends.items n.ends.items t.passing.items n.passing.items t.inside.items n.inside.items t.longest stored
-    c.self.invariant e.grown e.forked e.ends e.passing e.inside)
-    (record { left = w; number = c.args.number }) node
-    (subst (λ x. Leads n.edges 0 x node) same c.in_ok-node.ensures.leads)
-    c.mark.ensures
-    (subst (λ k. IsPassing n.edges n.passing.items k w) count (subst (IsPassing n.edges n.passing.items c.len-side.result) same c.in_ok-node.ensures.listed))
-    (subst (λ k. IsInside n.edges n.inside.items k w) count (subst (IsInside n.edges n.inside.items c.len-side.result) same c.in_ok-node.ensures.spots))
-    (subst (λ x. 0 < length x) same c.requires)
-    c.push.new.self.items c.max-self-inside.result c.in_ok-push.ensures.items (omega (arith, c.max-self-inside.ensures, ap length same))
+    index_more t.edges n.edges t.ends.items n.ends.items t.passing.items n.passing.items t.inside.items n.inside.items t.longest stored c.self.invariant entry
+    e.grown e.forked e.ends e.passing e.inside
+    (subst (λ k. ListsOnly t.passing.items n.passing.items (λ m s. (s ≡ begin_of k entry) × IsOnWay n.edges left m)) count e.passes)
+    (subst (λ k. ListsOnly t.inside.items n.inside.items (λ m s. (at : ℕ) × (s ≡ spot_of k entry at) × IsWithin n.edges left at m)) count e.stands)
+    c.mark.new.ends.items c.in-Ok.node c.in-Ok.ensures.leads c.mark.ensures
+    (subst (λ k. IsPassing n.edges n.passing.items (begin_of k entry) left) count c.in-Ok.ensures.listed)
+    (subst (λ k. IsInside n.edges n.inside.items k entry) count c.in-Ok.ensures.spots)
+    c.requires c.push.new.self.items c.max-self-inside.result
+    (c.in_ok-push.ensures.items ∙ ap (λ (x : List Symbol). stored ++ (record { left = x; number = c.args.number }) ∷ []) same)
+    (omega (arith, c.max-self-inside.ensures))
+
+pub invariant_of-self-in-Err : goal.invariant_of-self-in-Err
+invariant_of-self-in-Err c =
+    let t = c.self.inside in
+    let n = c.make_way.new in
+    let e = c.make_way.ensures in
+    let stored = t.entries.items in
+    let left = c.args.left.now in
+    let entry : Entry = record { left = left; number = c.args.number } in
+    let last : Entry = record { left = c.new-word.result; number = c.args.number } in
+    let count : c.len-side.result ≡ length stored = omega (arith, c.len-side.ensures, t.entries.ok.0) in
+    let all_but_one : c.push.new.self.len - 1 ≡ length stored = omega (arith, c.in_ok-push.ensures.len, t.entries.ok.0) in
+    let popped : c.pop-entry.new.self.items ≡ stored =
+    c.pop-entry.ensures.rest ∙ ap (λ xs. take (c.push.new.self.len - 1) xs) c.in_ok-push.ensures.items ∙ ap (λ k. take k (stored ++ last ∷ [])) all_but_one
+    ∙ take-append-le (length stored) stored (last ∷ []) (omega arith) ∙ take-length stored in
+    subst (IsIndex n.edges n.ends.items c.forget.new.lists.items c.forget-in-Err.new.lists.items t.longest) (sym popped)
+    (index_forgot t.edges n.edges t.ends.items n.ends.items t.passing.items n.passing.items t.inside.items n.inside.items t.longest stored c.self.invariant entry
+    e.grown e.forked e.ends e.passing e.inside
+    (subst (λ k. ListsOnly t.passing.items n.passing.items (λ m s. (s ≡ begin_of k entry) × IsOnWay n.edges left m)) count e.passes)
+    (subst (λ k. ListsOnly t.inside.items n.inside.items (λ m s. (at : ℕ) × (s ≡ spot_of k entry at) × IsWithin n.edges left at m)) count e.stands)
+    c.forget.new.lists.items c.forget-in-Err.new.lists.items c.len-side.result count c.forget.ensures c.forget-in-Err.ensures)
