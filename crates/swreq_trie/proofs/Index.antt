@@ -1,5 +1,5 @@
 -- What the nodes of a trie say, as sides are stored and sought.
-use Rattle.std.proofs.Common.{◌≡◌, inl, inr, ℕ, ◌+◌, ◌-◌, ◌<◌, ◌≤◌, max, get_or, take, List, [], ◌∷◌, ◌++◌, length, length-append, refl, sym, ◌∙◌, ap, subst, arith, Option, Some, None, MatchOption, Vec}
+use Rattle.std.proofs.Common.{◌≡◌, inl, inr, ℕ, ◌+◌, ◌-◌, ◌<◌, ◌≤◌, max, min, get_or, take, List, [], ◌∷◌, ◌++◌, length, length-append, refl, sym, ◌∙◌, ap, subst, arith, Option, Some, None, MatchOption, Vec}
 use Rattle.std.specs.List.{slice_get}
 use Rattle.std.specs.declared.alloc.Global.{Global}
 use Rattle.std.proofs.lemmas.Bool.{cases_lt, cases_eq}
@@ -7,6 +7,7 @@ use Rattle.std.proofs.lemmas.Option.{slice_get_within, get_or_from_slice_get}
 use Rattle.swreq_word.specs.declared.symbols.Symbol.{Symbol}
 use Rattle.swreq_word.proofs.Cuts.{same_cut}
 use Rattle.swreq_trie.specs.declared.edges.Edge.{Edge}
+use Rattle.swreq_trie.specs.declared.lengths.Lengths.{Lengths}
 use Rattle.swreq_trie.specs.declared.spots.Spot.{Spot}
 use Rattle.swreq_trie.specs.declared.trie.Entry.{Entry}
 use Rattle.swreq_trie.specs.Paths.{IsForked, IsGrown, Leads}
@@ -74,11 +75,12 @@ pub all_inside : (edges : List Edge) (inside : List (Vec Spot Global)) (k : ℕ)
     → IsInsideBelow edges inside k entry n → IsInside edges inside k entry
 all_inside edges inside k entry n le h at symbol some l e = h at symbol some (omega (arith, l, le)) e
 
-pub index_of_none : IsIndex [] [] [] [] 0 []
-index_of_none = record {
+pub index_of_none : (lengths : Lengths) → IsIndex [] [] [] [] lengths []
+index_of_none lengths = record {
   forked = λ node symbol a b p q. (let e = p.2 in cc);
   some = λ k entry e. cc;
   none_longer = λ k entry e. cc;
+  none_shorter = λ k entry e. cc;
   ends_right = λ node place e. cc;
   has_end = λ k entry e. cc;
   is_passing = λ k entry e. cc;
@@ -87,16 +89,17 @@ index_of_none = record {
   inside_right = λ node spot h. (let e = h.1 in cc);
 }
 
-module _ (edges edges' : List Edge) (ends ends' : List (Option ℕ)) (passing passing' inside inside' : List (Vec Spot Global)) (longest : ℕ)
-    (stored : List Entry) (index : IsIndex edges ends passing inside longest stored) (grown : IsGrown edges edges') (fork : IsForked edges')
+module _ (edges edges' : List Edge) (ends ends' : List (Option ℕ)) (passing passing' inside inside' : List (Vec Spot Global)) (lengths : Lengths)
+    (stored : List Entry) (index : IsIndex edges ends passing inside lengths stored) (grown : IsGrown edges edges') (fork : IsForked edges')
     (same : SameEnds ends ends') (begun : KeepsListed passing passing') (within : KeepsListed inside inside') (begun_only : KeepsListed passing' passing)
     (within_only : KeepsListed inside' inside) where
   -- where more edges and room come in, it stays an index of the same sides
-  pub index_grown : IsIndex edges' ends' passing' inside' longest stored
+  pub index_grown : IsIndex edges' ends' passing' inside' lengths stored
   index_grown = record {
     forked = fork;
     some = index.some;
     none_longer = index.none_longer;
+    none_shorter = index.none_shorter;
     ends_right = λ node number e. (let r = index.ends_right node number ((same node number).1 e) in
         record {
           side = r.side;
@@ -116,17 +119,17 @@ module _ (edges edges' : List Edge) (ends ends' : List (Option ℕ)) (passing pa
   }
 
 -- a copy of all that it has
-pub index_copied : (edges edges' : List Edge) (ends ends' : List (Option ℕ)) (passing passing' inside inside' : List (Vec Spot Global)) (longest : ℕ)
-    (stored stored' : List Entry) → IsIndex edges ends passing inside longest stored → edges' ≡ edges → ends' ≡ ends → AreCopies passing passing'
-    → AreCopies inside inside' → stored' ≡ stored → IsIndex edges' ends' passing' inside' longest stored'
-index_copied edges edges' ends ends' passing passing' inside inside' longest stored stored' index e f begun within g =
-    rw (e, f, g) (index_grown edges edges ends ends passing passing' inside inside' longest stored index (grown_itself edges) index.forked
+pub index_copied : (edges edges' : List Edge) (ends ends' : List (Option ℕ)) (passing passing' inside inside' : List (Vec Spot Global)) (lengths : Lengths)
+    (stored stored' : List Entry) → IsIndex edges ends passing inside lengths stored → edges' ≡ edges → ends' ≡ ends → AreCopies passing passing'
+    → AreCopies inside inside' → stored' ≡ stored → IsIndex edges' ends' passing' inside' lengths stored'
+index_copied edges edges' ends ends' passing passing' inside inside' lengths stored stored' index e f begun within g =
+    rw (e, f, g) (index_grown edges edges ends ends passing passing' inside inside' lengths stored index (grown_itself edges) index.forked
     (λ node number. ((λ h. h), (λ h. h))) (copies_keep passing passing' begun) (copies_keep inside inside' within) (copies_keep_back passing passing' begun)
     (copies_keep_back inside inside' within))
 
 -- the way of a side was made, which is not stored yet
-module _ (edges edges' : List Edge) (ends ends' : List (Option ℕ)) (passing passing' inside inside' : List (Vec Spot Global)) (longest : ℕ)
-    (stored : List Entry) (index : IsIndex edges ends passing inside longest stored) (entry : Entry) (grown : IsGrown edges edges') (fork : IsForked edges')
+module _ (edges edges' : List Edge) (ends ends' : List (Option ℕ)) (passing passing' inside inside' : List (Vec Spot Global)) (lengths : Lengths)
+    (stored : List Entry) (index : IsIndex edges ends passing inside lengths stored) (entry : Entry) (grown : IsGrown edges edges') (fork : IsForked edges')
     (same : SameEnds ends ends') (begun : KeepsListed passing passing') (within : KeepsListed inside inside')
     (passes : ListsOnly passing passing' (λ n s. (s ≡ begin_of (length stored) entry) × IsOnWay edges' entry.left n))
     (stands : ListsOnly inside inside' (λ n s. (at : ℕ) × (s ≡ spot_of (length stored) entry at) × IsWithin edges' entry.left at n)) where
@@ -139,8 +142,8 @@ module _ (edges edges' : List Edge) (ends ends' : List (Option ℕ)) (passing pa
     below_inside : (node : ℕ) (spot : Spot) → IsListed inside node spot → spot.side < side
     below_inside node spot h = let r = index.inside_right node spot h in let l = slice_get_within stored spot.side r.entry r.is_entry in omega (arith, l, is_side)
 
-    pub index_forgot : IsIndex edges' ends' passing'' inside'' longest stored
-    index_forgot = index_grown edges edges' ends ends' passing passing'' inside inside'' longest stored index grown fork same
+    pub index_forgot : IsIndex edges' ends' passing'' inside'' lengths stored
+    index_forgot = index_grown edges edges' ends ends' passing passing'' inside inside'' lengths stored index grown fork same
         (λ node spot h. forgot.all node spot (begun node spot h) (below_passing node spot h))
         (λ node spot h. forgot_inside.all node spot (within node spot h) (below_inside node spot h))
         (λ node spot h. (let r = forgot.only node spot h in elim (passes node spot r.0) [
@@ -214,14 +217,19 @@ module _ (edges edges' : List Edge) (ends ends' : List (Option ℕ)) (passing pa
     stands_new : (n : ℕ) (spot : Spot) (at : ℕ) → spot ≡ spot_of (length stored) entry at → IsWithin edges' entry.left at n → StandsRight edges' more n spot
     stands_new n spot at e w = subst (StandsRight edges' more n) (sym e) (record { entry = entry; is_entry = get_last stored entry; spot_is = refl; within = w })
 
-    pub index_more : (new : List Entry) (n : ℕ) → new ≡ stored ++ entry ∷ [] → n ≡ max longest (length entry.left) → IsIndex edges' ends'' passing' inside' n new
-    index_more new n is size = rw (is, size) (record {
+    pub index_more : (new : List Entry) (lengths' : Lengths) → new ≡ stored ++ entry ∷ [] → lengths'.shortest ≡ min lengths.shortest (length entry.left)
+        → lengths'.longest ≡ max lengths.longest (length entry.left) → IsIndex edges' ends'' passing' inside' lengths' new
+    index_more new lengths' is least most = rw is (record {
       forked = fork;
       some = λ k e g. elim (get_cases stored entry k e g)
           [ inl h ↦ index.some k e h | inr h ↦ subst (λ (x : Entry). 0 < length x.left) (sym h.1) long ];
       none_longer = λ k e g. elim (get_cases stored entry k e g) [
-        | inl h ↦ (let l = index.none_longer k e h in omega (arith, l))
-        | inr h ↦ subst (λ (x : Entry). length x.left ≤ max longest (length entry.left)) (sym h.1) (omega arith)
+        | inl h ↦ (let l = index.none_longer k e h in omega (arith, l, most))
+        | inr h ↦ subst (λ (x : Entry). length x.left ≤ lengths'.longest) (sym h.1) (omega (arith, most))
+      ];
+      none_shorter = λ k e g. elim (get_cases stored entry k e g) [
+        | inl h ↦ (let l = index.none_shorter k e h in omega (arith, l, least))
+        | inr h ↦ subst (λ (x : Entry). lengths'.shortest ≤ length x.left) (sym h.1) (omega (arith, least))
       ];
       ends_right = λ m p g. elim (marked.only m p g) [
         | inl h ↦ first_still m p h
@@ -244,8 +252,8 @@ module _ (edges edges' : List Edge) (ends ends' : List (Option ℕ)) (passing pa
     })
 
 -- what the way of a word says of the stored sides
-module _ (edges : List Edge) (ends : List (Option ℕ)) (passing inside : List (Vec Spot Global)) (longest : ℕ)
-    (stored : List Entry) (index : IsIndex edges ends passing inside longest stored) (w : List Symbol) where
+module _ (edges : List Edge) (ends : List (Option ℕ)) (passing inside : List (Vec Spot Global)) (lengths : Lengths)
+    (stored : List Entry) (index : IsIndex edges ends passing inside lengths stored) (w : List Symbol) where
   none_begins : NoEnd edges ends w → NoneBegins stored w
   none_begins none k entry e b =
       let h = index.has_end k entry e in
@@ -274,6 +282,10 @@ module _ (edges : List Edge) (ends : List (Option ℕ)) (passing inside : List (
               ]
             ]);
       }
+
+  -- none begins a word that is shorter than all of them
+  pub none_so_short : length w < lengths.shortest → NoneBegins stored w
+  none_so_short short k entry e b = let size = simp length-append at (ap length b.1) in let l = index.none_shorter k entry e in absurd (omega (arith, size, short, l))
 
   pub found_is : (found : Option ℕ) → MatchOption found (NoEnd edges ends w) (FirstEnd edges ends w) → MatchOption found (NoneBegins stored w) (Shortest stored w)
   found_is None h = none_begins h

@@ -8,6 +8,7 @@ use Rattle.swreq_word.specs.Overlap.{Overlap, Containment}
 use Rattle.swreq_rule.specs.declared.rules.Place.{Place}
 use Rattle.swreq_rule.proofs.Overlapping.{overlap_within, overlapping, common_is, containing, containing_rest}
 use Rattle.swreq_trie.specs.declared.edges.Edge.{Edge}
+use Rattle.swreq_trie.specs.declared.lengths.Lengths.{Lengths}
 use Rattle.swreq_trie.specs.declared.spots.Spot.{Spot}
 use Rattle.swreq_trie.specs.declared.walk.Met.{Met}
 use Rattle.swreq_trie.specs.declared.trie.Entry.{Entry}
@@ -67,8 +68,8 @@ nothing_after : {A : Type 0} (a b : List A) → length (a ++ b) ≡ length a →
 nothing_after a [] e = refl
 nothing_after a (x ∷ b) e = absurd (let h = simp length-append at e in omega (arith, h))
 
-module _ (edges : List Edge) (ends : List (Option ℕ)) (passing inside : List (Vec Spot Global)) (longest : ℕ) (stored : List Entry)
-    (index : IsIndex edges ends passing inside longest stored) (left : List Symbol) (number : ℕ) where
+module _ (edges : List Edge) (ends : List (Option ℕ)) (passing inside : List (Vec Spot Global)) (lengths : Lengths) (stored : List Entry)
+    (index : IsIndex edges ends passing inside lengths stored) (left : List Symbol) (number : ℕ) where
   -- a stored side in which the new one stands at its begin
   module _ (some : 0 < length left) where
     begin_way : (k : ℕ) (p : Place) → (o : IsOnto stored left number k 0 p) → (node : ℕ) × Leads edges 0 left node × IsListed passing node (begin_of k o.entry)

@@ -3,11 +3,12 @@ use Rattle.std.specs.Prelude.{◌≡◌, ℕ, ◌-◌, ◌<◌, ◌≤◌, List,
 use Rattle.std.specs.declared.alloc.Global.{Global}
 use Rattle.swreq_word.specs.declared.symbols.Symbol.{Symbol}
 use Rattle.swreq_trie.specs.declared.edges.Edge.{Edge}
+use Rattle.swreq_trie.specs.declared.lengths.Lengths.{Lengths}
 use Rattle.swreq_trie.specs.declared.spots.Spot.{Spot}
 use Rattle.swreq_trie.specs.declared.trie.Entry.{Entry}
 use Rattle.swreq_trie.specs.Paths.{IsChild, IsForked, Leads}
 use Rattle.swreq_trie.specs.Marks.{EndsAt, IsListed}
-use Rattle.swreq_trie.specs.Stored.{NoneLonger}
+use Rattle.swreq_trie.specs.Stored.{NoneLonger, NoneShorter}
 
 -- Edges lead to the node by the symbols of a side with this number, and none before it is the same.
 pub record FirstThere (edges : List Edge) (stored : List Entry) (node number : ℕ) : Type 0 where
@@ -72,11 +73,12 @@ pub record StandsRight (edges : List Edge) (stored : List Entry) (node : ℕ) (s
   pub spot_is : spot ≡ spot_of spot.side entry spot.at
   pub within : IsWithin edges entry.left spot.at node
 
-pub record IsIndex (edges : List Edge) (ends : List (Option ℕ)) (passing inside : List (Vec Spot Global)) (longest : ℕ) (stored : List Entry)
+pub record IsIndex (edges : List Edge) (ends : List (Option ℕ)) (passing inside : List (Vec Spot Global)) (lengths : Lengths) (stored : List Entry)
     : Type 0 where
   pub forked : IsForked edges
   pub some : (k : ℕ) (entry : Entry) → slice_get stored k ≡ Some entry → 0 < length entry.left
-  pub none_longer : NoneLonger stored longest
+  pub none_longer : NoneLonger stored lengths.longest
+  pub none_shorter : NoneShorter stored lengths.shortest
   pub ends_right : (node number : ℕ) → EndsAt ends node number → FirstThere edges stored node number
   pub has_end : (k : ℕ) (entry : Entry) → slice_get stored k ≡ Some entry → HasEnd edges ends entry.left
   pub is_passing : (k : ℕ) (entry : Entry) → slice_get stored k ≡ Some entry → IsPassing edges passing (begin_of k entry) entry.left

@@ -27,3 +27,7 @@ NoneEmpty stored = (k : ℕ) (entry : Entry) → slice_get stored k ≡ Some ent
 -- no stored side is longer than this
 abbrev pub NoneLonger : List Entry → ℕ → Type 0
 NoneLonger stored n = (k : ℕ) (entry : Entry) → slice_get stored k ≡ Some entry → length entry.left ≤ n
+
+-- nor shorter
+abbrev pub NoneShorter : List Entry → ℕ → Type 0
+NoneShorter stored n = (k : ℕ) (entry : Entry) → slice_get stored k ≡ Some entry → n ≤ length entry.left

@@ -4,6 +4,7 @@
 mod edges;
 mod ends;
 mod found;
+mod lengths;
 mod ordered;
 mod overlaps;
 mod spots;

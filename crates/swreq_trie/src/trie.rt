@@ -7,6 +7,7 @@ ghost use Rattle.swreq_trie.specs.Stored.{NoneBegins, NoneLonger, Shortest};
 use crate::edges::Edges;
 use crate::ends::mark;
 use crate::found::Found;
+use crate::lengths::Lengths;
 use crate::ordered::write_places;
 use crate::overlaps::Key;
 use crate::spots::{Spot, copy_lists, forget};
@@ -36,8 +37,8 @@ pub struct Trie {
     pub(crate) passing: Vec<Vec<Spot>>,
     // At each node to which one symbol leads from the root, the places past the begins of sides at which this symbol stands.
     pub(crate) inside: Vec<Vec<Spot>>,
-    // No side is longer.
-    longest: usize,
+    // No side is shorter or longer than these.
+    lengths: Lengths,
 }
 
 impl Model for Trie {
@@ -49,7 +50,7 @@ impl Model for Trie {
 
     ghost view = { λ t. t.entries.items };
 
-    ghost invariant = { λ t. IsIndex t.edges t.ends.items t.passing.items t.inside.items t.longest t.entries.items };
+    ghost invariant = { λ t. IsIndex t.edges t.ends.items t.passing.items t.inside.items t.lengths t.entries.items };
 }
 
 // The same entries once more.
@@ -79,7 +80,7 @@ impl Trie {
             ends: Vec::new(alloc),
             passing: Vec::new(alloc),
             inside: Vec::new(alloc),
-            longest: 0,
+            lengths: Lengths::of_none(),
         }
     }
 
@@ -94,7 +95,7 @@ impl Trie {
     pub fn longest(&self) -> usize
         ensures { NoneLonger self.now result }
     {
-        self.longest
+        self.lengths.longest
     }
 
     /// The same sides once more.
@@ -113,7 +114,7 @@ impl Trie {
             ends,
             passing,
             inside,
-            longest: self.longest,
+            lengths: self.lengths,
         })
     }
 
@@ -138,7 +139,7 @@ impl Trie {
         ) {
             Ok(node) => {
                 mark(&mut self.ends, node, number);
-                self.longest = self.longest.max(left.len());
+                self.lengths = self.lengths.with(left.len());
                 Ok(())
             }
             Err(_) => {
@@ -156,7 +157,11 @@ impl Trie {
         requires { at ≤ length w.now }
         ensures { MatchOption result (NoneBegins self.now (drop at w.now)) (λ number. Shortest self.now (drop at w.now) number) }
     {
-        find(&self.edges, &self.ends, &w[at..])
+        let rest = &w[at..];
+        if rest.len() < self.lengths.shortest {
+            return None;
+        }
+        find(&self.edges, &self.ends, rest)
     }
 
     /// All places of the pairs of the rule that has this side and number with the stored ones whose number is below it, and with itself,

@@ -22,8 +22,8 @@ returns c =
     (gains_like
     (λ key. (m : Met) × Holds nodes m × ((spot : Spot) × IsListed t.passing.items m.node spot × IsFromKey number at (length left) m.depth spot key))
     (λ key. (k : ℕ) × IsFrom t.entries.items left number k at (place_of key)) old new
-    (λ key w. listed_from t.edges t.ends.items t.passing.items t.inside.items t.longest t.entries.items c.self.invariant left number at c.requires nodes met key w)
-    (λ key o. from_listed t.edges t.ends.items t.passing.items t.inside.items t.longest t.entries.items c.self.invariant left number at c.requires nodes met key o)
+    (λ key w. listed_from t.edges t.ends.items t.passing.items t.inside.items t.lengths t.entries.items c.self.invariant left number at c.requires nodes met key w)
+    (λ key o. from_listed t.edges t.ends.items t.passing.items t.inside.items t.lengths t.entries.items c.self.invariant left number at c.requires nodes met key o)
     (subst (λ p. Gains (λ key. (m : Met) × Holds nodes m × ((spot : Spot) × IsListed p m.node spot × IsFromKey number at (length left) m.depth spot key)) old new)
     c.deref-2.ensures.value
     (subst (λ x. Gains (λ key. (m : Met) × Holds x m × ((spot : Spot) × IsListed c.deref-2.result.now m.node spot × IsFromKey number at (length left) m.depth spot key)) old new)

@@ -8,7 +8,7 @@ invariant_of-result c =
     let t = c.self.inside in
     let passing = c.in_ok-passing.passing.items in
     let inside = c.in_ok-inside.inside.items in
-    index_copied t.edges c.in_ok-edges.edges t.ends.items c.in_ok-ends.ends.items t.passing.items passing t.inside.items inside t.longest
+    index_copied t.edges c.in_ok-edges.edges t.ends.items c.in_ok-ends.ends.items t.passing.items passing t.inside.items inside t.lengths
     t.entries.items c.in_ok-entries.entries.items c.self.invariant
     c.in_ok-edges.ensures
     (c.in_ok-ends.ensures.items ∙ c.deref-2.ensures.value)
