@@ -1,14 +1,13 @@
 //! The search for the reduced system of some rules.
 
-ghost use Rattle.std.specs.Prelude.{◌≡◌, ℕ, suc, ◌+◌, ◌<◌, List, [], ◌∷◌, ◌++◌, length, slice_get, Some, IfOk, OnOk};
+ghost use Rattle.std.specs.Prelude.{◌≡◌, ℕ, suc, ◌+◌, ◌<◌, [], ◌∷◌, ◌++◌, length, slice_get, Some, IfOk, OnOk};
 ghost use Rattle.std.specs.Bool.{Decides, OnFalse, OnTrue};
 ghost use Rattle.std.specs.List.Sorted.{IsSorted};
-ghost use Rattle.swreq_word.specs.declared.symbols.Symbol.{Symbol};
 ghost use Rattle.swreq_word.specs.Relations.{IsIrreducible};
 ghost use Rattle.swreq_rule.specs.Reduction.{Reduces};
 ghost use Rattle.swreq_rule.specs.Steps.{Step};
 ghost use Rattle.swreq_word.specs.Least.{EachFactor};
-ghost use Rattle.swreq_complete.specs.Search.{AreKeys, AreKeysBelow, Found, FoundBelow, key_cmp};
+ghost use Rattle.swreq_complete.specs.Search.{AreKeys, AreKeysBelow, Found, FoundBelow, Key, key_cmp};
 
 use crate::indexed::Indexed;
 use std::alloc::{AllocError, Global};
@@ -16,8 +15,8 @@ use std::cmp::Ordering;
 use swreq_rule::Rule;
 use swreq_word::{Symbol, Word, compare};
 
-// A left side, with the place of its rule.
-type Key = (Word, usize);
+// A left side where it stands, with the place of its rule.
+type Key<'a> = (&'a Word, usize);
 
 // Whether no rule's left side stands in a proper factor of the word.
 fn is_minimal(rules: &Indexed, w: &[Symbol]) -> bool
@@ -31,15 +30,15 @@ fn is_minimal(rules: &Indexed, w: &[Symbol]) -> bool
 }
 
 // Puts the key last.
-fn push(keys: &mut Vec<Key>, key: Key) -> Result<(), AllocError>
-    ensures { OnOk result (keys.new.items ≡ keys.old.items ++ key ∷ []) }
+fn push<'a>(keys: &mut Vec<Key<'a>>, key: Key<'a>) -> Result<(), AllocError>
+    ensures { OnOk result (keys.new.items ≡ keys.old.items ++ key.entry ∷ []) }
 {
     keys.push(key)?;
     Ok(())
 }
 
 // Adds the left side of one rule more, if none of its proper factors can be reduced.
-fn add_key(rules: &Indexed, k: usize, keys: &mut Vec<Key>) -> Result<(), AllocError>
+fn add_key<'a>(rules: &'a Indexed, k: usize, keys: &mut Vec<Key<'a>>) -> Result<(), AllocError>
     requires in_range { k < length rules.now }
     requires so_far { AreKeysBelow rules.now k keys.old.items }
     ensures { OnOk result (AreKeysBelow rules.now (k + 1) keys.new.items) }
@@ -48,15 +47,14 @@ fn add_key(rules: &Indexed, k: usize, keys: &mut Vec<Key>) -> Result<(), AllocEr
     if !is_minimal(rules, rule.left.symbols()) {
         return Ok(());
     }
-    let left = rule.left.clone()?;
-    push(keys, (left, k))
+    push(keys, (&rule.left, k))
 }
 
 // The left sides whose proper factors can't be reduced.
-fn keys_of(alloc: Global, rules: &Indexed) -> Result<Vec<Key>, AllocError>
+fn keys_of<'a>(alloc: Global, rules: &'a Indexed) -> Result<Vec<Key<'a>>, AllocError>
     ensures { IfOk result (λ v. AreKeysBelow rules.now (length rules.now) v.items) }
 {
-    let mut keys: Vec<Key> = Vec::new(alloc);
+    let mut keys: Vec<Key<'a>> = Vec::new(alloc);
     for k in 0..rules.rules().len() {
         add_key(rules, k, &mut keys)?;
     }
@@ -64,7 +62,7 @@ fn keys_of(alloc: Global, rules: &Indexed) -> Result<Vec<Key>, AllocError>
 }
 
 // The key that stands there.
-fn key_at(keys: &[Key], n: usize) -> &Key
+fn key_at<'k, 'a>(keys: &'k [Key<'a>], n: usize) -> &'k Key<'a>
     requires { n < length keys.now }
     ensures { slice_get keys.now n ≡ Some result.now }
 {
@@ -73,7 +71,7 @@ fn key_at(keys: &[Key], n: usize) -> &Key
 
 // Whether two keys have one left side.
 fn is_same(a: &Key, b: &Key) -> bool
-    ensures { Decides result (a.now.0 ≡ b.now.0) }
+    ensures { Decides result (a.now.0.now ≡ b.now.0.now) }
 {
     match compare(a.0.symbols(), b.0.symbols()) {
         Ordering::Less => false,
@@ -85,8 +83,8 @@ fn is_same(a: &Key, b: &Key) -> bool
 // Whether the left side differs from the one before it.
 fn is_new(keys: &[Key], n: usize) -> bool
     requires { n < length keys.now }
-    ensures yes { OnTrue result ((m : ℕ) (a b : List Symbol × ℕ) → suc m ≡ n → slice_get keys.now m ≡ Some a → slice_get keys.now n ≡ Some b → a.0 ≡ b.0 → ⊥) }
-    ensures no { OnFalse result ((m : ℕ) × (a : List Symbol × ℕ) × (b : List Symbol × ℕ) × (suc m ≡ n) × (slice_get keys.now m ≡ Some a) × (slice_get keys.now n ≡ Some b) × (a.0 ≡ b.0)) }
+    ensures yes { OnTrue result ((m : ℕ) (a b : Key) → suc m ≡ n → slice_get keys.now m ≡ Some a → slice_get keys.now n ≡ Some b → a.0.now ≡ b.0.now → ⊥) }
+    ensures no { OnFalse result ((m : ℕ) × (a : Key) × (b : Key) × (suc m ≡ n) × (slice_get keys.now m ≡ Some a) × (slice_get keys.now n ≡ Some b) × (a.0.now ≡ b.0.now)) }
 {
     if n == 0 {
         return true;

@@ -1,4 +1,4 @@
-use Rattle.std.proofs.Common.{◌<◌, sym, subst, length}
+use Rattle.std.proofs.Common.{◌<◌, refl, sym, subst, length}
 use Rattle.swreq_word.specs.Relations.{IsIrreducible}
 use Rattle.swreq_rule.specs.Steps.{Step}
 use Rattle.swreq_word.specs.Least.{EachFactor}
@@ -20,7 +20,7 @@ pub returns : goal.returns
 returns c =
     let rules = c.args.rules.now in
     on_ok c.push.result
-    (key_added rules c.args.k c.args.keys.now.items c.push.new.keys.items c.rule_at-rule.result.now c.in_ok-left.left c.rule_at-rule.ensures
-    c.in_ok-left.ensures.cases (subst (λ x. EachFactor x (IsIrreducible (Step rules))) c.symbols.ensures (c.is_minimal.ensures.0 c.if-not-is_minimal.false))
+    (key_added rules c.args.k c.args.keys.now.items c.push.new.keys.items c.rule_at-rule.result.now _ c.rule_at-rule.ensures
+    refl (subst (λ x. EachFactor x (IsIrreducible (Step rules))) c.symbols.ensures (c.is_minimal.ensures.0 c.if-not-is_minimal.false))
     c.requires.so_far)
     c.push.ensures
