@@ -1,15 +1,15 @@
 -- Lists without the spots of the last sides.
-use Rattle.std.proofs.Common.{◌≡◌, inl, inr, ℕ, zero, suc, ◌+◌, ◌<◌, ◌≤◌, Bool, true, false, cond, List, [], ◌∷◌, length, refl, sym, ◌∙◌, subst, arith, Some, Vec}
+use Rattle.std.proofs.Common.{◌≡◌, inl, inr, ℕ, zero, suc, ◌+◌, ◌<◌, Bool, true, false, cond, List, [], ◌∷◌, length, refl, sym, ◌∙◌, subst, arith, Some, Vec}
 use Rattle.std.specs.List.{slice_get, filter}
 use Rattle.std.specs.declared.alloc.Global.{Global}
 use Rattle.std.proofs.Math.Dec.{ltb}
 use Rattle.std.proofs.Math.ListN.{set}
-use Rattle.std.proofs.lemmas.Bool.{cases_lt, cases_eq, ltb-true, lt-ltb}
+use Rattle.std.proofs.lemmas.Bool.{cases_eq, ltb-true, lt-ltb}
 use Rattle.std.proofs.lemmas.Option.{slice_get_within}
 use Rattle.swreq_trie.specs.declared.spots.Spot.{Spot}
 use Rattle.swreq_trie.specs.Marks.{Holds, Retains, Forgets, ForgetsBelow}
 use Rattle.swreq_word.proofs.Lists.{there_is}
-use Rattle.swreq_trie.proofs.Changed.{set_here, set_cases, set_kept}
+use Rattle.swreq_trie.proofs.Changed.{set_here, set_cases}
 
 module _ {X : Type 0} (p : X → Bool) where
   holds_next : (y x : X) (xs : List X) → Holds xs x → Holds (y ∷ xs) x

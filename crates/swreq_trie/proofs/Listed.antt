@@ -1,10 +1,10 @@
 -- Where each pair that is sought is listed, and that what is listed gives pairs.
-use Rattle.std.proofs.Common.{◌≡◌, ◌⊎◌, inl, inr, ℕ, zero, suc, ◌+◌, ◌-◌, ◌<◌, ◌≤◌, List, [], ◌∷◌, ◌++◌, append-nil, take, drop, length, length-append, length-drop, get_or, refl, sym, ◌∙◌, ap, subst, arith, Option, Some, Vec}
+use Rattle.std.proofs.Common.{◌≡◌, inl, inr, ℕ, zero, suc, ◌+◌, ◌-◌, ◌<◌, List, [], ◌∷◌, ◌++◌, append-nil, drop, length, length-append, length-drop, get_or, refl, sym, ◌∙◌, ap, subst, arith, Option, Some, Vec}
 use Rattle.std.specs.List.{slice_get}
 use Rattle.std.specs.declared.alloc.Global.{Global}
 use Rattle.std.proofs.lemmas.Option.{slice_get_within, get_or_from_slice_get}
 use Rattle.swreq_word.specs.declared.symbols.Symbol.{Symbol}
-use Rattle.swreq_word.specs.Overlap.{Overlap, Containment}
+use Rattle.swreq_word.specs.Overlap.{Containment}
 use Rattle.swreq_rule.specs.declared.rules.Place.{Place}
 use Rattle.swreq_rule.proofs.Overlapping.{overlap_within, overlapping, common_is, containing, containing_rest}
 use Rattle.swreq_trie.specs.declared.edges.Edge.{Edge}

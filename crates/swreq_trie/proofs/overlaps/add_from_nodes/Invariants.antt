@@ -1,4 +1,3 @@
-use Rattle.std.proofs.Common.{ℕ}
 use Rattle.swreq_trie.specs.declared.spots.Spot.{Spot}
 use Rattle.swreq_trie.specs.Marks.{IsListed}
 use Rattle.swreq_trie.specs.Keys.{Gains, IsFromKey}

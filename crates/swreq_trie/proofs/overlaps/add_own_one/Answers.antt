@@ -1,4 +1,4 @@
-use Rattle.std.proofs.Common.{◌≡◌, arith}
+use Rattle.std.proofs.Common.{◌≡◌}
 use Rattle.swreq_trie.specs.Keys.{IsOwnKey}
 use Rattle.swreq_trie.proofs.Marks.{on_ok}
 use Rattle.swreq_trie.proofs.Collecting.{gains_like}

@@ -1,5 +1,4 @@
 use Rattle.std.proofs.Common.{◌≡◌, length}
-use Rattle.swreq_trie.specs.declared.trie.Entry.{Entry}
 use Rattle.swreq_trie.specs.Index.{IsOnWay, begin_of}
 use Rattle.swreq_trie.proofs.Paths.{leads_kept}
 use Rattle.swreq_trie.proofs.Marks.{keeps_itself, only_like}
