@@ -1,11 +1,12 @@
 -- What is printed of a signature: its name, and its minimised list.
-use Rattle.std.specs.Prelude.{◌≡◌, ◌++◌, List, [], Option, Some, None, map, codes}
+use Rattle.std.specs.Prelude.{◌≡◌, ◌++◌, List, [], map, codes}
+use Rattle.std.specs.Option.{option_map_or}
 use Rattle.swreq_derive.specs.Derivation.{Source, TermRequirement}
 use Rattle.swreq_derive.specs.Derivation.Source.{Written}
 use Rattle.swreq_derive.specs.Facts.{generic_params}
-use Rattle.swreq_written.specs.declared.ids.FuncId.{FuncId}
 use Rattle.swreq_written.specs.Requirements.{PlacedRequirement}
-use Rattle.swreq_world.specs.Worlds.{SignatureOver, TextWorld, signature_at}
+use Rattle.swreq_world.specs.Lookups.{outer_name}
+use Rattle.swreq_world.specs.Worlds.{SignatureOver, TextWorld}
 use Rattle.swreq_shown.specs.Meaning.{facts_of}
 use Rattle.swreq_canonical.specs.Minimised.{IsMinimised}
 use Rattle.swreq_print.specs.Names.{Text}

@@ -1,21 +1,26 @@
 //! The line of a minimised signature.
-ghost use Rattle.std.specs.Prelude.{◌≡◌, ◌×◌, ◌<◌, ◌++◌, List, ℕ, length, IfErr, IfOk, OnOk};
+ghost use Rattle.std.specs.Prelude.{◌≡◌, ◌<◌, ◌++◌, List, ℕ, codes, length, IfErr, OnOk};
 ghost use Rattle.swreq_param.specs.Tables.{Extends};
+ghost use Rattle.swreq_derive.specs.Facts.{generic_params};
+ghost use Rattle.swreq_complete.specs.declared.limit.Failed.TheVariants.{Memory};
 ghost use Rattle.swreq_complete.specs.Limits.{AreInRange};
 ghost use Rattle.swreq_shown.specs.Known.{IsTextOver};
 ghost use Rattle.swreq_valid.specs.Machines.{AreRulesOf, IsMachineOf};
+ghost use Rattle.swreq_valid.specs.Plans.{AreKnown, listed};
 ghost use Rattle.swreq_valid.specs.Rounds.{last_rules};
 ghost use Rattle.swreq_watch.specs.declared.events.Event.{Event};
 ghost use Rattle.swreq_watch.specs.Told.{GrewBy};
 ghost use Rattle.swreq_world.specs.ByTable.{world_by};
 ghost use Rattle.swreq_world.specs.Worlds.{signature_at};
 ghost use Rattle.swreq_minimal.specs.Inheritance.{IsInheritanceWritten};
+ghost use Rattle.swreq_print.specs.Signatures.{signature_text};
 ghost use Rattle.swreq_output.specs.Minimising.{MinimisingFails, MinimisingTells};
 ghost use Rattle.swreq_output.specs.Signatures.{IsMinimisedLine, written_list};
 
-use std::alloc::Global;
+use std::alloc::{AllocError, Global};
 use swreq_bytes::append_bytes;
 use swreq_complete::{Failed, Limits};
+use swreq_derive::{Params, Requirement};
 use swreq_minimal::minimise;
 use swreq_param::ParamTable;
 use swreq_print::signature_text;
@@ -23,7 +28,44 @@ use swreq_valid::{Machine, Protocols};
 use swreq_watch::Watch;
 use swreq_world::{FuncId, World};
 
-/// Appends the minimised list of a signature, by its machine, as a line.
+/// Writes the signature with these generic parameters and requirements as a line.
+fn put_signature(
+    alloc: Global,
+    world: &World,
+    table: &ParamTable,
+    params: Params,
+    list: &[Requirement],
+    out: &mut Vec<u8>,
+) -> Result<(), AllocError>
+    requires { AreKnown table.now world.now.lexicon list.now }
+    ensures { OnOk result (out.new.items ≡ out.old.items
+        ++ (signature_text world.now.lexicon (generic_params params) (listed table.now list.now) ++ codes "\n")) }
+{
+    signature_text(alloc, world.lexicon(), table, params, list, out)?;
+    append_bytes(out, b"\n")
+}
+
+/// The same, where `Failed::Memory` is its one failure.
+fn put_line(
+    alloc: Global,
+    world: &World,
+    table: &ParamTable,
+    params: Params,
+    list: &[Requirement],
+    out: &mut Vec<u8>,
+) -> Result<(), Failed>
+    requires { AreKnown table.now world.now.lexicon list.now }
+    ensures line { OnOk result (out.new.items ≡ out.old.items
+        ++ (signature_text world.now.lexicon (generic_params params) (listed table.now list.now) ++ codes "\n")) }
+    ensures failed { IfErr result (λ failed. failed ≡ Memory) }
+{
+    match put_signature(alloc, world, table, params, list, out) {
+        Ok(()) => Ok(()),
+        Err(_) => Err(Failed::Memory),
+    }
+}
+
+/// Writes the minimised list of a signature at the end, by its machine, as a line. For want of memory a part of it may stand there.
 ///
 /// `Failed::Limit` comes only where the rounds of a list that minimising meets pass a limit, with the trace of the round that passes it.
 /// The watcher is told the events of the rounds of such lists. The table grows, its ids stay, and so does the world over it.
@@ -57,9 +99,8 @@ pub fn minimised_line<W: Watch>(
     ensures world { world_by table.new world.now ≡ world_by table.old world.now }
     ensures text { IsTextOver table.new world.now }
 {
-    let list = minimise(alloc, world, table, protocols, machine, limits, watch)?;
-    match append_line(alloc, world, table, f, &list, out) {
-        Ok(()) => Ok(()),
-        Err(_) => Err(Failed::Memory),
+    match minimise(alloc, world, table, protocols, machine, limits, watch) {
+        Err(failed) => Err(failed),
+        Ok(list) => put_line(alloc, world, table, world.params(f), &list, out),
     }
 }
