@@ -1,0 +1,7 @@
+mod Agreeing
+mod Ended
+mod Lines
+mod Minimising
+mod OfText
+mod PrintingAlike
+mod Reading

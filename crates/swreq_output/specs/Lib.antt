@@ -1,0 +1,4 @@
+pub mod Signatures
+pub mod Minimising
+pub mod Systems
+pub mod Ended

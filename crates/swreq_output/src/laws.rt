@@ -1,0 +1,37 @@
+//! Laws on printed signatures, over the definitions alone.
+ghost use Rattle.std.specs.Prelude.{◌≡◌, Contains, List, ℕ};
+ghost use Rattle.swreq_derive.specs.Equivalence.{AreEquivalent};
+ghost use Rattle.swreq_derive.specs.Facts.{generic_params};
+ghost use Rattle.swreq_complete.specs.declared.limit.Limits.{Limits};
+ghost use Rattle.swreq_written.specs.Requirements.{PlacedRequirement};
+ghost use Rattle.swreq_world.specs.Worlds.{SignatureOver, TextWorld};
+ghost use Rattle.swreq_shown.specs.Meaning.{facts_of};
+ghost use Rattle.swreq_output.specs.Ended.{HasEnded, IsWorldOfText};
+ghost use Rattle.swreq_output.specs.Signatures.{IsMinimisedLine, written_list};
+
+use swreq_minimal::laws::inheritance_is_written;
+use swreq_print::laws::signatures_of_a_text_are_told_apart;
+use swreq_world::laws::worlds_are_closed;
+use swreq_written::laws::lists_are_short;
+
+/// Equivalent signatures with the same generic parameters have one minimised line.
+pub fn equivalent_signatures_print_alike()
+    ensures { (w : TextWorld) (g h : SignatureOver PlacedRequirement) (line other : List ℕ) → g.params ≡ h.params
+        → AreEquivalent (facts_of w) (generic_params g.params) (written_list g) (written_list h)
+        → IsMinimisedLine w g line → IsMinimisedLine w h other → line ≡ other }
+{}
+
+/// Signatures of a text with one minimised line have the same generic parameters, and where their rounds have ended they are equivalent.
+pub fn signatures_that_print_alike_are_equivalent(text: &[u8])
+    ensures params { (w : TextWorld) (g h : SignatureOver PlacedRequirement) (line : List ℕ) → IsWorldOfText text.now w
+        → Contains w.signatures g → Contains w.signatures h → IsMinimisedLine w g line → IsMinimisedLine w h line → g.params ≡ h.params }
+    ensures equivalent { (limits : Limits) (w : TextWorld) (g h : SignatureOver PlacedRequirement) (line : List ℕ) → IsWorldOfText text.now w
+        → Contains w.signatures g → Contains w.signatures h → HasEnded limits w g → HasEnded limits w h
+        → IsMinimisedLine w g line → IsMinimisedLine w h line
+        → AreEquivalent (facts_of w) (generic_params g.params) (written_list g) (written_list h) }
+{
+    worlds_are_closed(text);
+    lists_are_short(text);
+    inheritance_is_written();
+    signatures_of_a_text_are_told_apart(text);
+}

@@ -1,0 +1,108 @@
+//! The reduced rewriting system of a signature.
+ghost use Rattle.std.specs.Prelude.{◌≡◌, ◌<◌, ◌++◌, List, ℕ, codes, decimal, length, OnOk};
+ghost use Rattle.std.specs.List.{flat_map};
+ghost use Rattle.swreq_shown.specs.Known.{IsTextOver};
+ghost use Rattle.swreq_valid.specs.Machines.{IsMachineOf};
+ghost use Rattle.swreq_world.specs.ByTable.{world_by};
+ghost use Rattle.swreq_world.specs.Worlds.{signature_at};
+ghost use Rattle.swreq_output.specs.Signatures.{full_name, written_list};
+ghost use Rattle.swreq_output.specs.Systems.{IsSystemText, rule_line, system_text};
+
+use crate::names::full_name;
+use std::alloc::{AllocError, Global};
+use swreq_bytes::{append_bytes, append_number};
+use swreq_param::ParamTable;
+use swreq_print::rule_text;
+use swreq_ranks::Lexicon;
+use swreq_rule::Rule;
+use swreq_valid::Machine;
+use swreq_world::{FuncId, World};
+
+/// Writes the line above so many rules of a signature.
+fn put_head(
+    world: &World,
+    table: &ParamTable,
+    f: FuncId,
+    rules: usize,
+    out: &mut Vec<u8>,
+) -> Result<(), AllocError>
+    requires { f.place < length world.now.signatures }
+    ensures { OnOk result (out.new.items ≡ out.old.items
+        ++ (full_name (world_by table.now world.now) (signature_at (world_by table.now world.now) f)
+        ++ (codes ": " ++ (decimal rules ++ codes " rules\n")))) }
+{
+    full_name(world, table, f, out)?;
+    append_bytes(out, b": ")?;
+    append_number(out, rules as u64)?;
+    append_bytes(out, b" rules\n")
+}
+
+/// Writes a rule as a line, after two spaces.
+fn put_rule(
+    alloc: Global,
+    names: &Lexicon,
+    rule: &Rule,
+    out: &mut Vec<u8>,
+) -> Result<(), AllocError>
+    ensures { OnOk result (out.new.items ≡ out.old.items ++ rule_line names.now rule.now) }
+{
+    append_bytes(out, b"  ")?;
+    rule_text(alloc, names, rule, out)?;
+    append_bytes(out, b"\n")
+}
+
+/// Writes each of the rules as a line.
+fn put_rules(
+    alloc: Global,
+    names: &Lexicon,
+    rules: &[Rule],
+    out: &mut Vec<u8>,
+) -> Result<(), AllocError>
+    ensures { OnOk result (out.new.items ≡ out.old.items ++ flat_map (rule_line names.now) rules.now) }
+{
+    for k in 0..rules.len() {
+        let rule = &rules[k];
+        put_rule(alloc, names, rule, out)?;
+    }
+    Ok(())
+}
+
+/// Writes the line above the rules, and the rules.
+fn put_system(
+    alloc: Global,
+    world: &World,
+    table: &ParamTable,
+    f: FuncId,
+    rules: &[Rule],
+    out: &mut Vec<u8>,
+) -> Result<(), AllocError>
+    requires { f.place < length world.now.signatures }
+    ensures { OnOk result (out.new.items ≡ out.old.items
+        ++ system_text (world_by table.now world.now) (signature_at (world_by table.now world.now) f) rules.now) }
+{
+    put_head(world, table, f, rules.len(), out)?;
+    put_rules(alloc, world.lexicon(), rules, out)
+}
+
+/// Writes the reduced rewriting system of a signature at the end, by its machine: a line with its name and the number of rules, and then
+/// each rule, after two spaces, by left sides. For want of memory a part of it may stand there.
+pub fn system_text(
+    alloc: Global,
+    world: &World,
+    table: &ParamTable,
+    machine: &Machine,
+    f: FuncId,
+    out: &mut Vec<u8>,
+) -> Result<(), AllocError>
+    requires text { IsTextOver table.now world.now }
+    requires f { f.place < length world.now.signatures }
+    requires machine { IsMachineOf (world_by table.now world.now) (written_list (signature_at (world_by table.now world.now) f)) machine.now }
+    requires params { machine.now.params ≡ (signature_at (world_by table.now world.now) f).params }
+    ensures { OnOk result ((text : List ℕ) × IsSystemText (world_by table.now world.now) (signature_at (world_by table.now world.now) f) text
+        × (out.new.items ≡ out.old.items ++ text)) }
+{
+    match machine.rules().canonical(alloc) {
+        Err(error) => Err(error),
+        Ok(rules) => put_system(alloc, world, table, f, &rules, out),
+    }
+}
