@@ -14,3 +14,5 @@ pub mod Telling
 pub mod Whole
 pub mod Inheriting
 pub mod Leading
+pub mod PlainTypes
+pub mod Showing

@@ -3,3 +3,4 @@ pub mod Typed
 pub mod Sorted
 pub mod Passed
 pub mod Told
+pub mod Evident

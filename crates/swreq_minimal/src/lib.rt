@@ -2,11 +2,13 @@
 #![tactic(auto)]
 
 mod candidates;
+mod evidence;
 mod given;
 mod holding;
 pub mod laws;
 mod minimised;
 mod order;
+mod plain;
 mod sifting;
 mod spoken;
 mod typed;

@@ -14,9 +14,11 @@ ghost use Rattle.swreq_world.specs.ByTable.{world_by};
 ghost use Rattle.swreq_valid.specs.Machines.{AreRulesOf, list_of};
 ghost use Rattle.swreq_valid.specs.Plans.{AreKnown, listed};
 ghost use Rattle.swreq_valid.specs.Rounds.{last_rules};
+ghost use Rattle.swreq_minimal.specs.Inheritance.{IsInheritanceWritten};
 ghost use Rattle.swreq_minimal.specs.Passed.{IsLeftWithout, IsPassed, IsSifted, IsTakenBefore};
 ghost use Rattle.swreq_minimal.specs.Told.{TellsFailure, TellsParts};
 
+use crate::evidence::is_evident;
 use crate::holding::holds;
 use std::alloc::Global;
 use swreq_complete::{Failed, Limits};
@@ -58,6 +60,44 @@ fn is_derivable<W: Watch>(
             Err(_) => Err(Failed::Memory),
         },
     }
+}
+
+/// Whether a requirement is derivable from a list: by evidence, or else as the machine of the list tells.
+fn follows<W: Watch>(
+    alloc: Global,
+    world: &World,
+    table: &ParamTable,
+    protocols: &Protocols,
+    params: Params,
+    list: &[Requirement],
+    r: Requirement,
+    limits: Limits,
+    watch: &mut W,
+) -> Result<bool, Failed>
+    requires text { IsTextOver table.now world.now }
+    requires inheritance { IsInheritanceWritten (world_by table.now world.now) }
+    requires protocols { AreRulesOf (world_by table.now world.now) (last_rules protocols.now.rounds) }
+    requires list { AreKnown table.now world.now.lexicon list.now }
+    requires r { IsRequirementIn table.now world.now.lexicon r }
+    requires limits { AreInRange limits }
+    ensures answer { IfOk result (λ b. IsTrue b
+        ↔ Derivable (facts_of (world_by table.now world.now)) (Written (generic_params params) (listed table.now list.now))
+        (Requires (requirement_of table.now r))) }
+    ensures told { IfOk result (λ _. TellsParts limits (list_of (world_by table.now world.now) (last_rules protocols.now.rounds) params)
+        (λ l. l ≡ listed table.now list.now) (W.told watch.old) (W.told watch.new)) }
+    ensures failed { IfErr result (TellsFailure limits (list_of (world_by table.now world.now) (last_rules protocols.now.rounds) params)
+        (λ l. l ≡ listed table.now list.now) (W.told watch.old) (W.told watch.new)) }
+{
+    let evident = match is_evident(alloc, world, table, protocols, params, list, r) {
+        Ok(evident) => evident,
+        Err(_) => return Err(Failed::Memory),
+    };
+    if evident {
+        return Ok(true);
+    }
+    is_derivable(
+        alloc, world, table, protocols, params, list, r, limits, watch,
+    )
 }
 
 /// Puts a requirement last.
@@ -180,6 +220,7 @@ fn drop_at<W: Watch>(
     watch: &mut W,
 ) -> Result<(), Failed>
     requires text { IsTextOver table.now world.now }
+    requires inheritance { IsInheritanceWritten (world_by table.now world.now) }
     requires protocols { AreRulesOf (world_by table.now world.now) (last_rules protocols.now.rounds) }
     requires left { AreKnown table.now world.now.lexicon left.old.items }
     requires place { place < length left.old.items }
@@ -196,7 +237,7 @@ fn drop_at<W: Watch>(
         (λ l. l ≡ listed table.now (remove left.old.items place)) (W.told watch.old) (W.told watch.new)) }
 {
     let one = left.remove(place);
-    let derivable = match is_derivable(
+    let derivable = match follows(
         alloc, world, table, protocols, params, left, one, limits, watch,
     ) {
         Ok(derivable) => derivable,
@@ -220,6 +261,7 @@ fn drop_derivable<W: Watch>(
     watch: &mut W,
 ) -> Result<(), Failed>
     requires text { IsTextOver table.now world.now }
+    requires inheritance { IsInheritanceWritten (world_by table.now world.now) }
     requires protocols { AreRulesOf (world_by table.now world.now) (last_rules protocols.now.rounds) }
     requires left { AreKnown table.now world.now.lexicon left.old.items }
     requires limits { AreInRange limits }
@@ -258,6 +300,7 @@ pub(crate) fn sift<W: Watch>(
     watch: &mut W,
 ) -> Result<Vec<Requirement>, Failed>
     requires text { IsTextOver table.now world.now }
+    requires inheritance { IsInheritanceWritten (world_by table.now world.now) }
     requires protocols { AreRulesOf (world_by table.now world.now) (last_rules protocols.now.rounds) }
     requires candidates { AreKnown table.now world.now.lexicon candidates.now }
     requires limits { AreInRange limits }

@@ -10,6 +10,7 @@ use Rattle.swreq_world.specs.Worlds.{TextWorld}
 use Rattle.swreq_valid.specs.Machines.{AreRulesOf, list_of}
 use Rattle.swreq_valid.specs.Plans.{AreKnown, listed}
 use Rattle.swreq_valid.specs.Rounds.{last_rules}
+use Rattle.swreq_minimal.specs.Inheritance.{IsInheritanceWritten}
 use Rattle.swreq_minimal.specs.Passed.{IsPassed, IsPassedOf, IsSifted}
 use Rattle.swreq_minimal.specs.Told.{TellsFailure, TellsParts}
 use Rattle.swreq_minimal.proofs.Growing.{text_stays, world_stays}
@@ -24,6 +25,11 @@ returns-in-Err-clause-failed g c list is =
 
 pub sift-requires-clause-text : goal.sift-requires-clause-text
 sift-requires-clause-text g c = text_stays c.args.table.now c.candidates.new.table c.candidates.ensures.extends c.args.world.now c.requires.text
+
+pub sift-requires-clause-inheritance : goal.sift-requires-clause-inheritance
+sift-requires-clause-inheritance g c =
+    subst IsInheritanceWritten
+    (sym (world_stays c.args.table.now c.candidates.new.table c.candidates.ensures.extends c.args.world.now c.requires.text.table)) c.requires.inheritance
 
 pub sift-requires-clause-protocols : goal.sift-requires-clause-protocols
 sift-requires-clause-protocols g c =

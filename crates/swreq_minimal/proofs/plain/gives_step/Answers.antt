@@ -1,0 +1,15 @@
+use Rattle.std.proofs.Common.{subst, sym}
+use Rattle.swreq_param.specs.declared.ids.Step.{Step}
+use Rattle.swreq_param.specs.Tables.{term_at}
+use Rattle.swreq_param.specs.Terms.Term.{Member}
+use Rattle.swreq_candidates.specs.Evidence.{IsPlainIn}
+use Rattle.swreq_shown.specs.Meaning.{facts_of}
+use Rattle.swreq_valid.specs.Plans.{listed}
+use Rattle.swreq_world.specs.ByTable.{world_by}
+use Rattle.swreq_minimal.proofs.plain.gives_step.Goals as goal
+
+pub returns-in-Bound : goal.returns-in-Bound
+returns-in-Bound c h ps plain =
+    let terms = c.args.table.now in
+    subst (λ (z : Step). IsPlainIn (facts_of (world_by terms c.args.world.now)) ps (listed terms c.args.list.now) (Member (term_at terms c.args.t) z))
+    (sym c.in-Bound.is) (c.gives_assoc.ensures h ps plain)

@@ -1,0 +1,12 @@
+use Rattle.std.proofs.Common.{◌≡◌, subst}
+use Rattle.swreq_param.specs.declared.ids.ProtoId.{ProtoId}
+use Rattle.swreq_derive.specs.Inheritance.{LeadsTo}
+use Rattle.swreq_derive.specs.Inheritance.LeadsTo.{here}
+use Rattle.swreq_shown.specs.Meaning.{facts_of}
+use Rattle.swreq_world.specs.ByTable.{world_by}
+use Rattle.swreq_minimal.proofs.plain.leads.Goals as goal
+
+pub returns-then-q-p : goal.returns-then-q-p
+returns-then-q-p c terms written t =
+    let same : c.args.q ≡ c.args.p = λ i. record { rank = c.if-q-p.true i } in
+    subst (λ (z : ProtoId). LeadsTo (facts_of (world_by terms c.args.world.now)) c.args.q z) same here

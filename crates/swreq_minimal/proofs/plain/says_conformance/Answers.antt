@@ -1,0 +1,17 @@
+use Rattle.std.proofs.Common.{◌≡◌, ◌∙◌, ap}
+use Rattle.std.proofs.lemmas.Bool.Decides.{Decides-at}
+use Rattle.swreq_param.specs.Tables.{term_at}
+use Rattle.swreq_param.specs.contracts.ids.TermIdPartialEq.TheImpl.{eq-value}
+use Rattle.swreq_derive.specs.Derivation.TermRequirement.{Conforms}
+use Rattle.swreq_derive.specs.Facts.{requirement_of}
+use Rattle.swreq_minimal.proofs.Equal.{ids_decide}
+use Rattle.swreq_minimal.proofs.plain.says_conformance.Goals as goal
+
+pub returns-then-eq : goal.returns-then-eq
+returns-then-eq c h =
+    let same : c.in-Conf.subject ≡ c.args.t
+    = (Decides-at c.eq.result (eq-value.it c.in-Conf.subject c.args.t) c.eq.ensures (ids_decide c.in-Conf.subject c.args.t)).0 c.if-eq.true in (
+      c.in-Conf.proto,
+      ap (requirement_of c.args.table.now) c.in-Conf.is ∙ ap (λ t. Conforms (term_at c.args.table.now t) c.in-Conf.proto) same,
+      c.leads.ensures c.args.table.now c.requires.inheritance h,
+    )

@@ -1,0 +1,295 @@
+//! Evidence that a requirement follows from a list, found without completing it.
+ghost use Rattle.std.specs.Prelude.{◌≡◌, ◌⊎◌, ◌<◌, ◌^◌, ◌-◌, ◌++◌, ◌∷◌, ⊤, ℕ, [], IfOk, IsTrue, MatchOption, OnOk, length};
+ghost use Rattle.swreq_derive.specs.Derivation.{Derivable};
+ghost use Rattle.swreq_derive.specs.Derivation.Source.{Written};
+ghost use Rattle.swreq_derive.specs.Derivation.TermStatement.{Requires};
+ghost use Rattle.swreq_derive.specs.Facts.{generic_params, requirement_of};
+ghost use Rattle.swreq_word.specs.Relations.{Linked};
+ghost use Rattle.swreq_rule.specs.declared.rules.Rule.{Rule};
+ghost use Rattle.swreq_rule.specs.Steps.{Step};
+ghost use Rattle.swreq_pair.specs.Pairs.{HasPair, IsNumberOf};
+ghost use Rattle.swreq_homotopy.specs.Evidence.{AreLoops, IsMarked};
+ghost use Rattle.swreq_candidates.specs.Evidence.{AreRulesOfRest};
+ghost use Rattle.swreq_shown.specs.Known.{IsRequirementIn, IsTextOver};
+ghost use Rattle.swreq_shown.specs.Meaning.{facts_of, symbols_of};
+ghost use Rattle.swreq_world.specs.ByTable.{world_by};
+ghost use Rattle.swreq_valid.specs.Machines.{AreRulesOf};
+ghost use Rattle.swreq_valid.specs.Plans.{AreKnown, listed};
+ghost use Rattle.swreq_valid.specs.Rounds.{last_rules};
+ghost use Rattle.swreq_minimal.specs.Evident.{HasSides, IsOfEquation, LinkLast};
+ghost use Rattle.swreq_minimal.specs.Inheritance.{IsInheritanceWritten};
+
+use crate::plain::{are_plain, has_plain_types};
+use std::alloc::{AllocError, Global};
+use std::cmp::Ordering;
+use swreq_derive::{Params, Requirement};
+use swreq_homotopy::laws::evidence_links;
+use swreq_homotopy::redundant;
+use swreq_loops::loop_of_pair;
+use swreq_pair::pairs_up_to;
+use swreq_param::ParamTable;
+use swreq_path::Loop;
+use swreq_rule::{Birth, Place, Rule};
+use swreq_shown::equation;
+use swreq_valid::Protocols;
+use swreq_word::{Word, compare};
+use swreq_world::World;
+
+// ---- rules of equations
+
+/// The rule with these two sides, the greater one on the left, or None where they are the same.
+fn oriented(left: Word, right: Word) -> Option<Rule>
+    ensures { MatchOption result ⊤ (HasSides left right) }
+{
+    match compare(right.symbols(), left.symbols()) {
+        Ordering::Less => Some(Rule::new(left, right, Birth::Given(0))),
+        _ => match compare(left.symbols(), right.symbols()) {
+            Ordering::Less => Some(Rule::new(right, left, Birth::Given(0))),
+            _ => None,
+        },
+    }
+}
+
+/// The rule of a requirement's equation, or None where its two sides are the same.
+fn rule_of(
+    alloc: Global,
+    world: &World,
+    table: &ParamTable,
+    r: Requirement,
+) -> Result<Option<Rule>, AllocError>
+    requires text { IsTextOver table.now world.now }
+    requires r { IsRequirementIn table.now world.now.lexicon r }
+    ensures { IfOk result (λ o. MatchOption o ⊤ (IsOfEquation (symbols_of world.now.lexicon) (requirement_of table.now r))) }
+{
+    let sides = equation(alloc, world, table, None, &r)?;
+    Ok(oriented(sides.0, sides.1))
+}
+
+/// Puts a rule last.
+fn put_rule(rules: &mut Vec<Rule>, rule: Rule) -> Result<(), AllocError>
+    ensures { OnOk result (rules.new.items ≡ rules.old.items ++ rule ∷ []) }
+{
+    match rules.push(rule) {
+        Ok(()) => Ok(()),
+        Err(_) => Err(AllocError),
+    }
+}
+
+/// Adds the rule of a requirement's equation, unless its two sides are the same.
+fn add_rule(
+    alloc: Global,
+    world: &World,
+    table: &ParamTable,
+    r: Requirement,
+    rules: &mut Vec<Rule>,
+) -> Result<(), AllocError>
+    requires text { IsTextOver table.now world.now }
+    requires r { IsRequirementIn table.now world.now.lexicon r }
+    ensures { OnOk result ((rules.new.items ≡ rules.old.items) ⊎ ((rule : Rule) × (rules.new.items ≡ rules.old.items ++ rule ∷ [])
+        × IsOfEquation (symbols_of world.now.lexicon) (requirement_of table.now r) rule)) }
+{
+    let found = rule_of(alloc, world, table, r)?;
+    match found {
+        None => Ok(()),
+        Some(rule) => put_rule(rules, rule),
+    }
+}
+
+/// Copies of these rules.
+fn copies(alloc: Global, rules: &[Rule]) -> Result<Vec<Rule>, AllocError>
+    ensures { IfOk result (λ v. v.items ≡ rules.now) }
+{
+    let mut copies = Vec::new(alloc);
+    for k in 0..rules.len() {
+        let copy = rules[k].clone()?;
+        copies.push(copy)?;
+    }
+    Ok(copies)
+}
+
+/// The rules of the protocols, and then those of the equations of a list.
+fn rules_of(
+    alloc: Global,
+    world: &World,
+    table: &ParamTable,
+    protocols: &Protocols,
+    list: &[Requirement],
+) -> Result<Vec<Rule>, AllocError>
+    requires text { IsTextOver table.now world.now }
+    requires protocols { AreRulesOf (world_by table.now world.now) (last_rules protocols.now.rounds) }
+    requires list { AreKnown table.now world.now.lexicon list.now }
+    ensures { IfOk result (λ v. AreRulesOfRest (symbols_of world.now.lexicon) (facts_of (world_by table.now world.now)) []
+        (listed table.now list.now) v.items) }
+{
+    let mut rules = copies(alloc, protocols.rules().rules())?;
+    for k in 0..list.len() {
+        let r = list[k];
+        add_rule(alloc, world, table, r, &mut rules)?;
+    }
+    Ok(rules)
+}
+
+// ---- loops
+
+/// Adds the loop of the pair at a place, if its two sides reduce to one word.
+fn add_loop(
+    alloc: Global,
+    rules: &[Rule],
+    place: Place,
+    loops: &mut Vec<Loop>,
+) -> Result<(), AllocError>
+    requires few { length rules.now < 2 ^ 32 - 1 }
+    requires pair { HasPair rules.now place }
+    requires loops { AreLoops rules.now loops.old.items }
+    ensures { OnOk result (AreLoops rules.now loops.new.items) }
+{
+    let found = loop_of_pair(alloc, rules, place)?;
+    match found {
+        None => Ok(()),
+        Some(round) => put_loop(loops, round),
+    }
+}
+
+/// Puts a loop last.
+fn put_loop(loops: &mut Vec<Loop>, round: Loop) -> Result<(), AllocError>
+    ensures { OnOk result (loops.new.items ≡ loops.old.items ++ round ∷ []) }
+{
+    match loops.push(round) {
+        Ok(()) => Ok(()),
+        Err(_) => Err(AllocError),
+    }
+}
+
+/// Adds the loops of the pairs of the rule with this number with itself and with the rules before it.
+fn add_loops(
+    alloc: Global,
+    rules: &[Rule],
+    number: u32,
+    loops: &mut Vec<Loop>,
+) -> Result<(), AllocError>
+    requires few { length rules.now < 2 ^ 32 - 1 }
+    requires number { IsNumberOf rules.now number }
+    requires loops { AreLoops rules.now loops.old.items }
+    ensures { OnOk result (AreLoops rules.now loops.new.items) }
+{
+    let pairs = pairs_up_to(alloc, rules, number)?;
+    for k in 0..pairs.len() {
+        let pair = &pairs[k];
+        add_loop(alloc, rules, pair.place, loops)?;
+    }
+    Ok(())
+}
+
+/// The loops of the pairs of which one rule stands from this place on.
+fn loops_from(alloc: Global, rules: &[Rule], from: usize) -> Result<Vec<Loop>, AllocError>
+    requires few { length rules.now < 2 ^ 32 - 1 }
+    ensures { IfOk result (λ v. AreLoops rules.now v.items) }
+{
+    let mut loops = Vec::new(alloc);
+    for k in from..rules.len() {
+        let number = k as u32 + 1;
+        add_loops(alloc, rules, number, &mut loops)?;
+    }
+    Ok(loops)
+}
+
+/// So many marks, all set.
+fn all_marked(alloc: Global, count: usize) -> Result<Vec<bool>, AllocError>
+    ensures { IfOk result (λ v. length v.items ≡ count) }
+{
+    let mut marks = Vec::new(alloc);
+    for _ in 0..count {
+        marks.push(true)?;
+    }
+    Ok(marks)
+}
+
+/// So many marks, of which the last alone is set.
+fn last_marked(alloc: Global, count: usize) -> Result<Vec<bool>, AllocError>
+    ensures count { IfOk result (λ v. length v.items ≡ count) }
+    ensures last { IfOk result (λ v. (n : ℕ) → IsMarked v.items n → n ≡ count) }
+{
+    let mut marks = Vec::new(alloc);
+    for k in 0..count {
+        marks.push(k + 1 == count)?;
+    }
+    Ok(marks)
+}
+
+/// Whether one of the loops shows the last rule, which alone may go. True comes only where the other rules link its two sides.
+fn shows(
+    alloc: Global,
+    rules: &[Rule],
+    loops: &[Loop],
+    keep: &[bool],
+    may: &[bool],
+) -> Result<bool, AllocError>
+    requires loops { AreLoops rules.now loops.now }
+    requires keep { length keep.now ≡ length rules.now }
+    requires may { length may.now ≡ length rules.now }
+    requires last { (n : ℕ) → IsMarked may.now n → n ≡ length rules.now }
+    ensures { IfOk result (λ b. IsTrue b → LinkLast rules.now) }
+{
+    evidence_links(rules, keep);
+    let found = redundant(alloc, rules, loops, keep, may)?;
+    Ok(found.is_some())
+}
+
+/// Whether a loop of pairs from a place on shows the last rule. True comes only where the other rules link its two sides.
+fn shows_last(alloc: Global, rules: &[Rule], from: usize) -> Result<bool, AllocError>
+    requires few { length rules.now < 2 ^ 32 - 1 }
+    ensures { IfOk result (λ b. IsTrue b → LinkLast rules.now) }
+{
+    let loops = loops_from(alloc, rules, from)?;
+    let keep = all_marked(alloc, rules.len())?;
+    let may = last_marked(alloc, rules.len())?;
+    shows(alloc, rules, &loops, &keep, &may)
+}
+
+/// Whether a loop shows a rule over others. True comes only where these link its two sides.
+fn is_shown(alloc: Global, rules: Vec<Rule>, from: usize, rule: Rule) -> Result<bool, AllocError>
+    ensures { IfOk result (λ b. IsTrue b → Linked (Step rules.items) rule.left rule.right) }
+{
+    let mut all = rules;
+    put_rule(&mut all, rule)?;
+    if all.len() < 4_294_967_295 {
+        shows_last(alloc, &all, from)
+    } else {
+        Ok(false)
+    }
+}
+
+// ---- evidence
+
+/// Whether a loop shows that a requirement follows from the list. True comes only where every type parameter is plain in the list, and then
+/// the requirement is derivable from it.
+pub(crate) fn is_evident(
+    alloc: Global,
+    world: &World,
+    table: &ParamTable,
+    protocols: &Protocols,
+    params: Params,
+    list: &[Requirement],
+    r: Requirement,
+) -> Result<bool, AllocError>
+    requires text { IsTextOver table.now world.now }
+    requires inheritance { IsInheritanceWritten (world_by table.now world.now) }
+    requires protocols { AreRulesOf (world_by table.now world.now) (last_rules protocols.now.rounds) }
+    requires list { AreKnown table.now world.now.lexicon list.now }
+    requires r { IsRequirementIn table.now world.now.lexicon r }
+    ensures { IfOk result (λ b. IsTrue b → Derivable (facts_of (world_by table.now world.now))
+        (Written (generic_params params) (listed table.now list.now)) (Requires (requirement_of table.now r))) }
+{
+    if !are_plain(world, table, params, list) {
+        return Ok(false);
+    }
+    if !has_plain_types(world, table, params, list, r) {
+        return Ok(false);
+    }
+    let rules = rules_of(alloc, world, table, protocols, list)?;
+    let found = rule_of(alloc, world, table, r)?;
+    match found {
+        None => Ok(false),
+        Some(rule) => is_shown(alloc, rules, protocols.rules().rules().len(), rule),
+    }
+}

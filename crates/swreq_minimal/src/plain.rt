@@ -1,0 +1,203 @@
+//! Type parameters that are plain in a list.
+ghost use Rattle.std.specs.Prelude.{◌≡◌, ◌<◌, Contains, IsTrue, List, length};
+ghost use Rattle.swreq_param.specs.declared.ids.ParamId.{ParamId};
+ghost use Rattle.swreq_param.specs.declared.ids.ProtoId.{ProtoId};
+ghost use Rattle.swreq_param.specs.declared.ids.Step.TheVariants.{Bound};
+ghost use Rattle.swreq_param.specs.Tables.{term_at};
+ghost use Rattle.swreq_param.specs.Terms.{Term};
+ghost use Rattle.swreq_param.specs.Terms.Term.{Member};
+ghost use Rattle.swreq_derive.specs.Derivation.TermRequirement.{Conforms};
+ghost use Rattle.swreq_derive.specs.Facts.{generic_params, requirement_of};
+ghost use Rattle.swreq_derive.specs.Inheritance.{LeadsTo};
+ghost use Rattle.swreq_ranks.specs.Views.{IsProtocol};
+ghost use Rattle.swreq_candidates.specs.Evidence.{HasPlainTypes, IsPlain, IsPlainIn};
+ghost use Rattle.swreq_shown.specs.Known.{IsRequirementIn, IsTextOver, IsTypeIn};
+ghost use Rattle.swreq_shown.specs.Meaning.{facts_of};
+ghost use Rattle.swreq_world.specs.ByTable.{world_by};
+ghost use Rattle.swreq_world.specs.Closed.{IsStepOf};
+ghost use Rattle.swreq_valid.specs.Plans.{AreKnown, listed};
+ghost use Rattle.swreq_minimal.specs.Inheritance.{IsInheritanceWritten};
+
+use swreq_derive::{Params, Requirement};
+use swreq_param::{AssocId, ParamTable, ProtoId, Step, TermId};
+use swreq_world::World;
+
+/// Whether a protocol is p, or inherits it.
+fn leads(world: &World, q: ProtoId, p: ProtoId) -> bool
+    requires q { IsProtocol world.now.lexicon q }
+    requires p { IsProtocol world.now.lexicon p }
+    ensures { (terms : List Term) → IsInheritanceWritten (world_by terms world.now) → IsTrue result
+        → LeadsTo (facts_of (world_by terms world.now)) q p }
+{
+    if q.rank == p.rank {
+        return true;
+    }
+    world.inherits(q, p)
+}
+
+/// Whether a requirement is a conformance of t to p, or to a protocol that inherits p.
+fn says_conformance(
+    world: &World,
+    table: &ParamTable,
+    r: Requirement,
+    t: TermId,
+    p: ProtoId,
+) -> bool
+    requires inheritance { IsInheritanceWritten (world_by table.now world.now) }
+    requires r { IsRequirementIn table.now world.now.lexicon r }
+    requires p { IsProtocol world.now.lexicon p }
+    ensures { IsTrue result → (q : ProtoId) × (requirement_of table.now r ≡ Conforms (term_at table.now t) q)
+        × LeadsTo (facts_of (world_by table.now world.now)) q p }
+{
+    match r {
+        Requirement::Conf { subject, proto } => {
+            if subject == t {
+                leads(world, proto, p)
+            } else {
+                false
+            }
+        }
+        _ => false,
+    }
+}
+
+/// Whether the list holds a conformance of t to p, or to a protocol that inherits p.
+fn holds_conformance(
+    world: &World,
+    table: &ParamTable,
+    list: &[Requirement],
+    t: TermId,
+    p: ProtoId,
+) -> bool
+    requires inheritance { IsInheritanceWritten (world_by table.now world.now) }
+    requires list { AreKnown table.now world.now.lexicon list.now }
+    requires p { IsProtocol world.now.lexicon p }
+    ensures { IsTrue result → (q : ProtoId) × Contains (listed table.now list.now) (Conforms (term_at table.now t) q)
+        × LeadsTo (facts_of (world_by table.now world.now)) q p }
+{
+    for k in 0..list.len() {
+        let r = list[k];
+        if says_conformance(world, table, r, t, p) {
+            return true;
+        }
+    }
+    false
+}
+
+/// Whether t with this associated type behind it is plain in the list where t is. True comes only where it is.
+fn gives_assoc(
+    world: &World,
+    table: &ParamTable,
+    list: &[Requirement],
+    t: TermId,
+    d: AssocId,
+) -> bool
+    requires text { IsTextOver table.now world.now }
+    requires inheritance { IsInheritanceWritten (world_by table.now world.now) }
+    requires list { AreKnown table.now world.now.lexicon list.now }
+    requires d { d.rank < length world.now.lexicon.associated }
+    ensures { IsTrue result → (ps : List ParamId)
+        → IsPlainIn (facts_of (world_by table.now world.now)) ps (listed table.now list.now) (term_at table.now t)
+        → IsPlainIn (facts_of (world_by table.now world.now)) ps (listed table.now list.now) (Member (term_at table.now t) (Bound d)) }
+{
+    let declared = world.assoc(d);
+    holds_conformance(world, table, list, t, declared.proto)
+}
+
+/// Whether t with this step behind it is plain in the list where t is. True comes only where it is.
+fn gives_step(
+    world: &World,
+    table: &ParamTable,
+    list: &[Requirement],
+    t: TermId,
+    step: Step,
+) -> bool
+    requires text { IsTextOver table.now world.now }
+    requires inheritance { IsInheritanceWritten (world_by table.now world.now) }
+    requires list { AreKnown table.now world.now.lexicon list.now }
+    requires step { IsStepOf world.now.lexicon step }
+    ensures { IsTrue result → (ps : List ParamId)
+        → IsPlainIn (facts_of (world_by table.now world.now)) ps (listed table.now list.now) (term_at table.now t)
+        → IsPlainIn (facts_of (world_by table.now world.now)) ps (listed table.now list.now) (Member (term_at table.now t) step) }
+{
+    match step {
+        Step::Bound(d) => gives_assoc(world, table, list, t, d),
+        Step::Name(_) => false,
+    }
+}
+
+/// Whether t is plain in the list. True comes only where it is.
+fn is_plain(
+    world: &World,
+    table: &ParamTable,
+    params: Params,
+    list: &[Requirement],
+    t: TermId,
+) -> bool
+    requires text { IsTextOver table.now world.now }
+    requires inheritance { IsInheritanceWritten (world_by table.now world.now) }
+    requires list { AreKnown table.now world.now.lexicon list.now }
+    requires t { IsTypeIn table.now world.now.lexicon t }
+    ensures { IsTrue result
+        → IsPlainIn (facts_of (world_by table.now world.now)) (generic_params params) (listed table.now list.now) (term_at table.now t) }
+{
+    match table.split(t) {
+        None => params.has(table.head(t)),
+        Some((base, step)) => {
+            if gives_step(world, table, list, base, step) {
+                is_plain(world, table, params, list, base)
+            } else {
+                false
+            }
+        }
+    }
+}
+
+/// Whether the type parameters of a requirement are plain in the list. True comes only where they are.
+pub(crate) fn has_plain_types(
+    world: &World,
+    table: &ParamTable,
+    params: Params,
+    list: &[Requirement],
+    r: Requirement,
+) -> bool
+    requires text { IsTextOver table.now world.now }
+    requires inheritance { IsInheritanceWritten (world_by table.now world.now) }
+    requires list { AreKnown table.now world.now.lexicon list.now }
+    requires r { IsRequirementIn table.now world.now.lexicon r }
+    ensures { IsTrue result → HasPlainTypes (facts_of (world_by table.now world.now)) (generic_params params) (listed table.now list.now)
+        (requirement_of table.now r) }
+{
+    match r {
+        Requirement::Conf { subject, .. } => is_plain(world, table, params, list, subject),
+        Requirement::Layout { subject } => is_plain(world, table, params, list, subject),
+        Requirement::Same { left, right } => {
+            if is_plain(world, table, params, list, left) {
+                is_plain(world, table, params, list, right)
+            } else {
+                false
+            }
+        }
+    }
+}
+
+/// Whether the type parameters of the list are plain in it. True comes only where they are.
+pub(crate) fn are_plain(
+    world: &World,
+    table: &ParamTable,
+    params: Params,
+    list: &[Requirement],
+) -> bool
+    requires text { IsTextOver table.now world.now }
+    requires inheritance { IsInheritanceWritten (world_by table.now world.now) }
+    requires list { AreKnown table.now world.now.lexicon list.now }
+    ensures { IsTrue result → IsPlain (facts_of (world_by table.now world.now)) (generic_params params) (listed table.now list.now) }
+{
+    for k in 0..list.len() {
+        let r = list[k];
+        if !has_plain_types(world, table, params, list, r) {
+            return false;
+        }
+    }
+    true
+}
