@@ -22,3 +22,6 @@ pub use protocols::Protocols;
 pub use refused::Refused;
 pub use round::Round;
 pub use scratch::Scratch;
+
+#[cfg(test)]
+mod tests;
