@@ -17,3 +17,4 @@ pub mod Reducing
 pub mod Transfer
 pub mod Once
 pub mod OfKept
+pub mod OfText

@@ -1,16 +1,28 @@
 //! Texts with the answers of their machines.
-ghost use Rattle.std.specs.Prelude.{◌≤◌, length};
+ghost use Rattle.std.specs.Prelude.{◌≡◌, ◌+◌, ◌*◌, ◌<◌, ◌≤◌, Contains, IfOk, length};
+ghost use Rattle.swreq_complete.specs.Limits.{AreInRange};
 ghost use Rattle.swreq_decl.specs.Skeletons.{StandsFor};
+ghost use Rattle.swreq_param.specs.Tables.{term_at};
+ghost use Rattle.swreq_param.specs.Terms.{member_count};
+ghost use Rattle.swreq_shown.specs.Known.{IsTextOver, IsTypeIn};
+ghost use Rattle.swreq_world.specs.ByTable.{world_by};
+ghost use Rattle.swreq_world.specs.Closed.{AreIds};
+ghost use Rattle.swreq_valid.specs.Keeping.{AreFlags};
+ghost use Rattle.swreq_valid.specs.Machines.{AreRulesOf};
+ghost use Rattle.swreq_valid.specs.Rounds.{last_rules};
 
+use crate::kept::put_list;
 use crate::{Kept, Machine, Protocols, Refused, Scratch};
 use std::alloc::Global;
 use std::process::Abort;
 use std::test::Fail;
 use swreq_complete::{Limits, Which};
 use swreq_decl::{Skeleton, parse};
-use swreq_param::{ParamTable, ProtoId, Step};
+use swreq_names::NameErr;
+use swreq_param::{ParamTable, ProtoId, Step, TermId};
 use swreq_text::Seq;
 use swreq_watch::Quiet;
+use swreq_world::laws::worlds_are_closed;
 use swreq_world::{FuncId, Query, World};
 
 const LIMITS: Limits = Limits {
@@ -173,6 +185,21 @@ query f(T.A : AnyObject)
     ),
 ];
 
+/// The world of a skeleton: it is over the table, and closed.
+pub(crate) fn text_over(
+    alloc: Global,
+    text: &[u8],
+    skeleton: &Skeleton,
+    table: &mut ParamTable,
+) -> Result<World, NameErr>
+    requires limit { length text.now ≤ 1048576 }
+    requires stands { StandsFor text.now skeleton.now }
+    ensures { IfOk result (IsTextOver table.new) }
+{
+    worlds_are_closed(text);
+    World::resolve(alloc, text, skeleton, table)
+}
+
 fn add_step(world: &World, step: Step, out: &mut Vec<u8>) -> Result<(), Fail> {
     out.extend_from_slice(b".")?;
     match step {
@@ -200,8 +227,9 @@ fn add_reduced(alloc: Global, world: &World, s: &Scratch, out: &mut Vec<u8>) -> 
     let depth = s.param().depth;
     let index = s.param().index;
     out.extend_from_slice(format!(in alloc; "{depth}_{index}")?.as_bytes())?;
-    for k in 0..s.steps().len() {
-        let step = s.steps()[k];
+    let steps = s.steps();
+    for k in 0..steps.len() {
+        let step = steps[k];
         add_step(world, step, out)?;
     }
     out.extend_from_slice(b"\n")?;
@@ -219,7 +247,99 @@ fn add_bool(valid: bool, yes: bool, out: &mut Vec<u8>) -> Result<(), Fail> {
     Ok(())
 }
 
+/// Fails where the scratch has no room for the word of t.
+fn check_room(rt: &impl Abort, world: &World, table: &ParamTable, t: TermId, s: &Scratch)
+    requires { IsTypeIn table.now world.now.lexicon t }
+    ensures { 4 * (member_count (term_at table.now t) + 2) ≤ s.now.room }
+{
+    let members = table.members(t);
+    assert!(rt; members <= 1_000_000);
+    assert!(rt; 4 * (members + 2) <= s.room());
+}
+
+fn add_type(
+    rt: &impl Abort,
+    alloc: Global,
+    world: &World,
+    table: &ParamTable,
+    m: &Machine,
+    t: TermId,
+    s: &mut Scratch,
+    out: &mut Vec<u8>,
+) -> Result<(), Fail>
+    requires text { IsTextOver table.now world.now }
+    requires t { IsTypeIn table.now world.now.lexicon t }
+{
+    check_room(rt, world, table, t, s);
+    if m.is_valid(world, table, t, s) {
+        m.reduced(world, table, t, s);
+        add_reduced(alloc, world, s, out)
+    } else {
+        add_bool(false, false, out)
+    }
+}
+
+fn add_conformance(
+    rt: &impl Abort,
+    world: &World,
+    table: &ParamTable,
+    m: &Machine,
+    t: TermId,
+    p: ProtoId,
+    s: &mut Scratch,
+    out: &mut Vec<u8>,
+) -> Result<(), Fail>
+    requires text { IsTextOver table.now world.now }
+    requires t { IsTypeIn table.now world.now.lexicon t }
+{
+    check_room(rt, world, table, t, s);
+    let valid = m.is_valid(world, table, t, s);
+    let yes = m.conforms(world, table, t, p, s);
+    add_bool(valid, yes, out)
+}
+
+fn add_layout(
+    rt: &impl Abort,
+    world: &World,
+    table: &ParamTable,
+    m: &Machine,
+    t: TermId,
+    s: &mut Scratch,
+    out: &mut Vec<u8>,
+) -> Result<(), Fail>
+    requires text { IsTextOver table.now world.now }
+    requires t { IsTypeIn table.now world.now.lexicon t }
+{
+    check_room(rt, world, table, t, s);
+    let valid = m.is_valid(world, table, t, s);
+    let yes = m.any_object(world, table, t, s);
+    add_bool(valid, yes, out)
+}
+
+fn add_equality(
+    rt: &impl Abort,
+    world: &World,
+    table: &ParamTable,
+    m: &Machine,
+    a: TermId,
+    b: TermId,
+    s: &mut Scratch,
+    out: &mut Vec<u8>,
+) -> Result<(), Fail>
+    requires text { IsTextOver table.now world.now }
+    requires a { IsTypeIn table.now world.now.lexicon a }
+    requires b { IsTypeIn table.now world.now.lexicon b }
+{
+    check_room(rt, world, table, a, s);
+    check_room(rt, world, table, b, s);
+    let left = m.is_valid(world, table, a, s);
+    let right = m.is_valid(world, table, b, s);
+    let yes = m.equal(world, table, a, b, s);
+    add_bool(left && right, yes, out)
+}
+
 fn answer(
+    rt: &impl Abort,
     alloc: Global,
     world: &World,
     table: &ParamTable,
@@ -227,33 +347,16 @@ fn answer(
     q: Query,
     s: &mut Scratch,
     out: &mut Vec<u8>,
-) -> Result<(), Fail> {
+) -> Result<(), Fail>
+    requires text { IsTextOver table.now world.now }
+    requires query { Contains world.now.queries q }
+{
     match q {
         Query::Signature { .. } => Ok(()),
-        Query::Reduced { t, .. } => {
-            if m.is_valid(world, table, t, s) {
-                m.reduced(world, table, t, s);
-                add_reduced(alloc, world, s, out)
-            } else {
-                add_bool(false, false, out)
-            }
-        }
-        Query::Conf { t, p, .. } => {
-            let valid = m.is_valid(world, table, t, s);
-            let yes = m.conforms(world, table, t, p, s);
-            add_bool(valid, yes, out)
-        }
-        Query::Layout { t, .. } => {
-            let valid = m.is_valid(world, table, t, s);
-            let yes = m.any_object(world, table, t, s);
-            add_bool(valid, yes, out)
-        }
-        Query::Same { a, b, .. } => {
-            let left = m.is_valid(world, table, a, s);
-            let right = m.is_valid(world, table, b, s);
-            let yes = m.equal(world, table, a, b, s);
-            add_bool(left && right, yes, out)
-        }
+        Query::Reduced { t, .. } => add_type(rt, alloc, world, table, m, t, s, out),
+        Query::Conf { t, p, .. } => add_conformance(rt, world, table, m, t, p, s, out),
+        Query::Layout { t, .. } => add_layout(rt, world, table, m, t, s, out),
+        Query::Same { a, b, .. } => add_equality(rt, world, table, m, a, b, s, out),
     }
 }
 
@@ -296,44 +399,98 @@ fn add_refusal(alloc: Global, refused: &Refused, out: &mut Vec<u8>) -> Result<()
     Ok(())
 }
 
-fn answers(
+/// What is answered to the queries on f by its machine.
+fn answers_by(
+    rt: &impl Abort,
     alloc: Global,
     world: &World,
     table: &ParamTable,
-    limits: Limits,
+    f: FuncId,
+    m: &Machine,
     out: &mut Vec<u8>,
-) -> Result<(), Fail> {
-    let mut quiet = Quiet;
-    let protocols = match Protocols::build(alloc, world, table, limits, &mut quiet) {
-        Ok(protocols) => protocols,
-        Err(refused) => return add_refusal(alloc, &refused, out),
-    };
+) -> Result<(), Fail>
+    requires { IsTextOver table.now world.now }
+{
     let mut s = Scratch::with_room(alloc, 256)?;
-    for place in 0..world.functions() {
-        let f = FuncId { place };
-        let m = match Machine::build(
-            alloc,
-            world,
-            table,
-            &protocols,
-            world.params(f),
-            world.signature(f),
-            limits,
-            &mut quiet,
-        ) {
-            Ok(m) => m,
-            Err(refused) => return add_refusal(alloc, &refused, out),
-        };
-        for q in world.queries() {
-            if asked(*q) == f {
-                answer(alloc, world, table, &m, *q, &mut s, out)?;
-            }
+    let queries = world.queries();
+    for k in 0..queries.len() {
+        let q = queries[k];
+        if asked(q) == f {
+            answer(rt, alloc, world, table, m, q, &mut s, out)?;
         }
     }
     Ok(())
 }
 
+fn answers_of(
+    rt: &impl Abort,
+    alloc: Global,
+    world: &World,
+    table: &ParamTable,
+    protocols: &Protocols,
+    f: FuncId,
+    limits: Limits,
+    out: &mut Vec<u8>,
+) -> Result<(), Fail>
+    requires text { IsTextOver table.now world.now }
+    requires protocols { AreRulesOf (world_by table.now world.now) (last_rules protocols.now.rounds) }
+    requires f { f.place < length world.now.signatures }
+    requires limits { AreInRange limits }
+{
+    match Machine::build(
+        alloc,
+        world,
+        table,
+        protocols,
+        world.params(f),
+        world.signature(f),
+        limits,
+        &mut Quiet,
+    ) {
+        Ok(m) => answers_by(rt, alloc, world, table, f, &m, out),
+        Err(refused) => add_refusal(alloc, &refused, out),
+    }
+}
+
+fn answers_over(
+    rt: &impl Abort,
+    alloc: Global,
+    world: &World,
+    table: &ParamTable,
+    protocols: &Protocols,
+    limits: Limits,
+    out: &mut Vec<u8>,
+) -> Result<(), Fail>
+    requires text { IsTextOver table.now world.now }
+    requires protocols { AreRulesOf (world_by table.now world.now) (last_rules protocols.now.rounds) }
+    requires limits { AreInRange limits }
+{
+    for place in 0..world.functions() {
+        let f = FuncId { place };
+        answers_of(rt, alloc, world, table, protocols, f, limits, out)?;
+    }
+    Ok(())
+}
+
+fn answers(
+    rt: &impl Abort,
+    alloc: Global,
+    world: &World,
+    table: &ParamTable,
+    limits: Limits,
+    out: &mut Vec<u8>,
+) -> Result<(), Fail>
+    requires text { IsTextOver table.now world.now }
+    requires limits { AreInRange limits }
+{
+    match Protocols::build(alloc, world, table, limits, &mut Quiet) {
+        Ok(protocols) => answers_over(rt, alloc, world, table, &protocols, limits, out),
+        Err(refused) => add_refusal(alloc, &refused, out),
+    }
+}
+
 fn answers_of_skeleton(
+    rt: &impl Abort,
     alloc: Global,
     text: &[u8],
     skeleton: &Skeleton,
@@ -341,12 +498,13 @@ fn answers_of_skeleton(
 ) -> Result<Vec<u8>, Fail>
     requires limit { length text.now ≤ 1048576 }
     requires stands { StandsFor text.now skeleton.now }
+    requires limits { AreInRange limits }
 {
     let mut out = Vec::new(alloc);
     let mut table = ParamTable::new(alloc);
-    match World::resolve(alloc, text, skeleton, &mut table) {
-        Ok(world) => answers(alloc, &world, &table, limits, &mut out)?,
-        Err(_) => {}
+    match text_over(alloc, text, skeleton, &mut table) {
+        Ok(world) => answers(rt, alloc, &world, &table, limits, &mut out)?,
+        Err(_) => panic!(rt; "no world"),
     }
     Ok(out)
 }
@@ -358,9 +516,11 @@ fn answers_of_text(
     limits: Limits,
 ) -> Result<Vec<u8>, Fail> {
     assert!(rt; text.len() <= 1_048_576);
+    assert!(rt; 1 <= limits.max_rules && limits.max_rules <= 100_000);
+    assert!(rt; 1 <= limits.max_length && limits.max_length <= 255);
     match parse(alloc, text) {
-        Ok(skeleton) => answers_of_skeleton(alloc, text, &skeleton, limits),
-        Err(_) => Ok(Vec::new(alloc)),
+        Ok(skeleton) => answers_of_skeleton(rt, alloc, text, &skeleton, limits),
+        Err(_) => panic!(rt; "no skeleton"),
     }
 }
 
@@ -368,7 +528,6 @@ fn answers_of_text(
 fn texts_have_their_answers(rt: HostRuntime) -> Result<(), Fail> {
     for (text, lines) in TEXTS {
         let found = answers_of_text(&rt, rt.alloc(), text.as_bytes(), LIMITS)?;
-
         assert!(&rt; found.as_slice() == lines.as_bytes());
     }
     Ok(())
@@ -393,16 +552,32 @@ protocol Q { associatedtype B }
 protocol P { associatedtype A: Q where A.B == Self }
 ";
 
-fn kept_flags(alloc: Global, first: bool) -> Result<Kept, Fail> {
-    let mut of_p = Vec::new(alloc);
-    of_p.push(first)?;
-    of_p.push(true)?;
-    let mut lists = Vec::new(alloc);
-    lists.push(Seq::new(Vec::new(alloc)))?;
-    lists.push(Seq::new(of_p))?;
-    Ok(Kept {
-        lists: Seq::new(lists),
-    })
+/// A flag for each of so many requirements, set for all but the first.
+fn flags_for(alloc: Global, count: usize, first: bool) -> Result<Vec<bool>, Fail>
+    ensures { IfOk result (λ flags. length flags.items ≡ count) }
+{
+    let mut flags = Vec::new(alloc);
+    for k in 0..count {
+        flags.push(k > 0 || first)?;
+    }
+    Ok(flags)
+}
+
+/// All requirements, or all but the first of each protocol.
+fn kept(alloc: Global, world: &World, first: bool) -> Result<Kept, Fail>
+    requires { AreIds world.now.lexicon }
+    ensures { IfOk result (λ keep. AreFlags world.now keep.lists) }
+{
+    let mut lists: Vec<Seq<bool>> = Vec::new(alloc);
+    for k in 0..world.protocols() {
+        let p = world.proto_at(k);
+        let list = world.bare_requirements(p);
+        let of_p = flags_for(alloc, list.len(), first)?;
+        let flags = Seq::new(of_p);
+        put_list(&mut lists, flags)?;
+    }
+    let all = Seq::new(lists);
+    Ok(Kept { lists: all })
 }
 
 fn is_second_usable(
@@ -411,8 +586,10 @@ fn is_second_usable(
     world: &World,
     table: &ParamTable,
     first: bool,
-) -> Result<bool, Fail> {
-    let keep = kept_flags(alloc, first)?;
+) -> Result<bool, Fail>
+    requires { IsTextOver table.now world.now }
+{
+    let keep = kept(alloc, world, first)?;
     match Protocols::build_kept(alloc, world, table, &keep, LIMITS, &mut Quiet) {
         Ok(protocols) => {
             let p = ProtoId { rank: 0 };
@@ -433,7 +610,7 @@ fn keep_of_skeleton(
     requires stands { StandsFor text.now skeleton.now }
 {
     let mut table = ParamTable::new(alloc);
-    match World::resolve(alloc, text, skeleton, &mut table) {
+    match text_over(alloc, text, skeleton, &mut table) {
         Ok(world) => {
             assert!(rt; is_second_usable(rt, alloc, &world, &table, true)?);
             assert!(rt; !is_second_usable(rt, alloc, &world, &table, false)?);
@@ -443,10 +620,15 @@ fn keep_of_skeleton(
     }
 }
 
+fn keep_of_text(rt: &impl Abort, alloc: Global, text: &[u8]) -> Result<(), Fail> {
+    assert!(rt; text.len() <= 1_048_576);
+    match parse(alloc, text) {
+        Ok(skeleton) => keep_of_skeleton(rt, alloc, text, &skeleton),
+        Err(_) => panic!(rt; "no skeleton"),
+    }
+}
+
 #[test]
 fn what_is_left_out_is_not_usable(rt: HostRuntime) -> Result<(), Fail> {
-    match parse(rt.alloc(), NEEDED) {
-        Ok(skeleton) => keep_of_skeleton(&rt, rt.alloc(), NEEDED, &skeleton),
-        Err(_) => panic!(&rt; "no skeleton"),
-    }
+    keep_of_text(&rt, rt.alloc(), NEEDED)
 }
