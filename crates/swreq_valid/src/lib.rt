@@ -6,6 +6,7 @@ mod basic;
 mod build;
 mod kept;
 mod machine;
+mod properties;
 mod protocols;
 mod reduced;
 mod refused;
