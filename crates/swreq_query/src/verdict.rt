@@ -19,6 +19,7 @@ ghost use Rattle.swreq_query.specs.Asked.{IsPropertyOf, answer_of, asks, has};
 use swreq_map::PropertyMap;
 use swreq_param::{ParamTable, ProtoId, TermId};
 use swreq_valid::{Machine, Scratch};
+use swreq_word::Symbol;
 use swreq_world::World;
 
 /// What is asked of one type parameter.
@@ -59,7 +60,7 @@ fn has(
     world: &World,
     table: &ParamTable,
     m: &Machine,
-    _map: &PropertyMap,
+    map: &PropertyMap,
     t: TermId,
     property: Property,
     s: &mut Scratch,
@@ -67,16 +68,16 @@ fn has(
     requires text { IsTextOver table.now world.now }
     requires t { IsTypeIn table.now world.now.lexicon t }
     requires property { IsPropertyOf world.now.lexicon property }
-    requires map { IsMapOf (last_rules m.now.rounds) _map.now }
-    requires protocols { _map.now.protocols ≡ length world.now.lexicon.protocols }
+    requires map { IsMapOf (last_rules m.now.rounds) map.now }
+    requires protocols { map.now.protocols ≡ length world.now.lexicon.protocols }
     requires room { 4 * (member_count (term_at table.now t) + 2) ≤ s.old.room }
     ensures answer { (list : List TermRequirement) → IsMachineOf (world_by table.now world.now) list m.now
         → IsTrue result ↔ IsDerivable (world_by table.now world.now) m.now list (Requires (has (term_at table.now t) property)) }
     ensures room { s.new.room ≡ s.old.room }
 {
     match property {
-        Property::Protocol(p) => m.conforms(world, table, t, p, s),
-        Property::Layout => m.any_object(world, table, t, s),
+        Property::Protocol(p) => m.has(world, table, map, t, Symbol::Proto(p.rank), s),
+        Property::Layout => m.has(world, table, map, t, Symbol::Layout, s),
     }
 }
 
