@@ -25,4 +25,6 @@ pub use round::Round;
 pub use scratch::Scratch;
 
 #[cfg(test)]
+mod equation_tests;
+#[cfg(test)]
 mod tests;
