@@ -18,3 +18,4 @@ pub mod Transfer
 pub mod Once
 pub mod OfKept
 pub mod Telling
+pub mod OfText

@@ -1,0 +1,6 @@
+use Rattle.swreq_valid.proofs.OfText.{signature_written}
+use Rattle.swreq_valid.proofs.tests.answers_of.Goals as goal
+
+pub build-requires-clause-written : goal.build-requires-clause-written
+build-requires-clause-written g c =
+    signature_written c.args.world.now c.args.table.now c.requires.text c.args.f c.signature.result.now c.signature.ensures

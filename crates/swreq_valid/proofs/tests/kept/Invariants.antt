@@ -1,0 +1,9 @@
+use Rattle.std.proofs.Common.{◌≡◌, vec_len}
+use Rattle.swreq_valid.proofs.OfText.{HaveFlags}
+use Rattle.swreq_valid.proofs.tests.kept.Given as goal
+
+abbrev pub invariant-loop-k : goal.invariant-loop-k
+invariant-loop-k l = record {
+  flagged : HaveFlags l.world l.lists.items;
+  count : vec_len l.lists ≡ l.k;
+}
