@@ -18,4 +18,3 @@ pub mod Transfer
 pub mod Once
 pub mod OfKept
 pub mod Telling
-pub mod OfText

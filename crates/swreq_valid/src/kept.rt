@@ -170,7 +170,7 @@ pub(crate) fn usable_lists(
 }
 
 /// Puts the list last.
-pub(crate) fn put_list(lists: &mut Vec<Seq<bool>>, list: Seq<bool>) -> Result<(), AllocError>
+fn put_list(lists: &mut Vec<Seq<bool>>, list: Seq<bool>) -> Result<(), AllocError>
     ensures { OnOk result (lists.new.items ≡ lists.old.items ++ list ∷ []) }
 {
     match lists.push(list) {

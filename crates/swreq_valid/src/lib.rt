@@ -24,8 +24,3 @@ pub use protocols::Protocols;
 pub use refused::Refused;
 pub use round::Round;
 pub use scratch::Scratch;
-
-#[cfg(test)]
-mod equation_tests;
-#[cfg(test)]
-mod tests;

@@ -1,6 +1,6 @@
 use Rattle.std.proofs.Common.{◌≡◌, vec_len}
-use Rattle.swreq_valid.proofs.OfText.{HaveFlags}
-use Rattle.swreq_valid.proofs.tests.kept.Given as goal
+use Rattle.swreq_query_rows.proofs.OfText.{HaveFlags}
+use Rattle.swreq_query_rows.proofs.showing.kept.Given as goal
 
 abbrev pub invariant-loop-k : goal.invariant-loop-k
 invariant-loop-k l = record {

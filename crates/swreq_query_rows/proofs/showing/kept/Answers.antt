@@ -4,8 +4,8 @@ use Rattle.swreq_world.specs.Worlds.{requirements_of}
 use Rattle.swreq_written.specs.declared.ids.Written.{Written}
 use Rattle.swreq_valid.specs.Keeping.{AreFlags}
 use Rattle.swreq_valid.proofs.OfProtocols.{proto_within}
-use Rattle.swreq_valid.proofs.OfText.{one_more}
-use Rattle.swreq_valid.proofs.tests.kept.Goals as goal
+use Rattle.swreq_query_rows.proofs.OfText.{one_more}
+use Rattle.swreq_query_rows.proofs.showing.kept.Goals as goal
 
 pub bare_requirements-list-requires : goal.bare_requirements-list-requires
 bare_requirements-list-requires c = proto_within c.args.world.now.lexicon c.requires c.loop-k.k c.proto_at-p.result c.proto_at-p.ensures

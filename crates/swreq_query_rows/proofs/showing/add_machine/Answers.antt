@@ -1,5 +1,5 @@
-use Rattle.swreq_valid.proofs.OfText.{signature_written}
-use Rattle.swreq_valid.proofs.tests.answers_of.Goals as goal
+use Rattle.swreq_query_rows.proofs.OfText.{signature_written}
+use Rattle.swreq_query_rows.proofs.showing.add_machine.Goals as goal
 
 pub build-requires-clause-written : goal.build-requires-clause-written
 build-requires-clause-written g c =

@@ -1,5 +1,5 @@
 -- What is known of the signatures and the queries of a text over a table.
-use Rattle.std.proofs.Common.{◌≡◌, ◌∙◌, refl, sym, ap, subst, ℕ, ◌<◌, ◌+◌, arith, Bool, List, [], ◌∷◌, ◌++◌, length, map, get_or, slice_get, length-append, Some, Contains, inl, inr, Result, Ok, Err, IfOk, IsOk}
+use Rattle.std.proofs.Common.{◌≡◌, ◌∙◌, refl, sym, ap, subst, ℕ, ◌<◌, ◌≤◌, ◌+◌, ◌*◌, arith, Bool, List, [], ◌∷◌, ◌++◌, length, map, get_or, slice_get, length-append, Some, Contains, inl, inr, Result, Ok, Err, IfOk, IsOk}
 use Rattle.std.proofs.lemmas.Bool.{cases_lt}
 use Rattle.std.proofs.lemmas.List.{get_or-map, get_or_append_left, get_or_past, length-map}
 use Rattle.std.proofs.lemmas.List.Elements.{All-contains, All-get_or}
@@ -13,11 +13,12 @@ use Rattle.swreq_decl.specs.Skeletons.{StandsFor}
 use Rattle.swreq_names.specs.Names.{Resolve}
 use Rattle.swreq_param.specs.declared.ids.ProtoId.{ProtoId}
 use Rattle.swreq_param.specs.declared.ids.TermId.{TermId}
-use Rattle.swreq_param.specs.Terms.{Term}
+use Rattle.swreq_param.specs.Tables.{term_at}
+use Rattle.swreq_param.specs.Terms.{Term, member_count}
 use Rattle.swreq_rounds.proofs.Members.{contains_map}
 use Rattle.swreq_written.specs.declared.ids.FuncId.{FuncId}
 use Rattle.swreq_written.specs.declared.ids.Query.{Query}
-use Rattle.swreq_written.specs.declared.ids.Query.TheVariants.{Conf, Layout, Reduced, Same}
+use Rattle.swreq_written.specs.declared.ids.Query.TheVariants.{Conf, Layout, Reduced}
 use Rattle.swreq_written.specs.declared.ids.Written.{Written}
 use Rattle.swreq_written.specs.ByTable.{AreOf, HasIdsOf, HasQueryIdsOf, placed, placed_by, query_by}
 use Rattle.swreq_world.specs.ByTable.{IsOverTable, signature_by, world_by}
@@ -26,6 +27,7 @@ use Rattle.swreq_world.specs.WorldOf.{IsWorldOf}
 use Rattle.swreq_world.specs.Worlds.{IdWorld, SignatureOver, TextWorld, no_signature, requirements_of, signature_at}
 use Rattle.swreq_shown.specs.Known.{IsTextOver, IsTypeIn}
 use Rattle.swreq_valid.specs.Plans.{AreWritten}
+use Rattle.swreq_query.specs.Asked.{IsQueryIn, IsRoomFor}
 
 -- the world of a text whose names resolve
 pub text_over : {E : Type 0} (text : List ℕ) (s : Skeleton) (terms : List Term) (r : Result IdWorld E) → StandsFor text s
@@ -54,28 +56,34 @@ module _ (w : IdWorld) (terms : List Term) (text : IsTextOver terms w) where
     | inr l ↦ no_member r (subst (λ z. Contains z r) (e ∙ ap (λ (g : SignatureOver Written). g.requirements) (get_or_past w.signatures f.place no_signature l)) c)
   ]
 
-  -- the sides of a query are of the table and of the text
-  module _ (q : Query) (c : Contains w.queries q) where
-    ids : HasQueryIdsOf terms q
-    ids = All-contains (HasQueryIdsOf terms) w.queries q text.table.queries c
+  -- a query of the text is of the table
+  pub query_in : (q : Query) → Contains w.queries q → IsQueryIn terms w q
+  query_in q c = (
+    All-contains (HasQueryIdsOf terms) w.queries q text.table.queries c,
+    All-contains (IsQueryOf (world_by terms w)) (map (query_by terms) w.queries) (query_by terms q) text.closed.queries (contains_map (query_by terms) w.queries q c),
+  )
 
-    asked : IsQueryOf (world_by terms w) (query_by terms q)
-    asked = All-contains (IsQueryOf (world_by terms w)) (map (query_by terms) w.queries) (query_by terms q) text.closed.queries (contains_map (query_by terms) w.queries q c)
+-- ---- the sides of queries
 
-    pub reduced_side : (f : FuncId) (t : TermId) → q ≡ Reduced f t → IsTypeIn terms w.lexicon t
-    reduced_side f t e = (subst (HasQueryIdsOf terms) e ids, (subst (λ z. IsQueryOf (world_by terms w) (query_by terms z)) e asked).1.0)
+module _ (terms : List Term) (w : IdWorld) (q : Query) (known : IsQueryIn terms w q) where
+  pub reduced_side : (f : FuncId) (t : TermId) → q ≡ Reduced f t → IsTypeIn terms w.lexicon t
+  reduced_side f t e = (subst (HasQueryIdsOf terms) e known.0, (subst (λ z. IsQueryOf (world_by terms w) (query_by terms z)) e known.1).1.0)
 
-    pub conforming_side : (f : FuncId) (t : TermId) (p : ProtoId) → q ≡ Conf f t p → IsTypeIn terms w.lexicon t
-    conforming_side f t p e = (subst (HasQueryIdsOf terms) e ids, (subst (λ z. IsQueryOf (world_by terms w) (query_by terms z)) e asked).1.0)
+  pub conforming_side : (f : FuncId) (t : TermId) (p : ProtoId) → q ≡ Conf f t p → IsTypeIn terms w.lexicon t
+  conforming_side f t p e = (subst (HasQueryIdsOf terms) e known.0, (subst (λ z. IsQueryOf (world_by terms w) (query_by terms z)) e known.1).1.0)
 
-    pub layout_side : (f : FuncId) (t : TermId) → q ≡ Layout f t → IsTypeIn terms w.lexicon t
-    layout_side f t e = (subst (HasQueryIdsOf terms) e ids, (subst (λ z. IsQueryOf (world_by terms w) (query_by terms z)) e asked).1.0)
+  pub layout_side : (f : FuncId) (t : TermId) → q ≡ Layout f t → IsTypeIn terms w.lexicon t
+  layout_side f t e = (subst (HasQueryIdsOf terms) e known.0, (subst (λ z. IsQueryOf (world_by terms w) (query_by terms z)) e known.1).1.0)
 
-    pub left_side : (f : FuncId) (t u : TermId) → q ≡ Same f t u → IsTypeIn terms w.lexicon t
-    left_side f t u e = ((subst (HasQueryIdsOf terms) e ids).0, (subst (λ z. IsQueryOf (world_by terms w) (query_by terms z)) e asked).1.0)
+module _ (terms : List Term) (q : Query) (room : ℕ) (fits : IsRoomFor (query_by terms q) room) where
+  pub reduced_room : (f : FuncId) (t : TermId) → q ≡ Reduced f t → 4 * (member_count (term_at terms t) + 2) ≤ room
+  reduced_room f t e = (subst (λ z. IsRoomFor (query_by terms z) room) e fits) (term_at terms t) refl
 
-    pub right_side : (f : FuncId) (t u : TermId) → q ≡ Same f t u → IsTypeIn terms w.lexicon u
-    right_side f t u e = ((subst (HasQueryIdsOf terms) e ids).1, (subst (λ z. IsQueryOf (world_by terms w) (query_by terms z)) e asked).2.0)
+  pub conforming_room : (f : FuncId) (t : TermId) (p : ProtoId) → q ≡ Conf f t p → 4 * (member_count (term_at terms t) + 2) ≤ room
+  conforming_room f t p e = (subst (λ z. IsRoomFor (query_by terms z) room) e fits) (term_at terms t) refl
+
+  pub layout_room : (f : FuncId) (t : TermId) → q ≡ Layout f t → 4 * (member_count (term_at terms t) + 2) ≤ room
+  layout_room f t e = (subst (λ z. IsRoomFor (query_by terms z) room) e fits) (term_at terms t) refl
 
 -- ---- flags
 

@@ -1,5 +1,5 @@
-use Rattle.swreq_valid.proofs.OfText.{text_over}
-use Rattle.swreq_valid.proofs.tests.text_over.Goals as goal
+use Rattle.swreq_query_rows.proofs.OfText.{text_over}
+use Rattle.swreq_query_rows.proofs.showing.text_over.Goals as goal
 
 pub returns : goal.returns
 returns c =
