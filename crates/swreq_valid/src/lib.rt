@@ -4,6 +4,7 @@
 mod answers;
 mod basic;
 mod build;
+mod early;
 mod having;
 mod kept;
 mod machine;
