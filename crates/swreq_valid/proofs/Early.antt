@@ -1,5 +1,5 @@
 -- Where the first equations of a completion pass a limit before a pair, all of them pass it.
-use Rattle.std.proofs.Common.{◌≡◌, ◌⊎◌, ◌∙◌, inl, inr, refl, sym, ap, subst, ℕ, zero, suc, ◌<◌, ◌≤◌, arith, Bool, true, false, IsTrue, List, [], ◌∷◌, ◌++◌, length, take, Some, Option, Result, Ok, Err, append_assoc}
+use Rattle.std.proofs.Common.{◌≡◌, ◌⊎◌, ◌∙◌, inl, inr, refl, sym, ap, subst, ℕ, zero, suc, ◌<◌, ◌≤◌, arith, Bool, true, false, IsTrue, List, [], ◌∷◌, ◌++◌, length, take, Some, None, Option, MatchOption, Result, Ok, Err}
 use Rattle.std.proofs.lemmas.Bool.{and_parts}
 use Rattle.std.proofs.lemmas.List.{append-nil}
 use Rattle.std.specs.List.{list_all, slice_get}
@@ -14,10 +14,9 @@ use Rattle.swreq_watch.specs.declared.events.Event.{Event}
 use Rattle.swreq_complete.specs.declared.limit.Failed.{Failed}
 use Rattle.swreq_complete.specs.declared.limit.Failed.TheVariants.{Limit, Memory}
 use Rattle.swreq_complete.specs.declared.limit.Limits.{Limits}
-use Rattle.swreq_complete.specs.declared.limit.Which.{Which}
 use Rattle.swreq_complete.specs.Answers.{IsAnswer}
 use Rattle.swreq_complete.specs.Events.{Tells as TellsEvents}
-use Rattle.swreq_complete.specs.Limits.{EndsWithin, IsWithin, Passes}
+use Rattle.swreq_complete.specs.Limits.{IsWithin}
 use Rattle.swreq_complete.specs.Moments.{Before, HasSides}
 use Rattle.swreq_complete.specs.Reached.{IsReached}
 use Rattle.swreq_complete.proofs.Outcome.{answers_are_one, within_is_prefix}
@@ -135,3 +134,9 @@ module _ (limits : Limits) (front : Equations) (s : StopsAmong limits front) whe
       fails limits plan [] [] old old new first (grew_none old) e
       (same_answer limits plan.base [] (front ++ more) (given plan []) (Err e) (sym over) all (front_answer more e h))
       (same_told limits plan.base [] (front ++ more) (given plan []) old new (Err e) (sym over) all (front_told more e old new t))
+
+pub fails_by_front : (limits : Limits) (all front : Equations) (r : Option Failed) (old new : Option (List Event)) → IsFront front all
+    → MatchOption r (new ≡ old) (λ e. StopsAmong limits front × IsAnswer limits [] front (Err e) × TellsEvents limits [] front old new (Err e))
+    → MatchOption r (new ≡ old) (λ e. (plan : Plan) → plan.base ≡ [] → plan.basic ≡ all → Answers limits plan old new (Err e))
+fails_by_front limits all front None old new f h = h
+fails_by_front limits all front (Some e) old new f h = λ plan over is. first_round_fails limits front h.0 plan e old new over (f.0, is ∙ f.1) h.1 h.2

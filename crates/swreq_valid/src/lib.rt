@@ -4,7 +4,6 @@
 mod answers;
 mod basic;
 mod build;
-mod early;
 mod having;
 mod kept;
 mod machine;
@@ -15,6 +14,7 @@ mod round;
 mod rounds;
 mod scratch;
 mod sides;
+mod stopping;
 mod usable;
 mod wanted;
 

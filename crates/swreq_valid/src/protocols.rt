@@ -9,7 +9,7 @@ ghost use Rattle.swreq_valid.specs.Machines.{AreRulesOf, protocols_of};
 ghost use Rattle.swreq_valid.specs.Rounds.{AreRounds, last_rules, rules_of};
 
 use crate::basic::{basic, requirements};
-use crate::early::limit_of_basic;
+use crate::stopping::limit_of_basic;
 use crate::round::{Round, Rounds};
 use crate::rounds::run;
 use crate::wanted::Start;

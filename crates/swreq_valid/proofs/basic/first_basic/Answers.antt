@@ -1,7 +1,6 @@
-use Rattle.std.proofs.Common.{arith, refl, ◌∷◌}
+use Rattle.std.proofs.Common.{refl, sym, drop, ◌∷◌}
 use Rattle.swreq_rounds.specs.Given.{basic_equations, basic_of, doubled, named_from}
 use Rattle.swreq_shown.specs.Meaning.{symbols_of}
-use Rattle.swreq_valid.proofs.Listing.{parts_all}
 use Rattle.swreq_valid.proofs.OfProtocols.{part_at}
 use Rattle.swreq_valid.proofs.basic.first_basic.Goals as goal
 
@@ -13,6 +12,4 @@ loop-k-preserved c =
 
 pub returns : goal.returns
 returns c =
-    let m = symbols_of c.args.world.now.lexicon in
-    parts_all (basic_of m) (λ p. doubled p ∷ named_from p 0 m.members) refl (λ p ps. refl) c.args.world.now.lexicon.written_order c.loop-k.k c.loop-k.v.items (basic_equations m)
-    (let a = c.loop-k-test.false in let b = c.protocols-k-end.ensures in let e = c.requires.each_once in omega (arith, a, b, e)) c.loop-k.invariant
+    (basic_of (symbols_of c.args.world.now.lexicon) (drop c.loop-k.k c.args.world.now.lexicon.written_order), sym c.loop-k.invariant)

@@ -1,7 +1,7 @@
 use Rattle.std.proofs.Common.{subst, Ok}
 use Rattle.swreq_complete.specs.Answers.{IsAnswer}
 use Rattle.swreq_valid.proofs.Early.{no_end}
-use Rattle.swreq_valid.proofs.early.stop.Goals as goal
+use Rattle.swreq_valid.proofs.stopping.stop.Goals as goal
 
 pub unreachable-requires : goal.unreachable-requires
 unreachable-requires g c =
