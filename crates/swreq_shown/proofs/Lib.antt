@@ -1,4 +1,4 @@
 pub mod Declared
 pub mod Symbols
 pub mod Walking
-pub mod Searching
+pub mod Giving

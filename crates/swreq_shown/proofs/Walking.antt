@@ -1,6 +1,5 @@
 -- The walk along the members of a type parameter.
-use Rattle.std.proofs.Common.{◌≡◌, inl, inr, sym, subst, List, [], ◌∷◌, ◌++◌, Bool}
-use Rattle.std.specs.Bool.{Decides}
+use Rattle.std.proofs.Common.{◌≡◌, inl, inr, sym, subst, List, [], ◌∷◌, ◌++◌}
 use Rattle.swreq_param.specs.declared.ids.ProtoId.{ProtoId}
 use Rattle.swreq_param.specs.declared.ids.Step.{Step}
 use Rattle.swreq_param.specs.declared.ids.Step.TheVariants.{Bound, Name}
@@ -33,8 +32,8 @@ pub vanishes_same : (rules : List Rule) (u v : Word) (x : Symbol) → Links rule
 vanishes_same rules u v x l h = linked_on (Linked-after (x ∷ []) (linked_back l)) (linked_on h l)
 
 pub step_same : (x : LexiconView) (rules : List Rule) (u v : Word) (s : Step) → Links rules u v → HasStep x rules u s → HasStep x rules v s
-step_same x rules u v (Name a) l (p, (d, h, k)) = (p, (d, h, vanishes_same rules u v (Proto p.rank) l k))
-step_same x rules u v (Bound d) l (p, a, h, k) = (p, a, h, vanishes_same rules u v (Proto p.rank) l k)
+step_same x rules u v (Name a) l (d, (p, h, k)) = (d, (p, h, vanishes_same rules u v (Proto p.rank) l k))
+step_same x rules u v (Bound d) l (a, (p, h, k)) = (a, (p, h, vanishes_same rules u v (Proto p.rank) l k))
 
 module _ (w : TextWorld) (s : Source) (rules : List Rule) where
   abbrev m : Symbols
@@ -51,16 +50,16 @@ module _ (w : TextWorld) (s : Source) (rules : List Rule) where
 
   -- a member is valid where its base is and the step is there behind the base's word
   member_valid : (t : Term) (x : Step) → Valid t → HasStep w.lexicon rules (word_of m s t) x → Valid (Member t x)
-  member_valid t (Name a) v (p, (d, h, k)) = (v, (p, d, h, vanish_shows t p k))
-  member_valid t (Bound d) v (p, a, h, k) = (v, (p, a, h, vanish_shows t p k))
+  member_valid t (Name a) v (d, (p, h, k)) = (v, (p, d, h, vanish_shows t p k))
+  member_valid t (Bound d) v (a, (p, h, k)) = (v, (p, a, h, vanish_shows t p k))
 
   base_valid : (t : Term) (x : Step) → Valid (Member t x) → Valid t
   base_valid t (Name a) h = h.0
   base_valid t (Bound d) h = h.0
 
   valid_step : (t : Term) (x : Step) → Valid (Member t x) → HasStep w.lexicon rules (word_of m s t) x
-  valid_step t (Name a) (v, (p, d, h, k)) = (p, (d, h, shows_vanish t p k))
-  valid_step t (Bound d) (v, (p, a, h, k)) = (p, a, h, shows_vanish t p k)
+  valid_step t (Name a) (v, (p, d, h, k)) = (d, (p, h, shows_vanish t p k))
+  valid_step t (Bound d) (v, (p, a, h, k)) = (a, (p, h, shows_vanish t p k))
 
   -- the same along a word that is linked to the base's
   pub goes_on : (t u : Term) (x : Step) (v : Word) → t ≡ Member u x → Valid u → Links rules (word_of m s u) v → HasStep w.lexicon rules v x → Valid t

@@ -12,13 +12,14 @@ ghost use Rattle.swreq_world.specs.Closed.{AreIds, IsStepOf};
 ghost use Rattle.swreq_shown.specs.Known.{IsTextOver, IsTypeIn};
 ghost use Rattle.swreq_shown.specs.Meaning.{facts_of, symbols_of};
 ghost use Rattle.swreq_shown.specs.Overs.{source_of};
-ghost use Rattle.swreq_shown.specs.Vanishing.{GivesName, HasStep, IsLeastBy, Links};
+ghost use Rattle.swreq_shown.specs.Vanishing.{HasStep, IsLeastBy, Links};
 
+use crate::behind::first_behind;
 use crate::over::Over;
 use crate::words::{start_of, symbol_of};
 use swreq_complete::CompleteRules;
 use swreq_map::vanishes;
-use swreq_param::{AssocId, NameId, ParamId, ParamTable, ProtoId, Step, TermId};
+use swreq_param::{AssocId, NameId, ParamId, ParamTable, Step, TermId};
 use swreq_word::Symbol;
 use swreq_world::World;
 
@@ -31,27 +32,7 @@ fn put(v: &mut Vec<Symbol>, x: Symbol)
     if let Err(_) = v.push(x) {}
 }
 
-/// Whether the protocol declares the name and vanishes behind the word.
-fn gives_name(
-    world: &World,
-    rules: &CompleteRules,
-    word: &[Symbol],
-    p: ProtoId,
-    a: NameId,
-    test: &mut Vec<Symbol>,
-) -> bool
-    requires least { IsLeastBy rules.now word.now }
-    requires fits { length word.now + 1 ≤ vec_capacity test.old }
-    ensures answer { IsTrue result ↔ GivesName world.now.lexicon rules.now word.now p a }
-    ensures room { vec_capacity test.old ≤ vec_capacity test.new }
-{
-    match world.declares(p, a) {
-        Some(_) => vanishes(rules, word, Symbol::Proto(p.rank), test),
-        None => false,
-    }
-}
-
-/// Whether some protocol that declares the name vanishes behind the word.
+/// Whether some associated type has this name, and its protocol vanishes behind the word.
 fn has_name(
     world: &World,
     rules: &CompleteRules,
@@ -59,19 +40,15 @@ fn has_name(
     a: NameId,
     test: &mut Vec<Symbol>,
 ) -> bool
-    requires ids { AreIds world.now.lexicon }
     requires least { IsLeastBy rules.now word.now }
     requires fits { length word.now + 1 ≤ vec_capacity test.old }
     ensures answer { IsTrue result ↔ HasStep world.now.lexicon rules.now word.now (Name a) }
     ensures room { vec_capacity test.old ≤ vec_capacity test.new }
 {
-    for rank in 0..world.protocols() {
-        let p = ProtoId { rank };
-        if gives_name(world, rules, word, p, a, test) {
-            return true;
-        }
+    match first_behind(world, rules, word, a, test) {
+        Some(_) => true,
+        None => false,
     }
-    false
 }
 
 /// Whether the protocol of the associated type vanishes behind the word.

@@ -1,11 +1,12 @@
 -- The first associated type that is given behind a word.
-use Rattle.std.proofs.Common.{◌≡◌, ◌∙◌, inl, inr, sym, ap, subst, ℕ, ◌<◌, ◌≤◌, ◌+◌, arith, Bool, List, length, slice_get, Some}
+use Rattle.std.proofs.Common.{◌≡◌, ◌∙◌, inl, inr, refl, sym, ap, subst, ℕ, ◌<◌, ◌≤◌, ◌+◌, arith, Bool, List, length, slice_get, Some}
 use Rattle.std.specs.Bool.{Decides}
 use Rattle.std.proofs.lemmas.Bool.{cases_eq, cases_lt}
 use Rattle.std.proofs.lemmas.Option.{same_Some, slice_get_within}
 use Rattle.swreq_param.specs.declared.ids.AssocId.{AssocId}
 use Rattle.swreq_param.specs.declared.ids.NameId.{NameId}
 use Rattle.swreq_param.specs.declared.ids.ProtoId.{ProtoId}
+use Rattle.swreq_param.specs.declared.ids.Step.TheVariants.{Bound}
 use Rattle.swreq_word.specs.declared.symbols.Symbol.TheVariants.{Proto}
 use Rattle.swreq_rule.specs.declared.rules.Rule.{Rule}
 use Rattle.swreq_ranks.specs.declared.pair.ProtocolName.{ProtocolName}
@@ -13,9 +14,8 @@ use Rattle.swreq_ranks.specs.Lexicons.{pair}
 use Rattle.swreq_ranks.specs.Views.{LexiconView}
 use Rattle.swreq_reading.specs.Symbols.{Word}
 use Rattle.swreq_map.specs.Properties.{Vanishes}
-use Rattle.swreq_shown.specs.Vanishing.{IsDeclared}
+use Rattle.swreq_shown.specs.Vanishing.{HasStep, IsDeclared, IsFirstBehind, IsGiven}
 use Rattle.swreq_shown.proofs.Declared.{at_rank, from_rank}
-use Rattle.swreq_valid.specs.LeastTypes.{IsFirstBehind, IsGiven}
 
 module _ (x : LexiconView) (rules : List Rule) (w : Word) (a : NameId) where
   declared_as : (d : AssocId) (e : ProtocolName) → slice_get x.associated d.rank ≡ Some e → (p : ProtoId) → IsDeclared x p a d → pair p a ≡ e
@@ -49,3 +49,10 @@ module _ (x : LexiconView) (rules : List Rule) (w : Word) (a : NameId) where
   none_at_all k l none d g =
       let o = slice_get_within x.associated d.rank (pair g.0 a) (at_rank x g.0 a d g.1) in
       none d (omega (arith, l, o)) g
+
+-- the protocol of an associated type gives it
+pub assoc_answer : (x : LexiconView) (rules : List Rule) (w : Word) (d : AssocId) (e : ProtocolName) (r : Bool) → slice_get x.associated d.rank ≡ Some e
+    → Decides r (Vanishes rules w (Proto e.proto.rank)) → Decides r (HasStep x rules w (Bound d))
+assoc_answer x rules w d e r at k =
+    let one = given_answer x rules w e.name d e r at refl k in
+    ((λ h. (e.name, one.0 h)), λ h. k.1 (subst (λ (z : ProtocolName). Vanishes rules w (Proto z.proto.rank)) (declared_as x rules w h.0 d e at h.1.0 h.1.1) h.1.2))

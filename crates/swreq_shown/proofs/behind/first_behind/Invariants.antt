@@ -1,6 +1,6 @@
 use Rattle.std.proofs.Common.{◌≤◌, vec_capacity}
-use Rattle.swreq_valid.proofs.Giving.{NoneGiven}
-use Rattle.swreq_valid.proofs.reduced.first_behind.Given as goal
+use Rattle.swreq_shown.proofs.Giving.{NoneGiven}
+use Rattle.swreq_shown.proofs.behind.first_behind.Given as goal
 
 abbrev pub invariant-loop-rank : goal.invariant-loop-rank
 invariant-loop-rank l = record {

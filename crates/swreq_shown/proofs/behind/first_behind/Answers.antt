@@ -1,6 +1,6 @@
 use Rattle.std.proofs.Common.{arith}
-use Rattle.swreq_valid.proofs.Giving.{none_at_all, none_given}
-use Rattle.swreq_valid.proofs.reduced.first_behind.Goals as goal
+use Rattle.swreq_shown.proofs.Giving.{none_at_all, none_given}
+use Rattle.swreq_shown.proofs.behind.first_behind.Goals as goal
 
 pub loop-rank-preserved : goal.loop-rank-preserved
 loop-rank-preserved c = record {

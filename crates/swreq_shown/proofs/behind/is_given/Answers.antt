@@ -1,5 +1,5 @@
-use Rattle.swreq_valid.proofs.Giving.{given_answer, not_given}
-use Rattle.swreq_valid.proofs.reduced.is_given.Goals as goal
+use Rattle.swreq_shown.proofs.Giving.{given_answer, not_given}
+use Rattle.swreq_shown.proofs.behind.is_given.Goals as goal
 
 pub returns-then-declared-a-clause-answer : goal.returns-then-declared-a-clause-answer
 returns-then-declared-a-clause-answer c =
