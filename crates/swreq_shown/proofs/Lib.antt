@@ -2,3 +2,4 @@ pub mod Declared
 pub mod Symbols
 pub mod Walking
 pub mod Giving
+pub mod Fronts

@@ -110,15 +110,18 @@ module _ (limits : Limits) (front : Equations) (s : StopsAmong limits front) whe
     front_within part w = within_more 0 front more part limits (among_within part w) w
 
     front_answer : (e : Failed) → IsAnswer limits [] front (Err e) → IsAnswer limits [] (front ++ more) (Err e)
-    front_answer (Limit which trace) h = (h.0, record {
-      within = front_within trace h.1.within;
-      last = h.1.last;
-      rule = h.1.rule;
-      past_base = h.1.past_base;
-      is_last = h.1.is_last;
-      is_rule = h.1.is_rule;
-      passes = h.1.passes;
-    })
+    front_answer (Limit which trace) h = (
+      h.0,
+      record {
+        within = front_within trace h.1.within;
+        last = h.1.last;
+        rule = h.1.rule;
+        past_base = h.1.past_base;
+        is_last = h.1.is_last;
+        is_rule = h.1.is_rule;
+        passes = h.1.passes;
+      },
+    )
     front_answer Memory h = h
 
     front_told : (e : Failed) (old new : Option (List Event)) → TellsEvents limits [] front old new (Err e) → TellsEvents limits [] (front ++ more) old new (Err e)

@@ -14,9 +14,9 @@ ghost use Rattle.swreq_valid.specs.Plans.{in_protocol};
 ghost use Rattle.swreq_valid.specs.Rounds.{AreRounds, last_rules, rules_of};
 
 use crate::basic::basic;
-use crate::stopping::limit_of_basic;
 use crate::round::Rounds;
 use crate::rounds::run;
+use crate::stopping::limit_of_basic;
 use crate::usable::is_usable;
 use crate::wanted::{Start, Wanted};
 use std::alloc::{AllocError, Global};

@@ -9,9 +9,9 @@ ghost use Rattle.swreq_valid.specs.Machines.{AreRulesOf, protocols_of};
 ghost use Rattle.swreq_valid.specs.Rounds.{AreRounds, last_rules, rules_of};
 
 use crate::basic::{basic, requirements};
-use crate::stopping::limit_of_basic;
 use crate::round::{Round, Rounds};
 use crate::rounds::run;
+use crate::stopping::limit_of_basic;
 use crate::wanted::Start;
 use std::alloc::{AllocError, Global};
 use std::marker::Model;
