@@ -1,5 +1,5 @@
 -- A symbol that vanishes behind an irreducible word ends a left side, and before it stands an ending of the word.
-use Rattle.std.proofs.Common.{◌≡◌, inl, inr, ℕ, suc, ◌≤◌, Bool, List, [], ◌∷◌, ◌++◌, append_assoc, append-nil, length, length-append, drop, refl, sym, ◌∙◌, ap, subst, arith, Some}
+use Rattle.std.proofs.Common.{◌≡◌, inl, inr, ℕ, suc, ◌+◌, ◌-◌, ◌≤◌, Bool, List, [], ◌∷◌, ◌++◌, append_assoc, append-nil, length, length-append, drop, refl, sym, ◌∙◌, ap, subst, arith, Some}
 use Rattle.std.specs.List.{slice_get}
 use Rattle.std.specs.Bool.{Decides}
 use Rattle.swreq_word.specs.declared.symbols.Symbol.{Symbol}
@@ -9,6 +9,8 @@ use Rattle.swreq_word.proofs.LeastWords.{one_least}
 use Rattle.swreq_word.proofs.Cuts.{cut, cut_rest}
 use Rattle.swreq_word.proofs.Cuts.Cut.{left, right}
 use Rattle.swreq_rule.specs.declared.rules.Rule.{Rule}
+use Rattle.swreq_rule.specs.Reduction.{NoneEarlier}
+use Rattle.swreq_rule.specs.Search.{NoneLonger}
 use Rattle.swreq_rule.specs.Steps.{Step}
 use Rattle.swreq_rule.proofs.Search.{reduction_step, a_step}
 use Rattle.swreq_pair.proofs.CriticalPairs.{locally}
@@ -56,20 +58,42 @@ module _ (rules : List Rule) where
         empty [] h = refl
         empty (x ∷ xs) h = absurd (omega (arith, h))
 
-    in_word : (s : Symbol) (rule : Rule) (n : ℕ) → slice_get rules n ≡ Some rule → (before after : List Symbol) → u ++ s ∷ [] ≡ before ++ (rule.left ++ after)
-        → (at : ℕ) × (at ≤ length u) × (rule.left ≡ drop at u ++ s ∷ [])
-    in_word s rule n is before [] e = at_end s rule n is before (e ∙ ap (λ x. before ++ x) (append-nil rule.left))
-    in_word s rule n is before (x ∷ a) e =
+    -- one that ends before the word with one symbol more does
+    not_before : (s : Symbol) (rule : Rule) (n : ℕ) → slice_get rules n ≡ Some rule → (before after : List Symbol) (x : Symbol)
+        → u ++ s ∷ [] ≡ before ++ (rule.left ++ (x ∷ after)) → ⊥
+    not_before s rule n is before a x e =
         let f : u ++ s ∷ [] ≡ (before ++ rule.left) ++ (x ∷ a) = e ∙ sym (append_assoc before rule.left (x ∷ a)) in
-        absurd (elim (cut u (s ∷ []) (before ++ rule.left) (x ∷ a) f) [
+        elim (cut u (s ∷ []) (before ++ rule.left) (x ∷ a) f) [
           | left q g h ↦ (let size = simp length-append at (ap length h) in
               not_within rule n is before [] (shorter u (before ++ rule.left) q g (omega (arith, size)) ∙ ap (λ y. before ++ y) (sym (append-nil rule.left))))
           | right y q g h ↦ not_within rule n is before (y ∷ q) (g ∙ append_assoc before rule.left (y ∷ q))
-        ])
+        ]
       where
         shorter : (a b q : List Symbol) → b ≡ a ++ q → length q ≡ 0 → a ≡ b
         shorter a b [] g h = sym (append-nil a) ∙ sym g
         shorter a b (x ∷ q) g h = absurd (omega (arith, h))
+
+    in_word : (s : Symbol) (rule : Rule) (n : ℕ) → slice_get rules n ≡ Some rule → (before after : List Symbol) → u ++ s ∷ [] ≡ before ++ (rule.left ++ after)
+        → (at : ℕ) × (at ≤ length u) × (rule.left ≡ drop at u ++ s ∷ [])
+    in_word s rule n is before [] e = at_end s rule n is before (e ∙ ap (λ x. before ++ x) (append-nil rule.left))
+    in_word s rule n is before (x ∷ a) e = absurd (not_before s rule n is before a x e)
+
+    -- no left side begins farther from the end of the word with one symbol more than the longest one reaches
+    none_far : (s : Symbol) (longest : ℕ) → NoneLonger rules longest → NoneEarlier rules (u ++ s ∷ []) (length (u ++ s ∷ []) - longest)
+    none_far s longest short before rest e l n rule is (after, b) = none after (e ∙ ap (λ x. before ++ x) b)
+      where
+        none : (after : List Symbol) → u ++ s ∷ [] ≡ before ++ (rule.left ++ after) → ⊥
+        none [] f =
+            let size = simp length-append at (ap length f) in
+            let k = short n rule is in
+            let m = simp length-append at l in
+            omega (arith, size, k, m)
+        none (x ∷ a) f = not_before s rule n is before a x f
+
+    pub none_before : (s : Symbol) (w : List Symbol) (longest from : ℕ) → w ≡ u ++ s ∷ [] → from ≡ length w - longest → NoneLonger rules longest
+        → NoneEarlier rules w from
+    none_before s w longest from e f short =
+        subst (NoneEarlier rules w) (sym f) (subst (λ z. NoneEarlier rules z (length z - longest)) (sym e) (none_far s longest short))
 
     pub ends_left_side : (s : Symbol) → Vanishes rules u s
         → (n : ℕ) × (rule : Rule) × (at : ℕ) × (slice_get rules n ≡ Some rule) × (at ≤ length u) × (rule.left ≡ drop at u ++ s ∷ [])

@@ -1,10 +1,12 @@
 //! The properties of irreducible words: the protocols whose symbols vanish behind them, and the layout.
 #![tactic(auto)]
 
+mod appending;
 mod followers;
 mod map;
 mod vanishing;
 
+pub use appending::append;
 pub use map::{Properties, PropertyMap};
 pub use vanishing::vanishes;
 

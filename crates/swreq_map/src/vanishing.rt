@@ -1,11 +1,12 @@
 // Whether a symbol vanishes behind a word.
-ghost use Rattle.std.specs.Prelude.{◌≡◌, ◌+◌, ◌≤◌, [], ◌∷◌, ◌++◌, length, vec_capacity, vec_len};
+ghost use Rattle.std.specs.Prelude.{◌≡◌, ◌+◌, ◌≤◌, ◌++◌, length, vec_capacity, vec_len};
 ghost use Rattle.std.specs.Bool.{Decides};
 ghost use Rattle.swreq_word.specs.Least.{IsLeast};
 ghost use Rattle.swreq_word.specs.Relations.{Linked};
 ghost use Rattle.swreq_rule.specs.Steps.{Step};
 ghost use Rattle.swreq_map.specs.Properties.{IsProperty, Vanishes};
 
+use crate::appending::append;
 use swreq_complete::CompleteRules;
 use swreq_word::Symbol;
 
@@ -15,15 +16,14 @@ fn is_same(u: &[Symbol], v: &[Symbol]) -> bool
     u == v
 }
 
-/// Writes the word with the symbol behind it, where there is room for it.
-fn write(room: &mut Vec<Symbol>, u: &[Symbol], x: Symbol)
-    requires { length u.now + 1 ≤ vec_capacity room.old }
-    ensures items { room.new.items ≡ u.now ++ x ∷ [] }
+/// Writes the word, where there is room for it.
+fn write(room: &mut Vec<Symbol>, u: &[Symbol])
+    requires { length u.now ≤ vec_capacity room.old }
+    ensures items { room.new.items ≡ u.now }
     ensures room { vec_capacity room.old ≤ vec_capacity room.new }
 {
     room.clear();
     put_all(room, u);
-    put(room, x);
 }
 
 fn put_all(room: &mut Vec<Symbol>, u: &[Symbol])
@@ -34,14 +34,6 @@ fn put_all(room: &mut Vec<Symbol>, u: &[Symbol])
     if let Err(_) = room.extend_from_slice(u) {}
 }
 
-fn put(room: &mut Vec<Symbol>, x: Symbol)
-    requires { vec_len room.old + 1 ≤ vec_capacity room.old }
-    ensures items { room.new.items ≡ room.old.items ++ x ∷ [] }
-    ensures room { vec_capacity room.old ≤ vec_capacity room.new }
-{
-    if let Err(_) = room.push(x) {}
-}
-
 /// Whether the symbol vanishes behind the least word of a class. The room is for one symbol more than the word.
 pub fn vanishes(rules: &CompleteRules, u: &[Symbol], x: Symbol, room: &mut Vec<Symbol>) -> bool
     requires least { IsLeast (Linked (Step rules.now)) u.now }
@@ -50,8 +42,8 @@ pub fn vanishes(rules: &CompleteRules, u: &[Symbol], x: Symbol, room: &mut Vec<S
     ensures room { vec_capacity room.old ≤ vec_capacity room.new }
 {
     let _rules = rules.rules();
-    write(room, u, x);
-    rules.reduce(room);
+    write(room, u);
+    append(rules, room, x);
     is_same(room, u)
 }
 

@@ -12,7 +12,7 @@ use Rattle.swreq_reading.specs.Symbols.{MemberName, Word, name_of, proto_of}
 use Rattle.swreq_shown.specs.Meaning.{member_name, symbols_of}
 use Rattle.swreq_shown.proofs.Declared.{is_rank, member_is}
 use Rattle.swreq_map.specs.Properties.{Vanishes}
-use Rattle.swreq_valid.specs.LeastTypes.{IsFirstBehind, IsGiven}
+use Rattle.swreq_shown.specs.Vanishing.{IsFirstBehind, IsGiven}
 use Rattle.swreq_minimal.specs.Typed.{IsMemberBehind}
 
 same_ranks : {k j : ℕ} → MemberSymbol k ≡ MemberSymbol j → k ≡ j

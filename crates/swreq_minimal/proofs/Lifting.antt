@@ -33,7 +33,7 @@ use Rattle.swreq_world.specs.Closed.{IsClosed}
 use Rattle.swreq_world.specs.Worlds.{TextWorld}
 use Rattle.swreq_valid.specs.Machines.{IsMachineOf, MachineView}
 use Rattle.swreq_valid.specs.Rounds.{last_rules}
-use Rattle.swreq_valid.specs.LeastTypes.{IsFirstBehind}
+use Rattle.swreq_shown.specs.Vanishing.{IsFirstBehind}
 use Rattle.swreq_minimal.specs.Typed.{IsTypeBy, SaysBy, SpeaksBy}
 
 -- ---- the fronts of words of a type

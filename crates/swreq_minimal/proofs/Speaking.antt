@@ -27,7 +27,7 @@ use Rattle.swreq_shown.specs.Known.{IsRequirementIn}
 use Rattle.swreq_shown.specs.Meaning.{symbols_of}
 use Rattle.swreq_world.specs.Closed.{IsTermOf}
 use Rattle.swreq_written.proofs.Growing.{of_stays}
-use Rattle.swreq_valid.specs.LeastTypes.{IsFirstBehind, IsGiven}
+use Rattle.swreq_shown.specs.Vanishing.{IsFirstBehind, IsGiven}
 use Rattle.swreq_minimal.specs.Typed.{Finds, Identifies, IsTypeBy, SaysBy, SpeaksBy}
 use Rattle.swreq_minimal.proofs.Passing.{parted}
 use Rattle.swreq_minimal.proofs.Typing.{given_of_text, none_of_nothing, not_empty, nothing_before, one_first, one_type, type_of_text}

@@ -21,8 +21,8 @@ use Rattle.swreq_reading.specs.Symbols.{IsRank, Word, name_of, proto_of}
 use Rattle.swreq_candidates.specs.Candidates.{IsNamed}
 use Rattle.swreq_shown.specs.Known.{IsRequirementIn}
 use Rattle.swreq_shown.specs.Meaning.{symbols_of}
+use Rattle.swreq_shown.specs.Vanishing.{IsFirstBehind}
 use Rattle.swreq_map.specs.Properties.{Vanishes}
-use Rattle.swreq_valid.specs.LeastTypes.{IsFirstBehind}
 
 -- Behind the word the symbol `[P:A]` stands for the bound member d: `[P]` vanishes there, and d is the first associated type A given there.
 abbrev pub IsMemberBehind : LexiconView → List Rule → Word → Symbol → AssocId → Type 0

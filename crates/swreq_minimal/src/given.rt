@@ -8,7 +8,7 @@ ghost use Rattle.swreq_minimal.specs.Typed.{IsMemberBehind};
 use swreq_complete::CompleteRules;
 use swreq_map::vanishes;
 use swreq_param::AssocId;
-use swreq_valid::first_behind;
+use swreq_shown::first_behind;
 use swreq_word::Symbol;
 use swreq_world::World;
 

@@ -1,4 +1,5 @@
 pub mod Declared
 pub mod Symbols
 pub mod Walking
-pub mod Searching
+pub mod Giving
+pub mod Fronts

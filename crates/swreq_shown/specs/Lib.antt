@@ -2,3 +2,4 @@ pub mod Meaning
 pub mod Known
 pub mod Overs
 pub mod Vanishing
+pub mod Fronts

@@ -1,11 +1,10 @@
 -- What rules show of a type parameter, asked of a word that they link to its word.
-use Rattle.std.specs.Prelude.{List, [], ◌∷◌, ◌++◌, Contains}
+use Rattle.std.specs.Prelude.{◌≤◌, List, Contains}
 use Rattle.swreq_param.specs.declared.ids.AssocId.{AssocId}
 use Rattle.swreq_param.specs.declared.ids.NameId.{NameId}
 use Rattle.swreq_param.specs.declared.ids.ProtoId.{ProtoId}
 use Rattle.swreq_param.specs.declared.ids.Step.{Step}
 use Rattle.swreq_param.specs.declared.ids.Step.TheVariants.{Bound, Name}
-use Rattle.swreq_word.specs.declared.symbols.Symbol.{Symbol}
 use Rattle.swreq_word.specs.declared.symbols.Symbol.TheVariants.{Proto}
 use Rattle.swreq_word.specs.Least.{IsLeast}
 use Rattle.swreq_word.specs.Relations.{Linked}
@@ -28,11 +27,16 @@ IsLeastBy rules = IsLeast (Links rules)
 abbrev pub IsDeclared : LexiconView → ProtoId → NameId → AssocId → Type 0
 IsDeclared x p a d = Contains (associated_types x.associated) (record { proto = p; name = a; assoc = d })
 
--- The protocol declares the name, and its symbol vanishes behind the word.
-abbrev pub GivesName : LexiconView → List Rule → Word → ProtoId → NameId → Type 0
-GivesName x rules w p a = (d : AssocId) × IsDeclared x p a d × Vanishes rules w (Proto p.rank)
+-- d is an associated type A of a protocol whose symbol vanishes behind the word.
+abbrev pub IsGiven : LexiconView → List Rule → Word → NameId → AssocId → Type 0
+IsGiven x rules w a d = (p : ProtoId) × IsDeclared x p a d × Vanishes rules w (Proto p.rank)
 
--- The symbol of a protocol that gives the step vanishes behind the word: of one that declares the name, or of that of the associated type.
+-- It is the first such associated type.
+pub record IsFirstBehind (x : LexiconView) (rules : List Rule) (w : Word) (a : NameId) (d : AssocId) : Type 0 where
+  pub given : IsGiven x rules w a d
+  pub first : (e : AssocId) → IsGiven x rules w a e → d.rank ≤ e.rank
+
+-- Behind the word an associated type with the name is given, or that associated type.
 abbrev pub HasStep : LexiconView → List Rule → Word → Step → Type 0
-HasStep x rules w (Name a) = (p : ProtoId) × GivesName x rules w p a
-HasStep x rules w (Bound d) = (p : ProtoId) × (a : NameId) × IsDeclared x p a d × Vanishes rules w (Proto p.rank)
+HasStep x rules w (Name a) = (d : AssocId) × IsGiven x rules w a d
+HasStep x rules w (Bound d) = (a : NameId) × IsGiven x rules w a d

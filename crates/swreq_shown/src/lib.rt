@@ -2,11 +2,13 @@
 //! members, which takes no memory.
 #![tactic(auto)]
 
+mod behind;
 pub mod laws;
 mod over;
 mod walk;
 mod words;
 
+pub use behind::first_behind;
 pub use over::Over;
 pub use walk::least_word;
 pub use words::equation;

@@ -2,23 +2,25 @@
 ghost use Rattle.std.specs.Prelude.{◌≡◌, ◌↔◌, ◌+◌, ◌≤◌, ◌<◌, [], ◌∷◌, ◌++◌, length, vec_len, vec_capacity, IsTrue};
 ghost use Rattle.std.specs.Bool.{OnTrue};
 ghost use Rattle.swreq_param.specs.declared.ids.Step.TheVariants.{Bound, Name};
-ghost use Rattle.swreq_param.specs.Tables.{term_at};
+ghost use Rattle.swreq_param.specs.Tables.{IsOf, term_at};
 ghost use Rattle.swreq_param.specs.Terms.{member_count};
 ghost use Rattle.swreq_derive.specs.Derivation.{HasParam};
 ghost use Rattle.swreq_reading.specs.Shown.{ShowsValid};
 ghost use Rattle.swreq_reading.specs.Symbols.{start, word_of};
 ghost use Rattle.swreq_world.specs.ByTable.{world_by};
 ghost use Rattle.swreq_world.specs.Closed.{AreIds, IsStepOf};
+ghost use Rattle.swreq_shown.specs.Fronts.{without};
 ghost use Rattle.swreq_shown.specs.Known.{IsTextOver, IsTypeIn};
 ghost use Rattle.swreq_shown.specs.Meaning.{facts_of, symbols_of};
 ghost use Rattle.swreq_shown.specs.Overs.{source_of};
-ghost use Rattle.swreq_shown.specs.Vanishing.{GivesName, HasStep, IsLeastBy, Links};
+ghost use Rattle.swreq_shown.specs.Vanishing.{HasStep, IsLeastBy, Links};
 
+use crate::behind::first_behind;
 use crate::over::Over;
 use crate::words::{start_of, symbol_of};
 use swreq_complete::CompleteRules;
-use swreq_map::vanishes;
-use swreq_param::{AssocId, NameId, ParamId, ParamTable, ProtoId, Step, TermId};
+use swreq_map::{append, vanishes};
+use swreq_param::{AssocId, NameId, ParamId, ParamTable, Step, TermId};
 use swreq_word::Symbol;
 use swreq_world::World;
 
@@ -31,27 +33,7 @@ fn put(v: &mut Vec<Symbol>, x: Symbol)
     if let Err(_) = v.push(x) {}
 }
 
-/// Whether the protocol declares the name and vanishes behind the word.
-fn gives_name(
-    world: &World,
-    rules: &CompleteRules,
-    word: &[Symbol],
-    p: ProtoId,
-    a: NameId,
-    test: &mut Vec<Symbol>,
-) -> bool
-    requires least { IsLeastBy rules.now word.now }
-    requires fits { length word.now + 1 ≤ vec_capacity test.old }
-    ensures answer { IsTrue result ↔ GivesName world.now.lexicon rules.now word.now p a }
-    ensures room { vec_capacity test.old ≤ vec_capacity test.new }
-{
-    match world.declares(p, a) {
-        Some(_) => vanishes(rules, word, Symbol::Proto(p.rank), test),
-        None => false,
-    }
-}
-
-/// Whether some protocol that declares the name vanishes behind the word.
+/// Whether some associated type has this name, and its protocol vanishes behind the word.
 fn has_name(
     world: &World,
     rules: &CompleteRules,
@@ -59,19 +41,15 @@ fn has_name(
     a: NameId,
     test: &mut Vec<Symbol>,
 ) -> bool
-    requires ids { AreIds world.now.lexicon }
     requires least { IsLeastBy rules.now word.now }
     requires fits { length word.now + 1 ≤ vec_capacity test.old }
     ensures answer { IsTrue result ↔ HasStep world.now.lexicon rules.now word.now (Name a) }
     ensures room { vec_capacity test.old ≤ vec_capacity test.new }
 {
-    for rank in 0..world.protocols() {
-        let p = ProtoId { rank };
-        if gives_name(world, rules, word, p, a, test) {
-            return true;
-        }
+    match first_behind(world, rules, word, a, test) {
+        Some(_) => true,
+        None => false,
     }
-    false
 }
 
 /// Whether the protocol of the associated type vanishes behind the word.
@@ -129,6 +107,65 @@ fn begins(rules: &CompleteRules, over: Over, g: ParamId, word: &mut Vec<Symbol>)
     over.has(g)
 }
 
+/// The type parameter without its last members, so many.
+fn without(table: &ParamTable, t: TermId, count: usize) -> TermId
+    requires t { IsOf table.now t }
+    requires count { count ≤ member_count (term_at table.now t) }
+    ensures there { IsOf table.now result }
+    ensures front { term_at table.now result ≡ without count (term_at table.now t) }
+{
+    let mut at = t;
+    for _ in 0..count {
+        match table.split(at) {
+            Some((base, _)) => at = base,
+            None => unreachable!(),
+        }
+    }
+    at
+}
+
+/// Whether the rules show that a member is valid whose base they show valid, with this least word. Where they do, the word becomes that
+/// of the member.
+fn add_member(
+    world: &World,
+    table: &ParamTable,
+    rules: &CompleteRules,
+    over: Over,
+    t: TermId,
+    word: &mut Vec<Symbol>,
+    test: &mut Vec<Symbol>,
+) -> bool
+    requires text { IsTextOver table.now world.now }
+    requires t { IsTypeIn table.now world.now.lexicon t }
+    requires member { 0 < member_count (term_at table.now t) }
+    requires base { ShowsValid (symbols_of world.now.lexicon) (facts_of (world_by table.now world.now))
+        (source_of over) (Links rules.now) (without 1 (term_at table.now t)) }
+    requires linked { Links rules.now (word_of (symbols_of world.now.lexicon) (source_of over)
+        (without 1 (term_at table.now t))) word.old.items }
+    requires least { IsLeastBy rules.now word.old.items }
+    requires fits { vec_len word.old + 1 ≤ vec_capacity word.old }
+    requires fits_test { vec_len word.old + 1 ≤ vec_capacity test.old }
+    ensures valid { IsTrue result ↔ ShowsValid (symbols_of world.now.lexicon) (facts_of (world_by table.now world.now))
+        (source_of over) (Links rules.now) (term_at table.now t) }
+    ensures least { OnTrue result (IsLeastBy rules.now word.new.items) }
+    ensures linked { OnTrue result (Links rules.now (word_of (symbols_of world.now.lexicon) (source_of over)
+        (term_at table.now t)) word.new.items) }
+    ensures short { OnTrue result (vec_len word.new ≤ vec_len word.old + 1) }
+    ensures room { vec_capacity word.old ≤ vec_capacity word.new }
+    ensures room_test { vec_capacity test.old ≤ vec_capacity test.new }
+{
+    match table.split(t) {
+        None => unreachable!(),
+        Some((_, step)) => {
+            if !has_step(world, rules, word, step, test) {
+                return false;
+            }
+            append(rules, word, symbol_of(world, step));
+            true
+        }
+    }
+}
+
 /// Whether the rules show that a type parameter is valid. Where they do, `word` becomes its least word. Both lists of symbols have
 /// room for the word of the type parameter and a symbol more, and keep it.
 pub fn least_word(
@@ -153,18 +190,15 @@ pub fn least_word(
     ensures room { vec_capacity word.old ≤ vec_capacity word.new }
     ensures room_test { vec_capacity test.old ≤ vec_capacity test.new }
 {
-    match table.split(t) {
-        None => begins(rules, over, table.head(t), word),
-        Some((base, step)) => {
-            if !least_word(world, table, rules, over, base, word, test) {
-                return false;
-            }
-            if !has_step(world, rules, word, step, test) {
-                return false;
-            }
-            put(word, symbol_of(world, step));
-            rules.reduce(word);
-            true
+    if !begins(rules, over, table.head(t), word) {
+        return false;
+    }
+    let members = table.members(t);
+    for count in 0..members {
+        let member = without(table, t, members - 1 - count);
+        if !add_member(world, table, rules, over, member, word, test) {
+            return false;
         }
     }
+    true
 }

@@ -53,11 +53,13 @@ query f(T.Next.Next.Next : N)
 query f(T.Next == T.Next.Next)
 query f(T.Missing : N)
 query f(T.Next.Next)
+query f(T.Next : AnyObject)
 ---- 0
 yes
 no
 invalid
 τ_0_0.[N]Next.[N]Next
+no
 ====
 protocol P { associatedtype A }
 protocol Q { associatedtype A }
@@ -67,11 +69,17 @@ query f(T.[P]A == T.[Q]A)
 query f(T.A)
 query g(T.[Q]A)
 query g(T.[Q]A : P)
+query g(T.[Q]A == T)
+query g(T.[Q]A : AnyObject)
+query g(T.A)
 ---- 0
 yes
 τ_0_0.[P]A
 invalid
 invalid
+invalid
+invalid
+τ_0_0.[P]A
 ====
 protocol Late { associatedtype Next: Late }
 protocol Early: Late { associatedtype Next: Early }
@@ -87,8 +95,10 @@ yes
 protocol P { associatedtype B where B == Self }
 func f<X: P, Y>() where X.B == Y
 query f(Y : P)
+query f(Y)
 ---- 0
 yes
+τ_0_0
 ====
 protocol P { associatedtype A }
 protocol Q { associatedtype B: P }
@@ -99,11 +109,16 @@ error: not a type parameter at 85
 protocol P: AnyObject { }
 func f<T: P, U>() where U == T
 func g<T: AnyObject, U>() where T == U
+func h<T: P, U>()
 query f(U : AnyObject)
 query g(U)
+query g(U : AnyObject)
+query h(U : AnyObject)
 ---- 0
 yes
 τ_0_0
+yes
+no
 ====
 protocol P { associatedtype A }
 struct S<T: P> {

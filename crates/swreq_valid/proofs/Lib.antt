@@ -11,10 +11,10 @@ pub mod Made
 pub mod Answering
 pub mod Deciding
 pub mod Firsts
-pub mod Giving
 pub mod Typed
 pub mod Reducing
 pub mod Transfer
 pub mod Once
 pub mod OfKept
 pub mod Telling
+pub mod Early

@@ -30,7 +30,8 @@ use Rattle.swreq_shown.proofs.Symbols.{ranks_law, symbols_law, text_law}
 use Rattle.swreq_world.specs.Closed.{IsClosed}
 use Rattle.swreq_world.specs.Worlds.{TextWorld}
 use Rattle.swreq_valid.specs.Asked.{IsLeastOf, IsReducedIn}
-use Rattle.swreq_valid.specs.LeastTypes.{BeginsBy, IsFirstBehind}
+use Rattle.swreq_shown.specs.Vanishing.{IsFirstBehind}
+use Rattle.swreq_valid.specs.LeastTypes.{BeginsBy}
 use Rattle.swreq_valid.specs.Machines.{IsMachineOf, MachineView}
 use Rattle.swreq_valid.specs.Rounds.{last_rules}
 use Rattle.swreq_valid.proofs.Firsts.{firsts}

@@ -17,7 +17,8 @@ use Rattle.swreq_ranks.specs.Views.{LexiconView}
 use Rattle.swreq_reading.specs.Symbols.{IsRank, Symbols, Word, name_of}
 use Rattle.swreq_shown.specs.Meaning.{symbols_of}
 use Rattle.swreq_shown.specs.Vanishing.{IsLeastBy}
-use Rattle.swreq_valid.specs.LeastTypes.{BeginsBy, IsFirstBehind}
+use Rattle.swreq_shown.specs.Vanishing.{IsFirstBehind}
+use Rattle.swreq_valid.specs.LeastTypes.{BeginsBy}
 use Rattle.swreq_valid.proofs.OfProtocols.{drop_at}
 
 -- ---- lists

@@ -1,27 +1,14 @@
 -- The type of a word, as rules tell it.
-use Rattle.std.specs.Prelude.{◌≡◌, ℕ, ◌≤◌, List, ◌∷◌, ◌++◌}
-use Rattle.swreq_param.specs.declared.ids.AssocId.{AssocId}
-use Rattle.swreq_param.specs.declared.ids.NameId.{NameId}
-use Rattle.swreq_param.specs.declared.ids.ProtoId.{ProtoId}
+use Rattle.std.specs.Prelude.{◌≡◌, ℕ, List, ◌∷◌, ◌++◌}
 use Rattle.swreq_param.specs.declared.ids.Step.TheVariants.{Bound, Name}
 use Rattle.swreq_param.specs.Terms.{Term}
 use Rattle.swreq_param.specs.Terms.Term.{Generic, Member}
-use Rattle.swreq_word.specs.declared.symbols.Symbol.TheVariants.{Proto, Member as MemberSymbol, Param}
+use Rattle.swreq_word.specs.declared.symbols.Symbol.TheVariants.{Member as MemberSymbol, Param}
 use Rattle.swreq_rule.specs.declared.rules.Rule.{Rule}
 use Rattle.swreq_ranks.specs.Views.{LexiconView}
 use Rattle.swreq_reading.specs.Symbols.{IsRank, Word, name_of}
 use Rattle.swreq_shown.specs.Meaning.{symbols_of}
-use Rattle.swreq_map.specs.Properties.{Vanishes}
-use Rattle.swreq_shown.specs.Vanishing.{IsDeclared}
-
--- d is an associated type A of a protocol whose symbol vanishes behind the word.
-abbrev pub IsGiven : LexiconView → List Rule → Word → NameId → AssocId → Type 0
-IsGiven x rules w a d = (p : ProtoId) × IsDeclared x p a d × Vanishes rules w (Proto p.rank)
-
--- It is the first such associated type.
-pub record IsFirstBehind (x : LexiconView) (rules : List Rule) (w : Word) (a : NameId) (d : AssocId) : Type 0 where
-  pub given : IsGiven x rules w a d
-  pub first : (e : AssocId) → IsGiven x rules w a e → d.rank ≤ e.rank
+use Rattle.swreq_shown.specs.Vanishing.{IsFirstBehind}
 
 -- The word begins with a word of type T, behind which stands `rest`: with a generic parameter, and a member symbol for each member. That is
 -- the bound member with the first associated type of that name whose protocol vanishes behind the word before it.

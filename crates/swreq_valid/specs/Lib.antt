@@ -9,3 +9,4 @@ pub mod Asked
 pub mod LeastTypes
 pub mod Keeping
 pub mod Having
+pub mod Early

@@ -4,6 +4,7 @@ ghost use Rattle.std.specs.Bool.{if◌then◌else◌, nat_eq};
 ghost use Rattle.swreq_rounds.specs.Given as given;
 ghost use Rattle.swreq_shown.specs.Meaning.{member_name, symbols_of};
 ghost use Rattle.swreq_world.specs.Closed.{AreIds};
+ghost use Rattle.swreq_valid.specs.Early.{IsFront};
 ghost use Rattle.swreq_valid.specs.Plans.{in_protocol, in_protocols};
 
 use crate::wanted::Wanted;
@@ -98,6 +99,26 @@ pub(crate) fn basic(alloc: Global, world: &World) -> Result<Vec<(Word, Word)>, A
 {
     let mut v = Vec::new(alloc);
     for k in 0..world.protocols() {
+        let p = world.proto_at(k);
+        add_protocol(alloc, world, p, &mut v)?;
+    }
+    Ok(v)
+}
+
+/// The basic equations of the first protocols in written order: those of all, or more than `enough`.
+pub(crate) fn first_basic(
+    alloc: Global,
+    world: &World,
+    enough: u32,
+) -> Result<Vec<(Word, Word)>, AllocError>
+    requires { AreIds world.now.lexicon }
+    ensures { IfOk result (λ v. IsFront v.items (given.basic_equations (symbols_of world.now.lexicon))) }
+{
+    let mut v = Vec::new(alloc);
+    for k in 0..world.protocols() {
+        if v.len() > enough as usize {
+            return Ok(v);
+        }
         let p = world.proto_at(k);
         add_protocol(alloc, world, p, &mut v)?;
     }

@@ -16,6 +16,7 @@ ghost use Rattle.swreq_valid.specs.Rounds.{AreRounds, last_rules, rules_of};
 use crate::basic::basic;
 use crate::round::Rounds;
 use crate::rounds::run;
+use crate::stopping::limit_of_basic;
 use crate::usable::is_usable;
 use crate::wanted::{Start, Wanted};
 use std::alloc::{AllocError, Global};
@@ -85,8 +86,8 @@ fn kept_requirements(alloc: Global, world: &World, keep: &Kept) -> Result<Vec<Wa
     Ok(v)
 }
 
-/// Runs the rounds of the protocols with the kept requirements.
-pub(crate) fn complete_kept<W: Watch>(
+/// Runs the rounds of the protocols with the kept requirements and all basic equations.
+fn run_kept<W: Watch>(
     alloc: Global,
     world: &World,
     table: &ParamTable,
@@ -120,6 +121,31 @@ pub(crate) fn complete_kept<W: Watch>(
                 )
             }
         },
+    }
+}
+
+/// Runs the rounds of the protocols with the kept requirements.
+pub(crate) fn complete_kept<W: Watch>(
+    alloc: Global,
+    world: &World,
+    table: &ParamTable,
+    keep: &Kept,
+    limits: Limits,
+    watch: &mut W,
+) -> Result<Rounds, Failed>
+    requires text { IsTextOver table.now world.now }
+    requires keep { AreFlags world.now keep.now.lists }
+    requires limits { AreInRange limits }
+    ensures answer { Answers limits (kept_plan (world_by table.now world.now) keep.now.lists) (W.told watch.old) (W.told watch.new)
+        (rules_of result) }
+    ensures only { IsOnlyOutcome limits (kept_plan (world_by table.now world.now) keep.now.lists) (rules_of result) }
+    ensures rounds { IfOk result (AreRounds limits (kept_plan (world_by table.now world.now) keep.now.lists)) }
+    ensures rules { IfOk result (λ rounds. AreProtocolRules (symbols_of world.now.lexicon) (kept_facts
+        (world_by table.now world.now) keep.now.lists) (last_rules rounds)) }
+{
+    match limit_of_basic(alloc, world, limits, watch) {
+        Some(failed) => Err(failed),
+        None => run_kept(alloc, world, table, keep, limits, watch),
     }
 }
 

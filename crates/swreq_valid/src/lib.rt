@@ -14,6 +14,7 @@ mod round;
 mod rounds;
 mod scratch;
 mod sides;
+mod stopping;
 mod usable;
 mod wanted;
 
@@ -21,7 +22,6 @@ pub use having::Property;
 pub use kept::Kept;
 pub use machine::{Machine, core};
 pub use protocols::Protocols;
-pub use reduced::first_behind;
 pub use refused::Refused;
 pub use round::Round;
 pub use scratch::Scratch;

@@ -11,6 +11,7 @@ ghost use Rattle.swreq_valid.specs.Rounds.{AreRounds, last_rules, rules_of};
 use crate::basic::{basic, requirements};
 use crate::round::{Round, Rounds};
 use crate::rounds::run;
+use crate::stopping::limit_of_basic;
 use crate::wanted::Start;
 use std::alloc::{AllocError, Global};
 use std::marker::Model;
@@ -82,8 +83,8 @@ fn flag_in(flags: &[bool], n: u32) -> bool
     }
 }
 
-/// Runs the rounds of the protocols.
-pub(crate) fn complete_protocols<W: Watch>(
+/// Runs the rounds of the protocols with all basic equations.
+fn run_protocols<W: Watch>(
     alloc: Global,
     world: &World,
     table: &ParamTable,
@@ -113,5 +114,26 @@ pub(crate) fn complete_protocols<W: Watch>(
                 )
             }
         },
+    }
+}
+
+/// Runs the rounds of the protocols.
+pub(crate) fn complete_protocols<W: Watch>(
+    alloc: Global,
+    world: &World,
+    table: &ParamTable,
+    limits: Limits,
+    watch: &mut W,
+) -> Result<Rounds, Failed>
+    requires text { IsTextOver table.now world.now }
+    requires limits { AreInRange limits }
+    ensures answer { Answers limits (protocols_of (world_by table.now world.now)) (W.told watch.old) (W.told watch.new) (rules_of result) }
+    ensures only { IsOnlyOutcome limits (protocols_of (world_by table.now world.now)) (rules_of result) }
+    ensures rounds { IfOk result (AreRounds limits (protocols_of (world_by table.now world.now))) }
+    ensures rules { IfOk result (λ rounds. AreRulesOf (world_by table.now world.now) (last_rules rounds)) }
+{
+    match limit_of_basic(alloc, world, limits, watch) {
+        Some(failed) => Err(failed),
+        None => run_protocols(alloc, world, table, limits, watch),
     }
 }

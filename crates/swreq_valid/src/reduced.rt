@@ -14,16 +14,16 @@ ghost use Rattle.swreq_reading.specs.Symbols.{IsRank, name_of};
 ghost use Rattle.swreq_world.specs.ByTable.{world_by};
 ghost use Rattle.swreq_shown.specs.Known.{IsTextOver, IsTypeIn};
 ghost use Rattle.swreq_shown.specs.Meaning.{symbols_of};
-ghost use Rattle.swreq_shown.specs.Vanishing.{IsLeastBy};
+ghost use Rattle.swreq_shown.specs.Vanishing.{IsFirstBehind, IsLeastBy};
 ghost use Rattle.swreq_valid.specs.Asked.{IsDerivable, IsLeastOf, IsReducedIn};
-ghost use Rattle.swreq_valid.specs.LeastTypes.{BeginsBy, IsFirstBehind, IsGiven};
+ghost use Rattle.swreq_valid.specs.LeastTypes.{BeginsBy};
 ghost use Rattle.swreq_valid.specs.Machines.{IsMachineOf};
 
 use crate::machine::Machine;
 use crate::scratch::Scratch;
 use swreq_complete::CompleteRules;
-use swreq_map::vanishes;
-use swreq_param::{AssocId, NameId, ParamId, ParamTable, Step, TermId};
+use swreq_param::{NameId, ParamId, ParamTable, Step, TermId};
+use swreq_shown::first_behind;
 use swreq_word::Symbol;
 use swreq_world::World;
 
@@ -51,60 +51,6 @@ fn name_at(world: &World, rank: u64) -> Option<NameId>
     } else {
         None
     }
-}
-
-/// Whether it is an associated type with this name, and its protocol vanishes behind the word.
-fn is_given(
-    world: &World,
-    rules: &CompleteRules,
-    word: &[Symbol],
-    a: NameId,
-    d: AssocId,
-    test: &mut Vec<Symbol>,
-) -> bool
-    requires d { d.rank < length world.now.lexicon.associated }
-    requires least { IsLeastBy rules.now word.now }
-    requires fits { length word.now + 1 ≤ vec_capacity test.old }
-    ensures answer { IsTrue result ↔ IsGiven world.now.lexicon rules.now word.now a d }
-    ensures room { vec_capacity test.old ≤ vec_capacity test.new }
-{
-    let declared = world.assoc(d);
-    if declared.name.rank == a.rank {
-        vanishes(rules, word, Symbol::Proto(declared.proto.rank), test)
-    } else {
-        false
-    }
-}
-
-/// The number of associated types.
-fn associated(world: &World) -> u32
-    ensures { result ≡ length world.now.lexicon.associated }
-{
-    world.lexicon().associated()
-}
-
-/// The first associated type with this name whose protocol vanishes behind the word, or None where there is none.
-pub fn first_behind(
-    world: &World,
-    rules: &CompleteRules,
-    word: &[Symbol],
-    a: NameId,
-    test: &mut Vec<Symbol>,
-) -> Option<AssocId>
-    requires least { IsLeastBy rules.now word.now }
-    requires fits { length word.now + 1 ≤ vec_capacity test.old }
-    ensures answer { MatchOption result
-        ((d : AssocId) → IsGiven world.now.lexicon rules.now word.now a d → ⊥)
-        (IsFirstBehind world.now.lexicon rules.now word.now a) }
-    ensures room { vec_capacity test.old ≤ vec_capacity test.new }
-{
-    for rank in 0..associated(world) {
-        let d = AssocId { rank };
-        if is_given(world, rules, word, a, d, test) {
-            return Some(d);
-        }
-    }
-    None
 }
 
 /// Puts the step last, where there is room for it.

@@ -1,10 +1,7 @@
-use Rattle.swreq_shown.proofs.Declared.{from_rank}
-use Rattle.swreq_shown.proofs.Searching.{assoc_answer}
+use Rattle.swreq_shown.proofs.Giving.{assoc_answer}
 use Rattle.swreq_shown.proofs.walk.has_assoc.Goals as goal
 
 pub returns-clause-answer : goal.returns-clause-answer
 returns-clause-answer c =
-    let x = c.args.world.now.lexicon in
-    let p = c.assoc-declared.result.proto in
-    let a = c.assoc-declared.result.name in
-    assoc_answer x c.args.rules.now c.args.word.now p a c.args.d c.vanishes.result (from_rank x p a c.args.d c.assoc-declared.ensures) c.vanishes.ensures.answer
+    assoc_answer c.args.world.now.lexicon c.args.rules.now c.args.word.now c.args.d c.assoc-declared.result c.vanishes.result c.assoc-declared.ensures
+    c.vanishes.ensures.answer

@@ -1,17 +1,8 @@
-use Rattle.std.proofs.Common.{arith}
-use Rattle.swreq_shown.proofs.Searching.{none_next, none_all}
+use Rattle.std.proofs.Common.{refl}
 use Rattle.swreq_shown.proofs.walk.has_name.Goals as goal
 
-pub loop-rank-preserved : goal.loop-rank-preserved
-loop-rank-preserved c = record {
-  none = none_next c.args.world.now.lexicon c.args.rules.now c.args.word.now c.args.a c.loop-rank.rank
-      (λ h. let e = c.if-gives_name.ensures.answer.1 h in cc) c.loop-rank.invariant.none;
-  room = (let a = c.if-gives_name.ensures.room in let b = c.loop-rank.invariant.room in omega (arith, a, b));
-}
+pub returns-in-Some-clause-answer : goal.returns-in-Some-clause-answer
+returns-in-Some-clause-answer c = ((λ h. (c.in-Some.field-0, c.in-Some.ensures.answer.given)), λ h. refl)
 
-pub returns-clause-answer : goal.returns-clause-answer
-returns-clause-answer c = (
-  (λ h. cc),
-  λ h. absurd (none_all c.args.world.now.lexicon c.args.rules.now c.args.word.now c.args.a c.loop-rank.rank c.requires.ids
-      (let a = c.loop-rank-test.false in let b = c.protocols-rank-end.ensures in omega (arith, a, b)) c.loop-rank.invariant.none h),
-)
+pub returns-in-None-clause-answer : goal.returns-in-None-clause-answer
+returns-in-None-clause-answer c = ((λ h. cc), λ h. absurd (c.in-None.ensures.answer h.0 h.1))
