@@ -2,7 +2,7 @@
 use Rattle.std.specs.Prelude.{ℕ, List, ◌++◌, codes, decimal}
 use Rattle.swreq_decl.specs.declared.kind.Kind.{Kind}
 use Rattle.swreq_decl.specs.declared.kind.Kind.TheVariants as kinds
-use Rattle.swreq_print.specs.declared.refusal.TheConstants.{NOT_BUILT, OUT_OF_MEMORY, READ_FAULT, TOO_LARGE, USAGE}
+use Rattle.swreq_print.specs.declared.refusal.TheConstants.{OUT_OF_MEMORY, READ_FAULT, TOO_LARGE, USAGE}
 use Rattle.swreq_print.specs.declared.refusal.RefusalKind.{RefusalKind}
 use Rattle.swreq_print.specs.declared.refusal.RefusalKind.TheVariants as refusals
 
@@ -54,7 +54,6 @@ refusal_line (refusals.Cycle at) = placed_line (codes "circular inheritance") at
 refusal_line (refusals.NotATypeParameter at) = placed_line (codes "not a type parameter") at
 refusal_line (refusals.LimitRules max) = codes "error: more than " ++ (decimal max ++ codes " rules\n")
 refusal_line (refusals.LimitLength max) = codes "error: rule longer than " ++ (decimal max ++ codes " symbols\n")
-refusal_line refusals.NotBuilt = NOT_BUILT.now
 refusal_line refusals.ReadFault = READ_FAULT.now
 refusal_line refusals.OutOfMemory = OUT_OF_MEMORY.now
 refusal_line refusals.Usage = USAGE.now

@@ -10,9 +10,7 @@ mod rules;
 mod signatures;
 mod types;
 
-pub use refusal::{
-    NOT_BUILT, OUT_OF_MEMORY, READ_FAULT, RefusalKind, TOO_LARGE, USAGE, refusal_text,
-};
+pub use refusal::{OUT_OF_MEMORY, READ_FAULT, RefusalKind, TOO_LARGE, USAGE, refusal_text};
 pub use rules::{rule_text, trace_text};
 pub use signatures::{requirement_text, self_text, signature_text};
 pub use types::{steps_text, type_text};

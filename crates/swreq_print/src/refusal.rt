@@ -10,9 +10,6 @@ use swreq_decl::Kind;
 /// The line of a text that is too long.
 pub const TOO_LARGE: &[u8] = b"error: text longer than 1048576 bytes\n";
 
-/// The line of a text in the language that cannot be answered yet.
-pub const NOT_BUILT: &[u8] = b"error: not built\n";
-
 /// The line of a read that failed.
 pub const READ_FAULT: &[u8] = b"error: read fault\n";
 
@@ -20,7 +17,8 @@ pub const READ_FAULT: &[u8] = b"error: read fault\n";
 pub const OUT_OF_MEMORY: &[u8] = b"error: out of memory\n";
 
 /// The line for wrong words.
-pub const USAGE: &[u8] = b"usage: genreq answer\n";
+pub const USAGE: &[u8] =
+    b"usage: genreq (answer | signatures | rules | gen N) [--max-rules N] [--max-length N] [--trace]\n";
 
 /// Why a text, or a run, is not answered. `at` is an offset into the text, in bytes.
 #[derive(Clone, Copy, Debug, PartialEq, Eq)]
@@ -43,8 +41,6 @@ pub enum RefusalKind {
     LimitRules { max: u32 },
     /// A completion has a rule whose left side is longer than this, in symbols.
     LimitLength { max: u32 },
-    /// The text is in the language, and cannot be answered yet.
-    NotBuilt,
     ReadFault,
     OutOfMemory,
     Usage,
@@ -103,7 +99,6 @@ fn put_refusal(refusal: &RefusalKind, out: &mut Vec<u8>) -> Result<(), AllocErro
         RefusalKind::LimitLength { max } => {
             put_limit("error: rule longer than ", *max, " symbols\n", out)
         }
-        RefusalKind::NotBuilt => append_bytes(out, NOT_BUILT),
         RefusalKind::ReadFault => append_bytes(out, READ_FAULT),
         RefusalKind::OutOfMemory => append_bytes(out, OUT_OF_MEMORY),
         RefusalKind::Usage => append_bytes(out, USAGE),

@@ -447,7 +447,6 @@ const REFUSALS: &[RefusalKind] = &[
     RefusalKind::NotATypeParameter { at: 85 },
     RefusalKind::LimitRules { max: 4000 },
     RefusalKind::LimitLength { max: 64 },
-    RefusalKind::NotBuilt,
     RefusalKind::ReadFault,
     RefusalKind::OutOfMemory,
     RefusalKind::Usage,
@@ -469,10 +468,9 @@ error: circular inheritance at 9
 error: not a type parameter at 85
 error: more than 4000 rules
 error: rule longer than 64 symbols
-error: not built
 error: read fault
 error: out of memory
-usage: genreq answer
+usage: genreq (answer | signatures | rules | gen N) [--max-rules N] [--max-length N] [--trace]
 ";
 
 #[test]
