@@ -24,7 +24,9 @@ use Rattle.swreq_valid.specs.Machines.{list_of, protocols_of}
 use Rattle.swreq_valid.specs.Sides.{HoldsOfEach, IsValidSide, Side, protocol_sides, sides, sides_at, sides_in, sides_of}
 use Rattle.swreq_valid.specs.declared.refused.Refused.{Refused}
 use Rattle.swreq_valid.specs.declared.refused.Refused.TheVariants.{Limit, NotATypeParameter, Memory}
-use Rattle.swreq_top.specs.Machines.{IsChecked, SignaturesCome, limits, source_of, written_list}
+use Rattle.swreq_complete.specs.declared.limit.Limits.{Limits}
+use Rattle.swreq_output.specs.Signatures.{source_of, written_list}
+use Rattle.swreq_top.specs.Machines.{IsBuiltOver, IsChecked, SignaturesCome}
 use Rattle.swreq_top.specs.Machines.IsChecked.{protocols_built, protocols_refused}
 use Rattle.swreq_top.specs.Machines.SignaturesCome.{all, next, stopped}
 use Rattle.swreq_top.specs.Told.{CheckTells, SignaturesTell}
@@ -34,25 +36,25 @@ use Rattle.swreq_top.specs.Told.SignaturesTell.{nothing_yet, in_first, past_firs
 abbrev Signatures : Type 0
 Signatures = List (SignatureOver PlacedRequirement)
 
-module _ (w : TextWorld) (rules : List Rule) where
+module _ (limits : Limits) (w : TextWorld) (rules : List Rule) where
   -- ---- signatures after signatures
 
-  pub come_on : {gs hs : Signatures} {refused : Option Refused} {a b : List Event} → SignaturesCome w rules gs None a
-      → SignaturesCome w rules hs refused b
-      → SignaturesCome w rules (gs ++ hs) refused (a ++ b)
+  pub come_on : {gs hs : Signatures} {refused : Option Refused} {a b : List Event} → SignaturesCome limits w rules gs None a
+      → SignaturesCome limits w rules hs refused b
+      → SignaturesCome limits w rules (gs ++ hs) refused (a ++ b)
   come_on all h = h
   come_on {b = b} (next {first = first} {more = more} own one rest e) h =
       next own one (come_on rest h) (ap (λ (t : List Event). t ++ b) e ∙ append_assoc first more b)
 
-  pub tell_on : {gs hs : Signatures} {a b : List Event} → SignaturesCome w rules gs None a → SignaturesTell w rules hs b
-      → SignaturesTell w rules (gs ++ hs) (a ++ b)
+  pub tell_on : {gs hs : Signatures} {a b : List Event} → SignaturesCome limits w rules gs None a → SignaturesTell limits w rules hs b
+      → SignaturesTell limits w rules (gs ++ hs) (a ++ b)
   tell_on all h = h
   tell_on {b = b} (next {first = first} {more = more} own one rest e) h =
       past_first own one (tell_on rest h) (ap (λ (t : List Event). t ++ b) e ∙ append_assoc first more b)
 
 -- ---- a check that is done tells all that it tells
 
-module _ (plan : Plan) where
+module _ (limits : Limits) (plan : Plan) where
   ends_come : (rules : List Rule) (told : List Event) → IsOutcome limits plan (Ok rules) told → ComesTo limits plan told
   ends_come rules told (used, last) =
       let within : IsWithin limits (length plan.base) (given plan used) rules =
@@ -74,17 +76,17 @@ module _ (plan : Plan) where
       inner : (r : Refused) → (let a : Result (List Rule) Refused = Err r in a) ≡ Err Memory → r ≡ Memory
       inner r e = cc
 
-signatures_tell : (w : TextWorld) (rules : List Rule) {gs : Signatures} {refused : Option Refused} {told : List Event}
-    → SignaturesCome w rules gs refused told → SignaturesTell w rules gs told
-signatures_tell w rules all = nothing_yet
-signatures_tell w rules (next own one rest e) = past_first own one (signatures_tell w rules rest) e
-signatures_tell w rules {told = told} (stopped {g = g} refused real come) =
-    in_first (refused_comes (list_of w rules g.params (written_list g)) (facts_of w) (sides (source_of g) g.requirements) refused told real come)
+signatures_tell : (limits : Limits) (w : TextWorld) (rules : List Rule) {gs : Signatures} {refused : Option Refused} {told : List Event}
+    → SignaturesCome limits w rules gs refused told → SignaturesTell limits w rules gs told
+signatures_tell limits w rules all = nothing_yet
+signatures_tell limits w rules (next own one rest e) = past_first own one (signatures_tell limits w rules rest) e
+signatures_tell limits w rules {told = told} (stopped {g = g} refused real come) =
+    in_first (refused_comes limits (list_of w rules g.params (written_list g)) (facts_of w) (sides (source_of g) g.requirements) refused told real come)
 
-pub check_tells : (w : TextWorld) {refused : Option Refused} {told : List Event} → IsChecked w refused told → CheckTells w told
-check_tells w {told = told} (protocols_refused refused real come) =
-    in_protocols (refused_comes (protocols_of w) (facts_of w) (protocol_sides w) refused told real come)
-check_tells w (protocols_built rules come signatures e) = past_protocols rules come (signatures_tell w rules signatures) e
+pub check_tells : (limits : Limits) (w : TextWorld) {refused : Option Refused} {told : List Event} → IsChecked limits w refused told → CheckTells limits w told
+check_tells limits w {told = told} (protocols_refused refused real come) =
+    in_protocols (refused_comes limits (protocols_of w) (facts_of w) (protocol_sides w) refused told real come)
+check_tells limits w (protocols_built rules come signatures e) = past_protocols rules come (signatures_tell limits w rules signatures) e
 
 -- ---- well formed texts
 
@@ -120,7 +122,7 @@ in_protocols_sides w (q ∷ ps) p x c k = elim (member_cases q p ps c) [
   | inr d ↦ Contains-append_right (sides (SelfOf q) (requirements_of w q)) (sides_in w ps) x (in_protocols_sides w ps p x d k)
 ]
 
-module _ (w : TextWorld) (closed : IsClosed w) where
+module _ (limits : Limits) (w : TextWorld) (closed : IsClosed w) where
   protocol_declared : (p : ProtoId) (r : PlacedRequirement) → Contains (requirements_of w p) r → Contains w.lexicon.written_order p
   protocol_declared p r c = elim (cases_lt p.rank (length w.requirements)) [
     | inl l ↦ (closed.ids.written_order p).1 (subst (λ (n : ℕ). p.rank < n) closed.protocols l)
@@ -133,7 +135,7 @@ module _ (w : TextWorld) (closed : IsClosed w) where
       of_list (facts_of w) (SelfOf p) (requirements_of w p)
       (λ x k. h x (in_protocols_sides w w.lexicon.written_order p x (protocol_declared p q.0 q.1) k)) r c
 
-  lists_formed : (rules : List Rule) {gs : Signatures} {told : List Event} → SignaturesCome w rules gs None told
+  lists_formed : (rules : List Rule) {gs : Signatures} {told : List Event} → SignaturesCome limits w rules gs None told
       → (g : SignatureOver PlacedRequirement)
       → Contains gs g → IsListWellFormed (facts_of w) (source_of g)
   lists_formed rules all g c = no_member g c
@@ -144,9 +146,14 @@ module _ (w : TextWorld) (closed : IsClosed w) where
   ]
 
   -- a text that is not refused is well formed
-  pub is_formed : {told : List Event} → IsChecked w None told → IsWellFormed (facts_of w) (map source_of w.signatures)
-  is_formed (protocols_built rules come signatures e) = record {
-    protocols = protocols_formed come.1;
+  pub is_formed : {rules : List Rule} {told : List Event} → IsBuiltOver limits w rules told → IsWellFormed (facts_of w) (map source_of w.signatures)
+  is_formed {rules = rules} built = record {
+    protocols = protocols_formed built.protocols.1;
     lists = λ s c. let g = contains_of_map source_of w.signatures s c in
-        subst (IsListWellFormed (facts_of w)) (sym g.2) (lists_formed rules signatures g.0 g.1);
+        subst (IsListWellFormed (facts_of w)) (sym g.2) (lists_formed rules built.signatures g.0 g.1);
   }
+
+-- a text that is not refused is checked
+pub built_checked : (limits : Limits) (w : TextWorld) (rules : List Rule) (told : List Event) → IsBuiltOver limits w rules told
+    → IsChecked limits w None told
+built_checked limits w rules told built = protocols_built rules built.protocols built.signatures built.told_is

@@ -6,7 +6,9 @@ pub mod OfQueries
 pub mod OfSignatures
 pub mod OneCheck
 pub mod OneRefusal
+pub mod OneTrace
 pub mod OneWorld
 pub mod Rankings
 pub mod Verdicts
+pub mod Delivering
 pub mod Written

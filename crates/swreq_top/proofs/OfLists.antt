@@ -2,7 +2,6 @@
 use Rattle.std.proofs.Common.{◌≡◌, ◌∙◌, sym, ap, subst, ℕ, ◌<◌, ◌≤◌, arith, List, Option, Result, Ok, Err, Contains, length, map}
 use Rattle.std.proofs.lemmas.List.{length-map}
 use Rattle.std.proofs.lemmas.List.Elements.{All-contains, All-get_or}
-use Rattle.swreq_complete.specs.Limits.{AreInRange}
 use Rattle.swreq_complete.specs.declared.limit.Limits.{Limits}
 use Rattle.swreq_derive.specs.Derivation.{TermRequirement}
 use Rattle.swreq_derive.specs.declared.known.Params.{Params}
@@ -26,13 +25,9 @@ use Rattle.swreq_valid.specs.Sides.{list_sides}
 use Rattle.swreq_valid.specs.declared.refused.Refused.{Refused}
 use Rattle.swreq_valid.specs.declared.refused.Refused.TheVariants.{Memory}
 use Rattle.swreq_top.specs.declared.ready.Ready.{Ready}
-use Rattle.swreq_top.specs.Machines.{limits, written_list}
+use Rattle.swreq_output.specs.Signatures.{written_list}
 use Rattle.swreq_top.specs.Ready.{ChecksOne}
 use Rattle.swreq_top.proofs.OfSignatures.{built, list_is, one_kept, one_lost, one_refused, signature_is}
-
--- the limits are in range
-pub in_range : (most : Limits) → most ≡ limits → AreInRange most
-in_range most e = subst AreInRange (sym e) (omega arith)
 
 module _ (w : IdWorld) (terms : List Term) (f : FuncId) where
   -- the list of a signature is of the table and of the text
@@ -60,25 +55,28 @@ module _ (w : IdWorld) (terms : List Term) (f : FuncId) where
   pub params_are : (params own : Params) → own ≡ params → params ≡ (signature_at w f).params → own ≡ (signature_at (world_by terms w) f).params
   params_are params own same e = same ∙ e ∙ sym (ap (λ (g : SignatureOver PlacedRequirement). g.params) (signature_is w terms f))
 
-  -- building it with these limits, these generic parameters and this list checks the signature
-  module _ (base : List Rule) (old new : Option (List Event)) (most : Limits) (params : Params) (list : List Written)
-      (limits_are : most ≡ limits) (params_is : params ≡ (signature_at w f).params) (list_are : list ≡ (signature_at w f).requirements) where
-    abbrev BuildsList : Limits → Params → List Written → Result (List Rule) Refused → Type 0
-    BuildsList m p rs = Builds m (machine_plan terms w base p (bare rs)) (facts_of (world_by terms w)) (list_sides terms p rs) old new
+  -- building it with these generic parameters and this list checks the signature
+  module _ (limits : Limits) (base : List Rule) (old new : Option (List Event)) (params : Params) (list : List Written)
+      (params_is : params ≡ (signature_at w f).params) (list_are : list ≡ (signature_at w f).requirements) where
+    abbrev BuildsList : Params → List Written → Result (List Rule) Refused → Type 0
+    BuildsList p rs = Builds limits (machine_plan terms w base p (bare rs)) (facts_of (world_by terms w)) (list_sides terms p rs) old new
 
-    of_signature : (answer : Result (List Rule) Refused) → BuildsList most params list answer → BuildsList limits (signature_at w f).params (signature_at w f).requirements answer
-    of_signature answer b = subst (λ (m : Limits). BuildsList m (signature_at w f).params (signature_at w f).requirements answer) limits_are
-        (subst (λ (p : Params). BuildsList most p (signature_at w f).requirements answer) params_is
-        (subst (λ (rs : List Written). BuildsList most params rs answer) list_are b))
+    of_signature : (answer : Result (List Rule) Refused) → BuildsList params list answer
+        → BuildsList (signature_at w f).params (signature_at w f).requirements answer
+    of_signature answer b = subst (λ (p : Params). BuildsList p (signature_at w f).requirements answer) params_is
+        (subst (λ (rs : List Written). BuildsList params rs answer) list_are b)
 
-    pub refused_one : (e : Refused) → BuildsList most params list (Err e)
-        → ChecksOne (world_by terms w) base (signature_at (world_by terms w) f) old new (Err e)
-    refused_one e b = one_refused (world_by terms w) base (signature_at (world_by terms w) f) old new e (built w terms base f old new (Err e) (of_signature (Err e) b))
+    pub refused_one : (e : Refused) → BuildsList params list (Err e)
+        → ChecksOne limits (world_by terms w) base (signature_at (world_by terms w) f) old new (Err e)
+    refused_one e b =
+        one_refused limits (world_by terms w) base (signature_at (world_by terms w) f) old new e (built limits w terms base f old new (Err e) (of_signature (Err e) b))
 
-    pub kept_one : (rules : List Rule) (entry : Option Ready) → BuildsList most params list (Ok rules)
-        → ChecksOne (world_by terms w) base (signature_at (world_by terms w) f) old new (Ok entry)
-    kept_one rules entry b = one_kept (world_by terms w) base (signature_at (world_by terms w) f) old new rules entry (built w terms base f old new (Ok rules) (of_signature (Ok rules) b))
+    pub kept_one : (rules : List Rule) (entry : Option Ready) → BuildsList params list (Ok rules)
+        → ChecksOne limits (world_by terms w) base (signature_at (world_by terms w) f) old new (Ok entry)
+    kept_one rules entry b =
+        one_kept limits (world_by terms w) base (signature_at (world_by terms w) f) old new rules entry (built limits w terms base f old new (Ok rules) (of_signature (Ok rules) b))
 
-    pub lost_one : (rules : List Rule) → BuildsList most params list (Ok rules)
-        → ChecksOne (world_by terms w) base (signature_at (world_by terms w) f) old new (Err Memory)
-    lost_one rules b = one_lost (world_by terms w) base (signature_at (world_by terms w) f) old new rules (built w terms base f old new (Ok rules) (of_signature (Ok rules) b))
+    pub lost_one : (rules : List Rule) → BuildsList params list (Ok rules)
+        → ChecksOne limits (world_by terms w) base (signature_at (world_by terms w) f) old new (Err Memory)
+    lost_one rules b =
+        one_lost limits (world_by terms w) base (signature_at (world_by terms w) f) old new rules (built limits w terms base f old new (Ok rules) (of_signature (Ok rules) b))

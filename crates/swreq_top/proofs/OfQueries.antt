@@ -1,23 +1,31 @@
 -- The queries of a world over ids, and what is kept for them.
-use Rattle.std.proofs.Common.{◌≡◌, ◌∙◌, refl, sym, ap, subst, ℕ, ◌+◌, ◌<◌, ◌≤◌, true, arith, List, ◌++◌, take, get_or, length, map, slice_index_or, Contains, Option, Some, None}
+use Rattle.std.proofs.Common.{◌≡◌, ◌∙◌, refl, sym, ap, subst, ℕ, ◌+◌, ◌<◌, ◌≤◌, Bool, true, false, true≢false, arith, List, ◌∷◌, [], ◌++◌, take, get_or, length, map, slice_get, slice_index_or, Contains, Option, Some, None}
 use Rattle.std.proofs.lemmas.List.{get_or_default, length-map}
 use Rattle.std.proofs.lemmas.List.Elements.{All-contains}
 use Rattle.std.proofs.lemmas.Option.{slice_get_read}
 use Rattle.std.proofs.Math.ListN.{get_or-map}
 use Rattle.swreq_param.specs.Terms.{Term}
+use Rattle.swreq_print.specs.Names.{Text}
 use Rattle.swreq_rounds.proofs.Members.{contains_map}
 use Rattle.swreq_written.specs.declared.ids.FuncId.{FuncId}
 use Rattle.swreq_written.specs.declared.ids.Query.{Query}
+use Rattle.swreq_written.specs.declared.ids.Query.TheVariants.{Signature}
 use Rattle.swreq_written.specs.ByTable.{HasQueryIdsOf, query_by}
-use Rattle.swreq_world.specs.ByTable.{world_by}
+use Rattle.swreq_world.specs.ByTable.{signature_by, world_by}
 use Rattle.swreq_world.specs.Closed.{IsQueryOf}
-use Rattle.swreq_world.specs.Worlds.{IdWorld, signature_at}
+use Rattle.swreq_world.specs.Worlds.{IdWorld, SignatureOver, TextWorld, signature_at}
+use Rattle.swreq_written.specs.Requirements.{PlacedRequirement}
 use Rattle.swreq_shown.specs.Known.{IsTextOver}
+use Rattle.swreq_output.specs.Signatures.{IsMinimisedLine}
 use Rattle.swreq_query.specs.Asked.{IsQueryIn}
+use Rattle.swreq_top.specs.declared.ready.Checked.{Checked}
 use Rattle.swreq_top.specs.declared.ready.Ready.{Ready}
-use Rattle.swreq_top.specs.Ready.{AreKept, IsKept, IsReady, function_of}
-use Rattle.swreq_top.specs.Verdict.{AreLinesOf, IsLineOf, signature_of}
-use Rattle.swreq_top.proofs.Flags.{asked_alike, asked_within}
+use Rattle.swreq_top.specs.declared.wanted.Asking.TheVariants.{Anything, ASignature}
+use Rattle.swreq_top.specs.Lines.{AreLines}
+use Rattle.swreq_top.specs.Outputs.{IsLineOf, signature_of}
+use Rattle.swreq_top.specs.Ready.{AreLinesKept, IsCheckedFor, IsKept, IsLineKept, IsReady}
+use Rattle.swreq_top.specs.Wanted.{function_of, is_asked}
+use Rattle.swreq_top.proofs.Flags.{asked_alike, asked_within, is_asked_by}
 use Rattle.swreq_top.proofs.Lines.{lines_more}
 
 -- an element that is read by way of an equal list
@@ -25,45 +33,84 @@ pub same_default : {X : Type 0} (xs ys : List X) (k : ℕ) (d : X) → ys ≡ xs
 same_default {X} xs ys k d is below =
     get_or_default xs k (get_or ys k d) d below ∙ ap (λ (zs : List X). get_or zs k d) (sym is)
 
-module _ (terms : List Term) (w : IdWorld) where
+-- ---- machines
+
+module _ (w : TextWorld) (wants : ℕ → Bool) (c : Checked) (kept : IsCheckedFor w wants c) (f : FuncId) (l : f.place < length w.signatures) where
+  pub machine_below : f.place < length c.kept.items
+  machine_below = omega (arith, l, kept.count)
+
+  kept_at : (entry : Option Ready) → entry ≡ slice_index_or c.kept.items f.place entry → IsKept w wants f entry
+  kept_at entry is = kept.kept f.place entry (slice_get_read c.kept.items (length c.kept.items) f.place entry refl machine_below is)
+
+  pub ready_at : (entry : Option Ready) (r : Ready) → entry ≡ slice_index_or c.kept.items f.place entry → entry ≡ Some r
+      → IsReady w (signature_at w f) r
+  ready_at entry r is some = subst (IsKept w wants f) some (kept_at entry is)
+
+  pub never_none : (entry : Option Ready) → entry ≡ slice_index_or c.kept.items f.place entry → entry ≡ None → wants f.place ≡ true → ⊥
+  never_none entry is nothing yes = true≢false (sym yes ∙ subst (IsKept w wants f) nothing (kept_at entry is))
+
+-- ---- minimised lists
+
+module _ (w : TextWorld) (wants : ℕ → Bool) (lists : List (Option Text)) (kept : AreLinesKept w wants lists)
+    (count : length lists ≡ length w.signatures) (f : FuncId) (l : f.place < length w.signatures) where
+  pub list_below : f.place < length lists
+  list_below = omega (arith, l, count)
+
+  line_at : (entry : Option Text) → entry ≡ slice_index_or lists f.place entry → IsLineKept w wants f entry
+  line_at entry is = kept f.place entry (slice_get_read lists (length lists) f.place entry refl list_below is)
+
+  pub is_list : (entry : Option Text) (line : Text) → entry ≡ slice_index_or lists f.place entry → entry ≡ Some line
+      → IsMinimisedLine w (signature_at w f) line
+  is_list entry line is some = subst (IsLineKept w wants f) some (line_at entry is)
+
+  pub never_unlisted : (entry : Option Text) → entry ≡ slice_index_or lists f.place entry → entry ≡ None → wants f.place ≡ true → ⊥
+  never_unlisted entry is nothing yes = true≢false (sym yes ∙ subst (IsLineKept w wants f) nothing (line_at entry is))
+
+-- ---- queries
+
+module _ (terms : List Term) (w : IdWorld) (text : IsTextOver terms w) where
   -- a query of the text is in it
-  pub query_in : IsTextOver terms w → (q : Query) → Contains w.queries q → IsQueryIn terms w q
-  query_in text q c = (
+  pub query_in : (q : Query) → Contains w.queries q → IsQueryIn terms w q
+  query_in q c = (
     All-contains (HasQueryIdsOf terms) w.queries q text.table.queries c,
     All-contains (IsQueryOf (world_by terms w)) (map (query_by terms) w.queries) (query_by terms q) text.closed.queries (contains_map (query_by terms) w.queries q c),
   )
 
-  module _ (text : IsTextOver terms w) (all : List (Option Ready)) (kept : AreKept (world_by terms w) all) (count : length all ≡ length w.signatures)
-      (q : Query) (c : Contains w.queries q) (f : FuncId) (asks : f ≡ function_of q) where
+  module _ (q : Query) (c : Contains w.queries q) (f : FuncId) (asks : f ≡ function_of q) where
     -- the signature that the query asks is one of the world
-    pub asked_below : f.place < length all
-    asked_below =
+    pub asked_here : f.place < length (world_by terms w).signatures
+    asked_here =
         let below : (function_of q).place < length w.signatures = asked_within w terms text.closed q c in
         let same : f.place ≡ (function_of q).place = ap (λ (g : FuncId). g.place) asks in
-        omega (arith, below, same, count)
+        omega (arith, below, same, length-map w.signatures (signature_by terms))
 
-    kept_of : (entry : Option Ready) → entry ≡ slice_index_or all f.place entry → IsKept (world_by terms w) (signature_of (query_by terms q)) entry
-    kept_of entry is =
-        subst (λ (g : FuncId). IsKept (world_by terms w) g entry) (asks ∙ sym (asked_alike terms q))
-        (kept f.place entry (slice_get_read all (length all) f.place entry refl asked_below is))
+    pub wanted_here : is_asked Anything w.queries f.place ≡ true
+    wanted_here = ap (λ (g : FuncId). is_asked Anything w.queries g.place) asks ∙ is_asked_by Anything w.queries q c refl
+
+    pub signature_here : signature_at (world_by terms w) f ≡ signature_at (world_by terms w) (signature_of (query_by terms q))
+    signature_here = ap (signature_at (world_by terms w)) (asks ∙ sym (asked_alike terms q))
 
     -- what is kept for it is the machine of that signature
-    pub ready_of : (entry : Option Ready) (r : Ready) → entry ≡ slice_index_or all f.place entry → entry ≡ Some r
+    pub ready_here : (kept : Checked) → IsCheckedFor (world_by terms w) (is_asked Anything w.queries) kept → (entry : Option Ready) (r : Ready)
+        → entry ≡ slice_index_or kept.kept.items f.place entry → entry ≡ Some r
         → IsReady (world_by terms w) (signature_at (world_by terms w) (signature_of (query_by terms q))) r
-    ready_of entry r is some = subst (IsKept (world_by terms w) (signature_of (query_by terms q))) some (kept_of entry is)
+    ready_here kept h entry r is some =
+        subst (λ (g : SignatureOver PlacedRequirement). IsReady (world_by terms w) g r) signature_here
+        (ready_at (world_by terms w) (is_asked Anything w.queries) kept h f asked_here entry r is some)
 
-    -- and it is not nothing
-    pub some_kept : (entry : Option Ready) → entry ≡ slice_index_or all f.place entry → entry ≡ None → ⊥
-    some_kept entry is nothing =
-        subst (IsKept (world_by terms w) (signature_of (query_by terms q))) nothing (kept_of entry is) (query_by terms q)
-        (contains_map (query_by terms) w.queries q c) refl
+  -- so is that for which it asks
+  pub listed_here : (f : FuncId) → Contains w.queries (Signature f) → f.place < length (world_by terms w).signatures
+  listed_here f c = asked_here (Signature f) c f refl
+
+  pub list_wanted_here : (f : FuncId) → Contains w.queries (Signature f) → is_asked ASignature w.queries f.place ≡ true
+  list_wanted_here f c = is_asked_by ASignature w.queries (Signature f) c refl
 
   -- a line more
-  pub line_more : (k : ℕ) (q : Query) (a b : List ℕ) → k < length w.queries → get_or w.queries k q ≡ q
-      → AreLinesOf true (world_by terms w) (take k (world_by terms w).queries) a
-      → (line : List ℕ) × IsLineOf true (world_by terms w) (query_by terms q) line × (b ≡ a ++ line)
-      → AreLinesOf true (world_by terms w) (take (k + 1) (world_by terms w).queries) b
-  line_more k q a b l at h (line, is, e) =
-      lines_more true (world_by terms w) (world_by terms w).queries k (query_by terms q) a b line
-      (omega (arith, l, length-map w.queries (query_by terms)))
-      (get_or-map (query_by terms) w.queries k q ∙ ap (query_by terms) at) h is e
+  pub line_more : (k : ℕ) (q : Query) (ls : List Text) (l : Text) → k < length w.queries → get_or w.queries k q ≡ q
+      → AreLines (IsLineOf true (world_by terms w)) (take k (world_by terms w).queries) ls
+      → IsLineOf true (world_by terms w) (query_by terms q) l
+      → AreLines (IsLineOf true (world_by terms w)) (take (k + 1) (world_by terms w).queries) (ls ++ l ∷ [])
+  line_more k q ls l below at h is =
+      lines_more (IsLineOf true (world_by terms w)) (world_by terms w).queries k (query_by terms q) ls l
+      (omega (arith, below, length-map w.queries (query_by terms)))
+      (get_or-map (query_by terms) w.queries k q ∙ ap (query_by terms) at) h is

@@ -1,5 +1,5 @@
 -- The signatures of a world over ids, and their check one after another.
-use Rattle.std.proofs.Common.{◌≡◌, ◌⊎◌, ◌∙◌, inl, inr, refl, sym, ap, subst, ℕ, zero, suc, ◌+◌, ◌<◌, ◌≤◌, List, [], ◌∷◌, ◌++◌, append-nil, take, drop, length, map, slice_get, Option, Some, None, Result, Ok, Err}
+use Rattle.std.proofs.Common.{◌≡◌, ◌⊎◌, ◌∙◌, inl, inr, refl, sym, ap, subst, ℕ, Bool, zero, suc, ◌+◌, ◌<◌, ◌≤◌, List, [], ◌∷◌, ◌++◌, append-nil, take, drop, length, map, slice_get, Option, Some, None, Result, Ok, Err}
 use Rattle.std.proofs.lemmas.List.{get_or_default, take-append-drop, take_all, take_more}
 use Rattle.std.proofs.lemmas.Option.{same_Some}
 use Rattle.std.proofs.Math.ListN.{get_or-map}
@@ -25,8 +25,12 @@ use Rattle.swreq_valid.specs.Plans.{bare, listed}
 use Rattle.swreq_valid.specs.Sides.{protocol_sides, sides}
 use Rattle.swreq_valid.specs.declared.refused.Refused.{Refused}
 use Rattle.swreq_valid.specs.declared.refused.Refused.TheVariants.{Limit, NotATypeParameter, Memory}
+use Rattle.swreq_valid.specs.Rounds.{last_rules}
+use Rattle.swreq_top.specs.declared.ready.Checked.{Checked}
 use Rattle.swreq_top.specs.declared.ready.Ready.{Ready}
-use Rattle.swreq_top.specs.Machines.{SignatureComes, SignaturesCome, limits, source_of, written_list}
+use Rattle.swreq_complete.specs.declared.limit.Limits.{Limits}
+use Rattle.swreq_output.specs.Signatures.{source_of, written_list}
+use Rattle.swreq_top.specs.Machines.{IsBuiltOver, SignatureComes, SignaturesCome}
 use Rattle.swreq_top.specs.Machines.IsChecked.{protocols_built, protocols_refused}
 use Rattle.swreq_top.specs.Machines.SignaturesCome.{all, next, stopped}
 use Rattle.swreq_top.specs.Ready.{AreKept, Checks, ChecksAll, ChecksOne, IsKept}
@@ -47,13 +51,13 @@ list_is terms [] = refl
 list_is terms (r ∷ rs) = ap (λ (xs : List TermRequirement). requirement_of terms r.requirement ∷ xs) (list_is terms rs)
 
 -- what building a machine says, of the signature
-pub built : (w : IdWorld) (terms : List Term) (base : List Rule) (f : FuncId) (old new : Option (List Event)) (answer : Result (List Rule) Refused)
+pub built : (limits : Limits) (w : IdWorld) (terms : List Term) (base : List Rule) (f : FuncId) (old new : Option (List Event)) (answer : Result (List Rule) Refused)
     → (let h : SignatureOver Written = signature_at w f in
     Builds limits (list_of (world_by terms w) base h.params (listed terms (bare h.requirements))) (facts_of (world_by terms w))
     (sides (WrittenList (generic_params h.params) (listed terms (bare h.requirements))) (placed terms h.requirements)) old new answer)
     → (let g : SignatureOver PlacedRequirement = signature_at (world_by terms w) f in
     Builds limits (list_of (world_by terms w) base g.params (written_list g)) (facts_of (world_by terms w)) (sides (source_of g) g.requirements) old new answer)
-built w terms base f old new answer b =
+built limits w terms base f old new answer b =
     subst (λ (g : SignatureOver PlacedRequirement).
     Builds limits (list_of (world_by terms w) base g.params (written_list g)) (facts_of (world_by terms w)) (sides (source_of g) g.requirements) old new answer)
     (sym (signature_is w terms f))
@@ -61,58 +65,58 @@ built w terms base f old new answer b =
     (sides (WrittenList (generic_params (signature_at w f).params) rs) (placed terms (signature_at w f).requirements)) old new answer)
     (list_is terms (signature_at w f).requirements) b)
 
-module _ (w : TextWorld) (base : List Rule) (g : SignatureOver PlacedRequirement) (old new : Option (List Event)) where
+module _ (limits : Limits) (w : TextWorld) (base : List Rule) (g : SignatureOver PlacedRequirement) (old new : Option (List Event)) where
   abbrev BuildsIt : Result (List Rule) Refused → Type 0
   BuildsIt = Builds limits (list_of w base g.params (written_list g)) (facts_of w) (sides (source_of g) g.requirements) old new
 
-  pub one_refused : (e : Refused) → BuildsIt (Err e) → ChecksOne w base g old new (Err e)
+  pub one_refused : (e : Refused) → BuildsIt (Err e) → ChecksOne limits w base g old new (Err e)
   one_refused (Limit which trace) b = b
   one_refused (NotATypeParameter at) b = b
   one_refused Memory b = (b.0, inl b.1, b.2)
 
-  pub one_kept : (rules : List Rule) (entry : Option Ready) → BuildsIt (Ok rules) → ChecksOne w base g old new (Ok entry)
+  pub one_kept : (rules : List Rule) (entry : Option Ready) → BuildsIt (Ok rules) → ChecksOne limits w base g old new (Ok entry)
   one_kept rules entry b = (b.0, (rules, b.1), b.2)
 
-  pub one_lost : (rules : List Rule) → BuildsIt (Ok rules) → ChecksOne w base g old new (Err Memory)
+  pub one_lost : (rules : List Rule) → BuildsIt (Ok rules) → ChecksOne limits w base g old new (Err Memory)
   one_lost rules b = (b.0, inr (rules, b.1), b.2)
 
 -- ---- one after another
 
 -- The first k signatures came to rules, and this was told.
-abbrev pub CameFirst : TextWorld → List Rule → ℕ → Option (List Event) → Option (List Event) → Type 0
-CameFirst w base k old new = (told : List Event) × SignaturesCome w base (take k w.signatures) None told × GrewBy old new told
+abbrev pub CameFirst : Limits → TextWorld → List Rule → ℕ → Option (List Event) → Option (List Event) → Type 0
+CameFirst limits w base k old new = (told : List Event) × SignaturesCome limits w base (take k w.signatures) None told × GrewBy old new told
 
 -- before the first of them nothing is kept
-pub none_kept : (w : TextWorld) → AreKept w []
-none_kept w k entry e = absurd (let clash : (let o : Option (Option Ready) = None in o) ≡ Some entry = e in cc)
+pub none_kept : (w : TextWorld) (wants : ℕ → Bool) → AreKept w wants []
+none_kept w wants k entry e = absurd (let clash : (let o : Option (Option Ready) = None in o) ≡ Some entry = e in cc)
 
 -- before the first of them nothing was told
-pub none_checked : (w : TextWorld) (base : List Rule) (old : Option (List Event)) → ChecksAll w base old old (Err Memory)
-none_checked w base old = ([], nothing_yet, grew_none old)
+pub none_checked : (limits : Limits) (w : TextWorld) (base : List Rule) (old : Option (List Event)) → ChecksAll limits w base old old (Err Memory)
+none_checked limits w base old = ([], nothing_yet, grew_none old)
 
-module _ (w : TextWorld) (base : List Rule) (old : Option (List Event)) where
-  pub came_none : CameFirst w base 0 old old
+module _ (limits : Limits) (w : TextWorld) (base : List Rule) (old : Option (List Event)) where
+  pub came_none : CameFirst limits w base 0 old old
   came_none = ([], all, grew_none old)
 
-  came_one : (g : SignatureOver PlacedRequirement) (told : List Event) → (own : List Rule) × SignatureComes w base g (Ok own) told
-      → SignaturesCome w base (g ∷ []) None told
+  came_one : (g : SignatureOver PlacedRequirement) (told : List Event) → (own : List Rule) × SignatureComes limits w base g (Ok own) told
+      → SignaturesCome limits w base (g ∷ []) None told
   came_one g told (own, come) = next own come all (sym (append-nil told))
 
-  pub came_more : (k : ℕ) (mid new : Option (List Event)) (entry : Option Ready) → k < length w.signatures → CameFirst w base k old mid
-      → ChecksOne w base (signature_at w (record { place = k })) mid new (Ok entry) → CameFirst w base (k + 1) old new
+  pub came_more : (k : ℕ) (mid new : Option (List Event)) (entry : Option Ready) → k < length w.signatures → CameFirst limits w base k old mid
+      → ChecksOne limits w base (signature_at w (record { place = k })) mid new (Ok entry) → CameFirst limits w base (k + 1) old new
   came_more k mid new entry l (a, h, grew) (b, come, more) = (
     a ++ b,
-    subst (λ (gs : List (SignatureOver PlacedRequirement)). SignaturesCome w base gs None (a ++ b)) (sym (take_more w.signatures k no_signature l))
-        (come_on w base h (came_one (signature_at w (record { place = k })) b come)),
+    subst (λ (gs : List (SignatureOver PlacedRequirement)). SignaturesCome limits w base gs None (a ++ b)) (sym (take_more w.signatures k no_signature l))
+        (come_on limits w base h (came_one (signature_at w (record { place = k })) b come)),
     grew_on old mid new a b grew more,
   )
 
-  pub came_all : (k : ℕ) (new : Option (List Event)) (v : List (Option Ready)) → length w.signatures ≤ k → CameFirst w base k old new
-      → ChecksAll w base old new (Ok v)
+  pub came_all : (k : ℕ) (new : Option (List Event)) (v : List (Option Ready)) → length w.signatures ≤ k → CameFirst limits w base k old new
+      → ChecksAll limits w base old new (Ok v)
   came_all k new v l (a, h, grew) =
-      (a, subst (λ (gs : List (SignatureOver PlacedRequirement)). SignaturesCome w base gs None a) (take_all k w.signatures l) h, grew)
+      (a, subst (λ (gs : List (SignatureOver PlacedRequirement)). SignaturesCome limits w base gs None a) (take_all k w.signatures l) h, grew)
 
-  module _ (k : ℕ) (mid new : Option (List Event)) (l : k < length w.signatures) (first : CameFirst w base k old mid) where
+  module _ (k : ℕ) (mid new : Option (List Event)) (l : k < length w.signatures) (first : CameFirst limits w base k old mid) where
     abbrev g : SignatureOver PlacedRequirement
     g = signature_at w (record { place = k })
 
@@ -121,64 +125,69 @@ module _ (w : TextWorld) (base : List Rule) (old : Option (List Event)) where
         ap (λ (gs : List (SignatureOver PlacedRequirement)). take k w.signatures ++ gs) (sym (drop_at w.signatures k g l (get_or_default w.signatures k no_signature g l)))
         ∙ take-append-drop k w.signatures
 
-    pub stopped_at : (e : Refused) → ChecksOne w base g mid new (Err e) → ChecksAll w base old new (Err e)
+    pub stopped_at : (e : Refused) → ChecksOne limits w base g mid new (Err e) → ChecksAll limits w base old new (Err e)
     stopped_at (Limit which trace) (b, come, more) = (
       first.0 ++ b,
-      subst (λ (gs : List (SignatureOver PlacedRequirement)). SignaturesCome w base gs (Some (Limit which trace)) (first.0 ++ b)) split
-          (come_on w base first.1 (stopped (Limit which trace) (λ is. (cc)) come)),
+      subst (λ (gs : List (SignatureOver PlacedRequirement)). SignaturesCome limits w base gs (Some (Limit which trace)) (first.0 ++ b)) split
+          (come_on limits w base first.1 (stopped (Limit which trace) (λ is. (cc)) come)),
       grew_on old mid new first.0 b first.2 more,
     )
     stopped_at (NotATypeParameter at) (b, come, more) = (
       first.0 ++ b,
-      subst (λ (gs : List (SignatureOver PlacedRequirement)). SignaturesCome w base gs (Some (NotATypeParameter at)) (first.0 ++ b)) split
-          (come_on w base first.1 (stopped (NotATypeParameter at) (λ is. (cc)) come)),
+      subst (λ (gs : List (SignatureOver PlacedRequirement)). SignaturesCome limits w base gs (Some (NotATypeParameter at)) (first.0 ++ b)) split
+          (come_on limits w base first.1 (stopped (NotATypeParameter at) (λ is. (cc)) come)),
       grew_on old mid new first.0 b first.2 more,
     )
     stopped_at Memory (b, come, more) = (
       first.0 ++ b,
-      subst (λ (gs : List (SignatureOver PlacedRequirement)). SignaturesTell w base gs (first.0 ++ b)) split
-          (tell_on w base first.1 (elim come [ inl part ↦ in_first part | inr whole ↦ past_first whole.0 whole.1 nothing_yet (sym (append-nil b)) ])),
+      subst (λ (gs : List (SignatureOver PlacedRequirement)). SignaturesTell limits w base gs (first.0 ++ b)) split
+          (tell_on limits w base first.1 (elim come [ inl part ↦ in_first part | inr whole ↦ past_first whole.0 whole.1 nothing_yet (sym (append-nil b)) ])),
       grew_on old mid new first.0 b first.2 more,
     )
 
-    pub lost_at : (entry : Option Ready) → ChecksOne w base g mid new (Ok entry) → ChecksAll w base old new (Err Memory)
+    pub lost_at : (entry : Option Ready) → ChecksOne limits w base g mid new (Ok entry) → ChecksAll limits w base old new (Err Memory)
     lost_at entry (b, come, more) = stopped_at Memory (b, inr come, more)
 
 -- ---- the protocols, and then the signatures
 
-module _ (w : TextWorld) (old new : Option (List Event)) where
+module _ (limits : Limits) (w : TextWorld) (old new : Option (List Event)) where
   abbrev BuildsProtocols : Option (List Event) → Result (List Rule) Refused → Type 0
   BuildsProtocols mid = Builds limits (protocols_of w) (facts_of w) (protocol_sides w) old mid
 
-  pub protocols_failed : (e : Refused) → BuildsProtocols new (Err e) → Checks w old new (Err e)
+  pub protocols_failed : (e : Refused) → BuildsProtocols new (Err e) → Checks limits w old new (Err e)
   protocols_failed (Limit which trace) (told, h, grew) = (told, protocols_refused (Limit which trace) (λ is. (cc)) h, grew)
   protocols_failed (NotATypeParameter at) (told, h, grew) = (told, protocols_refused (NotATypeParameter at) (λ is. (cc)) h, grew)
   protocols_failed Memory (told, h, grew) = (told, in_protocols h, grew)
 
-  pub then_signatures : (mid : Option (List Event)) (rules : List Rule) (answer : Result (List (Option Ready)) Refused)
-      → BuildsProtocols mid (Ok rules)
-      → ChecksAll w rules mid new answer → Checks w old new answer
-  then_signatures mid rules (Ok v) (told, h, grew) (after, rest, more) =
+  pub then_failed : (mid : Option (List Event)) (rules : List Rule) (e : Refused) → BuildsProtocols mid (Ok rules)
+      → ChecksAll limits w rules mid new (Err e) → Checks limits w old new (Err e)
+  then_failed mid rules (Limit which trace) (told, h, grew) (after, rest, more) =
       (told ++ after, protocols_built rules h rest refl, grew_on old mid new told after grew more)
-  then_signatures mid rules (Err (Limit which trace)) (told, h, grew) (after, rest, more) =
+  then_failed mid rules (NotATypeParameter at) (told, h, grew) (after, rest, more) =
       (told ++ after, protocols_built rules h rest refl, grew_on old mid new told after grew more)
-  then_signatures mid rules (Err (NotATypeParameter at)) (told, h, grew) (after, rest, more) =
-      (told ++ after, protocols_built rules h rest refl, grew_on old mid new told after grew more)
-  then_signatures mid rules (Err Memory) (told, h, grew) (after, rest, more) =
+  then_failed mid rules Memory (told, h, grew) (after, rest, more) =
       (told ++ after, past_protocols rules h rest refl, grew_on old mid new told after grew more)
+
+  pub then_all : (mid : Option (List Event)) (c : Checked) → BuildsProtocols mid (Ok (last_rules c.protocols.rounds))
+      → ChecksAll limits w (last_rules c.protocols.rounds) mid new (Ok c.kept.items) → Checks limits w old new (Ok c)
+  then_all mid c (told, h, grew) (after, rest, more) = (
+    told ++ after,
+    record { first = told; more = after; protocols = h; signatures = rest; told_is = refl },
+    grew_on old mid new told after grew more,
+  )
 
 -- ---- what is kept
 
-end_cases : {X : Type 0} (xs : List X) (x e : X) (i : ℕ) → slice_get (xs ++ x ∷ []) i ≡ Some e
+pub end_cases : {X : Type 0} (xs : List X) (x e : X) (i : ℕ) → slice_get (xs ++ x ∷ []) i ≡ Some e
     → (slice_get xs i ≡ Some e) ⊎ ((i ≡ length xs) × (x ≡ e))
 end_cases [] x e zero h = inr (refl, same_Some x e h)
 end_cases {X} [] x e (suc i) h = absurd (let clash : (let o : Option X = None in o) ≡ Some e = h in cc)
 end_cases (y ∷ ys) x e zero h = inl h
 end_cases (y ∷ ys) x e (suc i) h = elim (end_cases ys x e i h) [ inl k ↦ inl k | inr k ↦ inr (ap suc k.0, k.1) ]
 
-pub kept_more : (w : TextWorld) (kept : List (Option Ready)) (k : ℕ) (entry : Option Ready) → length kept ≡ k → AreKept w kept
-    → IsKept w (record { place = k }) entry → AreKept w (kept ++ entry ∷ [])
-kept_more w kept k entry l before one i e h = elim (end_cases kept entry e i h) [
+pub kept_more : (w : TextWorld) (wants : ℕ → Bool) (kept : List (Option Ready)) (k : ℕ) (entry : Option Ready) → length kept ≡ k
+    → AreKept w wants kept → IsKept w wants (record { place = k }) entry → AreKept w wants (kept ++ entry ∷ [])
+kept_more w wants kept k entry l before one i e h = elim (end_cases kept entry e i h) [
   | inl at ↦ before i e at
-  | inr at ↦ subst (λ (n : ℕ). IsKept w (record { place = n }) e) (sym (at.0 ∙ l)) (subst (IsKept w (record { place = k })) at.1 one)
+  | inr at ↦ subst (λ (n : ℕ). IsKept w wants (record { place = n }) e) (sym (at.0 ∙ l)) (subst (IsKept w wants (record { place = k })) at.1 one)
 ]

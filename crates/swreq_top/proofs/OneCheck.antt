@@ -13,7 +13,9 @@ use Rattle.swreq_valid.specs.Sides.{Side, protocol_sides, sides}
 use Rattle.swreq_valid.specs.declared.refused.Refused.{Refused}
 use Rattle.swreq_valid.specs.declared.refused.Refused.TheVariants.{Limit, NotATypeParameter, Memory}
 use Rattle.swreq_valid.proofs.Building.{only_built}
-use Rattle.swreq_top.specs.Machines.{IsChecked, ProtocolsCome, SignatureComes, SignaturesCome, limits, source_of, written_list}
+use Rattle.swreq_complete.specs.declared.limit.Limits.{Limits}
+use Rattle.swreq_output.specs.Signatures.{source_of, written_list}
+use Rattle.swreq_top.specs.Machines.{IsChecked, ProtocolsCome, SignatureComes, SignaturesCome}
 use Rattle.swreq_top.specs.Machines.IsChecked.{protocols_built, protocols_refused}
 use Rattle.swreq_top.specs.Machines.SignaturesCome.{all, next, stopped}
 
@@ -33,7 +35,7 @@ real_refusal r real e = real (inner r e)
     inner : (r : Refused) → (let a : Answer = Err r in a) ≡ Err Memory → r ≡ Memory
     inner r e = cc
 
-module _ (plan : Plan) (f : TermFacts) (sides : List Side) where
+module _ (limits : Limits) (plan : Plan) (f : TermFacts) (sides : List Side) where
   untold : (a : Answer) (told : List Event) → IsBuilt limits plan f sides a told → IsReal a → Builds limits plan f sides None None a
   untold (Ok rules) told h real = (told, h, refl)
   untold (Err (Limit which trace)) told h real = (told, h, refl)
@@ -56,14 +58,14 @@ same_refusal r s e = cc
 never_same : {A : Type 0} (r : List Rule) (s : Refused) → (let a : Answer = Ok r in a) ≡ Err s → A
 never_same r s e = absurd (cc)
 
-module _ (w : TextWorld) where
-  one_signature : (rules : List Rule) (g : SignatureOver PlacedRequirement) (a b : Answer) (t u : List Event) → SignatureComes w rules g a t
-      → SignatureComes w rules g b u → IsReal a → IsReal b → a ≡ b
+module _ (limits : Limits) (w : TextWorld) where
+  one_signature : (rules : List Rule) (g : SignatureOver PlacedRequirement) (a b : Answer) (t u : List Event) → SignatureComes limits w rules g a t
+      → SignatureComes limits w rules g b u → IsReal a → IsReal b → a ≡ b
   one_signature rules g a b t u h k real too =
-      one_answer (list_of w rules g.params (written_list g)) (facts_of w) (sides (source_of g) g.requirements) a b t u h k real too
+      one_answer limits (list_of w rules g.params (written_list g)) (facts_of w) (sides (source_of g) g.requirements) a b t u h k real too
 
   one_come : (rules : List Rule) {gs : List (SignatureOver PlacedRequirement)} {a b : Option Refused} {t u : List Event}
-      → SignaturesCome w rules gs a t → SignaturesCome w rules gs b u → a ≡ b
+      → SignaturesCome limits w rules gs a t → SignaturesCome limits w rules gs b u → a ≡ b
   one_come rules all all = refl
   one_come rules (next own one rest e) (next own' one' rest' e') = one_come rules rest rest'
   one_come rules (next {g = g} {first = t} own one rest e) (stopped {told = u} refused real come) =
@@ -75,13 +77,13 @@ module _ (w : TextWorld) where
 
   one_over : (rules other : List Rule) → rules ≡ other
       → {gs : List (SignatureOver PlacedRequirement)} {a b : Option Refused} {t u : List Event}
-      → SignaturesCome w rules gs a t → SignaturesCome w other gs b u → a ≡ b
-  one_over rules other same {gs} {a} {b} {t} {u} h k = one_come other (subst (λ (r : List Rule). SignaturesCome w r gs a t) same h) k
+      → SignaturesCome limits w rules gs a t → SignaturesCome limits w other gs b u → a ≡ b
+  one_over rules other same {gs} {a} {b} {t} {u} h k = one_come other (subst (λ (r : List Rule). SignaturesCome limits w r gs a t) same h) k
 
-  one_protocols : (a b : Answer) (t u : List Event) → ProtocolsCome w a t → ProtocolsCome w b u → IsReal a → IsReal b → a ≡ b
-  one_protocols a b t u h k real too = one_answer (protocols_of w) (facts_of w) (protocol_sides w) a b t u h k real too
+  one_protocols : (a b : Answer) (t u : List Event) → ProtocolsCome limits w a t → ProtocolsCome limits w b u → IsReal a → IsReal b → a ≡ b
+  one_protocols a b t u h k real too = one_answer limits (protocols_of w) (facts_of w) (protocol_sides w) a b t u h k real too
 
-  pub one_check : {a b : Option Refused} {t u : List Event} → IsChecked w a t → IsChecked w b u → a ≡ b
+  pub one_check : {a b : Option Refused} {t u : List Event} → IsChecked limits w a t → IsChecked limits w b u → a ≡ b
   one_check (protocols_refused {told = t} r real come) (protocols_refused {told = u} s too came) =
       ap Some (same_refusal r s (one_protocols (Err r) (Err s) t u come came (real_refusal r real) (real_refusal s too)))
   one_check (protocols_refused {told = t} r real come) (protocols_built {first = u} rules came rest e) =

@@ -1,5 +1,5 @@
--- Each text that is not too long is read in one way and has one world, and so has one refusal at most.
-use Rattle.std.proofs.Common.{◌≡◌, ◌≢◌, ◌⊎◌, ℕ, ◌<◌, ◌≤◌, List, length, Option, Some, None, Result, Ok, Err, refl, sym, ◌∙◌, ap, inl, inr, subst, arith}
+-- Each text that is not too long is read in one way and has one world, and so it has one verdict where it is refused.
+use Rattle.std.proofs.Common.{◌≡◌, ◌≢◌, ◌⊎◌, ℕ, ◌<◌, ◌≤◌, List, [], ◌++◌, length, Option, Some, None, Result, Ok, Err, refl, sym, ◌∙◌, ap, inl, inr, subst, arith, if◌then◌else◌}
 use Rattle.std.proofs.lemmas.Bool.{cases_lt}
 use Rattle.swreq_lex.specs.declared.refusal.LexErr.{LexErr}
 use Rattle.swreq_lex.specs.declared.refusal.LexErr.TheVariants as lexical
@@ -18,19 +18,25 @@ use Rattle.swreq_names.specs.Names.{Refuses, Resolve}
 use Rattle.swreq_names.proofs.Answers.{not_refused, one_refusal as one_name}
 use Rattle.swreq_print.specs.declared.refusal.RefusalKind.{RefusalKind}
 use Rattle.swreq_print.specs.declared.refusal.RefusalKind.TheVariants as refusals
+use Rattle.swreq_print.specs.Names.{Text}
+use Rattle.swreq_print.specs.Refusals.{refusal_line}
+use Rattle.swreq_rule.specs.declared.rules.Rule.{Rule}
 use Rattle.swreq_watch.specs.declared.events.Event.{Event}
 use Rattle.swreq_world.specs.Closed.{AreIds, IsClosed}
 use Rattle.swreq_world.specs.WorldOf.{IsWorldOf}
 use Rattle.swreq_world.specs.Worlds.{TextWorld}
-use Rattle.swreq_complete.specs.declared.limit.Which.TheVariants.{Rules, Length}
 use Rattle.swreq_valid.specs.declared.refused.Refused.{Refused}
-use Rattle.swreq_valid.specs.declared.refused.Refused.TheVariants.{Limit, NotATypeParameter}
-use Rattle.swreq_top.specs.Machines.{HasWorld, IsChecked}
-use Rattle.swreq_top.specs.Reports.{machine_refusal, name_refusal, refusal_of}
-use Rattle.swreq_top.specs.Verdict.{AsksOneSignature, IsAnswered, IsRefused, RefusesMachines, RefusesNames}
+use Rattle.swreq_valid.specs.declared.refused.Refused.TheVariants.{Limit, NotATypeParameter, Memory}
+use Rattle.swreq_words.specs.declared.command.CommandLine.{CommandLine}
+use Rattle.swreq_top.specs.Machines.{HasWorld, IsBuiltOver, IsChecked}
+use Rattle.swreq_top.specs.Reports.{limit_refusal, name_refusal, refusal_of}
+use Rattle.swreq_top.specs.Verdict.{HasNoWorld, IsRefused, IsVerdict, RefusesNames, limits_of, machine_outcome, refused_with}
+use Rattle.swreq_top.specs.Verdict.IsRefused.{without_world, not_a_type_parameter, past_a_limit}
+use Rattle.swreq_top.specs.Verdict.IsVerdict as verdicts
 use Rattle.swreq_top.specs.declared.outcome.Outcome.{Outcome}
+use Rattle.swreq_top.proofs.Checked.{built_checked}
 use Rattle.swreq_top.proofs.OneCheck.{one_check}
-use Rattle.swreq_top.proofs.OneWorld.{AreAlike, one_world, unanswered}
+use Rattle.swreq_top.proofs.OneWorld.{AreAlike, one_world}
 use Rattle.swreq_top.proofs.Verdicts.{IsExact}
 
 -- what the crates below say of every text
@@ -142,150 +148,164 @@ module _ (text : List ℕ) (one : AreOne text) (within : length text ≤ TEXT_LI
       by_reading (inl found) = by_verdict (one.verdict found.0 found.1)
       by_reading (inr lexical_one) = lexically lexical_one.0 lexical_one.1
 
--- ---- one refusal
+-- ---- one verdict
 
--- The check of a world is refused so, or it is not, and a query asks for a signature.
-abbrev IsCheckedAs : TextWorld → RefusalKind → Type 0
-IsCheckedAs w refusal =
-    ((r : Refused) × ((told : List Event) × IsChecked w (Some r) told) × (refusal ≡ machine_refusal r))
-    ⊎ (((told : List Event) × IsChecked w None told) × AsksOneSignature w × (refusal ≡ refusals.NotBuilt))
+module _ (line : CommandLine) (text : List ℕ) where
+  -- The check of the world is refused, and the outcome is this.
+  abbrev IsStoppedAs : TextWorld → Outcome → Type 0
+  IsStoppedAs w o = (r : Refused) × ((told : List Event) × IsChecked (limits_of line) w (Some r) told) × (o ≡ machine_outcome line w.lexicon r)
 
--- The names resolve, and a world is refused so.
-abbrev IsWorldRefused : List ℕ → Skeleton → RefusalKind → Type 0
-IsWorldRefused text s refusal = Resolve text s × ((w : TextWorld) × IsWorldOf text s w × AreIds w.lexicon × IsCheckedAs w refusal)
+  -- The names resolve, and of a world of the text this holds.
+  abbrev OfWorld : Skeleton → (TextWorld → Type 0) → Type 0
+  OfWorld s P = Resolve text s × ((w : TextWorld) × IsWorldOf text s w × AreIds w.lexicon × P w)
 
--- A text with this reading is refused for what was read, for its names, or for its world.
-abbrev IsReadAs : List ℕ → Result Skeleton ParseErr → RefusalKind → Type 0
-IsReadAs text (Ok s) refusal = ((e : NameErr) × Refuses text s e × (refusal ≡ name_refusal e)) ⊎ IsWorldRefused text s refusal
-IsReadAs text (Err e) refusal = refusal ≡ refusal_of e
+  -- A text with this reading is refused for what was read, for its names, or for its world.
+  abbrev IsReadAs : Result Skeleton ParseErr → Outcome → Type 0
+  IsReadAs (Ok s) o = ((e : NameErr) × Refuses text s e × (o ≡ refused_with (name_refusal e))) ⊎ OfWorld s (λ w. IsStoppedAs w o)
+  IsReadAs (Err e) o = o ≡ refused_with (refusal_of e)
 
--- an answer that the text has is its reading's
-told : (text : List ℕ) (r : Reading text) (answer : Result Skeleton ParseErr) (refusal : RefusalKind)
-    → (r.parsed ≡ answer) ⊎ (r.parsed ≡ Err grammar.Memory)
-    → IsReadAs text answer refusal → IsReadAs text r.parsed refusal
-told text r answer refusal (inl is) read = subst (λ p. IsReadAs text p refusal) (sym is) read
-told text r answer refusal (inr none) read = absurd (r.real none)
+  -- A text with this reading is not refused.
+  abbrev IsReadWhole : Result Skeleton ParseErr → Type 0
+  IsReadWhole (Ok s) = OfWorld s (λ w. (told : List Event) × IsChecked (limits_of line) w None told)
+  IsReadWhole (Err e) = ⊥
 
-by_names : (text : List ℕ) (r : Reading text) (e : NameErr) → RefusesNames text e → IsReadAs text r.parsed (name_refusal e)
-by_names text r e (within, (s, stands, refuses)) = told text r (Ok s) _ ((r.exact.ok s).1 stands) (inl (e, refuses, refl))
+  -- an answer that the text has is its reading's
+  told : (P : Result Skeleton ParseErr → Type 0) (r : Reading text) (answer : Result Skeleton ParseErr)
+      → (r.parsed ≡ answer) ⊎ (r.parsed ≡ Err grammar.Memory) → P answer → P r.parsed
+  told P r answer (inl is) read = subst P (sym is) read
+  told P r answer (inr none) read = absurd (r.real none)
 
-has_ids : (text : List ℕ) → AreOne text → (w : TextWorld) → HasWorld text w → AreIds w.lexicon
-has_ids text one w has = (one.closed has.skeleton w has.stands has.world has.resolve).ids
+  has_ids : AreOne text → (w : TextWorld) → HasWorld text w → AreIds w.lexicon
+  has_ids one w has = (one.closed has.skeleton w has.stands has.world has.resolve).ids
 
-by_world : (text : List ℕ) (one : AreOne text) (r : Reading text) (w : TextWorld) (refusal : RefusalKind) → HasWorld text w
-    → IsCheckedAs w refusal → IsReadAs text r.parsed refusal
-by_world text one r w refusal has checked =
-    told text r (Ok has.skeleton) _ ((r.exact.ok has.skeleton).1 has.stands) (inr (has.resolve, (w, has.world, has_ids text one w has, checked)))
+  of_world : (one : AreOne text) (w : TextWorld) (has : HasWorld text w) (P : TextWorld → Type 0) → P w → OfWorld has.skeleton P
+  of_world one w has P holds = (has.resolve, (w, has.world, has_ids one w has, holds))
 
-by_machines : (text : List ℕ) (one : AreOne text) (r : Reading text) (refused : Refused) → RefusesMachines text refused
-    → IsReadAs text r.parsed (machine_refusal refused)
-by_machines text one r refused (w, has, checked) = by_world text one r w _ has (inl (refused, checked, refl))
+  module _ (one : AreOne text) (r : Reading text) where
+    by_read : (o : Outcome) (e : ParseErr) → (r.parsed ≡ Err e) ⊎ (r.parsed ≡ Err grammar.Memory) → o ≡ refused_with (refusal_of e) → IsReadAs r.parsed o
+    by_read o e at is = told (λ p. IsReadAs p o) r (Err e) at is
 
--- the refusal of a text that is not too long is its reading's
-is_read : (text : List ℕ) (one : AreOne text) (r : Reading text) (refusal : RefusalKind) → IsRefused text refusal
-    → IsReadAs text r.parsed refusal
-is_read text one r refusals.TooLarge long = absurd (omega (arith, long, r.exact.within))
-is_read text one r (refusals.NotUtf8 at) has = told text r _ _ ((r.exact.lex (lexical.NotUtf8 at)).1 has.1) refl
-is_read text one r (refusals.BadCharacter at) has = told text r _ _ ((r.exact.lex (lexical.BadCharacter at)).1 has.1) refl
-is_read text one r (refusals.OpenComment at) has = told text r _ _ ((r.exact.lex (lexical.OpenComment at)).1 has.1) refl
-is_read text one r (refusals.Syntax at) has = told text r _ _ ((r.exact.syntax at).1 has.1) refl
-is_read text one r (refusals.Unsupported at kind) has = told text r _ _ ((r.exact.unsupported at kind).1 has.1) refl
-is_read text one r (refusals.Duplicate at) has = by_names text r (names.Duplicate at) has
-is_read text one r (refusals.NotAProtocol at) has = by_names text r (names.NotAProtocol at) has
-is_read text one r (refusals.ConcreteType at) has = by_names text r (names.ConcreteType at) has
-is_read text one r (refusals.NoSuchMember at) has = by_names text r (names.NoSuchMember at) has
-is_read text one r (refusals.UnknownSignature at) has = by_names text r (names.UnknownSignature at) has
-is_read text one r (refusals.WrongArity at) has = by_names text r (names.WrongArity at) has
-is_read text one r (refusals.Cycle at) has = by_names text r (names.Cycle at) has
-is_read text one r (refusals.NotATypeParameter at) has = by_machines text one r (NotATypeParameter at) has
-is_read text one r (refusals.LimitRules max) (is, (trace, has)) =
-    subst (λ (n : ℕ). IsReadAs text r.parsed (refusals.LimitRules n)) (sym is) (by_machines text one r (Limit Rules trace) has)
-is_read text one r (refusals.LimitLength max) (is, (trace, has)) =
-    subst (λ (n : ℕ). IsReadAs text r.parsed (refusals.LimitLength n)) (sym is) (by_machines text one r (Limit Length trace) has)
-is_read text one r refusals.NotBuilt (w, whole, asks) =
-    by_world text one r w _ whole.has_world (inr ((whole.told, whole.checked), asks, refl))
-is_read text one r refusals.ReadFault has = absurd has
-is_read text one r refusals.OutOfMemory has = absurd has
-is_read text one r refusals.Usage has = absurd has
+    by_names : (o : Outcome) (e : NameErr) → RefusesNames text e → o ≡ refused_with (name_refusal e) → IsReadAs r.parsed o
+    by_names o e (within, (s, stands, refuses)) is = told (λ p. IsReadAs p o) r (Ok s) ((r.exact.ok s).1 stands) (inl (e, refuses, is))
 
-same_refused : (a b : Refused) → (let o : Option Refused = Some a in o) ≡ Some b → a ≡ b
-same_refused a b e = cc
+    no_world_read : (o : Outcome) (refusal : RefusalKind) → HasNoWorld text refusal → o ≡ refused_with refusal → IsReadAs r.parsed o
+    no_world_read o refusals.TooLarge long is = absurd (omega (arith, long, r.exact.within))
+    no_world_read o (refusals.NotUtf8 at) has is = by_read o _ ((r.exact.lex (lexical.NotUtf8 at)).1 has.1) is
+    no_world_read o (refusals.BadCharacter at) has is = by_read o _ ((r.exact.lex (lexical.BadCharacter at)).1 has.1) is
+    no_world_read o (refusals.OpenComment at) has is = by_read o _ ((r.exact.lex (lexical.OpenComment at)).1 has.1) is
+    no_world_read o (refusals.Syntax at) has is = by_read o _ ((r.exact.syntax at).1 has.1) is
+    no_world_read o (refusals.Unsupported at kind) has is = by_read o _ ((r.exact.unsupported at kind).1 has.1) is
+    no_world_read o (refusals.Duplicate at) has is = by_names o (names.Duplicate at) has is
+    no_world_read o (refusals.NotAProtocol at) has is = by_names o (names.NotAProtocol at) has is
+    no_world_read o (refusals.ConcreteType at) has is = by_names o (names.ConcreteType at) has is
+    no_world_read o (refusals.NoSuchMember at) has is = by_names o (names.NoSuchMember at) has is
+    no_world_read o (refusals.UnknownSignature at) has is = by_names o (names.UnknownSignature at) has is
+    no_world_read o (refusals.WrongArity at) has is = by_names o (names.WrongArity at) has is
+    no_world_read o (refusals.Cycle at) has is = by_names o (names.Cycle at) has is
+    no_world_read o (refusals.NotATypeParameter at) has is = absurd has
+    no_world_read o (refusals.LimitRules max) has is = absurd has
+    no_world_read o (refusals.LimitLength max) has is = absurd has
+    no_world_read o refusals.ReadFault has is = absurd has
+    no_world_read o refusals.OutOfMemory has is = absurd has
+    no_world_read o refusals.Usage has is = absurd has
 
-never_none : {A : Type 0} (a : Refused) → (let o : Option Refused = Some a in o) ≡ None → A
-never_none a e = absurd (cc)
+    by_machines : (o : Outcome) (w : TextWorld) → HasWorld text w → IsStoppedAs w o → IsReadAs r.parsed o
+    by_machines o w has stopped =
+        told (λ p. IsReadAs p o) r (Ok has.skeleton) ((r.exact.ok has.skeleton).1 has.stands) (inr (of_world one w has (λ v. IsStoppedAs v o) stopped))
 
--- a world is refused so in one way at most
-one_checked : (w v : TextWorld) → AreAlike w v → (refusal other : RefusalKind) → IsCheckedAs w refusal → IsCheckedAs v other
-    → refusal ≡ other
-one_checked w v alike refusal other (inl (r, (t, h), is)) (inl (s, (u, k), same)) =
-    is ∙ ap machine_refusal (same_refused r s (one_check v (alike.checked h) k)) ∙ sym same
-one_checked w v alike refusal other (inl (r, (t, h), is)) (inr ((u, k), asks, same)) = never_none r (one_check v (alike.checked h) k)
-one_checked w v alike refusal other (inr ((t, h), asks, is)) (inl (s, (u, k), same)) = never_none s (sym (one_check v (alike.checked h) k))
-one_checked w v alike refusal other (inr ((t, h), asks, is)) (inr ((u, k), too, same)) = is ∙ sym same
+    -- a refusal of a text that is not too long is its reading's
+    refused_read : {o : Outcome} {events : List Event} → IsRefused line text o events → IsReadAs r.parsed o
+    refused_read {o} (without_world refusal has is none) = no_world_read o refusal has is
+    refused_read {o} {events} (not_a_type_parameter w at has checked is) = by_machines o w has (NotATypeParameter at, (events, checked), is)
+    refused_read {o} {events} (past_a_limit w which trace has checked is) = by_machines o w has (Limit which trace, (events, checked), is)
 
--- a reading has one refusal at most
-one_read : (text : List ℕ) (parsed : Result Skeleton ParseErr) (refusal other : RefusalKind) → IsReadAs text parsed refusal
-    → IsReadAs text parsed other → refusal ≡ other
-one_read text (Ok s) refusal other (inl (e, refuses, is)) (inl (f, too, same)) =
-    is ∙ ap name_refusal (one_name text s e f refuses too) ∙ sym same
-one_read text (Ok s) refusal other (inl (e, refuses, is)) (inr (resolve, world)) = absurd (not_refused text s e resolve refuses)
-one_read text (Ok s) refusal other (inr (resolve, world)) (inl (e, refuses, is)) = absurd (not_refused text s e resolve refuses)
-one_read text (Ok s) refusal other (inr (resolve, (w, h, ids, checked))) (inr (also, (v, k, others, too))) =
-    one_checked w v (one_world text s w v h k ids others) refusal other checked too
-one_read text (Err e) refusal other is same = is ∙ sym same
+    -- one that is not refused is read whole
+    whole_read : (w : TextWorld) (rules : List Rule) (events : List Event) → HasWorld text w → IsBuiltOver (limits_of line) w rules events
+        → IsReadWhole r.parsed
+    whole_read w rules events has built =
+        told IsReadWhole r (Ok has.skeleton) ((r.exact.ok has.skeleton).1 has.stands)
+        (of_world one w has (λ v. (told : List Event) × IsChecked (limits_of line) v None told) (events, built_checked (limits_of line) w rules events built))
 
--- a text that is too long is refused for that alone
-is_too_large : (text : List ℕ) → TEXT_LIMIT < length text → (refusal : RefusalKind) → IsRefused text refusal → refusal ≡ refusals.TooLarge
-is_too_large text long refusals.TooLarge has = refl
-is_too_large text long (refusals.NotUtf8 at) has = absurd (omega (arith, long, has.0))
-is_too_large text long (refusals.BadCharacter at) has = absurd (omega (arith, long, has.0))
-is_too_large text long (refusals.OpenComment at) has = absurd (omega (arith, long, has.0))
-is_too_large text long (refusals.Syntax at) has = absurd (omega (arith, long, has.0))
-is_too_large text long (refusals.Unsupported at kind) has = absurd (omega (arith, long, has.0))
-is_too_large text long (refusals.Duplicate at) has = absurd (omega (arith, long, has.0))
-is_too_large text long (refusals.NotAProtocol at) has = absurd (omega (arith, long, has.0))
-is_too_large text long (refusals.ConcreteType at) has = absurd (omega (arith, long, has.0))
-is_too_large text long (refusals.NoSuchMember at) has = absurd (omega (arith, long, has.0))
-is_too_large text long (refusals.UnknownSignature at) has = absurd (omega (arith, long, has.0))
-is_too_large text long (refusals.WrongArity at) has = absurd (omega (arith, long, has.0))
-is_too_large text long (refusals.Cycle at) has = absurd (omega (arith, long, has.0))
-is_too_large text long (refusals.NotATypeParameter at) has = absurd (omega (arith, long, has.1.within))
-is_too_large text long (refusals.LimitRules max) has = absurd (omega (arith, long, has.1.1.1.within))
-is_too_large text long (refusals.LimitLength max) has = absurd (omega (arith, long, has.1.1.1.within))
-is_too_large text long refusals.NotBuilt has = absurd (omega (arith, long, has.1.has_world.within))
-is_too_large text long refusals.ReadFault has = absurd has
-is_too_large text long refusals.OutOfMemory has = absurd has
-is_too_large text long refusals.Usage has = absurd has
+  same_refused : (a b : Refused) → (let o : Option Refused = Some a in o) ≡ Some b → a ≡ b
+  same_refused a b e = cc
 
-module _ (text : List ℕ) (all : AreOne text) where
-  pub one_refusal : (refusal other : RefusalKind) → IsRefused text refusal → IsRefused text other → refusal ≡ other
-  one_refusal refusal other has too = by (cases_lt TEXT_LIMIT (length text))
+  never_none : {A : Type 0} (a : Refused) → (let o : Option Refused = Some a in o) ≡ None → A
+  never_none a e = absurd (cc)
+
+  -- worlds that are alike are refused with the same outcome
+  alike_outcome : (w v : TextWorld) → AreAlike w v → (r : Refused) → machine_outcome line w.lexicon r ≡ machine_outcome line v.lexicon r
+  alike_outcome w v alike (Limit which trace) =
+      ap (λ (lines : Text). let o : Outcome = record {
+        status = 3;
+        output = refusal_line (limit_refusal (limits_of line) which) ++ (if line.trace then lines else []);
+      } in o) (alike.names trace)
+  alike_outcome w v alike (NotATypeParameter at) = refl
+  alike_outcome w v alike Memory = refl
+
+  one_stopped : (w v : TextWorld) → AreAlike w v → (o p : Outcome) → IsStoppedAs w o → IsStoppedAs v p → p ≡ o
+  one_stopped w v alike o p (r, (t, h), is) (s, (u, k), same) =
+      same ∙ sym (ap (machine_outcome line v.lexicon) (same_refused r s (one_check (limits_of line) v (alike.checked h) k)))
+      ∙ sym (alike_outcome w v alike r) ∙ sym is
+
+  -- a reading is refused in one way at most
+  one_read : (parsed : Result Skeleton ParseErr) (o p : Outcome) → IsReadAs parsed o → IsReadAs parsed p → p ≡ o
+  one_read (Ok s) o p (inl (e, refuses, is)) (inl (f, too, same)) =
+      same ∙ ap (λ (n : NameErr). refused_with (name_refusal n)) (one_name text s f e too refuses) ∙ sym is
+  one_read (Ok s) o p (inl (e, refuses, is)) (inr (resolve, world)) = absurd (not_refused text s e resolve refuses)
+  one_read (Ok s) o p (inr (resolve, world)) (inl (e, refuses, is)) = absurd (not_refused text s e resolve refuses)
+  one_read (Ok s) o p (inr (resolve, (w, h, ids, stopped))) (inr (also, (v, k, others, too))) =
+      one_stopped w v (one_world text s w v h k ids others) o p stopped too
+  one_read (Err e) o p is same = same ∙ sym is
+
+  -- and then it is not whole
+  never_whole : (parsed : Result Skeleton ParseErr) (o : Outcome) → IsReadAs parsed o → IsReadWhole parsed → ⊥
+  never_whole (Ok s) o (inl (e, refuses, is)) (resolve, world) = not_refused text s e resolve refuses
+  never_whole (Ok s) o (inr (resolve, (w, h, ids, (r, (t, stopped), is)))) (also, (v, k, others, (u, whole))) =
+      never_none r (one_check (limits_of line) v ((one_world text s w v h k ids others).checked stopped) whole)
+  never_whole (Err e) o is whole = whole
+
+  -- a text that is too long is refused for that alone
+  long_refused : TEXT_LIMIT < length text → {o : Outcome} {events : List Event} → IsRefused line text o events → o ≡ refused_with refusals.TooLarge
+  long_refused long {o} (without_world refusal has is none) = is ∙ ap refused_with (is_too_large refusal has)
     where
-      by : (TEXT_LIMIT < length text) ⊎ (length text ≤ TEXT_LIMIT) → refusal ≡ other
-      by (inl long) = is_too_large text long refusal has ∙ sym (is_too_large text long other too)
-      by (inr within) =
-          let r = reading_of text all within in
-          one_read text r.parsed refusal other (is_read text all r refusal has) (is_read text all r other too)
+      is_too_large : (kind : RefusalKind) → HasNoWorld text kind → kind ≡ refusals.TooLarge
+      is_too_large refusals.TooLarge has = refl
+      is_too_large (refusals.NotUtf8 at) has = absurd (omega (arith, long, has.0))
+      is_too_large (refusals.BadCharacter at) has = absurd (omega (arith, long, has.0))
+      is_too_large (refusals.OpenComment at) has = absurd (omega (arith, long, has.0))
+      is_too_large (refusals.Syntax at) has = absurd (omega (arith, long, has.0))
+      is_too_large (refusals.Unsupported at kind) has = absurd (omega (arith, long, has.0))
+      is_too_large (refusals.Duplicate at) has = absurd (omega (arith, long, has.0))
+      is_too_large (refusals.NotAProtocol at) has = absurd (omega (arith, long, has.0))
+      is_too_large (refusals.ConcreteType at) has = absurd (omega (arith, long, has.0))
+      is_too_large (refusals.NoSuchMember at) has = absurd (omega (arith, long, has.0))
+      is_too_large (refusals.UnknownSignature at) has = absurd (omega (arith, long, has.0))
+      is_too_large (refusals.WrongArity at) has = absurd (omega (arith, long, has.0))
+      is_too_large (refusals.Cycle at) has = absurd (omega (arith, long, has.0))
+      is_too_large (refusals.NotATypeParameter at) has = absurd has
+      is_too_large (refusals.LimitRules max) has = absurd has
+      is_too_large (refusals.LimitLength max) has = absurd has
+      is_too_large refusals.ReadFault has = absurd has
+      is_too_large refusals.OutOfMemory has = absurd has
+      is_too_large refusals.Usage has = absurd has
+  long_refused long (not_a_type_parameter w at has checked is) = absurd (omega (arith, long, has.within))
+  long_refused long (past_a_limit w which trace has checked is) = absurd (omega (arith, long, has.within))
 
-  pub never_both : (refusal : RefusalKind) (o : Outcome) → IsRefused text refusal → IsAnswered text o → ⊥
-  never_both refusal o has answered = by (reading_of text all answered.whole.has_world.within)
-    where
-      world : HasWorld text answered.world
-      world = answered.whole.has_world
+  module _ (one : AreOne text) (o p : Outcome) (events also : List Event) (refused : IsRefused line text o events) where
+    never_built : (w : TextWorld) (rules : List Rule) (first : List Event) → HasWorld text w → IsBuiltOver (limits_of line) w rules first → ⊥
+    never_built w rules first has built =
+        let r = reading_of text one has.within in never_whole r.parsed o (refused_read one r refused) (whole_read one r w rules first has built)
 
-      not_so : IsReadAs text (Ok world.skeleton) refusal → ⊥
-      not_so (inl (e, refuses, is)) = not_refused text world.skeleton e world.resolve refuses
-      not_so (inr (resolve, (w, h, ids, checked))) = by_check checked
-        where
-          alike : AreAlike w answered.world
-          alike = one_world text world.skeleton w answered.world h world.world ids (has_ids text all answered.world world)
+    too : IsRefused line text p also → p ≡ o
+    too other = by (cases_lt TEXT_LIMIT (length text))
+      where
+        by : (TEXT_LIMIT < length text) ⊎ (length text ≤ TEXT_LIMIT) → p ≡ o
+        by (inl long) = long_refused long other ∙ sym (long_refused long refused)
+        by (inr within) =
+            let r = reading_of text one within in one_read r.parsed o p (refused_read one r refused) (refused_read one r other)
 
-          by_check : IsCheckedAs w refusal → ⊥
-          by_check (inl (r, (t, c), is)) = never_none r (one_check answered.world (alike.checked c) answered.whole.checked)
-          by_check (inr ((t, c), asks, is)) = unanswered w answered.world alike o.output asks answered.answers
-
-      by : Reading text → ⊥
-      by r = elim ((r.exact.ok world.skeleton).1 world.stands) [
-        | inl is ↦ not_so (subst (λ p. IsReadAs text p refusal) is (is_read text all r refusal has))
-        | inr none ↦ r.real none
-      ]
+    -- a text that is refused has no other verdict
+    pub one_verdict : IsVerdict line text p also → p ≡ o
+    one_verdict (verdicts.refused other) = too other
+    one_verdict (verdicts.cut_short c) = absurd (never_built c.world c.rules c.first c.has_world c.built)
+    one_verdict (verdicts.answered a) = absurd (never_built a.world a.rules a.first a.has_world a.built)

@@ -18,14 +18,13 @@ use Rattle.swreq_ranks.specs.Associated as over
 use Rattle.swreq_ranks.specs.Lexicons.{pair, proto_by}
 use Rattle.swreq_ranks.specs.Ranks.{Bytes, bytes_cmp}
 use Rattle.swreq_ranks.specs.Texts.{IsLexiconOf, declared_in, protocol_names}
+use Rattle.swreq_print.specs.Rules.{trace_text}
 use Rattle.swreq_ranks.specs.Views.{HasMember, IsProtocol, LexiconView, assoc_cmp, inherits, place_of, symbol_cmp}
 use Rattle.swreq_ranks.proofs.RankLaws.{assoc_total}
 use Rattle.swreq_rule.specs.declared.rules.Rule.{Rule}
 use Rattle.swreq_watch.specs.declared.events.Event.{Event}
 use Rattle.swreq_derive.specs.Derivation.{Derives, TermStatement}
 use Rattle.swreq_written.specs.declared.ids.FuncId.{FuncId}
-use Rattle.swreq_written.specs.Queries.{TermQuery, query_of}
-use Rattle.swreq_written.specs.Queries.TermQuery.{AsksSignature, AsksReduced}
 use Rattle.swreq_written.specs.Requirements.{PlacedRequirement}
 use Rattle.swreq_written.specs.Signatures.{in_order}
 use Rattle.swreq_written.specs.Words.{WordsView}
@@ -35,44 +34,19 @@ use Rattle.swreq_world.specs.WorldOf.{IsWorldOf, words_of}
 use Rattle.swreq_world.specs.Worlds.{SignatureOver, TextWorld, signature_at}
 use Rattle.swreq_shown.specs.Meaning.{facts_of}
 use Rattle.swreq_valid.specs.declared.refused.Refused.{Refused}
-use Rattle.swreq_query.specs.Answers.{IsAnswerLine}
-use Rattle.swreq_query.specs.Answers.Answer.{Invalid, Yes, No, Reduced}
 use Rattle.swreq_derive.specs.Derivation.{TermRequirement}
-use Rattle.swreq_top.specs.Machines.{IsChecked, SignaturesCome, source_of}
+use Rattle.swreq_complete.specs.declared.limit.Limits.{Limits}
+use Rattle.swreq_top.specs.Machines.{IsChecked, SignaturesCome}
 use Rattle.swreq_top.specs.Machines.IsChecked.{protocols_built, protocols_refused}
 use Rattle.swreq_top.specs.Machines.SignaturesCome.{all, next, stopped}
-use Rattle.swreq_top.specs.Verdict.{AreLinesOf, AsksOneSignature, signature_of}
-use Rattle.swreq_top.specs.Verdict.AreLinesOf.{none, more}
 use Rattle.swreq_top.proofs.Rankings.{one_ranking}
-use Rattle.swreq_top.proofs.Written.{bare_words, queries_same, requirements_same, signatures_same}
+use Rattle.swreq_top.proofs.OneTrace.{same_trace}
+use Rattle.swreq_top.proofs.Written.{bare_words, requirements_same, signatures_same}
 
--- What is checked of one world is checked of the other, and they have the same queries.
+-- What is checked of one world is checked of the other, and they have the same names.
 pub record AreAlike (w v : TextWorld) : Type 0 where
-  pub checked : {refused : Option Refused} {told : List Event} → IsChecked w refused told → IsChecked v refused told
-  pub queries : w.queries ≡ v.queries
-
--- ---- a query of a signature has no line yet
-
-no_line : (D : TermStatement → Type 0) (x : LexiconView) (f : FuncId) (line : List ℕ) → IsAnswerLine x D (AsksSignature f) line → ⊥
-no_line D x f line (Invalid, h, e) = h.1
-no_line D x f line (Yes, h, e) = let clash : (let o : Option TermRequirement = None in o) ≡ Some h.1.0 = h.1.1 in cc
-no_line D x f line (No, h, e) = let clash : (let o : Option TermRequirement = None in o) ≡ Some h.1.0 = h.1.1 in cc
-no_line D x f line (Reduced u, h, e) = let clash : AsksSignature f ≡ AsksReduced h.1.0 h.1.1 = h.1.2 in cc
-
-no_lines : (w : TextWorld) {qs : List TermQuery} {output : List ℕ} (f : FuncId) → AreLinesOf false w qs output
-    → Contains qs (AsksSignature f) → ⊥
-no_lines w f none c = no_member (AsksSignature f) c
-no_lines w f (more {q} {qs} {line} h rest e) c = elim (member_cases q (AsksSignature f) qs c) [
-  | inl i ↦ (let D : TermStatement → Type 0 = Derives (facts_of w) false (source_of (signature_at w (signature_of q))) in
-      no_line D w.lexicon f line (subst (λ (z : TermQuery). IsAnswerLine w.lexicon D z line) (sym i) h))
-  | inr d ↦ no_lines w f rest d
-]
-
-pub unanswered : (w v : TextWorld) → AreAlike w v → (output : List ℕ) → AsksOneSignature w → AreLinesOf false v v.queries output → ⊥
-unanswered w v alike output (f, c) lines =
-    no_lines v f lines (subst (λ (qs : List TermQuery). Contains qs (AsksSignature f)) alike.queries c)
-
--- ---- lexicons
+  pub checked : {limits : Limits} {refused : Option Refused} {told : List Event} → IsChecked limits w refused told → IsChecked limits v refused told
+  pub names : (trace : List Rule) → trace_text w.lexicon trace ≡ trace_text v.lexicon trace
 
 pub any_of : {X : Type 0} (p : X → Bool) (xs : List X) → list_any p xs ≡ true → (x : X) × Contains xs x × (p x ≡ true)
 any_of p [] h = absurd (true≢false (sym h))
@@ -229,24 +203,24 @@ core order associated symbols declared requirements signatures = record {
 abbrev core_of : TextWorld → TextWorld
 core_of w = core w.lexicon.written_order w.lexicon.associated w.lexicon.symbols w.lexicon.resolved.declared w.requirements w.signatures
 
-module _ (w : TextWorld) where
+module _ (limits : Limits) (w : TextWorld) where
   come_in : {rules : List Rule} {gs : List (SignatureOver PlacedRequirement)} {refused : Option Refused} {told : List Event}
-      → SignaturesCome w rules gs refused told → SignaturesCome (core_of w) rules gs refused told
+      → SignaturesCome limits w rules gs refused told → SignaturesCome limits (core_of w) rules gs refused told
   come_in all = all
   come_in (next own one rest e) = next own one (come_in rest) e
   come_in (stopped refused real come) = stopped refused real come
 
   come_out : {rules : List Rule} {gs : List (SignatureOver PlacedRequirement)} {refused : Option Refused} {told : List Event}
-      → SignaturesCome (core_of w) rules gs refused told → SignaturesCome w rules gs refused told
+      → SignaturesCome limits (core_of w) rules gs refused told → SignaturesCome limits w rules gs refused told
   come_out all = all
   come_out (next own one rest e) = next own one (come_out rest) e
   come_out (stopped refused real come) = stopped refused real come
 
-  check_in : {refused : Option Refused} {told : List Event} → IsChecked w refused told → IsChecked (core_of w) refused told
+  check_in : {refused : Option Refused} {told : List Event} → IsChecked limits w refused told → IsChecked limits (core_of w) refused told
   check_in (protocols_refused refused real come) = protocols_refused refused real come
   check_in (protocols_built rules come rest e) = protocols_built rules come (come_in rest) e
 
-  check_out : {refused : Option Refused} {told : List Event} → IsChecked (core_of w) refused told → IsChecked w refused told
+  check_out : {refused : Option Refused} {told : List Event} → IsChecked limits (core_of w) refused told → IsChecked limits w refused told
   check_out (protocols_refused refused real come) = protocols_refused refused real come
   check_out (protocols_built rules come rest e) = protocols_built rules come (come_out rest) e
 
@@ -290,18 +264,13 @@ module _ (text : Bytes) (s : Skeleton) (w v : TextWorld) (of_w : IsWorldOf text 
       of_w.signatures ∙ sym (signatures_same (words_of text s w)) ∙ ap signatures words_same ∙ signatures_same (words_of text s v)
       ∙ sym of_v.signatures
 
-  same_queries : w.queries ≡ v.queries
-  same_queries =
-      of_w.queries ∙ sym (queries_same (words_of text s w) (in_order s) s.queries)
-      ∙ ap (λ (z : WordsView). map (query_of z (in_order s)) s.queries) words_same
-      ∙ queries_same (words_of text s v) (in_order s) s.queries ∙ sym of_v.queries
-
   same_core : core_of w ≡ core_of v
   same_core = λ i. core (same_order text s w.lexicon v.lexicon of_w.lexicon of_v.lexicon i) (associated_same i)
       (same_symbols text s w.lexicon v.lexicon of_w.lexicon of_v.lexicon ids_w ids_v i) (declared_same i) (same_requirements i) (same_signatures i)
 
   pub one_world : AreAlike w v
   one_world = record {
-    checked = λ {refused} {told} h. check_out v (subst (λ (z : TextWorld). IsChecked z refused told) same_core (check_in w h));
-    queries = same_queries;
+    checked = λ {limits} {refused} {told} h. check_out limits v (subst (λ (z : TextWorld). IsChecked limits z refused told) same_core (check_in limits w h));
+    names = λ trace. same_trace w.lexicon v.lexicon protocols_same (same_names text s w.lexicon v.lexicon of_w.lexicon of_v.lexicon)
+        (same_symbols text s w.lexicon v.lexicon of_w.lexicon of_v.lexicon ids_w ids_v) trace;
   }

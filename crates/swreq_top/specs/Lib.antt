@@ -1,5 +1,8 @@
 pub mod Machines
 pub mod Ready
+pub mod Wanted
+pub mod Lines
+pub mod Outputs
 pub mod Replies
 pub mod Reports
 pub mod Runs

@@ -1,12 +1,9 @@
 -- The machines of a text: the rules of its protocols, and those of the list of each signature, or why there are none.
-use Rattle.std.specs.Prelude.{◌≡◌, ◌≢◌, ◌≤◌, ℕ, List, [], ◌∷◌, ◌++◌, Option, Some, None, Result, Ok, Err, length, map}
+use Rattle.std.specs.Prelude.{◌≡◌, ◌≢◌, ◌≤◌, ℕ, List, [], ◌∷◌, ◌++◌, Option, Some, None, Result, Ok, Err, length}
 use Rattle.swreq_lex.specs.declared.lexer.TheConstants.{TEXT_LIMIT}
 use Rattle.swreq_decl.specs.declared.skeleton.Skeleton.{Skeleton}
 use Rattle.swreq_decl.specs.Skeletons.{StandsFor}
 use Rattle.swreq_names.specs.Names.{Resolve}
-use Rattle.swreq_derive.specs.Derivation.{TermRequirement, Source}
-use Rattle.swreq_derive.specs.Derivation.Source.{Written}
-use Rattle.swreq_derive.specs.Facts.{generic_params}
 use Rattle.swreq_rule.specs.declared.rules.Rule.{Rule}
 use Rattle.swreq_watch.specs.declared.events.Event.{Event}
 use Rattle.swreq_complete.specs.declared.limit.Limits.{Limits}
@@ -19,10 +16,7 @@ use Rattle.swreq_valid.specs.declared.refused.Refused.TheVariants.{Memory}
 use Rattle.swreq_valid.specs.Built.{IsBuilt}
 use Rattle.swreq_valid.specs.Machines.{list_of, protocols_of}
 use Rattle.swreq_valid.specs.Sides.{protocol_sides, sides}
-
--- the most rules of a completion, and the most symbols on a left side
-abbrev pub limits : Limits
-limits = record { max_rules = 4000; max_length = 64 }
+use Rattle.swreq_output.specs.Signatures.{source_of, written_list}
 
 -- This is the world of the text, which has at most 1,048,576 bytes: a skeleton stands for it, whose names resolve.
 pub record HasWorld (text : List ℕ) (w : TextWorld) : Type 0 where
@@ -32,15 +26,7 @@ pub record HasWorld (text : List ℕ) (w : TextWorld) : Type 0 where
   pub resolve : Resolve text skeleton
   pub world : IsWorldOf text skeleton w
 
--- the requirements of a signature
-abbrev pub written_list : SignatureOver PlacedRequirement → List TermRequirement
-written_list g = map (λ (r : PlacedRequirement). r.requirement) g.requirements
-
--- the list from which one derives what a signature implies
-abbrev pub source_of : SignatureOver PlacedRequirement → Source
-source_of g = Written (generic_params g.params) (written_list g)
-
-module _ (w : TextWorld) where
+module _ (limits : Limits) (w : TextWorld) where
   -- The rounds of the protocols come to rules that show each side of their requirements, or to a refusal, and tell these events.
   abbrev pub ProtocolsCome : (answer : Result (List Rule) Refused) → List Event → Type 0
   ProtocolsCome = IsBuilt limits (protocols_of w) (facts_of w) (protocol_sides w)
@@ -64,3 +50,11 @@ module _ (w : TextWorld) where
         → IsChecked (Some refused) told
     protocols_built : {refused : Option Refused} {first more told : List Event} (rules : List Rule) → ProtocolsCome (Ok rules) first
         → SignaturesCome rules w.signatures refused more → told ≡ first ++ more → IsChecked refused told
+
+  -- The text is not refused: its protocols come to these rules, and each signature to rules over them. These events are told.
+  pub record IsBuiltOver (rules : List Rule) (told : List Event) : Type 0 where
+    pub first : List Event
+    pub more : List Event
+    pub protocols : ProtocolsCome (Ok rules) first
+    pub signatures : SignaturesCome rules w.signatures None more
+    pub told_is : told ≡ first ++ more

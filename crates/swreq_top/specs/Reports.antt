@@ -5,12 +5,11 @@ use Rattle.swreq_decl.specs.declared.refusal.ParseErr.{ParseErr}
 use Rattle.swreq_decl.specs.declared.refusal.ParseErr.TheVariants as grammar
 use Rattle.swreq_names.specs.declared.refusal.NameErr.{NameErr}
 use Rattle.swreq_names.specs.declared.refusal.NameErr.TheVariants as names
+use Rattle.swreq_complete.specs.declared.limit.Limits.{Limits}
+use Rattle.swreq_complete.specs.declared.limit.Which.{Which}
 use Rattle.swreq_complete.specs.declared.limit.Which.TheVariants.{Rules, Length}
-use Rattle.swreq_valid.specs.declared.refused.Refused.{Refused}
-use Rattle.swreq_valid.specs.declared.refused.Refused.TheVariants as machines
 use Rattle.swreq_print.specs.declared.refusal.RefusalKind.{RefusalKind}
 use Rattle.swreq_print.specs.declared.refusal.RefusalKind.TheVariants as refusals
-use Rattle.swreq_top.specs.Machines.{limits}
 
 abbrev pub lexical_refusal : LexErr → RefusalKind
 lexical_refusal (lexical.NotUtf8 at) = refusals.NotUtf8 at
@@ -34,8 +33,6 @@ name_refusal (names.WrongArity at) = refusals.WrongArity at
 name_refusal (names.Cycle at) = refusals.Cycle at
 name_refusal names.Memory = refusals.OutOfMemory
 
-abbrev pub machine_refusal : Refused → RefusalKind
-machine_refusal (machines.Limit Rules trace) = refusals.LimitRules limits.max_rules
-machine_refusal (machines.Limit Length trace) = refusals.LimitLength limits.max_length
-machine_refusal (machines.NotATypeParameter at) = refusals.NotATypeParameter at
-machine_refusal machines.Memory = refusals.OutOfMemory
+abbrev pub limit_refusal : Limits → Which → RefusalKind
+limit_refusal limits Rules = refusals.LimitRules limits.max_rules
+limit_refusal limits Length = refusals.LimitLength limits.max_length

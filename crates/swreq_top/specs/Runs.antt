@@ -1,55 +1,101 @@
--- What a run reads and writes.
-use Rattle.std.specs.Prelude.{◌≡◌, ◌⊎◌, ℕ, ◌+◌, ◌<◌, ◌≤◌, List, [], ◌∷◌, length, codes, Option, IfSome}
+-- What a run reads, writes and tells.
+use Rattle.std.specs.Prelude.{◌≡◌, ◌⊎◌, ℕ, ◌+◌, ◌<◌, ◌≤◌, List, [], length, Option, Some, IfSome, Result, Ok, Err}
 use Rattle.std.specs.Io.KnownBytes.{Appends, IsAtEnd}
 use Rattle.swreq_text.specs.Given.{GivesCount}
+use Rattle.swreq_text.specs.declared.whole.ReadErr.{ReadErr}
+use Rattle.swreq_text.specs.declared.whole.ReadErr.TheVariants.{TooLarge, Fault, Memory}
+use Rattle.swreq_gen.specs.Generated.{generated}
 use Rattle.swreq_lex.specs.declared.lexer.TheConstants.{TEXT_LIMIT}
+use Rattle.swreq_print.specs.Names.{Text}
 use Rattle.swreq_print.specs.declared.refusal.TheConstants.{OUT_OF_MEMORY, READ_FAULT, USAGE}
 use Rattle.swreq_watch.specs.declared.events.Event.{Event}
-use Rattle.swreq_top.specs.Told.{WasTold, WasToldPart}
-use Rattle.swreq_print.specs.declared.refusal.RefusalKind.{RefusalKind}
-use Rattle.swreq_top.specs.Verdict.{IsRefused, IsVerdict, status_of}
+use Rattle.swreq_watch.specs.Told.{GrewBy}
+use Rattle.swreq_words.specs.Form.{Says}
+use Rattle.swreq_words.specs.declared.command.Command.{Command}
+use Rattle.swreq_words.specs.declared.command.Command.TheVariants as command
+use Rattle.swreq_words.specs.declared.command.CommandLine.{CommandLine}
+use Rattle.swreq_top.specs.declared.outcome.Outcome.{Outcome}
+use Rattle.swreq_top.specs.Replies.{IsToldVerdict, WasToldPart}
+use Rattle.swreq_top.specs.Verdict.{IsCutShort, IsRefused, IsVerdict}
 
--- The words of the command line are the one word `answer`.
-abbrev pub AreRight : List (List ℕ) → Type 0
-AreRight words = words ≡ codes "answer" ∷ []
+-- The words of the command line say no command.
+abbrev pub AreWrong : List Text → Type 0
+AreWrong words = (line : CommandLine) → Says words line → ⊥
 
-abbrev pub AreWrong : List (List ℕ) → Type 0
-AreWrong words = ¬ (AreRight words)
+-- The command reads no source.
+abbrev pub IsGen : Command → Type 0
+IsGen c = (n : ℕ) × (c ≡ command.Gen n)
+
+-- The words say such a command.
+abbrev pub SayGen : List Text → Type 0
+SayGen words = (line : CommandLine) × Says words line × IsGen line.command
+
+-- The text that the command answers, where it is known: that of the source, and of `gen` the generated one whatever the source has.
+abbrev pub known_text : Command → Option Text → Option Text
+known_text command.Answer left = left
+known_text command.Signatures left = left
+known_text command.Rules left = left
+known_text (command.Gen n) left = Some (generated n)
 
 -- What is left of the text that the source had, once it has a verdict: nothing, or all but the first bytes of one that is too long,
 -- one more than the limit.
-abbrev pub IsRead : Option (List ℕ) → Option (List ℕ) → Type 0
+abbrev pub IsRead : Option Text → Option Text → Type 0
 IsRead left rest =
     IfSome left (λ text. ((length text ≤ TEXT_LIMIT) × IsAtEnd rest) ⊎ ((TEXT_LIMIT < length text) × GivesCount left rest (TEXT_LIMIT + 1)))
 
--- The sink has taken a verdict on the text that the source had left.
-abbrev pub DeliversVerdict : Option (List ℕ) → Option (List ℕ) → Option (List ℕ) → ℕ → Type 0
-DeliversVerdict left old new status =
-    IfSome left (λ text. (output : List ℕ) × IsVerdict text (record { status = status; output = output }) × Appends old new output)
+-- Of a command that reads a source that is left; `gen` leaves it as it was.
+abbrev pub LeavesSource : Command → Option Text → Option Text → Type 0
+LeavesSource command.Answer left rest = IsRead left rest
+LeavesSource command.Signatures left rest = IsRead left rest
+LeavesSource command.Rules left rest = IsRead left rest
+LeavesSource (command.Gen n) left rest = rest ≡ left
 
--- The text that the source had left has a refusal with this status.
-abbrev pub IsRefusedWith : Option (List ℕ) → ℕ → Type 0
-IsRefusedWith left status = IfSome left (λ text. (refusal : RefusalKind) × IsRefused text refusal × (status ≡ status_of refusal))
+-- With this status the output of a verdict on the text of the command was taken, and what is told with it was told.
+pub record Delivers (words : List Text) (left rest old_taken new_taken : Option Text) (old_told new_told : Option (List Event)) (status : ℕ) : Type 0 where
+  pub line : CommandLine
+  pub says : Says words line
+  pub source : LeavesSource line.command left rest
+  pub output : Text
+  pub taken : Appends old_taken new_taken output
+  pub verdict : IfSome (known_text line.command left) (λ text. IsToldVerdict line text old_told new_told (record { status = status; output = output }))
 
--- It has none.
-abbrev pub IsNotRefused : Option (List ℕ) → Type 0
-IsNotRefused left = IfSome left (λ text. (refusal : RefusalKind) → IsRefused text refusal → ⊥)
-
--- It is a verdict's output on the text that the source had left.
-abbrev pub IsOutput : Option (List ℕ) → List ℕ → Type 0
-IsOutput left output = IfSome left (λ text. (status : ℕ) × IsVerdict text (record { status = status; output = output }))
-
--- What a run prints: for wrong words the usage line; for others a verdict's output, the line of a read that failed, or that of no
+-- What a run prints: for wrong words the usage line; for others the output of a verdict, the line of a read that failed, or that of no
 -- memory.
-abbrev pub IsPrinted : (words : List (List ℕ)) (read_failed : Type 0) (left : Option (List ℕ)) → List ℕ → Type 0
+abbrev pub IsOutputOn : CommandLine → Option Text → Text → Type 0
+IsOutputOn line left output =
+    IfSome (known_text line.command left) (λ text. (status : ℕ) × (told : List Event) × IsVerdict line text (record { status = status; output = output }) told)
+
+abbrev pub IsPrinted : (words : List Text) (read_failed : Type 0) (left : Option Text) → Text → Type 0
 IsPrinted words read_failed left printed =
     (AreWrong words × (printed ≡ USAGE.now))
-    ⊎ (AreRight words × (IsOutput left printed ⊎ ((read_failed × (printed ≡ READ_FAULT.now)) ⊎ (printed ≡ OUT_OF_MEMORY.now))))
+    ⊎ ((line : CommandLine) × Says words line × (IsOutputOn line left printed ⊎ ((read_failed × (printed ≡ READ_FAULT.now)) ⊎ (printed ≡ OUT_OF_MEMORY.now))))
 
--- The watcher was told what the text tells that the source had left.
-abbrev pub TellsVerdict : Option (List ℕ) → Option (List Event) → Option (List Event) → Type 0
-TellsVerdict left old new = IfSome left (λ text. WasTold text old new)
+-- The watcher was told what is told with a verdict, or a part of that.
+abbrev pub TellsSome : List Text → Option Text → Option (List Event) → Option (List Event) → Type 0
+TellsSome words left old new = (line : CommandLine) → Says words line
+    → IfSome (known_text line.command left) (λ text. ((o : Outcome) × IsToldVerdict line text old new o) ⊎ WasToldPart line text old new)
 
--- It was told that, or a part of it.
-abbrev pub TellsSome : Option (List ℕ) → Option (List Event) → Option (List Event) → Type 0
-TellsSome left old new = IfSome left (λ text. WasTold text old new ⊎ WasToldPart text old new)
+-- The words say a command whose text nothing refuses, and in minimising no round passes a limit.
+abbrev pub IsAnswerable : List Text → Option Text → Type 0
+IsAnswerable words left = (line : CommandLine) → Says words line → (text : Text) × (known_text line.command left ≡ Some text)
+    × ((o : Outcome) (told : List Event) → IsRefused line text o told ⊎ IsCutShort line text o told → ⊥)
+
+-- ---- what is answered before anything is written
+
+-- of a text that was read
+abbrev pub AnswersText : CommandLine → Text → Option (List Event) → Option (List Event) → Result Outcome ReadErr → Type 0
+AnswersText line text old new (Ok o) = IsToldVerdict line text old new o
+AnswersText line text old new (Err TooLarge) = ⊥
+AnswersText line text old new (Err Fault) = ⊥
+AnswersText line text old new (Err Memory) = WasToldPart line text old new
+
+-- Of a source: a verdict on the text, what is told with it, and what is left of the source; or a text that is too long, a read that failed,
+-- and then nothing is told; or for want of memory a part of what is told.
+abbrev pub Answers : CommandLine → (left rest : Option Text) → (old new : Option (List Event)) → Result Outcome ReadErr → Type 0
+Answers line left rest old new (Ok o) =
+    LeavesSource line.command left rest × IfSome (known_text line.command left) (λ text. IsToldVerdict line text old new o)
+    × ((o.status ≡ 0) ⊎ ((o.status ≡ 1) ⊎ (o.status ≡ 3)))
+Answers line left rest old new (Err TooLarge) =
+    GivesCount left rest (TEXT_LIMIT + 1) × (IsGen line.command → ⊥) × GrewBy old new []
+Answers line left rest old new (Err Fault) = (IsGen line.command → ⊥) × GrewBy old new []
+Answers line left rest old new (Err Memory) = IfSome (known_text line.command left) (λ text. WasToldPart line text old new)

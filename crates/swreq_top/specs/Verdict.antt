@@ -1,117 +1,134 @@
--- What a text is answered with.
-use Rattle.std.specs.Prelude.{◌≡◌, ◌⊎◌, ℕ, ◌<◌, ◌≤◌, Bool, true, false, List, [], ◌∷◌, ◌++◌, length, Contains, Some, None}
+-- The verdicts on a text.
+use Rattle.std.specs.Prelude.{◌≡◌, ◌≢◌, ℕ, ◌<◌, ◌≤◌, Bool, true, false, List, [], ◌++◌, length, Some, None, if◌then◌else◌}
 use Rattle.swreq_lex.specs.declared.refusal.LexErr.TheVariants as lexical
 use Rattle.swreq_lex.specs.declared.lexer.TheConstants.{TEXT_LIMIT}
 use Rattle.swreq_lex.specs.Refusals.{HasRefusal}
 use Rattle.swreq_decl.specs.declared.skeleton.Skeleton.{Skeleton}
 use Rattle.swreq_decl.specs.Skeletons.{StandsFor, RefusedFor}
+use Rattle.swreq_gen.specs.Generated.{generated}
 use Rattle.swreq_names.specs.declared.refusal.NameErr.{NameErr}
 use Rattle.swreq_names.specs.declared.refusal.NameErr.TheVariants as names
 use Rattle.swreq_names.specs.Names.{Refuses}
-use Rattle.swreq_derive.specs.Derivation.{Derives}
+use Rattle.swreq_ranks.specs.Views.{LexiconView}
 use Rattle.swreq_rule.specs.declared.rules.Rule.{Rule}
 use Rattle.swreq_watch.specs.declared.events.Event.{Event}
+use Rattle.swreq_complete.specs.declared.limit.Failed.TheVariants as failed
+use Rattle.swreq_complete.specs.declared.limit.Limits.{Limits}
 use Rattle.swreq_complete.specs.declared.limit.Which.{Which}
-use Rattle.swreq_complete.specs.declared.limit.Which.TheVariants.{Rules, Length}
-use Rattle.swreq_written.specs.declared.ids.FuncId.{FuncId}
-use Rattle.swreq_written.specs.Queries.{TermQuery}
-use Rattle.swreq_written.specs.Queries.TermQuery.{AsksSignature, AsksReduced, AsksConforms, AsksAnyObject, AsksEquals}
-use Rattle.swreq_world.specs.Worlds.{TextWorld, signature_at}
-use Rattle.swreq_shown.specs.Meaning.{facts_of}
+use Rattle.swreq_words.specs.declared.command.Command.{Command}
+use Rattle.swreq_words.specs.declared.command.Command.TheVariants as command
+use Rattle.swreq_words.specs.declared.command.CommandLine.{CommandLine}
+use Rattle.swreq_world.specs.Worlds.{TextWorld}
 use Rattle.swreq_valid.specs.declared.refused.Refused.{Refused}
-use Rattle.swreq_valid.specs.declared.refused.Refused.TheVariants.{Limit, NotATypeParameter}
+use Rattle.swreq_valid.specs.declared.refused.Refused.TheVariants.{Limit, NotATypeParameter, Memory}
 use Rattle.swreq_print.specs.declared.refusal.RefusalKind.{RefusalKind}
 use Rattle.swreq_print.specs.declared.refusal.RefusalKind.TheVariants as refusals
+use Rattle.swreq_print.specs.Names.{Text}
 use Rattle.swreq_print.specs.Refusals.{refusal_line}
-use Rattle.swreq_query.specs.Answers.{IsAnswerLine}
+use Rattle.swreq_print.specs.Rules.{trace_text}
 use Rattle.swreq_top.specs.declared.outcome.Outcome.{Outcome}
-use Rattle.swreq_top.specs.Machines.{HasWorld, IsChecked, limits, source_of}
+use Rattle.swreq_top.specs.Machines.{HasWorld, IsBuiltOver, IsChecked}
+use Rattle.swreq_top.specs.Outputs.{IsOutput}
+use Rattle.swreq_top.specs.Reports.{limit_refusal}
+use Rattle.swreq_top.specs.Told.{MinimisingAllFails, MinimisingAllTells}
+
+-- the most rules of a completion, and the most symbols on a left side
+abbrev pub limits_of : CommandLine → Limits
+limits_of line = record { max_rules = line.max_rules; max_length = line.max_length }
+
+-- The text that is answered: the generated one of `gen`, and else that of the source.
+abbrev pub answered_text : Command → Text → Text
+answered_text command.Answer text = text
+answered_text command.Signatures text = text
+answered_text command.Rules text = text
+answered_text (command.Gen n) text = generated n
+
+-- ---- what is printed
+
+-- the line of a refusal, with status 1
+abbrev pub refused_with : RefusalKind → Outcome
+refused_with refusal = record { status = 1; output = refusal_line refusal }
+
+-- the line of a limit, and with `--trace` the lines of its trace, with status 3
+abbrev pub stopped_with : CommandLine → LexiconView → Which → List Rule → Outcome
+stopped_with line x which trace = record {
+  status = 3;
+  output = refusal_line (limit_refusal (limits_of line) which) ++ (if line.trace then trace_text x trace else []);
+}
+
+-- what the outcome is where machines are refused so
+abbrev pub machine_outcome : CommandLine → LexiconView → Refused → Outcome
+machine_outcome line x (Limit which trace) = stopped_with line x which trace
+machine_outcome line x (NotATypeParameter at) = refused_with (refusals.NotATypeParameter at)
+machine_outcome line x Memory = refused_with refusals.OutOfMemory
 
 -- ---- refusals
 
--- 3 where a completion passed a limit, and 1 of any other refusal
-abbrev pub status_of : RefusalKind → ℕ
-status_of (refusals.LimitRules max) = 3
-status_of (refusals.LimitLength max) = 3
-status_of _ = 1
-
--- the status and the line of a refusal
-abbrev pub refused_with : RefusalKind → Outcome
-refused_with refusal = record { status = status_of refusal; output = refusal_line refusal }
-
 -- The text is not too long, a skeleton stands for it, and its names have this refusal.
-abbrev pub RefusesNames : List ℕ → NameErr → Type 0
+abbrev pub RefusesNames : Text → NameErr → Type 0
 RefusesNames text e = (length text ≤ TEXT_LIMIT) × ((skeleton : Skeleton) × StandsFor text skeleton × Refuses text skeleton e)
 
--- Of a text that has a world, its protocols or one of its signatures are refused so.
-abbrev pub RefusesMachines : List ℕ → Refused → Type 0
-RefusesMachines text refused = (w : TextWorld) × HasWorld text w × ((told : List Event) × IsChecked w (Some refused) told)
+-- The text has no world: it is too long, is not in the language, or its names do not resolve. At most one refusal is its.
+abbrev pub HasNoWorld : Text → RefusalKind → Type 0
+HasNoWorld text refusals.TooLarge = TEXT_LIMIT < length text
+HasNoWorld text (refusals.NotUtf8 at) = (length text ≤ TEXT_LIMIT) × HasRefusal text (lexical.NotUtf8 at)
+HasNoWorld text (refusals.BadCharacter at) = (length text ≤ TEXT_LIMIT) × HasRefusal text (lexical.BadCharacter at)
+HasNoWorld text (refusals.OpenComment at) = (length text ≤ TEXT_LIMIT) × HasRefusal text (lexical.OpenComment at)
+HasNoWorld text (refusals.Syntax at) = (length text ≤ TEXT_LIMIT) × RefusedFor text at None
+HasNoWorld text (refusals.Unsupported at kind) = (length text ≤ TEXT_LIMIT) × RefusedFor text at (Some kind)
+HasNoWorld text (refusals.Duplicate at) = RefusesNames text (names.Duplicate at)
+HasNoWorld text (refusals.NotAProtocol at) = RefusesNames text (names.NotAProtocol at)
+HasNoWorld text (refusals.ConcreteType at) = RefusesNames text (names.ConcreteType at)
+HasNoWorld text (refusals.NoSuchMember at) = RefusesNames text (names.NoSuchMember at)
+HasNoWorld text (refusals.UnknownSignature at) = RefusesNames text (names.UnknownSignature at)
+HasNoWorld text (refusals.WrongArity at) = RefusesNames text (names.WrongArity at)
+HasNoWorld text (refusals.Cycle at) = RefusesNames text (names.Cycle at)
+HasNoWorld text _ = ⊥
 
--- A round of the protocols or of a signature passes this limit, before anything else is refused.
-abbrev pub PassesLimit : List ℕ → Which → Type 0
-PassesLimit text which = (trace : List Rule) × RefusesMachines text (Limit which trace)
+module _ (line : CommandLine) (text : Text) where
+  -- The check refuses the text: its protocols are looked at first, and then its signatures in written order. With it these events are told.
+  pub data IsRefused : Outcome → List Event → Type 0 where
+    -- It has no world.
+    without_world : {o : Outcome} {told : List Event} (refusal : RefusalKind) → HasNoWorld text refusal → o ≡ refused_with refusal → told ≡ []
+        → IsRefused o told
+    -- A side of a requirement is no type parameter.
+    not_a_type_parameter : {o : Outcome} {told : List Event} (w : TextWorld) (at : ℕ) → HasWorld text w
+        → IsChecked (limits_of line) w (Some (NotATypeParameter at)) told → o ≡ refused_with (refusals.NotATypeParameter at) → IsRefused o told
+    -- A round of the protocols or of a signature passes a limit.
+    past_a_limit : {o : Outcome} {told : List Event} (w : TextWorld) (which : Which) (trace : List Rule) → HasWorld text w
+        → IsChecked (limits_of line) w (Some (Limit which trace)) told → o ≡ stopped_with line w.lexicon which trace → IsRefused o told
 
--- The text has this world, and neither its protocols nor a signature is refused.
-pub record IsWhole (text : List ℕ) (w : TextWorld) : Type 0 where
-  pub has_world : HasWorld text w
-  pub told : List Event
-  pub checked : IsChecked w None told
+  module _ (guarded : Bool) where
+    -- The text is answered, by the rules with the guard or without it: it has a world, nothing in it is refused, and the output is what
+    -- the command prints. The events of the check are told, and then parts of minimising.
+    pub record IsAnswered (o : Outcome) (told : List Event) : Type 0 where
+      pub world : TextWorld
+      pub has_world : HasWorld text world
+      pub rules : List Rule
+      pub first : List Event
+      pub more : List Event
+      pub built : IsBuiltOver (limits_of line) world rules first
+      pub parts : MinimisingAllTells (limits_of line) world line.command rules more
+      pub told_is : told ≡ first ++ more
+      pub status : o.status ≡ 0
+      pub output : IsOutput guarded world line.command o.output
 
--- Some query asks for a signature.
-abbrev pub AsksOneSignature : TextWorld → Type 0
-AsksOneSignature w = (f : FuncId) × Contains w.queries (AsksSignature f)
+  -- In minimising for the command a round passes a limit.
+  pub record IsCutShort (o : Outcome) (told : List Event) : Type 0 where
+    pub world : TextWorld
+    pub has_world : HasWorld text world
+    pub rules : List Rule
+    pub first : List Event
+    pub more : List Event
+    pub built : IsBuiltOver (limits_of line) world rules first
+    pub which : Which
+    pub trace : List Rule
+    pub fails : MinimisingAllFails (limits_of line) world line.command rules (failed.Limit which trace) more
+    pub told_is : told ≡ first ++ more
+    pub outcome : o ≡ stopped_with line world.lexicon which trace
 
--- The text is refused, in the order of these cases: at most one refusal is its.
-abbrev pub IsRefused : List ℕ → RefusalKind → Type 0
-IsRefused text refusals.TooLarge = TEXT_LIMIT < length text
-IsRefused text (refusals.NotUtf8 at) = (length text ≤ TEXT_LIMIT) × HasRefusal text (lexical.NotUtf8 at)
-IsRefused text (refusals.BadCharacter at) = (length text ≤ TEXT_LIMIT) × HasRefusal text (lexical.BadCharacter at)
-IsRefused text (refusals.OpenComment at) = (length text ≤ TEXT_LIMIT) × HasRefusal text (lexical.OpenComment at)
-IsRefused text (refusals.Syntax at) = (length text ≤ TEXT_LIMIT) × RefusedFor text at None
-IsRefused text (refusals.Unsupported at kind) = (length text ≤ TEXT_LIMIT) × RefusedFor text at (Some kind)
-IsRefused text (refusals.Duplicate at) = RefusesNames text (names.Duplicate at)
-IsRefused text (refusals.NotAProtocol at) = RefusesNames text (names.NotAProtocol at)
-IsRefused text (refusals.ConcreteType at) = RefusesNames text (names.ConcreteType at)
-IsRefused text (refusals.NoSuchMember at) = RefusesNames text (names.NoSuchMember at)
-IsRefused text (refusals.UnknownSignature at) = RefusesNames text (names.UnknownSignature at)
-IsRefused text (refusals.WrongArity at) = RefusesNames text (names.WrongArity at)
-IsRefused text (refusals.Cycle at) = RefusesNames text (names.Cycle at)
-IsRefused text (refusals.NotATypeParameter at) = RefusesMachines text (NotATypeParameter at)
-IsRefused text (refusals.LimitRules max) = (max ≡ limits.max_rules) × PassesLimit text Rules
-IsRefused text (refusals.LimitLength max) = (max ≡ limits.max_length) × PassesLimit text Length
-IsRefused text refusals.NotBuilt = (w : TextWorld) × IsWhole text w × AsksOneSignature w
-IsRefused text refusals.ReadFault = ⊥
-IsRefused text refusals.OutOfMemory = ⊥
-IsRefused text refusals.Usage = ⊥
-
--- ---- answers
-
--- the signature that a query asks
-abbrev pub signature_of : TermQuery → FuncId
-signature_of (AsksSignature f) = f
-signature_of (AsksReduced f t) = f
-signature_of (AsksConforms f t p) = f
-signature_of (AsksAnyObject f t) = f
-signature_of (AsksEquals f t u) = f
-
-module _ (guarded : Bool) (w : TextWorld) where
-  -- The line answers the query by what is derivable, with the guard or without it, from the written list of the signature that is asked.
-  abbrev pub IsLineOf : TermQuery → List ℕ → Type 0
-  IsLineOf q line = IsAnswerLine w.lexicon (Derives (facts_of w) guarded (source_of (signature_at w (signature_of q)))) q line
-
-  -- The lines of these queries, one after the other.
-  pub data AreLinesOf : List TermQuery → List ℕ → Type 0 where
-    none : AreLinesOf [] []
-    more : {q : TermQuery} {qs : List TermQuery} {line lines all : List ℕ} → IsLineOf q line → AreLinesOf qs lines → all ≡ line ++ lines
-        → AreLinesOf (q ∷ qs) all
-
--- The text is answered: status 0, with a line for each query of its world, in written order, by the book's rules, which have no guard.
-pub record IsAnswered (text : List ℕ) (o : Outcome) : Type 0 where
-  pub world : TextWorld
-  pub whole : IsWhole text world
-  pub status : o.status ≡ 0
-  pub answers : AreLinesOf false world world.queries o.output
-
--- A verdict on the text: the line of its refusal, or its answers.
-abbrev pub IsVerdict : List ℕ → Outcome → Type 0
-IsVerdict text o = ((refusal : RefusalKind) × IsRefused text refusal × (o ≡ refused_with refusal)) ⊎ IsAnswered text o
+  -- A verdict, and what is told with it. The answers are by the book's rules, which have no guard.
+  pub data IsVerdict (o : Outcome) (told : List Event) : Type 0 where
+    refused : IsRefused o told → IsVerdict o told
+    cut_short : IsCutShort o told → IsVerdict o told
+    answered : IsAnswered false o told → IsVerdict o told

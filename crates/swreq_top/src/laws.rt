@@ -1,14 +1,14 @@
-//! What holds of the refusals of texts.
-
-ghost use Rattle.std.specs.Prelude.{◌≡◌};
-ghost use Rattle.swreq_print.specs.declared.refusal.RefusalKind.{RefusalKind};
+//! What holds of the verdicts on texts.
+ghost use Rattle.std.specs.Prelude.{◌≡◌, List};
+ghost use Rattle.swreq_watch.specs.declared.events.Event.{Event};
+ghost use Rattle.swreq_words.specs.declared.command.CommandLine.{CommandLine};
 ghost use Rattle.swreq_top.specs.declared.outcome.Outcome.{Outcome};
-ghost use Rattle.swreq_top.specs.Verdict.{IsAnswered, IsRefused};
+ghost use Rattle.swreq_top.specs.Verdict.{IsRefused, IsVerdict};
 
-/// At most one refusal is a text's, and none where it is answered.
-pub fn one_refusal(text: &[u8])
-    ensures one { (refusal other : RefusalKind) → IsRefused text.now refusal → IsRefused text.now other → refusal ≡ other }
-    ensures never_both { (refusal : RefusalKind) (o : Outcome) → IsRefused text.now refusal → IsAnswered text.now o → ⊥ }
+/// A text that is refused has no other verdict.
+pub fn one_verdict(text: &[u8])
+    ensures { (line : CommandLine) (o p : Outcome) (told also : List Event) → IsRefused line text.now o told
+        → IsVerdict line text.now p also → p ≡ o }
 {
     swreq_lex::laws::one_reading(text);
     swreq_decl::laws::one_skeleton(text);

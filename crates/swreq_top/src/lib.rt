@@ -2,13 +2,15 @@
 #![tactic(auto)]
 
 mod answering;
-mod asking;
 mod checking;
 pub mod laws;
+mod minimising;
 mod outcome;
+mod printing;
 mod program;
 mod ready;
 mod refusal;
+mod wanted;
 
 pub use outcome::{Outcome, reply};
 pub use program::run;

@@ -1,37 +1,46 @@
-//! What a text is answered with.
-ghost use Rattle.std.specs.Prelude.{◌≡◌, ◌≢◌, ◌≤◌, ℕ, List, None, length, Contains, IfOk, OnErr, OnOk};
-ghost use Rattle.swreq_lex.specs.declared.lexer.TheConstants.{TEXT_LIMIT};
-ghost use Rattle.swreq_decl.specs.declared.refusal.ParseErr.TheVariants as grammar;
+//! What a command answers of a text.
+ghost use Rattle.std.specs.Prelude.{◌≡◌, ◌≢◌, ◌≤◌, List, length, IfOk, OnErr, true};
+ghost use Rattle.swreq_complete.specs.Limits.{AreInRange};
 ghost use Rattle.swreq_decl.specs.Skeletons.{StandsFor};
+ghost use Rattle.swreq_decl.specs.declared.refusal.ParseErr.TheVariants as grammar;
+ghost use Rattle.swreq_lex.specs.declared.lexer.TheConstants.{TEXT_LIMIT};
+ghost use Rattle.swreq_minimal.specs.Inheritance.{IsInheritanceWritten};
 ghost use Rattle.swreq_names.specs.declared.refusal.NameErr.TheVariants as names;
-ghost use Rattle.swreq_valid.specs.declared.refused.Refused.TheVariants as machines;
-ghost use Rattle.swreq_print.specs.declared.refusal.RefusalKind.{RefusalKind};
-ghost use Rattle.swreq_watch.specs.declared.events.Event.{Event};
 ghost use Rattle.swreq_shown.specs.Known.{IsTextOver};
+ghost use Rattle.swreq_valid.specs.Rounds.{last_rules};
+ghost use Rattle.swreq_valid.specs.declared.refused.Refused.TheVariants as machines;
+ghost use Rattle.swreq_watch.specs.declared.events.Event.{Event};
 ghost use Rattle.swreq_world.specs.ByTable.{IsOverTable, world_by};
-ghost use Rattle.swreq_top.specs.Machines.{HasWorld, IsChecked};
-ghost use Rattle.swreq_top.specs.Ready.{AreKept};
-ghost use Rattle.swreq_top.specs.Replies.{Replies};
-ghost use Rattle.swreq_top.specs.Reports.{machine_refusal, name_refusal, refusal_of};
-ghost use Rattle.swreq_top.specs.Told.{WasTold, WasToldPart};
-ghost use Rattle.swreq_top.specs.Verdict.{IsAnswered, IsRefused, IsVerdict, refused_with};
+ghost use Rattle.swreq_top.specs.declared.outcome.Outcome.{Outcome};
+ghost use Rattle.swreq_top.specs.Machines.{HasWorld};
+ghost use Rattle.swreq_top.specs.Outputs.{IsOutput};
+ghost use Rattle.swreq_top.specs.Ready.{AreLinesKept, IsCheckedFor};
+ghost use Rattle.swreq_top.specs.Replies.{Finishes, IsToldVerdict, Replies, WasToldPart};
+ghost use Rattle.swreq_top.specs.Reports.{name_refusal, refusal_of};
+ghost use Rattle.swreq_top.specs.Verdict.{IsRefused, answered_text, limits_of, machine_outcome, refused_with, stopped_with};
+ghost use Rattle.swreq_top.specs.Wanted.{HasCount, wants_list, wants_machine};
 
-use crate::answering::answers;
-use crate::asking::asks_one_signature;
 use crate::checking::check;
-use crate::laws::one_refusal;
-use crate::ready::Ready;
-use crate::refusal::{machine_refusal, name_refusal, refusal_of, status_of};
+use crate::laws::one_verdict;
+use crate::minimising::minimised_lines;
+use crate::printing::output;
+use crate::ready::Checked;
+use crate::refusal::{limit_refusal, name_refusal, refusal_of};
+use crate::wanted::{lists_wanted, machines_wanted};
 use std::alloc::{AllocError, Global};
+use swreq_complete::{Failed, Limits, Which};
 use swreq_decl::laws::one_skeleton;
 use swreq_decl::{ParseErr, Skeleton, parse};
 use swreq_lex::TEXT_LIMIT;
+use swreq_minimal::laws::inheritance_is_written;
 use swreq_names::NameErr;
 use swreq_param::ParamTable;
-use swreq_print::{RefusalKind, refusal_text};
+use swreq_print::{RefusalKind, refusal_text, trace_text};
+use swreq_rule::Rule;
 use swreq_text::Seq;
 use swreq_valid::Refused;
 use swreq_watch::Watch;
+use swreq_words::{Command, CommandLine};
 use swreq_world::World;
 use swreq_world::laws::worlds_are_closed;
 
@@ -42,31 +51,54 @@ pub struct Outcome {
     pub output: Seq<u8>,
 }
 
-/// What a text of at most 1,048,576 bytes is answered with.
+/// What a command answers of a text; of `gen` the text is the generated one, and the one that is given is not looked at.
 ///
-/// A text is refused, with its line, where it is not in the language, its names do not resolve, a protocol inherits itself, or
-/// something that is written in its protocols or signatures is no type parameter (status 1); or where a completion passes a limit
-/// before that (status 3). Of the others those without a query of a signature have status 0 and a line for each query, and the rest
-/// status 1 and the line `error: not built`. The watcher is told the events of the rounds. Err is want of memory alone.
-pub fn reply<W: Watch>(alloc: Global, text: &[u8], watch: &mut W) -> Result<Outcome, AllocError>
-    requires { length text.now ≤ TEXT_LIMIT }
-    ensures verdict { IfOk result (IsVerdict text.now) }
-    ensures refused { (refusal : RefusalKind) → IsRefused text.now refusal → IfOk result (λ o. o ≡ refused_with refusal) }
-    ensures answered { ((refusal : RefusalKind) → IsRefused text.now refusal → ⊥) → IfOk result (IsAnswered text.now) }
-    ensures told { OnOk result (WasTold text.now (W.told watch.old) (W.told watch.new)) }
-    ensures told_part { OnErr result (WasToldPart text.now (W.told watch.old) (W.told watch.new)) }
+/// A text is refused, with its line and status 1, where it is too long, is not in the language, its names do not resolve, a protocol
+/// inherits itself, or a side of a requirement is no type parameter; with status 3 where a completion passes a limit before that, or in
+/// minimising; `--trace` puts the lines of the trace behind it. Other texts have status 0 and what the command prints. The watcher is told
+/// the events of the rounds. Err is want of memory alone.
+pub fn reply<W: Watch>(
+    alloc: Global,
+    line: &CommandLine,
+    text: &[u8],
+    watch: &mut W,
+) -> Result<Outcome, AllocError>
+    requires limits { AreInRange (limits_of line.now) }
+    requires count { HasCount line.now.command }
+    ensures verdict { IfOk result (IsToldVerdict line.now (answered_text line.now.command text.now) (W.told watch.old) (W.told watch.new)) }
+    ensures told_part { OnErr result (WasToldPart line.now (answered_text line.now.command text.now) (W.told watch.old) (W.told watch.new)) }
+    ensures refused { (o : Outcome) (told : List Event) → IsRefused line.now (answered_text line.now.command text.now) o told
+        → IfOk result (λ answer. answer ≡ o) }
 {
-    one_refusal(text);
-    read(alloc, text, watch)
+    match line.command {
+        Command::Gen { n } => {
+            let generated = swreq_gen::text(alloc, n)?;
+            one_verdict(&generated);
+            read(alloc, line, &generated, watch)
+        }
+        _ => {
+            one_verdict(text);
+            read(alloc, line, text, watch)
+        }
+    }
 }
 
 /// Reads the text, and answers it.
-fn read<W: Watch>(alloc: Global, text: &[u8], watch: &mut W) -> Result<Outcome, AllocError>
-    requires { length text.now ≤ TEXT_LIMIT }
-    ensures { Replies text.now (W.told watch.old) (W.told watch.new) result }
+fn read<W: Watch>(
+    alloc: Global,
+    line: &CommandLine,
+    text: &[u8],
+    watch: &mut W,
+) -> Result<Outcome, AllocError>
+    requires limits { AreInRange (limits_of line.now) }
+    requires count { HasCount line.now.command }
+    ensures { Replies line.now text.now (W.told watch.old) (W.told watch.new) result }
 {
+    if text.len() > TEXT_LIMIT {
+        return refused(alloc, RefusalKind::TooLarge);
+    }
     match parse(alloc, text) {
-        Ok(skeleton) => with_skeleton(alloc, text, &skeleton, watch),
+        Ok(skeleton) => with_skeleton(alloc, line, text, &skeleton, watch),
         Err(e) => unread(alloc, e),
     }
 }
@@ -84,33 +116,39 @@ fn unread(alloc: Global, e: ParseErr) -> Result<Outcome, AllocError>
 /// What is answered where this skeleton stands for the text.
 fn with_skeleton<W: Watch>(
     alloc: Global,
+    line: &CommandLine,
     text: &[u8],
     skeleton: &Skeleton,
     watch: &mut W,
 ) -> Result<Outcome, AllocError>
-    requires limit { length text.now ≤ TEXT_LIMIT }
+    requires within { length text.now ≤ TEXT_LIMIT }
     requires stands { StandsFor text.now skeleton.now }
-    ensures { Replies text.now (W.told watch.old) (W.told watch.new) result }
+    requires limits { AreInRange (limits_of line.now) }
+    requires count { HasCount line.now.command }
+    ensures { Replies line.now text.now (W.told watch.old) (W.told watch.new) result }
 {
     let mut table = ParamTable::new(alloc);
-    over_table(alloc, text, skeleton, &mut table, watch)
+    over_table(alloc, line, text, skeleton, &mut table, watch)
 }
 
 /// The same, where this table is for the type parameters of the text.
 fn over_table<W: Watch>(
     alloc: Global,
+    line: &CommandLine,
     text: &[u8],
     skeleton: &Skeleton,
     table: &mut ParamTable,
     watch: &mut W,
 ) -> Result<Outcome, AllocError>
-    requires limit { length text.now ≤ TEXT_LIMIT }
+    requires within { length text.now ≤ TEXT_LIMIT }
     requires stands { StandsFor text.now skeleton.now }
-    ensures { Replies text.now (W.told watch.old) (W.told watch.new) result }
+    requires limits { AreInRange (limits_of line.now) }
+    requires count { HasCount line.now.command }
+    ensures { Replies line.now text.now (W.told watch.old) (W.told watch.new) result }
 {
     one_skeleton(text);
     match World::resolve(alloc, text, skeleton, table) {
-        Ok(world) => with_world(alloc, text, &world, table, watch),
+        Ok(world) => with_world(alloc, line, text, &world, table, watch),
         Err(e) => unresolved(alloc, e),
     }
 }
@@ -128,54 +166,101 @@ fn unresolved(alloc: Global, e: NameErr) -> Result<Outcome, AllocError>
 /// What is answered where this is the world of the text.
 fn with_world<W: Watch>(
     alloc: Global,
+    line: &CommandLine,
     text: &[u8],
     world: &World,
-    table: &ParamTable,
+    table: &mut ParamTable,
     watch: &mut W,
 ) -> Result<Outcome, AllocError>
-    requires world { HasWorld text.now (world_by table.now world.now) }
-    requires over { IsOverTable table.now world.now }
-    ensures { Replies text.now (W.told watch.old) (W.told watch.new) result }
+    requires world { HasWorld text.now (world_by table.old world.now) }
+    requires over { IsOverTable table.old world.now }
+    requires limits { AreInRange (limits_of line.now) }
+    requires count { HasCount line.now.command }
+    ensures { Replies line.now text.now (W.told watch.old) (W.told watch.new) result }
 {
     worlds_are_closed(text);
-    match check(alloc, world, table, watch) {
-        Ok(all) => checked(alloc, text, world, table, &all),
-        Err(e) => unchecked(alloc, &e),
+    inheritance_is_written();
+    let wanted = machines_wanted(alloc, world, line.command)?;
+    match check(alloc, world, table, &wanted, limits_of(line), watch) {
+        Ok(checked) => with_machines(alloc, line, text, world, table, &checked, watch),
+        Err(e) => unchecked(alloc, line, world, &e),
     }
 }
 
 /// What is answered where the machines have this error.
-fn unchecked(alloc: Global, e: &Refused) -> Result<Outcome, AllocError>
-    ensures { IfOk result (λ o. (e.now ≢ machines.Memory) × (o ≡ refused_with (machine_refusal e.now))) }
+fn unchecked(
+    alloc: Global,
+    line: &CommandLine,
+    world: &World,
+    e: &Refused,
+) -> Result<Outcome, AllocError>
+    ensures { IfOk result (λ o. (e.now ≢ machines.Memory) × (o ≡ machine_outcome line.now world.now.lexicon e.now)) }
 {
     match e {
         Refused::Memory => Err(AllocError),
-        e => refused(alloc, machine_refusal(e)),
+        Refused::NotATypeParameter { at } => {
+            refused(alloc, RefusalKind::NotATypeParameter { at: *at })
+        }
+        Refused::Limit { which, trace } => stopped(alloc, line, world, *which, trace.items()),
     }
 }
 
-/// The answers of the queries of a checked text, or the line of one that asks for a signature.
-fn checked(
+/// What is answered where nothing refuses the text.
+fn with_machines<W: Watch>(
     alloc: Global,
+    line: &CommandLine,
     text: &[u8],
     world: &World,
-    table: &ParamTable,
-    all: &[Option<Ready>],
+    table: &mut ParamTable,
+    checked: &Checked,
+    watch: &mut W,
 ) -> Result<Outcome, AllocError>
-    requires world { HasWorld text.now (world_by table.now world.now) }
-    requires text { IsTextOver table.now world.now }
-    requires checked { (told : List Event) × IsChecked (world_by table.now world.now) None told }
-    requires kept { AreKept (world_by table.now world.now) all.now }
-    requires count { length all.now ≡ length world.now.signatures }
-    ensures { IfOk result (IsVerdict text.now) }
+    requires world { HasWorld text.now (world_by table.old world.now) }
+    requires text { IsTextOver table.old world.now }
+    requires inheritance { IsInheritanceWritten (world_by table.old world.now) }
+    requires checked { IsCheckedFor (world_by table.old world.now) (wants_machine line.now.command world.now.queries) checked.now }
+    requires limits { AreInRange (limits_of line.now) }
+    requires count { HasCount line.now.command }
+    ensures { Finishes line.now text.now (world_by table.old world.now) (last_rules checked.now.protocols.rounds) (W.told watch.old) (W.told watch.new) result }
 {
     let _ = text;
-    if asks_one_signature(world) {
-        return refused(alloc, RefusalKind::NotBuilt);
+    let wanted = lists_wanted(alloc, world, line.command)?;
+    match minimised_lines(
+        alloc,
+        world,
+        table,
+        checked,
+        &wanted,
+        line.command,
+        limits_of(line),
+        watch,
+    ) {
+        Ok(lists) => answered(alloc, line.command, world, table, checked, &lists),
+        Err(Failed::Memory) => Err(AllocError),
+        Err(Failed::Limit { which, trace }) => stopped(alloc, line, world, which, trace.items()),
     }
+}
+
+/// What the command prints, with status 0.
+fn answered(
+    alloc: Global,
+    command: Command,
+    world: &World,
+    table: &ParamTable,
+    checked: &Checked,
+    lists: &[Option<Seq<u8>>],
+) -> Result<Outcome, AllocError>
+    requires text { IsTextOver table.now world.now }
+    requires checked { IsCheckedFor (world_by table.now world.now) (wants_machine command world.now.queries) checked.now }
+    requires lists { AreLinesKept (world_by table.now world.now) (wants_list command world.now.queries) lists.now }
+    requires lines { length lists.now ≡ length world.now.signatures }
+    requires count { HasCount command }
+    ensures { IfOk result (λ o. (o.status ≡ 0) × IsOutput true (world_by table.now world.now) command o.output) }
+{
+    let output = output(alloc, command, world, table, checked, lists)?;
     Ok(Outcome {
         status: 0,
-        output: Seq::new(answers(alloc, world, table, all)?),
+        output: Seq::new(output),
     })
 }
 
@@ -185,7 +270,38 @@ fn refused(alloc: Global, refusal: RefusalKind) -> Result<Outcome, AllocError>
     let mut line = Vec::new(alloc);
     refusal_text(alloc, &refusal, &mut line)?;
     Ok(Outcome {
-        status: status_of(refusal),
+        status: 1,
         output: Seq::new(line),
     })
+}
+
+/// What is answered where a round passes this limit, with this trace.
+fn stopped(
+    alloc: Global,
+    line: &CommandLine,
+    world: &World,
+    which: Which,
+    trace: &[Rule],
+) -> Result<Outcome, AllocError>
+    ensures { IfOk result (λ o. o ≡ stopped_with line.now world.now.lexicon which trace.now) }
+{
+    let mut out = Vec::new(alloc);
+    refusal_text(alloc, &limit_refusal(limits_of(line), which), &mut out)?;
+    if line.trace {
+        trace_text(alloc, world.lexicon(), trace, &mut out)?;
+    }
+    Ok(Outcome {
+        status: 3,
+        output: Seq::new(out),
+    })
+}
+
+/// The limits that the command line sets.
+fn limits_of(line: &CommandLine) -> Limits
+    ensures { result ≡ limits_of line.now }
+{
+    Limits {
+        max_rules: line.max_rules,
+        max_length: line.max_length,
+    }
 }

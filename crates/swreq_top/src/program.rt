@@ -1,28 +1,34 @@
 // From the words and the source to the sink and the status.
-ghost use Rattle.std.specs.Prelude.{◌≡◌, ◌≢◌, ◌+◌, ◌≤◌, ◌↔◌, ◌⊎◌, ℕ, List, [], map, IsTrue, string_bytes};
+ghost use Rattle.std.specs.Prelude.{◌≡◌, ◌≢◌, ◌+◌, ◌≤◌, ◌⊎◌, ℕ, Err, List, [], map, string_bytes};
 ghost use Rattle.std.specs.Io.KnownBytes.{Appends};
+ghost use Rattle.swreq_complete.specs.Limits.{AreInRange};
 ghost use Rattle.swreq_text.specs.Faults.{HasRisen};
 ghost use Rattle.swreq_text.specs.Given.{AppendsPart, GivesCount};
-ghost use Rattle.swreq_top.specs.Runs.{AreRight, AreWrong, DeliversVerdict, IsNotRefused, IsPrinted, IsRead, IsRefusedWith, TellsSome, TellsVerdict};
 ghost use Rattle.swreq_watch.specs.Told.{GrewBy};
+ghost use Rattle.swreq_top.specs.Runs.{Answers, AnswersText, AreWrong, Delivers, IsAnswerable, IsGen, IsPrinted, SayGen, TellsSome};
+ghost use Rattle.swreq_top.specs.Verdict.{answered_text, limits_of};
+ghost use Rattle.swreq_text.specs.declared.whole.ReadErr.TheVariants.{Fault};
+ghost use Rattle.swreq_top.specs.Wanted.{HasCount};
 
-use crate::outcome::reply;
+use crate::outcome::{Outcome, reply};
 use std::alloc::Global;
 use swreq_print::{OUT_OF_MEMORY, READ_FAULT, TOO_LARGE, USAGE};
 use swreq_text::{ReadErr, Sink, Source, read_all, write_all};
 use swreq_watch::Watch;
+use swreq_words::{Command, CommandLine, UsageErr};
 
 /// The most bytes that a text may have.
 const TEXT_LIMIT: u32 = swreq_lex::TEXT_LIMIT as u32;
 
-/// Answers the source's text, and gives the status. The watcher is told the events of the rounds.
+/// Does what the words say: answers the source's text, or that of `gen`, and gives the status. The watcher is told the events of the
+/// rounds.
 ///
 /// | status | meaning | printed |
 /// |---|---|---|
 /// | 0 | answered | the answers |
 /// | 1 | the text is refused | one line |
-/// | 2 | the words are not the one word `answer` | the usage line |
-/// | 3 | a completion passes a limit | one line |
+/// | 2 | the words are refused | the usage line |
+/// | 3 | a completion passes a limit | one line, and with `--trace` the lines of the trace |
 /// | 4 | a read failed | one line |
 /// | 5 | a write failed | a part of what was to be printed |
 /// | 6 | there was no memory | one line |
@@ -33,29 +39,25 @@ pub fn run<S: Source, K: Sink, W: Watch>(
     out: &mut K,
     watch: &mut W,
 ) -> u8
-    // What the text is answered with.
-    ensures verdict { (result ≡ 0) ⊎ ((result ≡ 1) ⊎ (result ≡ 3)) →
-        DeliversVerdict (S.left src.old) (K.taken out.old) (K.taken out.new) result }
+    // What the text is answered with, and what the watcher is told of it.
+    ensures verdict { (result ≡ 0) ⊎ ((result ≡ 1) ⊎ (result ≡ 3)) → Delivers (map string_bytes words.now) (S.left src.old) (S.left src.new)
+        (K.taken out.old) (K.taken out.new) (W.told watch.old) (W.told watch.new) result }
 
-    // A text that is refused has the status of its refusal, and one that is answered has none.
-    ensures refused { (result ≡ 1) ⊎ (result ≡ 3) → IsRefusedWith (S.left src.old) result }
-    ensures answered { result ≡ 0 → IsNotRefused (S.left src.old) }
+    // A text that nothing refuses is answered.
+    ensures answered { IsAnswerable (map string_bytes words.now) (S.left src.old) → (result ≡ 1) ⊎ (result ≡ 3) → ⊥ }
 
     // The words.
-    ensures wrong_words { AreWrong (map string_bytes words.now) → (result ≡ 2) ⊎ (result ≡ 5) }
+    ensures wrong_words { AreWrong (map string_bytes words.now) → (result ≡ 2) ⊎ ((result ≡ 5) ⊎ (result ≡ 6)) }
     ensures usage { result ≡ 2 → AreWrong (map string_bytes words.now) }
     ensures usage_line { result ≡ 2 → Appends (K.taken out.old) (K.taken out.new) USAGE.now }
 
     // What is left of the source.
-    ensures unread { AreWrong (map string_bytes words.now) → src.new ≡ src.old }
-    ensures read { (result ≡ 0) ⊎ ((result ≡ 1) ⊎ (result ≡ 3)) → IsRead (S.left src.old) (S.left src.new) }
+    ensures unread { AreWrong (map string_bytes words.now) ⊎ SayGen (map string_bytes words.now) → src.new ≡ src.old }
     ensures no_more { (n : ℕ) × (n ≤ TEXT_LIMIT + 1) × GivesCount (S.left src.old) (S.left src.new) n }
 
     // What the watcher is told.
-    ensures told { (result ≡ 0) ⊎ ((result ≡ 1) ⊎ (result ≡ 3)) →
-        TellsVerdict (S.left src.old) (W.told watch.old) (W.told watch.new) }
     ensures untold { (result ≡ 2) ⊎ (result ≡ 4) → GrewBy (W.told watch.old) (W.told watch.new) [] }
-    ensures told_part { TellsSome (S.left src.old) (W.told watch.old) (W.told watch.new) }
+    ensures told_part { TellsSome (map string_bytes words.now) (S.left src.old) (W.told watch.old) (W.told watch.new) }
 
     // The faults of the streams, and memory.
     ensures read_fault { result ≡ 4 → HasRisen (S.faults src.old) (S.faults src.new) }
@@ -69,34 +71,57 @@ pub fn run<S: Source, K: Sink, W: Watch>(
     ensures memory_line { result ≡ 6 → Appends (K.taken out.old) (K.taken out.new) OUT_OF_MEMORY.now }
     ensures statuses { result ≤ 6 }
 {
-    if !is_answer(words) {
-        return finish(out, 2, USAGE);
-    }
-    match read_all(alloc, src, TEXT_LIMIT) {
-        Ok(text) => match reply(alloc, &text, watch) {
+    match swreq_words::read(alloc, words) {
+        Ok(line) => match answer(alloc, &line, src, watch) {
             Ok(outcome) => finish(out, outcome.status, outcome.output.items()),
-            Err(_) => finish(out, 6, OUT_OF_MEMORY),
+            Err(ReadErr::TooLarge) => finish(out, 1, TOO_LARGE),
+            Err(ReadErr::Fault) => finish(out, 4, READ_FAULT),
+            Err(ReadErr::Memory) => finish(out, 6, OUT_OF_MEMORY),
         },
-        Err(ReadErr::TooLarge) => finish(out, 1, TOO_LARGE),
-        Err(ReadErr::Fault) => finish(out, 4, READ_FAULT),
-        Err(ReadErr::Memory) => finish(out, 6, OUT_OF_MEMORY),
+        Err(UsageErr::Usage) => finish(out, 2, USAGE),
+        Err(UsageErr::Memory) => finish(out, 6, OUT_OF_MEMORY),
     }
 }
 
-/// Whether the words are the one word `answer`.
-fn is_answer(words: &[String]) -> bool
-    ensures { IsTrue result ↔ AreRight (map string_bytes words.now) }
+/// What is answered of the source's text, or of the one that is generated.
+fn answer<S: Source, W: Watch>(
+    alloc: Global,
+    line: &CommandLine,
+    src: &mut S,
+    watch: &mut W,
+) -> Result<Outcome, ReadErr>
+    requires limits { AreInRange (limits_of line.now) }
+    requires count { HasCount line.now.command }
+    ensures answer { Answers line.now (S.left src.old) (S.left src.new) (W.told watch.old) (W.told watch.new) result }
+    ensures unread { IsGen line.now.command → src.new ≡ src.old }
+    ensures no_more { (n : ℕ) × (n ≤ TEXT_LIMIT + 1) × GivesCount (S.left src.old) (S.left src.new) n }
+    ensures fault { result ≡ Err Fault → HasRisen (S.faults src.old) (S.faults src.new) }
+    ensures no_fault { (result ≡ Err Fault) ⊎ (S.faults src.new ≡ S.faults src.old) }
 {
-    match words {
-        [word] => is_text(word, "answer"),
-        _ => false,
+    match line.command {
+        Command::Gen { .. } => replied(alloc, line, &[], watch),
+        _ => match read_all(alloc, src, TEXT_LIMIT) {
+            Ok(text) => replied(alloc, line, &text, watch),
+            Err(e) => Err(e),
+        },
     }
 }
 
-fn is_text(word: &String, text: &str) -> bool
-    ensures { IsTrue result ↔ (string_bytes word.now ≡ text.now) }
+/// What the command answers of the text.
+fn replied<W: Watch>(
+    alloc: Global,
+    line: &CommandLine,
+    text: &[u8],
+    watch: &mut W,
+) -> Result<Outcome, ReadErr>
+    requires limits { AreInRange (limits_of line.now) }
+    requires count { HasCount line.now.command }
+    ensures { AnswersText line.now (answered_text line.now.command text.now) (W.told watch.old) (W.told watch.new) result }
 {
-    word.as_str() == text
+    match reply(alloc, line, text, watch) {
+        Ok(outcome) => Ok(outcome),
+        Err(_) => Err(ReadErr::Memory),
+    }
 }
 
 /// Writes the bytes, and gives the status, which is 5 where a write failed.

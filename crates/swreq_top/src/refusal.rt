@@ -1,15 +1,12 @@
 // Why a text is not answered.
 ghost use Rattle.std.specs.Prelude.{◌≡◌};
-ghost use Rattle.swreq_top.specs.Reports.{lexical_refusal, machine_refusal, name_refusal, refusal_of};
-ghost use Rattle.swreq_top.specs.Verdict.{status_of};
+ghost use Rattle.swreq_top.specs.Reports.{lexical_refusal, limit_refusal, name_refusal, refusal_of};
 
-use crate::checking::limits;
-use swreq_complete::Which;
+use swreq_complete::{Limits, Which};
 use swreq_decl::ParseErr;
 use swreq_lex::LexErr;
 use swreq_names::NameErr;
 use swreq_print::RefusalKind;
-use swreq_valid::Refused;
 
 /// The refusal of a text that could not be read.
 pub(crate) fn refusal_of(e: ParseErr) -> RefusalKind
@@ -50,34 +47,16 @@ pub(crate) fn name_refusal(e: NameErr) -> RefusalKind
     }
 }
 
-/// The refusal of a text whose machines are refused.
-pub(crate) fn machine_refusal(e: &Refused) -> RefusalKind
-    ensures { result ≡ machine_refusal e.now }
+/// The refusal of a text in whose rounds this limit is passed.
+pub(crate) fn limit_refusal(limits: Limits, which: Which) -> RefusalKind
+    ensures { result ≡ limit_refusal limits which }
 {
-    match e {
-        Refused::Limit {
-            which: Which::Rules,
-            ..
-        } => RefusalKind::LimitRules {
-            max: limits().max_rules,
+    match which {
+        Which::Rules => RefusalKind::LimitRules {
+            max: limits.max_rules,
         },
-        Refused::Limit {
-            which: Which::Length,
-            ..
-        } => RefusalKind::LimitLength {
-            max: limits().max_length,
+        Which::Length => RefusalKind::LimitLength {
+            max: limits.max_length,
         },
-        Refused::NotATypeParameter { at } => RefusalKind::NotATypeParameter { at: *at },
-        Refused::Memory => RefusalKind::OutOfMemory,
-    }
-}
-
-/// 3 where a completion passed a limit, and 1 of any other refusal.
-pub(crate) fn status_of(refusal: RefusalKind) -> u8
-    ensures { result ≡ status_of refusal }
-{
-    match refusal {
-        RefusalKind::LimitRules { .. } | RefusalKind::LimitLength { .. } => 3,
-        _ => 1,
     }
 }

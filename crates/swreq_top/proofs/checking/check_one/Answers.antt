@@ -1,6 +1,5 @@
-use Rattle.std.proofs.Common.{◌≡◌, subst, sym}
 use Rattle.swreq_valid.specs.Rounds.{last_rules}
-use Rattle.swreq_top.proofs.OfLists.{in_range, kept_one, lost_one, machine_is, params_are, refused_one, signature_written}
+use Rattle.swreq_top.proofs.OfLists.{kept_one, lost_one, machine_is, refused_one, signature_written}
 use Rattle.swreq_top.proofs.checking.check_one.Goals as goal
 
 pub build-requires-clause-written : goal.build-requires-clause-written
@@ -13,15 +12,15 @@ keep-requires-clause-machine g c =
 
 pub returns-in-Err-clause-check : goal.returns-in-Err-clause-check
 returns-in-Err-clause-check g c =
-    refused_one c.args.world.now c.args.table.now c.args.f (last_rules c.args.protocols.now.rounds) _ _ c.limits.result c.params.result c.signature.result.now
-    c.limits.ensures c.params.ensures c.signature.ensures c.in-Err.refused c.in-Err.ensures.answer
+    refused_one c.args.world.now c.args.table.now c.args.f c.args.limits (last_rules c.args.protocols.now.rounds) _ _ c.params.result
+    c.signature.result.now c.params.ensures c.signature.ensures c.in-Err.refused c.in-Err.ensures.answer
 
 pub returns-in-Err-keep-clause-check : goal.returns-in-Err-keep-clause-check
 returns-in-Err-keep-clause-check g c =
-    lost_one c.args.world.now c.args.table.now c.args.f (last_rules c.args.protocols.now.rounds) _ _ c.limits.result c.params.result c.signature.result.now
-    c.limits.ensures c.params.ensures c.signature.ensures (last_rules c.in-Ok.machine.rounds) c.in-Ok.ensures.answer
+    lost_one c.args.world.now c.args.table.now c.args.f c.args.limits (last_rules c.args.protocols.now.rounds) _ _ c.params.result
+    c.signature.result.now c.params.ensures c.signature.ensures (last_rules c.in-Ok.machine.rounds) c.in-Ok.ensures.answer
 
 pub returns-in-Ok-keep-clause-check : goal.returns-in-Ok-keep-clause-check
 returns-in-Ok-keep-clause-check g c =
-    kept_one c.args.world.now c.args.table.now c.args.f (last_rules c.args.protocols.now.rounds) _ _ c.limits.result c.params.result c.signature.result.now
-    c.limits.ensures c.params.ensures c.signature.ensures (last_rules c.in-Ok.machine.rounds) c.in-Ok-keep.entry c.in-Ok.ensures.answer
+    kept_one c.args.world.now c.args.table.now c.args.f c.args.limits (last_rules c.args.protocols.now.rounds) _ _ c.params.result
+    c.signature.result.now c.params.ensures c.signature.ensures (last_rules c.in-Ok.machine.rounds) c.in-Ok-keep.entry c.in-Ok.ensures.answer

@@ -1,5 +1,5 @@
-use Rattle.swreq_top.proofs.OneRefusal.{AreOne, never_both, one_refusal}
-use Rattle.swreq_top.proofs.laws.one_refusal.Goals as goal
+use Rattle.swreq_top.proofs.OneRefusal.{AreOne, one_verdict}
+use Rattle.swreq_top.proofs.laws.one_verdict.Goals as goal
 
 laws : (c : goal.After-worlds_are_closed) → AreOne c.args.text.now
 laws c = record {
@@ -13,8 +13,5 @@ laws c = record {
   closed = c.worlds_are_closed.ensures.closed;
 }
 
-pub returns-clause-one : goal.returns-clause-one
-returns-clause-one c = one_refusal c.args.text.now (laws c)
-
-pub returns-clause-never_both : goal.returns-clause-never_both
-returns-clause-never_both c = never_both c.args.text.now (laws c)
+pub returns : goal.returns
+returns c line o p told also refused verdict = one_verdict line c.args.text.now (laws c) o p told also refused verdict

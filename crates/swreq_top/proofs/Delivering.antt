@@ -1,0 +1,145 @@
+-- What a run delivers.
+use Rattle.std.proofs.Common.{◌≡◌, ◌≢◌, ◌⊎◌, ◌∙◌, ℕ, ◌+◌, ◌<◌, ◌≤◌, List, [], ◌++◌, length, Option, Some, None, IfSome, IfOk, OnErr, Result, Ok, Err, refl, sym, ap, inl, inr, subst, arith, length-append, append-nil}
+use Rattle.std.specs.declared.alloc.AllocError.{AllocError}
+use Rattle.std.specs.Io.KnownBytes.{Appends, Consumes, IsAtEnd}
+use Rattle.swreq_lex.specs.declared.lexer.TheConstants.{TEXT_LIMIT}
+use Rattle.swreq_gen.specs.Generated.{generated}
+use Rattle.swreq_text.specs.Given.{GivesCount}
+use Rattle.swreq_text.specs.declared.whole.ReadErr.{ReadErr}
+use Rattle.swreq_text.specs.declared.whole.ReadErr.TheVariants.{Fault, Memory, TooLarge}
+use Rattle.swreq_print.specs.Names.{Text}
+use Rattle.swreq_print.specs.declared.refusal.RefusalKind.TheVariants as refusals
+use Rattle.swreq_watch.specs.declared.events.Event.{Event}
+use Rattle.swreq_watch.specs.Told.{GrewBy}
+use Rattle.swreq_watch.proofs.Told.{grew_none}
+use Rattle.swreq_words.specs.Form.{Says}
+use Rattle.swreq_words.specs.declared.command.Command.{Command}
+use Rattle.swreq_words.specs.declared.command.Command.TheVariants as command
+use Rattle.swreq_words.specs.declared.command.CommandLine.{CommandLine}
+use Rattle.swreq_top.specs.declared.outcome.Outcome.{Outcome}
+use Rattle.swreq_top.specs.Replies.{IsToldVerdict, WasToldPart}
+use Rattle.swreq_top.specs.Runs.{Answers, AnswersText, Delivers, IsAnswerable, IsGen, IsOutputOn, IsRead, LeavesSource, TellsSome, known_text}
+use Rattle.swreq_top.specs.Verdict.{IsAnswered, IsCutShort, IsRefused, IsVerdict, answered_text, refused_with}
+use Rattle.swreq_top.specs.Verdict.IsRefused.{without_world, not_a_type_parameter, past_a_limit}
+use Rattle.swreq_top.specs.Verdict.IsVerdict as verdicts
+
+-- ---- statuses
+
+refused_status : (line : CommandLine) (text : Text) (o : Outcome) (told : List Event) → IsRefused line text o told
+    → (o.status ≡ 1) ⊎ (o.status ≡ 3)
+refused_status line text o told (without_world refusal has is none) = inl (ap (λ (p : Outcome). p.status) is)
+refused_status line text o told (not_a_type_parameter w at has checked is) = inl (ap (λ (p : Outcome). p.status) is)
+refused_status line text o told (past_a_limit w which trace has checked is) = inr (ap (λ (p : Outcome). p.status) is)
+
+-- the status of a verdict is 0, 1 or 3
+pub verdict_status : (line : CommandLine) (text : Text) (o : Outcome) (told : List Event) → IsVerdict line text o told
+    → (o.status ≡ 0) ⊎ ((o.status ≡ 1) ⊎ (o.status ≡ 3))
+verdict_status line text o told (verdicts.refused r) = inr (refused_status line text o told r)
+verdict_status line text o told (verdicts.cut_short c) = inr (inr (ap (λ (p : Outcome). p.status) c.outcome))
+verdict_status line text o told (verdicts.answered a) = inl a.status
+
+-- and so not that of a failed write
+pub not_five : (status : ℕ) → (status ≡ 0) ⊎ ((status ≡ 1) ⊎ (status ≡ 3)) → status ≢ 5
+not_five status (inl zero) five = absurd (omega (arith, zero, five))
+not_five status (inr (inl one)) five = absurd (omega (arith, one, five))
+not_five status (inr (inr three)) five = absurd (omega (arith, three, five))
+
+-- ---- sources
+
+-- a source that was read to its end gave all that it had left
+whole : (left rest text : Text) → (left ≡ text ++ rest) → rest ≡ [] → left ≡ text
+whole left rest text came end = came ∙ ap (λ (l : Text). text ++ l) end ∙ append-nil text
+
+-- what holds of the text that was read to its end holds of what the source had left
+pub of_source : (P : Text → Type 0) (left rest : Option Text) (text : Text) → Consumes left rest text → IsAtEnd rest → P text → IfSome left P
+of_source P None rest text came end holds = tt
+of_source P (Some all) None text came end holds = absurd came
+of_source P (Some all) (Some rest) text came end holds = subst P (sym (whole all rest text came end)) holds
+
+-- a text that was read to its end is read
+pub read_whole : (left rest : Option Text) (text : Text) → Consumes left rest text → IsAtEnd rest → length text ≤ TEXT_LIMIT → IsRead left rest
+read_whole None rest text came end within = tt
+read_whole (Some all) None text came end within = absurd came
+read_whole (Some all) (Some rest) text came end within = inl (omega (arith, ap length (whole all rest text came end), within), end)
+
+-- and so is one that is too long
+pub read_too_large : (left rest : Option Text) → GivesCount left rest (TEXT_LIMIT + 1) → IsRead left rest
+read_too_large None rest came = tt
+read_too_large (Some all) None came = absurd came.1
+read_too_large (Some all) (Some rest) came = inr (omega (arith, ap length came.1, length-append came.0 rest, came.2), came)
+
+-- which is refused for that
+pub too_large : (line : CommandLine) (left rest : Option Text) (old : Option (List Event)) → GivesCount left rest (TEXT_LIMIT + 1)
+    → IfSome left (λ text. IsToldVerdict line text old old (refused_with refusals.TooLarge))
+too_large line None rest old came = tt
+too_large line (Some all) None old came = absurd came.1
+too_large line (Some all) (Some rest) old came =
+    let long : TEXT_LIMIT < length all = omega (arith, ap length came.1, length-append came.0 rest, came.2) in
+    ([], verdicts.refused (without_world refusals.TooLarge long refl refl), grew_none old)
+
+-- nothing is gone of what stayed as it was
+pub none_given : (left : Option Text) → GivesCount left left 0
+none_given None = ([], tt, refl)
+none_given (Some all) = ([], refl, refl)
+
+-- ---- what is answered
+
+module _ (line : CommandLine) where
+  -- a text that was read
+  pub replied : (text : Text) (old new : Option (List Event)) (o : Outcome) → IsToldVerdict line text old new o
+      → (o.status ≡ 0) ⊎ ((o.status ≡ 1) ⊎ (o.status ≡ 3))
+  replied text old new o (told, verdict, grew) = verdict_status line text o told verdict
+
+  -- what holds of the text of `gen` holds whatever the source has
+  generated_known : (c : Command) (left : Option Text) (P : Text → Type 0) (text : Text) → IsGen c → P (answered_text c text)
+      → IfSome (known_text c left) P
+  generated_known command.Answer left P text (n, is) holds = absurd (let clash : command.Answer ≡ command.Gen n = is in cc)
+  generated_known command.Signatures left P text (n, is) holds = absurd (let clash : command.Signatures ≡ command.Gen n = is in cc)
+  generated_known command.Rules left P text (n, is) holds = absurd (let clash : command.Rules ≡ command.Gen n = is in cc)
+  generated_known (command.Gen m) left P text is holds = holds
+
+  -- and what holds of the text of a source holds of what it had left
+  source_known : (c : Command) (left rest : Option Text) (P : Text → Type 0) (text : Text) → (IsGen c → ⊥) → Consumes left rest text → IsAtEnd rest
+      → P (answered_text c text) → IfSome (known_text c left) P
+  source_known command.Answer left rest P text reads came end holds = of_source P left rest text came end holds
+  source_known command.Signatures left rest P text reads came end holds = of_source P left rest text came end holds
+  source_known command.Rules left rest P text reads came end holds = of_source P left rest text came end holds
+  source_known (command.Gen n) left rest P text reads came end holds = absurd (reads (n, refl))
+
+  leaves_read : (c : Command) (left rest : Option Text) → (IsGen c → ⊥) → IsRead left rest → LeavesSource c left rest
+  leaves_read command.Answer left rest reads read = read
+  leaves_read command.Signatures left rest reads read = read
+  leaves_read command.Rules left rest reads read = read
+  leaves_read (command.Gen n) left rest reads read = absurd (reads (n, refl))
+
+  leaves_alone : (c : Command) (left : Option Text) → IsGen c → LeavesSource c left left
+  leaves_alone command.Answer left (n, is) = absurd (let clash : command.Answer ≡ command.Gen n = is in cc)
+  leaves_alone command.Signatures left (n, is) = absurd (let clash : command.Signatures ≡ command.Gen n = is in cc)
+  leaves_alone command.Rules left (n, is) = absurd (let clash : command.Rules ≡ command.Gen n = is in cc)
+  leaves_alone (command.Gen m) left is = refl
+
+  -- the answer of `gen`
+  pub answers_generated : (left : Option Text) (old new : Option (List Event)) (text : Text) (result : Result Outcome ReadErr) → IsGen line.command
+      → AnswersText line (answered_text line.command text) old new result → Answers line left left old new result
+  answers_generated left old new text (Ok o) is h = (
+    leaves_alone line.command left is,
+    generated_known line.command left (λ t. IsToldVerdict line t old new o) text is h,
+    replied (answered_text line.command text) old new o h,
+  )
+  answers_generated left old new text (Err TooLarge) is h = absurd h
+  answers_generated left old new text (Err Fault) is h = absurd h
+  answers_generated left old new text (Err Memory) is h = generated_known line.command left (λ t. WasToldPart line t old new) text is h
+
+  -- and of a text that was read to its end
+  pub answers_read : (left rest : Option Text) (old new : Option (List Event)) (text : Text) (result : Result Outcome ReadErr)
+      → (IsGen line.command → ⊥) → Consumes left rest text → IsAtEnd rest → length text ≤ TEXT_LIMIT
+      → AnswersText line (answered_text line.command text) old new result → Answers line left rest old new result
+  answers_read left rest old new text (Ok o) reads came end within h = (
+    leaves_read line.command left rest reads (read_whole left rest text came end within),
+    source_known line.command left rest (λ t. IsToldVerdict line t old new o) text reads came end h,
+    replied (answered_text line.command text) old new o h,
+  )
+  answers_read left rest old new text (Err TooLarge) reads came end within h = absurd h
+  answers_read left rest old new text (Err Fault) reads came end within h = absurd h
+  answers_read left rest old new text (Err Memory) reads came end within h =
+      source_known line.command left rest (λ t. WasToldPart line t old new) text reads came end h

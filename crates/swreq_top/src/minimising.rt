@@ -1,0 +1,164 @@
+//! The minimised lists that a command asks for, each as its line.
+ghost use Rattle.std.specs.Prelude.{◌≡◌, ◌<◌, List, ℕ, length, true, IfErr, IfOk, OnOk};
+ghost use Rattle.swreq_complete.specs.Limits.{AreInRange};
+ghost use Rattle.swreq_minimal.specs.Inheritance.{IsInheritanceWritten};
+ghost use Rattle.swreq_output.specs.Minimising.{MinimisingFails, MinimisingTells};
+ghost use Rattle.swreq_output.specs.Signatures.{IsMinimisedLine};
+ghost use Rattle.swreq_shown.specs.Known.{IsTextOver};
+ghost use Rattle.swreq_valid.specs.Rounds.{last_rules};
+ghost use Rattle.swreq_watch.specs.declared.events.Event.{Event};
+ghost use Rattle.swreq_watch.specs.Told.{GrewBy};
+ghost use Rattle.swreq_world.specs.ByTable.{world_by};
+ghost use Rattle.swreq_world.specs.Worlds.{signature_at};
+ghost use Rattle.swreq_top.specs.Ready.{AreLinesKept, IsCheckedFor, IsLineKept};
+ghost use Rattle.swreq_top.specs.Told.{FailsAt, MinimisingAllTells, MinimisingEndsIn, TellsOne};
+ghost use Rattle.swreq_top.specs.Wanted.{AreFlags, wants_list, wants_machine};
+
+use crate::ready::Checked;
+use std::alloc::Global;
+use swreq_complete::{Failed, Limits};
+use swreq_output::minimised_line;
+use swreq_param::ParamTable;
+use swreq_text::Seq;
+use swreq_watch::Watch;
+use swreq_words::Command;
+use swreq_world::World;
+use swreq_written::FuncId;
+
+/// The line of the minimised list of a signature whose machine is kept.
+fn line_of<W: Watch>(
+    alloc: Global,
+    world: &World,
+    table: &mut ParamTable,
+    checked: &Checked,
+    command: Command,
+    f: FuncId,
+    limits: Limits,
+    watch: &mut W,
+) -> Result<Seq<u8>, Failed>
+    requires text { IsTextOver table.old world.now }
+    requires inheritance { IsInheritanceWritten (world_by table.old world.now) }
+    requires checked { IsCheckedFor (world_by table.old world.now) (wants_machine command world.now.queries) checked.now }
+    requires f { f.place < length world.now.signatures }
+    requires kept { wants_machine command world.now.queries f.place ≡ true }
+    requires limits { AreInRange limits }
+    ensures line { IfOk result (IsMinimisedLine (world_by table.old world.now) (signature_at (world_by table.old world.now) f)) }
+    ensures told { OnOk result ((told : List Event)
+        × MinimisingTells limits (world_by table.old world.now) (last_rules checked.now.protocols.rounds) (signature_at (world_by table.old world.now) f) told
+        × GrewBy (W.told watch.old) (W.told watch.new) told) }
+    ensures failed { IfErr result (λ failed. (told : List Event)
+        × MinimisingFails limits (world_by table.old world.now) (last_rules checked.now.protocols.rounds) (signature_at (world_by table.old world.now) f) failed told
+        × GrewBy (W.told watch.old) (W.told watch.new) told) }
+    ensures world { world_by table.new world.now ≡ world_by table.old world.now }
+    ensures text { IsTextOver table.new world.now }
+{
+    let _ = command;
+    match &checked.kept[f.place as usize] {
+        None => unreachable!(),
+        Some(ready) => {
+            let mut line = Vec::new(alloc);
+            minimised_line(
+                alloc,
+                world,
+                table,
+                &checked.protocols,
+                &ready.machine,
+                f,
+                limits,
+                watch,
+                &mut line,
+            )?;
+            Ok(Seq::new(line))
+        }
+    }
+}
+
+/// The line of the minimised list of a signature, or None where the command does not ask for it.
+fn line_if_wanted<W: Watch>(
+    alloc: Global,
+    world: &World,
+    table: &mut ParamTable,
+    checked: &Checked,
+    lists: &[bool],
+    command: Command,
+    f: FuncId,
+    limits: Limits,
+    watch: &mut W,
+) -> Result<Option<Seq<u8>>, Failed>
+    requires text { IsTextOver table.old world.now }
+    requires inheritance { IsInheritanceWritten (world_by table.old world.now) }
+    requires checked { IsCheckedFor (world_by table.old world.now) (wants_machine command world.now.queries) checked.now }
+    requires lists { AreFlags (wants_list command world.now.queries) (length world.now.signatures) lists.now }
+    requires f { f.place < length world.now.signatures }
+    requires limits { AreInRange limits }
+    ensures line { IfOk result (IsLineKept (world_by table.old world.now) (wants_list command world.now.queries) f) }
+    ensures told { OnOk result ((told : List Event)
+        × TellsOne limits (world_by table.old world.now) command (last_rules checked.now.protocols.rounds) (signature_at (world_by table.old world.now) f) told
+        × GrewBy (W.told watch.old) (W.told watch.new) told) }
+    ensures failed { IfErr result (λ failed. (told : List Event)
+        × FailsAt limits (world_by table.old world.now) command (last_rules checked.now.protocols.rounds) (signature_at (world_by table.old world.now) f) failed told
+        × GrewBy (W.told watch.old) (W.told watch.new) told) }
+    ensures world { world_by table.new world.now ≡ world_by table.old world.now }
+    ensures text { IsTextOver table.new world.now }
+{
+    if !lists[f.place as usize] {
+        return Ok(None);
+    }
+    match line_of(alloc, world, table, checked, command, f, limits, watch) {
+        Ok(line) => Ok(Some(line)),
+        Err(failed) => Err(failed),
+    }
+}
+
+/// The lines of the minimised lists that the command asks for, of each signature in written order.
+///
+/// `Failed::Limit` comes only where the rounds of a list that minimising meets pass a limit, with the trace of the round that passes it.
+/// The watcher is told the events of the rounds of such lists.
+pub(crate) fn minimised_lines<W: Watch>(
+    alloc: Global,
+    world: &World,
+    table: &mut ParamTable,
+    checked: &Checked,
+    lists: &[bool],
+    command: Command,
+    limits: Limits,
+    watch: &mut W,
+) -> Result<Vec<Option<Seq<u8>>>, Failed>
+    requires text { IsTextOver table.old world.now }
+    requires inheritance { IsInheritanceWritten (world_by table.old world.now) }
+    requires checked { IsCheckedFor (world_by table.old world.now) (wants_machine command world.now.queries) checked.now }
+    requires lists { AreFlags (wants_list command world.now.queries) (length world.now.signatures) lists.now }
+    requires limits { AreInRange limits }
+    ensures lines { IfOk result (λ v. AreLinesKept (world_by table.old world.now) (wants_list command world.now.queries) v.items) }
+    ensures count { IfOk result (λ v. length v.items ≡ length world.now.signatures) }
+    ensures told { OnOk result ((told : List Event)
+        × MinimisingAllTells limits (world_by table.old world.now) command (last_rules checked.now.protocols.rounds) told
+        × GrewBy (W.told watch.old) (W.told watch.new) told) }
+    ensures failed { IfErr result (λ failed. (told : List Event)
+        × MinimisingEndsIn limits (world_by table.old world.now) command (last_rules checked.now.protocols.rounds) failed told
+        × GrewBy (W.told watch.old) (W.told watch.new) told) }
+    ensures world { world_by table.new world.now ≡ world_by table.old world.now }
+    ensures text { IsTextOver table.new world.now }
+{
+    let mut all = Vec::new(alloc);
+    for k in 0..world.functions() {
+        match line_if_wanted(
+            alloc,
+            world,
+            table,
+            checked,
+            lists,
+            command,
+            FuncId { place: k },
+            limits,
+            watch,
+        ) {
+            Err(failed) => return Err(failed),
+            Ok(entry) => match all.push(entry) {
+                Err(_) => return Err(Failed::Memory),
+                Ok(()) => {}
+            },
+        }
+    }
+    Ok(all)
+}
