@@ -6,6 +6,7 @@ use Rattle.swreq_derive.specs.declared.known.Params.{Params}
 use Rattle.swreq_derive.specs.declared.requirements.Requirement.{Requirement}
 use Rattle.swreq_derive.specs.Derivation.{TermRequirement}
 use Rattle.swreq_derive.specs.Derivation.Source.{Written as WrittenList}
+use Rattle.swreq_derive.specs.Equivalence.{AreEquivalent}
 use Rattle.swreq_derive.specs.Facts.{generic_params}
 use Rattle.swreq_word.specs.Relations.{Linked}
 use Rattle.swreq_rule.specs.declared.rules.Rule.{Rule}
@@ -31,14 +32,16 @@ use Rattle.swreq_output.proofs.Reading.{params_are}
 line_appended : (terms : List Term) (w : IdWorld) (f : FuncId) (of_machine params : Params) (list : List TermRequirement) (out new : List ℕ)
     → of_machine ≡ (signature_at (world_by terms w) f).params → params ≡ (signature_at w f).params
     → IsMinimised (facts_of (world_by terms w)) (generic_params of_machine) (written_list (signature_at (world_by terms w) f)) list
+    → AreEquivalent (facts_of (world_by terms w)) (generic_params of_machine) (written_list (signature_at (world_by terms w) f)) list
     → new ≡ out ++ (signature_text w.lexicon (generic_params params) list ++ codes "\n")
     → (line : List ℕ) × IsMinimisedLine (world_by terms w) (signature_at (world_by terms w) f) line × (new ≡ out ++ line)
-line_appended terms w f of_machine params list out new same read minimised e =
+line_appended terms w f of_machine params list out new alike read minimised same e =
     let g : SignatureOver PlacedRequirement = signature_at (world_by terms w) f in (
       signature_text w.lexicon (generic_params g.params) list ++ codes "\n",
       record {
         list = list;
-        minimised = subst (λ (p : Params). IsMinimised (facts_of (world_by terms w)) (generic_params p) (written_list g) list) same minimised;
+        minimised = subst (λ (p : Params). IsMinimised (facts_of (world_by terms w)) (generic_params p) (written_list g) list) alike minimised;
+        same = subst (λ (p : Params). AreEquivalent (facts_of (world_by terms w)) (generic_params p) (written_list g) list) alike same;
         line_is = refl;
       },
       e ∙ ap (λ (p : Params). out ++ (signature_text w.lexicon (generic_params p) list ++ codes "\n")) (read ∙ sym (params_are terms w f)),
@@ -48,10 +51,11 @@ line_appended terms w f of_machine params list out new same read minimised e =
 pub line_read : (terms new_terms : List Term) (w : IdWorld) (f : FuncId) (of_machine params : Params) (rs shown : List Requirement) (out new : List ℕ)
     → of_machine ≡ (signature_at (world_by terms w) f).params → params ≡ (signature_at w f).params → shown ≡ rs
     → IsMinimised (facts_of (world_by terms w)) (generic_params of_machine) (written_list (signature_at (world_by terms w) f)) (listed new_terms rs)
+    → AreEquivalent (facts_of (world_by terms w)) (generic_params of_machine) (written_list (signature_at (world_by terms w) f)) (listed new_terms rs)
     → new ≡ out ++ (signature_text w.lexicon (generic_params params) (listed new_terms shown) ++ codes "\n")
     → (line : List ℕ) × IsMinimisedLine (world_by terms w) (signature_at (world_by terms w) f) line × (new ≡ out ++ line)
-line_read terms new_terms w f of_machine params rs shown out new same read are minimised e =
-    line_appended terms w f of_machine params (listed new_terms rs) out new same read minimised
+line_read terms new_terms w f of_machine params rs shown out new alike read are minimised same e =
+    line_appended terms w f of_machine params (listed new_terms rs) out new alike read minimised same
     (subst (λ (z : List Requirement). new ≡ out ++ (signature_text w.lexicon (generic_params params) (listed new_terms z) ++ codes "\n")) are e)
 
 -- The reduced system by the rules of the machine, which the code reads as its own.

@@ -3,6 +3,7 @@ use Rattle.std.specs.Prelude.{◌≡◌, ◌++◌, List, [], map, codes}
 use Rattle.std.specs.Option.{option_map_or}
 use Rattle.swreq_derive.specs.Derivation.{Source, TermRequirement}
 use Rattle.swreq_derive.specs.Derivation.Source.{Written}
+use Rattle.swreq_derive.specs.Equivalence.{AreEquivalent}
 use Rattle.swreq_derive.specs.Facts.{generic_params}
 use Rattle.swreq_written.specs.Requirements.{PlacedRequirement}
 use Rattle.swreq_world.specs.Lookups.{outer_name}
@@ -24,10 +25,11 @@ source_of g = Written (generic_params g.params) (written_list g)
 abbrev pub full_name : TextWorld → SignatureOver PlacedRequirement → Text
 full_name w g = option_map_or (λ outer. outer ++ codes ".") (outer_name w g.outer) [] ++ g.name
 
--- The line is the text of the minimised list of the signature.
+-- The line is the text of the minimised list of the signature, from which one derives just what one derives from the written list.
 pub record IsMinimisedLine (w : TextWorld) (g : SignatureOver PlacedRequirement) (line : Text) : Type 0 where
   pub list : List TermRequirement
   pub minimised : IsMinimised (facts_of w) (generic_params g.params) (written_list g) list
+  pub same : AreEquivalent (facts_of w) (generic_params g.params) (written_list g) list
   pub line_is : line ≡ signature_text w.lexicon (generic_params g.params) list ++ codes "\n"
 
 -- It stands behind the name of the signature.

@@ -21,7 +21,7 @@ use Rattle.swreq_top.specs.Replies.{IsToldVerdict, WasToldPart}
 use Rattle.swreq_top.specs.Runs.{Answers, AnswersText, Delivers, IsAnswerable, IsGen, IsOutputOn, IsRead, LeavesSource, TellsSome, known_text}
 use Rattle.swreq_top.specs.Verdict.{IsAnswered, IsCutShort, IsRefused, IsVerdict, answered_text, refused_with}
 use Rattle.swreq_top.specs.Verdict.IsRefused.{without_world, not_a_type_parameter, past_a_limit}
-use Rattle.swreq_top.specs.Verdict.IsVerdict as verdicts
+use Rattle.swreq_top.specs.Verdict.IsVerdict.{answered as is_answered, cut_short as is_cut_short, refused as is_refused}
 
 -- ---- statuses
 
@@ -34,9 +34,9 @@ refused_status line text o told (past_a_limit w which trace has checked is) = in
 -- the status of a verdict is 0, 1 or 3
 pub verdict_status : (line : CommandLine) (text : Text) (o : Outcome) (told : List Event) → IsVerdict line text o told
     → (o.status ≡ 0) ⊎ ((o.status ≡ 1) ⊎ (o.status ≡ 3))
-verdict_status line text o told (verdicts.refused r) = inr (refused_status line text o told r)
-verdict_status line text o told (verdicts.cut_short c) = inr (inr (ap (λ (p : Outcome). p.status) c.outcome))
-verdict_status line text o told (verdicts.answered a) = inl a.status
+verdict_status line text o told (is_refused r) = inr (refused_status line text o told r)
+verdict_status line text o told (is_cut_short c) = inr (inr (ap (λ (p : Outcome). p.status) c.outcome))
+verdict_status line text o told (is_answered a) = inl a.status
 
 -- and so not that of a failed write
 pub not_five : (status : ℕ) → (status ≡ 0) ⊎ ((status ≡ 1) ⊎ (status ≡ 3)) → status ≢ 5
@@ -75,7 +75,7 @@ too_large line None rest old came = tt
 too_large line (Some all) None old came = absurd came.1
 too_large line (Some all) (Some rest) old came =
     let long : TEXT_LIMIT < length all = omega (arith, ap length came.1, length-append came.0 rest, came.2) in
-    ([], verdicts.refused (without_world refusals.TooLarge long refl refl), grew_none old)
+    ([], is_refused (without_world refusals.TooLarge long refl refl), grew_none old)
 
 -- nothing is gone of what stayed as it was
 pub none_given : (left : Option Text) → GivesCount left left 0

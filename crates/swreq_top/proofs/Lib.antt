@@ -12,3 +12,4 @@ pub mod Rankings
 pub mod Verdicts
 pub mod Delivering
 pub mod Written
+pub mod Headlines

@@ -27,7 +27,7 @@ use Rattle.swreq_output.specs.Signatures.{source_of, written_list}
 use Rattle.swreq_top.specs.declared.ready.Ready.{Ready}
 use Rattle.swreq_top.specs.Lines.{AreLines}
 use Rattle.swreq_top.specs.Lines.AreLines.{none, more}
-use Rattle.swreq_top.specs.Outputs.{AnswersByTypes, IsLineOf, IsOutput, signature_of}
+use Rattle.swreq_top.specs.Outputs.{AnswersByTypes, ArePrinted, IsLineOf, IsOutput, signature_of}
 use Rattle.swreq_top.specs.Ready.{IsReady}
 
 -- ---- lines after lines
@@ -48,7 +48,7 @@ module _ {A : Type 0} (P : A → Text → Type 0) where
 lines_by : {A : Type 0} (P Q : A → Text → Type 0) {xs : List A} {ls : List Text} → ((x : A) (l : Text) → Contains xs x → P x l → Q x l)
     → AreLines P xs ls → AreLines Q xs ls
 lines_by P Q by none = none
-lines_by P Q by (more {x} {xs} {l} is rest) = more (by x l (first_member x xs) is) (lines_by P Q (λ y m c. by y m (later_member x y xs c)) rest)
+lines_by P Q by (more {x} {xs} {line} is rest) = more (by x line (first_member x xs) is) (lines_by P Q (λ y m c. by y m (later_member x y xs c)) rest)
 
 -- ---- one line
 
@@ -80,16 +80,20 @@ query_signature w (AsksConforms f t p) h = h.0
 query_signature w (AsksAnyObject f t) h = h.0
 query_signature w (AsksEquals f t u) h = h.0
 
+-- and so its list is one of the text
+pub asked_list : (w : TextWorld) (q : TermQuery) → IsQueryOf w q → Contains (map source_of w.signatures) (source_of (signature_at w (signature_of q)))
+asked_list w q of =
+    contains_map source_of w.signatures (signature_at w (signature_of q))
+    (Contains-get_or w.signatures (signature_of q).place no_signature (query_signature w q of))
+
 module _ (w : TextWorld) (formed : IsWellFormed (facts_of w) (map source_of w.signatures)) where
   types_by_book : (q : TermQuery) (line : Text) → IsQueryOf w q → AnswersByTypes true w q line → AnswersByTypes false w q line
   types_by_book q line of (a, is, e) =
-      let f : FuncId = signature_of q in
-      let member : Contains (map source_of w.signatures) (source_of (signature_at w f)) =
-      contains_map source_of w.signatures (signature_at w f) (Contains-get_or w.signatures f.place no_signature (query_signature w q of)) in (
+      let s = source_of (signature_at w (signature_of q)) in (
         a,
-        along (Derivable (facts_of w) (source_of (signature_at w f))) (BookDerivable (facts_of w) (source_of (signature_at w f)))
-            (λ st. (from_function (facts_of w) (map source_of w.signatures) (source_of (signature_at w f)) st formed member).1)
-            (λ st. (from_function (facts_of w) (map source_of w.signatures) (source_of (signature_at w f)) st formed member).0) q a is,
+        along (Derivable (facts_of w) s) (BookDerivable (facts_of w) s)
+            (λ st. (from_function (facts_of w) (map source_of w.signatures) s st formed (asked_list w q of)).1)
+            (λ st. (from_function (facts_of w) (map source_of w.signatures) s st formed (asked_list w q of)).0) q a is,
         e,
       )
 
@@ -107,8 +111,11 @@ module _ (w : TextWorld) (formed : IsWellFormed (facts_of w) (map source_of w.si
         (λ q line c is. line_by_book q line (All-contains (IsQueryOf w) w.queries q closed.queries c) is) h
 
     -- what is printed is by the book's rules
+    printed_by_book : (c : Command) (lines : List Text) → ArePrinted true w c lines → ArePrinted false w c lines
+    printed_by_book command.Answer lines h = lines_by_book h
+    printed_by_book command.Signatures lines h = h
+    printed_by_book command.Rules lines h = h
+    printed_by_book (command.Gen n) lines h = lines_by_book h
+
     pub by_book : (c : Command) (output : Text) → IsOutput true w c output → IsOutput false w c output
-    by_book command.Answer output (lines, h, e) = (lines, lines_by_book h, e)
-    by_book command.Signatures output h = h
-    by_book command.Rules output h = h
-    by_book (command.Gen n) output (lines, h, e) = (lines, lines_by_book h, e)
+    by_book c output (lines, h, e) = (lines, printed_by_book c lines h, e)

@@ -32,7 +32,7 @@ use Rattle.swreq_top.specs.Machines.{HasWorld, IsBuiltOver, IsChecked}
 use Rattle.swreq_top.specs.Reports.{limit_refusal, name_refusal, refusal_of}
 use Rattle.swreq_top.specs.Verdict.{HasNoWorld, IsRefused, IsVerdict, RefusesNames, limits_of, machine_outcome, refused_with}
 use Rattle.swreq_top.specs.Verdict.IsRefused.{without_world, not_a_type_parameter, past_a_limit}
-use Rattle.swreq_top.specs.Verdict.IsVerdict as verdicts
+use Rattle.swreq_top.specs.Verdict.IsVerdict.{answered as is_answered, cut_short as is_cut_short, refused as is_refused}
 use Rattle.swreq_top.specs.declared.outcome.Outcome.{Outcome}
 use Rattle.swreq_top.proofs.Checked.{built_checked}
 use Rattle.swreq_top.proofs.OneCheck.{one_check}
@@ -102,12 +102,12 @@ module _ (text : List ℕ) (one : AreOne text) (within : length text ≤ TEXT_LI
       inner a b is = (cc)
 
   at_token : (at : ℕ) (kind : Option Kind) → RefusedFor text at kind → Reading text
-  at_token at kind is_refused = record {
+  at_token at kind refuses_it = record {
     parsed = Err (refused at kind);
     exact = record {
       within = within;
-      ok = λ s. neither (λ stands. one.no_token s at kind stands is_refused) (λ is. (cc));
-      lex = λ fault. neither (λ has. one.no_refusal is_refused.0 fault is_refused.1 has) (λ is. (grammars at kind).1 fault (inner _ _ is));
+      ok = λ s. neither (λ stands. one.no_token s at kind stands refuses_it) (λ is. (cc));
+      lex = λ fault. neither (λ has. one.no_refusal refuses_it.0 fault refuses_it.1 has) (λ is. (grammars at kind).1 fault (inner _ _ is));
       syntax = λ there. (here there None, λ other. inl (there_too there None other));
       unsupported = λ there other_kind. (here there (Some other_kind), λ other. inl (there_too there (Some other_kind) other));
     };
@@ -127,13 +127,13 @@ module _ (text : List ℕ) (one : AreOne text) (within : length text ≤ TEXT_LI
       here : (there : ℕ) (other : Option Kind) → (let r : Result Skeleton ParseErr = Err (refused at kind) in r) ≡ Err (refused there other)
           → RefusedFor text there other
       here there other is =
-          let moved : RefusedFor text there kind = subst (λ n. RefusedFor text n kind) (same there kind other is).0 is_refused in
+          let moved : RefusedFor text there kind = subst (λ n. RefusedFor text n kind) (same there kind other is).0 refuses_it in
           subst (RefusedFor text there) (same there kind other is).1 moved
 
       there_too : (there : ℕ) (other : Option Kind) → RefusedFor text there other
           → (let r : Result Skeleton ParseErr = Err (refused at kind) in r) ≡ Err (refused there other)
       there_too there other r =
-          let eq = one.token at there kind other is_refused r in
+          let eq = one.token at there kind other refuses_it r in
           ap (λ n. Err (refused n kind)) eq.0 ∙ ap (λ k. Err (refused there k)) eq.1
 
   -- each text has a reading
@@ -306,6 +306,6 @@ module _ (line : CommandLine) (text : List ℕ) where
 
     -- a text that is refused has no other verdict
     pub one_verdict : IsVerdict line text p also → p ≡ o
-    one_verdict (verdicts.refused other) = too other
-    one_verdict (verdicts.cut_short c) = absurd (never_built c.world c.rules c.first c.has_world c.built)
-    one_verdict (verdicts.answered a) = absurd (never_built a.world a.rules a.first a.has_world a.built)
+    one_verdict (is_refused other) = too other
+    one_verdict (is_cut_short c) = absurd (never_built c.world c.rules c.first c.has_world c.built)
+    one_verdict (is_answered a) = absurd (never_built a.world a.rules a.first a.has_world a.built)

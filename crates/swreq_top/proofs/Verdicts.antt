@@ -41,7 +41,7 @@ use Rattle.swreq_top.specs.Told.{MinimisingAllTells, MinimisingEndsIn}
 use Rattle.swreq_top.specs.Told.MinimisingAllTells.{nothing}
 use Rattle.swreq_top.specs.Verdict.{HasNoWorld, IsRefused, IsVerdict, limits_of, machine_outcome, refused_with, stopped_with}
 use Rattle.swreq_top.specs.Verdict.IsRefused.{without_world, not_a_type_parameter, past_a_limit}
-use Rattle.swreq_top.specs.Verdict.IsVerdict as verdicts
+use Rattle.swreq_top.specs.Verdict.IsVerdict.{answered as is_answered, cut_short as is_cut_short, refused as is_refused}
 use Rattle.swreq_top.proofs.Checked.{built_checked, check_tells, is_formed}
 use Rattle.swreq_top.proofs.Lines.{by_book}
 
@@ -113,7 +113,7 @@ module _ (line : CommandLine) (text : List ℕ) where
   -- a text that is refused before its world is
   pub refused_early : (old : Option (List Event)) (refusal : RefusalKind) (real : Type 0) (result : Result Outcome AllocError)
       → IfOk result (λ o. real × (o ≡ refused_with refusal)) → (real → HasNoWorld text refusal) → Replies line text old old result
-  refused_early old refusal real (Ok o) (r, is) refused = ([], verdicts.refused (without_world refusal (refused r) is refl), grew_none old)
+  refused_early old refusal real (Ok o) (r, is) refused = ([], is_refused (without_world refusal (refused r) is refl), grew_none old)
   refused_early old refusal real (Err e) h refused = replies_nothing old e
 
   module _ (w : TextWorld) (has : HasWorld text w) where
@@ -127,7 +127,7 @@ module _ (line : CommandLine) (text : List ℕ) where
     refused_or_lost : (old new : Option (List Event)) (refused : Refused) (result : Result Outcome AllocError) (told : List Event)
         → IsChecked (limits_of line) w (Some refused) told → GrewBy old new told
         → IfOk result (λ o. (refused ≢ Memory) × (o ≡ machine_outcome line w.lexicon refused)) → Replies line text old new result
-    refused_or_lost old new refused (Ok o) told checked grew (real, is) = (told, verdicts.refused (refused_so refused told o real checked is), grew)
+    refused_or_lost old new refused (Ok o) told checked grew (real, is) = (told, is_refused (refused_so refused told o real checked is), grew)
     refused_or_lost old new refused (Err e) told checked grew h = (told, inr (w, has, inl (check_tells (limits_of line) w checked)), grew)
 
     pub replies_refused : (old new : Option (List Event)) (refused : Refused) (result : Result Outcome AllocError)
@@ -164,7 +164,7 @@ module _ (line : CommandLine) (text : List ℕ) where
           → IfOk result (λ o. (o.status ≡ 0) × IsOutput true w line.command o.output) → Finishes line text w rules old new result
       finishes_answered closed (Ok o) (told, parts, grew) (status, output) = (
         told,
-        λ first built. verdicts.answered (record {
+        λ first built. is_answered (record {
           world = w;
           has_world = has;
           rules = rules;
@@ -190,7 +190,7 @@ module _ (line : CommandLine) (text : List ℕ) where
           → IfOk result (λ o. o ≡ stopped_with line w.lexicon which trace) → Finishes line text w rules old new result
       finishes_stopped which trace (Ok o) (told, fails, grew) is = (
         told,
-        λ first built. verdicts.cut_short (record {
+        λ first built. is_cut_short (record {
           world = w;
           has_world = has;
           rules = rules;

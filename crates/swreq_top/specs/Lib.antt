@@ -3,6 +3,7 @@ pub mod Ready
 pub mod Wanted
 pub mod Lines
 pub mod Outputs
+pub mod Headline
 pub mod Replies
 pub mod Reports
 pub mod Runs

@@ -30,6 +30,13 @@ counts_text n lines =
     ++ (codes "\nyes " ++ (decimal (count_of (codes "yes\n") lines) ++ (codes "\nno " ++ (decimal (count_of (codes "no\n") lines)
     ++ (codes "\ninvalid " ++ (decimal (count_of (codes "invalid\n") lines) ++ (codes "\n" ++ last_line lines))))))))))
 
+-- the bytes that a command makes of its lines: one after the other, and of `gen` the counts
+abbrev pub printed_text : Command → List Text → Text
+printed_text command.Answer lines = concat lines
+printed_text command.Signatures lines = concat lines
+printed_text command.Rules lines = concat lines
+printed_text (command.Gen n) lines = counts_text n lines
+
 module _ (guarded : Bool) (w : TextWorld) where
   -- The line answers the query by what is derivable, with the guard or without it, from the written list of the signature that is asked.
   abbrev pub AnswersByTypes : TermQuery → Text → Type 0
@@ -43,10 +50,14 @@ module _ (guarded : Bool) (w : TextWorld) where
   IsLineOf (AsksAnyObject f t) line = AnswersByTypes (AsksAnyObject f t) line
   IsLineOf (AsksEquals f t u) line = AnswersByTypes (AsksEquals f t u) line
 
-  -- What the command prints: `answer` the answer of each query in written order; `signatures` for each signature its name and its
-  -- minimised list; `rules` for each its reduced rewriting system; `gen` the counts of the answers, and the last one.
+  -- What the command prints, text for text: `answer` the line of each query in written order; `signatures` of each signature its name and
+  -- its minimised list; `rules` of each its reduced rewriting system; `gen` counts the lines that answer the generated text.
+  abbrev pub ArePrinted : Command → List Text → Type 0
+  ArePrinted command.Answer lines = AreLines IsLineOf w.queries lines
+  ArePrinted command.Signatures lines = AreLines (IsNamedLine w) w.signatures lines
+  ArePrinted command.Rules texts = AreLines (IsSystemText w) w.signatures texts
+  ArePrinted (command.Gen n) lines = AreLines IsLineOf w.queries lines
+
+  -- The output of the command is made of these.
   abbrev pub IsOutput : Command → Text → Type 0
-  IsOutput command.Answer output = (lines : List Text) × AreLines IsLineOf w.queries lines × (output ≡ concat lines)
-  IsOutput command.Signatures output = (lines : List Text) × AreLines (IsNamedLine w) w.signatures lines × (output ≡ concat lines)
-  IsOutput command.Rules output = (texts : List Text) × AreLines (IsSystemText w) w.signatures texts × (output ≡ concat texts)
-  IsOutput (command.Gen n) output = (lines : List Text) × AreLines IsLineOf w.queries lines × (output ≡ counts_text n lines)
+  IsOutput c output = (lines : List Text) × ArePrinted c lines × (output ≡ printed_text c lines)

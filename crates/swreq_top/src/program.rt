@@ -5,6 +5,7 @@ ghost use Rattle.swreq_complete.specs.Limits.{AreInRange};
 ghost use Rattle.swreq_text.specs.Faults.{HasRisen};
 ghost use Rattle.swreq_text.specs.Given.{AppendsPart, GivesCount};
 ghost use Rattle.swreq_watch.specs.Told.{GrewBy};
+ghost use Rattle.swreq_top.specs.Headline.{SayAlike, SayEqualLists, SayTheLeast, SayYesWhereImplied, TakenSay};
 ghost use Rattle.swreq_top.specs.Runs.{Answers, AnswersText, AreWrong, Delivers, IsAnswerable, IsGen, IsPrinted, SayGen, TellsSome};
 ghost use Rattle.swreq_top.specs.Verdict.{answered_text, limits_of};
 ghost use Rattle.swreq_text.specs.declared.whole.ReadErr.TheVariants.{Fault};
@@ -42,6 +43,15 @@ pub fn run<S: Source, K: Sink, W: Watch>(
     // What the text is answered with, and what the watcher is told of it.
     ensures verdict { (result ≡ 0) ⊎ ((result ≡ 1) ⊎ (result ≡ 3)) → Delivers (map string_bytes words.now) (S.left src.old) (S.left src.new)
         (K.taken out.old) (K.taken out.new) (W.told watch.old) (W.told watch.new) result }
+
+    // The headline. With status 0 each query prints yes exactly where the book's rules derive it from the written signature.
+    ensures yes { result ≡ 0 → TakenSay SayYesWhereImplied (map string_bytes words.now) (S.left src.old) (K.taken out.old) (K.taken out.new) }
+    // Each type parameter prints as the least one derivably equal to it.
+    ensures least { result ≡ 0 → TakenSay SayTheLeast (map string_bytes words.now) (S.left src.old) (K.taken out.old) (K.taken out.new) }
+    // Each printed signature derives what was written and is derived from it, no requirement derivable from the others.
+    ensures equal { result ≡ 0 → TakenSay SayEqualLists (map string_bytes words.now) (S.left src.old) (K.taken out.old) (K.taken out.new) }
+    // Equivalent signatures print alike.
+    ensures alike { result ≡ 0 → TakenSay SayAlike (map string_bytes words.now) (S.left src.old) (K.taken out.old) (K.taken out.new) }
 
     // A text that nothing refuses is answered.
     ensures answered { IsAnswerable (map string_bytes words.now) (S.left src.old) → (result ≡ 1) ⊎ (result ≡ 3) → ⊥ }

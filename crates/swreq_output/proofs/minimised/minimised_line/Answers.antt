@@ -25,7 +25,8 @@ returns-in-Ok-clause-line g c =
     on_ok_weaker c.put_line.result
     (line_read c.args.table.now c.minimise.new.table c.args.world.now c.args.f c.args.machine.now.params c.params.result c.in-Ok.list.items c.deref.result.now
     c.args.out.now.items c.put_line.new.out.items
-    c.requires.params c.params.ensures c.deref.ensures.value (c.in-Ok.ensures.minimised (written_list s) c.requires.machine))
+    c.requires.params c.params.ensures c.deref.ensures.value (c.in-Ok.ensures.minimised (written_list s) c.requires.machine)
+    (c.in-Ok.ensures.same (written_list s) c.requires.machine))
     c.put_line.ensures.line
 
 pub returns-in-Ok-clause-told : goal.returns-in-Ok-clause-told

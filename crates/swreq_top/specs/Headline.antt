@@ -1,0 +1,99 @@
+-- What the lines say that a run with status 0 prints, in terms of the written signatures and of the book's rules.
+use Rattle.std.specs.Prelude.{◌≡◌, ◌↔◌, ℕ, List, ◌++◌, Option, Some, IfSome, codes, slice_get}
+use Rattle.std.specs.Io.KnownBytes.{Appends}
+use Rattle.swreq_param.specs.Terms.{Term}
+use Rattle.swreq_derive.specs.Derivation.{BookDerivable, TermRequirement, TermStatement}
+use Rattle.swreq_derive.specs.Derivation.TermStatement.{IsValid, Requires}
+use Rattle.swreq_derive.specs.Equivalence.{AreEquivalent}
+use Rattle.swreq_derive.specs.Facts.{generic_params}
+use Rattle.swreq_canonical.specs.Minimised.{IsIndependent}
+use Rattle.swreq_words.specs.declared.command.Command.{Command}
+use Rattle.swreq_words.specs.declared.command.Command.TheVariants as command
+use Rattle.swreq_words.specs.declared.command.CommandLine.{CommandLine}
+use Rattle.swreq_words.specs.Form.{Says}
+use Rattle.swreq_written.specs.declared.ids.FuncId.{FuncId}
+use Rattle.swreq_written.specs.Queries.{TermQuery}
+use Rattle.swreq_written.specs.Queries.TermQuery.{AsksReduced, AsksSignature}
+use Rattle.swreq_written.specs.Requirements.{PlacedRequirement}
+use Rattle.swreq_world.specs.Worlds.{SignatureOver, TextWorld, signature_at}
+use Rattle.swreq_shown.specs.Meaning.{facts_of}
+use Rattle.swreq_print.specs.Names.{Text}
+use Rattle.swreq_print.specs.Signatures.{signature_text}
+use Rattle.swreq_print.specs.Types.{type_text}
+use Rattle.swreq_query.specs.Answers.{IsLeastEqual, asked}
+use Rattle.swreq_output.specs.Signatures.{full_name, source_of, written_list}
+use Rattle.swreq_top.specs.Lines.{AreLines}
+use Rattle.swreq_top.specs.Machines.{HasWorld}
+use Rattle.swreq_top.specs.Outputs.{ArePrinted, printed_text, signature_of}
+use Rattle.swreq_top.specs.Runs.{known_text}
+
+module _ (w : TextWorld) where
+  -- ---- queries of requirements and of types
+
+  -- The book's rules derive the statement from the written signature that the query asks.
+  abbrev pub IsImplied : TermQuery → TermStatement → Type 0
+  IsImplied q = BookDerivable (facts_of w) (source_of (signature_at w (signature_of q)))
+
+  -- The line of a query for a requirement is `yes` exactly where the requirement is implied.
+  abbrev pub IsYesWhereImplied : TermQuery → Text → Type 0
+  IsYesWhereImplied q line = IfSome (asked q) (λ r. (line ≡ codes "yes\n") ↔ IsImplied q (Requires r))
+
+  -- The line of a query for a type parameter of the signature is the least one that is derivably equal to it.
+  abbrev pub IsLeastWhereValid : TermQuery → Text → Type 0
+  IsLeastWhereValid (AsksReduced f t) line = IsImplied (AsksReduced f t) (IsValid t)
+      → (r : Term) × IsLeastEqual (IsImplied (AsksReduced f t)) t r × (line ≡ type_text w.lexicon r ++ codes "\n")
+  IsLeastWhereValid _ line = Unit {0}
+
+  -- ---- printed signatures
+
+  -- The line is the text of a list that derives what is written and is derived from it, and of which no requirement is derivable from
+  -- the others.
+  pub record IsEqualAndIndependent (g : SignatureOver PlacedRequirement) (line : Text) : Type 0 where
+    pub list : List TermRequirement
+    pub same : AreEquivalent (facts_of w) (generic_params g.params) (written_list g) list
+    pub independent : IsIndependent (facts_of w) (generic_params g.params) list
+    pub line_is : line ≡ signature_text w.lexicon (generic_params g.params) list ++ codes "\n"
+
+  -- The signatures have the same generic parameters, and the same is derivable from their lists.
+  abbrev pub AreAlike : (g h : SignatureOver PlacedRequirement) → Type 0
+  AreAlike g h = (g.params ≡ h.params) × AreEquivalent (facts_of w) (generic_params g.params) (written_list g) (written_list h)
+
+  -- In these lines the k-th prints this of the signature: it answers a query for it, or stands behind its name.
+  abbrev pub PrintsOf : Command → List Text → ℕ → SignatureOver PlacedRequirement → Text → Type 0
+  PrintsOf command.Answer lines k g line =
+      (f : FuncId) × (slice_get w.queries k ≡ Some (AsksSignature f)) × (g ≡ signature_at w f) × (slice_get lines k ≡ Some line)
+  PrintsOf command.Signatures lines k g line =
+      (slice_get w.signatures k ≡ Some g) × (slice_get lines k ≡ Some (full_name w g ++ (codes ": " ++ line)))
+  PrintsOf command.Rules lines k g line = ⊥
+  PrintsOf (command.Gen n) lines k g line =
+      (f : FuncId) × (slice_get w.queries k ≡ Some (AsksSignature f)) × (g ≡ signature_at w f) × (slice_get lines k ≡ Some line)
+
+  -- ---- the four sentences
+
+  -- Each query prints yes exactly where the book's rules derive it from the written signature.
+  abbrev pub SayYesWhereImplied : Command → List Text → Type 0
+  SayYesWhereImplied command.Answer lines = AreLines IsYesWhereImplied w.queries lines
+  SayYesWhereImplied (command.Gen n) lines = AreLines IsYesWhereImplied w.queries lines
+  SayYesWhereImplied _ lines = Unit {0}
+
+  -- Each type parameter prints as the least one derivably equal to it.
+  abbrev pub SayTheLeast : Command → List Text → Type 0
+  SayTheLeast command.Answer lines = AreLines IsLeastWhereValid w.queries lines
+  SayTheLeast (command.Gen n) lines = AreLines IsLeastWhereValid w.queries lines
+  SayTheLeast _ lines = Unit {0}
+
+  -- Each printed signature derives what was written and is derived from it, no requirement derivable from the others.
+  abbrev pub SayEqualLists : Command → List Text → Type 0
+  SayEqualLists c lines = (k : ℕ) (g : SignatureOver PlacedRequirement) (line : Text) → PrintsOf c lines k g line → IsEqualAndIndependent g line
+
+  -- Equivalent signatures print alike.
+  abbrev pub SayAlike : Command → List Text → Type 0
+  SayAlike c lines = (k j : ℕ) (g h : SignatureOver PlacedRequirement) (line other : Text)
+      → PrintsOf c lines k g line → PrintsOf c lines j h other → AreAlike g h → line ≡ other
+
+-- The words say a command; its text, where that is known, has a world; and the bytes that were taken are lines, by what the command prints,
+-- of which this is true.
+abbrev pub TakenSay : (TextWorld → Command → List Text → Type 0) → List Text → (left old new : Option Text) → Type 0
+TakenSay Sentence words left old new = (line : CommandLine) × Says words line
+    × IfSome (known_text line.command left) (λ text. (w : TextWorld) × HasWorld text w × ((lines : List Text) × ArePrinted false w line.command lines
+    × Appends old new (printed_text line.command lines) × Sentence w line.command lines))
