@@ -13,3 +13,4 @@ pub mod Verdicts
 pub mod Delivering
 pub mod Written
 pub mod Headlines
+pub mod EmptyText

@@ -1,0 +1,251 @@
+-- The empty text is answered: nothing refuses it, and no round of its machines passes a limit.
+use Rattle.std.proofs.Common.{◌≡◌, ◌≢◌, ◌∙◌, ◌⊎◌, refl, sym, ap, ap₂, subst, inl, inr, ℕ, ◌≤◌, arith, le_refl, List, [], ◌∷◌, ◌++◌, Option, Some, None, Err, map, Contains}
+use Rattle.std.proofs.lemmas.Option.{none-some}
+use Rattle.std.proofs.lemmas.Str.{IsUtf8-nil, chars-nil}
+use Rattle.swreq_lex.specs.declared.refusal.LexErr.TheVariants as lexical
+use Rattle.swreq_lex.specs.Tokens.{HasTokens, Reads, after_byte_order_mark, first_offset}
+use Rattle.swreq_lex.specs.Tokens.Reads.{done}
+use Rattle.swreq_lex.proofs.TextLemmas.{never_both, one_list}
+use Rattle.swreq_decl.specs.declared.kind.Kind.{Kind}
+use Rattle.swreq_decl.specs.declared.skeleton.Skeleton.{Skeleton}
+use Rattle.swreq_decl.specs.Skeletons.{RefusedFor, StandsFor, skeleton_of}
+use Rattle.swreq_decl.specs.Source.{source}
+use Rattle.swreq_decl.proofs.Answering.{not_both, one_skeleton}
+use Rattle.swreq_derive.proofs.Members.{no_member}
+use Rattle.swreq_names.specs.declared.refusal.NameErr.{NameErr}
+use Rattle.swreq_names.specs.declared.refusal.NameErr.TheVariants as names
+use Rattle.swreq_names.specs.Names.{Refuses}
+use Rattle.swreq_word.specs.declared.symbols.Symbol.{Symbol}
+use Rattle.swreq_rule.specs.declared.rules.Birth.{Birth}
+use Rattle.swreq_rule.specs.declared.rules.Birth.TheVariants.{Given, Pair}
+use Rattle.swreq_rule.specs.declared.rules.Rule.{Rule}
+use Rattle.swreq_watch.specs.declared.events.Event.{Event}
+use Rattle.swreq_complete.specs.declared.limit.Limits.{Limits}
+use Rattle.swreq_complete.specs.declared.limit.Which.{Which}
+use Rattle.swreq_complete.specs.Limits.{Passes}
+use Rattle.swreq_complete.specs.Moments.{HasSides, greater_number}
+use Rattle.swreq_complete.specs.Reached.{IsBorn, IsReached}
+use Rattle.swreq_reading.specs.Symbols.{Word}
+use Rattle.swreq_rounds.specs.Given.{basic_of, items_of}
+use Rattle.swreq_rounds.specs.Plan.{AreShown, Item, equation_of, given}
+use Rattle.swreq_rounds.specs.Rounds.{IsRound, IsStoppedRound, Selects}
+use Rattle.swreq_rounds.specs.Rounds.IsRound.{first, next}
+use Rattle.swreq_rounds.specs.Rounds.Selects.{none}
+use Rattle.swreq_shown.specs.Meaning.{facts_of, symbols_of}
+use Rattle.swreq_print.specs.declared.refusal.RefusalKind.{RefusalKind}
+use Rattle.swreq_print.specs.declared.refusal.RefusalKind.TheVariants as refusals
+use Rattle.swreq_print.specs.Names.{Text}
+use Rattle.swreq_valid.specs.declared.refused.Refused.{Refused}
+use Rattle.swreq_valid.specs.declared.refused.Refused.TheVariants.{Limit, NotATypeParameter, Memory}
+use Rattle.swreq_valid.specs.Machines.{protocols_of}
+use Rattle.swreq_valid.specs.Sides.{FailsFirst, IsValidSide, protocol_sides, sides_in}
+use Rattle.swreq_words.specs.declared.command.Command.{Command}
+use Rattle.swreq_words.specs.declared.command.Command.TheVariants as command
+use Rattle.swreq_words.specs.declared.command.CommandLine.{CommandLine}
+use Rattle.swreq_words.specs.Form.{Says}
+use Rattle.swreq_words.proofs.Lines.{one_line}
+use Rattle.swreq_world.specs.WorldOf.{IsWorldOf}
+use Rattle.swreq_world.specs.Worlds.{SignatureOver, TextWorld}
+use Rattle.swreq_written.specs.Queries.{TermQuery}
+use Rattle.swreq_written.specs.Queries.TermQuery.{AsksSignature}
+use Rattle.swreq_written.specs.Requirements.{PlacedRequirement}
+use Rattle.swreq_top.specs.declared.outcome.Outcome.{Outcome}
+use Rattle.swreq_top.specs.Machines.{HasWorld, IsChecked, ProtocolsCome, SignaturesCome}
+use Rattle.swreq_top.specs.Machines.IsChecked.{protocols_built, protocols_refused}
+use Rattle.swreq_top.specs.Machines.SignaturesCome.{all}
+use Rattle.swreq_top.specs.Runs.{IsAnswerable, IsGen, SayGen, known_text}
+use Rattle.swreq_top.specs.Told.{IsMinimisedFor}
+use Rattle.swreq_top.specs.Verdict.{HasNoWorld, IsCutShort, IsRefused, RefusesNames, limits_of}
+use Rattle.swreq_top.specs.Verdict.IsRefused.{not_a_type_parameter, past_a_limit, without_world}
+
+-- ---- lists that are empty
+
+never_split : {A : Type 0} (before : List A) (x : A) (after : List A) → [] ≡ before ++ (x ∷ after) → ⊥
+never_split [] x after e = cc
+never_split (y ∷ before) x after e = cc
+
+none_selected : {A : Type 0} {P : A → Type 0} {xs : List A} → Selects P [] xs → xs ≡ []
+none_selected none = refl
+
+-- ---- the one skeleton
+
+-- the skeleton of a text that has no parts
+abbrev bare_skeleton : Skeleton
+bare_skeleton = skeleton_of []
+
+has_no_tokens : HasTokens [] []
+has_no_tokens = record {
+  utf8 = IsUtf8-nil;
+  reads = subst (λ (cs : List ℕ). Reads 0 [] (first_offset cs) (after_byte_order_mark cs) []) (sym chars-nil) done;
+}
+
+bare_stands : StandsFor [] bare_skeleton
+unfolding source
+bare_stands = ([], has_no_tokens, ([], (refl, tt), refl))
+
+only_bare : (s : Skeleton) → StandsFor [] s → s ≡ bare_skeleton
+only_bare s stands = one_skeleton [] (one_list []) s bare_skeleton stands bare_stands
+
+-- ---- the text has a world
+
+no_token_refused : (at : ℕ) (kind : Option Kind) → RefusedFor [] at kind → ⊥
+no_token_refused at kind refused = not_both [] (one_list []) bare_skeleton at kind bare_stands refused
+
+no_name_of_bare : (e : NameErr) → Refuses [] bare_skeleton e → ⊥
+no_name_of_bare e (inl (r, refuses, is)) = no_member r refuses.first.is
+no_name_of_bare e (inr (at, refuses, is)) = none-some refuses.protocol refuses.stands
+
+no_name_refused : (e : NameErr) → RefusesNames [] e → ⊥
+no_name_refused e (within, (s, stands, refuses)) = no_name_of_bare e (subst (λ (t : Skeleton). Refuses [] t e) (only_bare s stands) refuses)
+
+never_without_world : (refusal : RefusalKind) → HasNoWorld [] refusal → ⊥
+never_without_world refusals.TooLarge long = omega (arith, long)
+never_without_world (refusals.NotUtf8 at) has = never_both [] [] (lexical.NotUtf8 at) has_no_tokens has.1
+never_without_world (refusals.BadCharacter at) has = never_both [] [] (lexical.BadCharacter at) has_no_tokens has.1
+never_without_world (refusals.OpenComment at) has = never_both [] [] (lexical.OpenComment at) has_no_tokens has.1
+never_without_world (refusals.Syntax at) has = no_token_refused at None has.1
+never_without_world (refusals.Unsupported at kind) has = no_token_refused at (Some kind) has.1
+never_without_world (refusals.Duplicate at) has = no_name_refused (names.Duplicate at) has
+never_without_world (refusals.NotAProtocol at) has = no_name_refused (names.NotAProtocol at) has
+never_without_world (refusals.ConcreteType at) has = no_name_refused (names.ConcreteType at) has
+never_without_world (refusals.NoSuchMember at) has = no_name_refused (names.NoSuchMember at) has
+never_without_world (refusals.UnknownSignature at) has = no_name_refused (names.UnknownSignature at) has
+never_without_world (refusals.WrongArity at) has = no_name_refused (names.WrongArity at) has
+never_without_world (refusals.Cycle at) has = no_name_refused (names.Cycle at) has
+never_without_world (refusals.NotATypeParameter at) has = has
+never_without_world (refusals.LimitRules most) has = has
+never_without_world (refusals.LimitLength most) has = has
+never_without_world refusals.ReadFault has = has
+never_without_world refusals.OutOfMemory has = has
+never_without_world refusals.Usage has = has
+
+-- ---- its world has nothing
+
+-- The world has no protocols, signatures and queries.
+record IsBare (w : TextWorld) : Type 0 where
+  protocols : w.lexicon.written_order ≡ []
+  signatures : w.signatures ≡ []
+  queries : w.queries ≡ []
+
+bare_world : (w : TextWorld) → HasWorld [] w → IsBare w
+bare_world w has = record { protocols = world.lexicon.written_order; signatures = world.signatures; queries = world.queries }
+  where
+    world : IsWorldOf [] bare_skeleton w
+    world = subst (λ (s : Skeleton). IsWorldOf [] s w) (only_bare has.skeleton has.stands) has.world
+
+-- ---- a completion of no equations over no rules bears no rule
+
+-- a moment before all rules is an equation
+none_before_rules : (trace : List Rule) (moment : Birth) (left right : List Symbol) → HasSides 0 [] trace moment left right
+    → greater_number moment ≤ 0 → ⊥
+none_before_rules trace (Given n) left right (k, is, stands) known = none-some (left, right) stands
+none_before_rules trace (Pair i j at) left right (past, pair) known = omega (arith, past, known)
+
+none_born : (rule : Rule) (trace : List Rule) → IsReached 0 [] (rule ∷ trace) → ⊥
+none_born rule trace reached = none_before_rules (rule ∷ trace) rule.birth born.left born.right born.sides born.settled.rules_at.knows
+  where
+    born : IsBorn 0 [] (rule ∷ trace) 0 rule.birth
+    born = reached.born 0 rule (le_refl 0) refl
+
+never_passes : (limits : Limits) (trace : List Rule) (which : Which) → Passes limits 0 [] trace which → ⊥
+never_passes limits [] which passes = none-some passes.rule passes.is_rule
+never_passes limits (rule ∷ trace) which passes = none_born rule trace passes.within.reached
+
+module _ (w : TextWorld) (bare : IsBare w) where
+  -- ---- the check
+
+  no_requirements : items_of (facts_of w) w.lexicon.written_order ≡ []
+  no_requirements = ap (items_of (facts_of w)) bare.protocols
+
+  no_equations : basic_of (symbols_of w.lexicon) w.lexicon.written_order ≡ []
+  no_equations = ap (basic_of (symbols_of w.lexicon)) bare.protocols
+
+  no_sides : protocol_sides w ≡ []
+  no_sides = ap (sides_in w) bare.protocols
+
+  none_given : (used : List Item) → used ≡ [] → given (protocols_of w) used ≡ []
+  none_given used is =
+      ap₂ (λ (basic : List (Word × Word)) (items : List Item). basic ++ map (equation_of (symbols_of w.lexicon)) items) no_equations is
+
+  no_side_fails : (at : ℕ) → FailsFirst (IsValidSide (facts_of w)) (protocol_sides w) at → ⊥
+  no_side_fails at fails = never_split fails.before fails.side fails.after (sym no_sides ∙ fails.split)
+
+  module _ (limits : Limits) where
+    none_used : {used : List Item} {told : List Event} → IsRound limits (protocols_of w) used told → used ≡ []
+    none_used first = refl
+    none_used (next {usable = usable} rules round ends left differs told_is) =
+        none_selected (subst (λ (xs : List Item). Selects (AreShown (protocols_of w) rules) xs usable) no_requirements left)
+
+    never_stopped : (which : Which) (trace : List Rule) (told : List Event) → IsStoppedRound limits (protocols_of w) which trace told → ⊥
+    never_stopped which trace told stopped =
+        never_passes limits trace which
+        (subst (λ (equations : List (Word × Word)). Passes limits 0 equations trace which)
+        (none_given stopped.used (none_used stopped.round)) stopped.stops.1)
+
+    protocols_unrefused : (refused : Refused) → refused ≢ Memory → (told : List Event) → ProtocolsCome limits w (Err refused) told → ⊥
+    protocols_unrefused (Limit which trace) real told come = never_stopped which trace told come
+    protocols_unrefused (NotATypeParameter at) real told come = no_side_fails at come.2
+    protocols_unrefused Memory real told come = real refl
+
+    signatures_unrefused : (rules : List Rule) {refused : Option Refused} {told : List Event}
+        → SignaturesCome limits w rules [] refused told → refused ≡ None
+    signatures_unrefused rules all = refl
+
+    unrefused : {refused : Option Refused} {told : List Event} → IsChecked limits w refused told → refused ≡ None
+    unrefused (protocols_refused {told = told} refused real come) = absurd (protocols_unrefused refused real told come)
+    unrefused (protocols_built {refused = refused} {more = more} rules come rest told_is) =
+        signatures_unrefused rules
+        (subst (λ (gs : List (SignatureOver PlacedRequirement)). SignaturesCome limits w rules gs refused more) bare.signatures rest)
+
+    never_refused : (refused : Refused) (told : List Event) → IsChecked limits w (Some refused) told → ⊥
+    never_refused refused told checked = none-some refused (sym (unrefused checked))
+
+  -- ---- minimising
+
+  no_query : (q : TermQuery) → Contains w.queries q → ⊥
+  no_query q has = no_member q (subst (λ (qs : List TermQuery). Contains qs q) bare.queries has)
+
+  none_minimised : (c : Command) (g : SignatureOver PlacedRequirement) → IsMinimisedFor c w g → ⊥
+  none_minimised command.Answer g (f, has, is) = no_query (AsksSignature f) has
+  none_minimised command.Signatures g has =
+      no_member g (subst (λ (gs : List (SignatureOver PlacedRequirement)). Contains gs g) bare.signatures has)
+  none_minimised command.Rules g asked = asked
+  none_minimised (command.Gen n) g (f, has, is) = no_query (AsksSignature f) has
+
+-- ---- its verdict
+
+-- nothing refuses the empty text
+pub empty_unrefused : (line : CommandLine) (o : Outcome) (told : List Event) → IsRefused line [] o told → ⊥
+empty_unrefused line o told (without_world refusal has is nothing) = never_without_world refusal has
+empty_unrefused line o told (not_a_type_parameter w at has checked is) =
+    never_refused w (bare_world w has) (limits_of line) (NotATypeParameter at) told checked
+empty_unrefused line o told (past_a_limit w which trace has checked is) =
+    never_refused w (bare_world w has) (limits_of line) (Limit which trace) told checked
+
+-- and in minimising no round passes a limit
+pub empty_not_cut_short : (line : CommandLine) (o : Outcome) (told : List Event) → IsCutShort line [] o told → ⊥
+empty_not_cut_short line o told cut =
+    none_minimised cut.world (bare_world cut.world cut.has_world) line.command cut.fails.g cut.fails.asked
+
+-- ---- runs over a source that has nothing left
+
+-- the text of a command other than `gen` is that of the source
+is_source : (c : Command) → (IsGen c → ⊥) → known_text c (Some []) ≡ Some []
+is_source command.Answer not_gen = refl
+is_source command.Signatures not_gen = refl
+is_source command.Rules not_gen = refl
+is_source (command.Gen n) not_gen = absurd (not_gen (n, refl))
+
+-- Words that do not say `gen` are answered over such a source,
+pub empty_is_answerable : (words : List Text) → (SayGen words → ⊥) → IsAnswerable words (Some [])
+empty_is_answerable words not_gen line says = ([], is_source line.command (λ gen. not_gen (line, says, gen)), answered)
+  where
+    answered : (o : Outcome) (told : List Event) → IsRefused line [] o told ⊎ IsCutShort line [] o told → ⊥
+    answered o told (inl refused) = empty_unrefused line o told refused
+    answered o told (inr cut) = empty_not_cut_short line o told cut
+
+-- and so are words that say another command.
+pub command_is_answerable : (words : List Text) (line : CommandLine) → Says words line → (IsGen line.command → ⊥)
+    → IsAnswerable words (Some [])
+command_is_answerable words line says not_gen =
+    empty_is_answerable words (λ gen. not_gen (subst (λ (l : CommandLine). IsGen l.command) (one_line words gen.0 line gen.1 says) gen.2))
