@@ -3,5 +3,5 @@ mod Ended
 mod Lines
 mod Minimising
 mod OfText
-mod PrintingAlike
+pub mod PrintingAlike
 mod Reading

@@ -17,15 +17,16 @@ use Rattle.swreq_words.specs.declared.command.Command.{Command}
 use Rattle.swreq_words.specs.declared.command.Command.TheVariants as command
 use Rattle.swreq_words.specs.declared.command.CommandLine.{CommandLine}
 use Rattle.swreq_top.specs.declared.outcome.Outcome.{Outcome}
-use Rattle.swreq_top.specs.Replies.{IsToldVerdict, WasToldPart}
+use Rattle.swreq_top.specs.Replies.{IsOnlyRefusal, IsToldVerdict, WasToldPart}
 use Rattle.swreq_top.specs.Runs.{Answers, AnswersText, Delivers, IsAnswerable, IsGen, IsOutputOn, IsRead, LeavesSource, TellsSome, known_text}
 use Rattle.swreq_top.specs.Verdict.{IsAnswered, IsCutShort, IsRefused, IsVerdict, answered_text, refused_with}
 use Rattle.swreq_top.specs.Verdict.IsRefused.{without_world, not_a_type_parameter, past_a_limit}
 use Rattle.swreq_top.specs.Verdict.IsVerdict.{answered as is_answered, cut_short as is_cut_short, refused as is_refused}
+use Rattle.swreq_top.proofs.OneRefusal.{long_refused}
 
 -- ---- statuses
 
-refused_status : (line : CommandLine) (text : Text) (o : Outcome) (told : List Event) → IsRefused line text o told
+pub refused_status : (line : CommandLine) (text : Text) (o : Outcome) (told : List Event) → IsRefused line text o told
     → (o.status ≡ 1) ⊎ (o.status ≡ 3)
 refused_status line text o told (without_world refusal has is none) = inl (ap (λ (p : Outcome). p.status) is)
 refused_status line text o told (not_a_type_parameter w at has checked is) = inl (ap (λ (p : Outcome). p.status) is)
@@ -70,12 +71,12 @@ read_too_large (Some all) (Some rest) came = inr (omega (arith, ap length came.1
 
 -- which is refused for that
 pub too_large : (line : CommandLine) (left rest : Option Text) (old : Option (List Event)) → GivesCount left rest (TEXT_LIMIT + 1)
-    → IfSome left (λ text. IsToldVerdict line text old old (refused_with refusals.TooLarge))
+    → IfSome left (λ text. IsToldVerdict line text old old (refused_with refusals.TooLarge) × IsOnlyRefusal line text (refused_with refusals.TooLarge))
 too_large line None rest old came = tt
 too_large line (Some all) None old came = absurd came.1
 too_large line (Some all) (Some rest) old came =
     let long : TEXT_LIMIT < length all = omega (arith, ap length came.1, length-append came.0 rest, came.2) in
-    ([], is_refused (without_world refusals.TooLarge long refl refl), grew_none old)
+    (([], is_refused (without_world refusals.TooLarge long refl refl), grew_none old), λ p told refused. sym (long_refused line all long refused))
 
 -- nothing is gone of what stayed as it was
 pub none_given : (left : Option Text) → GivesCount left left 0
@@ -123,8 +124,8 @@ module _ (line : CommandLine) where
       → AnswersText line (answered_text line.command text) old new result → Answers line left left old new result
   answers_generated left old new text (Ok o) is h = (
     leaves_alone line.command left is,
-    generated_known line.command left (λ t. IsToldVerdict line t old new o) text is h,
-    replied (answered_text line.command text) old new o h,
+    generated_known line.command left (λ t. IsToldVerdict line t old new o × IsOnlyRefusal line t o) text is h,
+    replied (answered_text line.command text) old new o h.0,
   )
   answers_generated left old new text (Err TooLarge) is h = absurd h
   answers_generated left old new text (Err Fault) is h = absurd h
@@ -136,8 +137,8 @@ module _ (line : CommandLine) where
       → AnswersText line (answered_text line.command text) old new result → Answers line left rest old new result
   answers_read left rest old new text (Ok o) reads came end within h = (
     leaves_read line.command left rest reads (read_whole left rest text came end within),
-    source_known line.command left rest (λ t. IsToldVerdict line t old new o) text reads came end h,
-    replied (answered_text line.command text) old new o h,
+    source_known line.command left rest (λ t. IsToldVerdict line t old new o × IsOnlyRefusal line t o) text reads came end h,
+    replied (answered_text line.command text) old new o h.0,
   )
   answers_read left rest old new text (Err TooLarge) reads came end within h = absurd h
   answers_read left rest old new text (Err Fault) reads came end within h = absurd h

@@ -1,5 +1,5 @@
 -- What is printed with status 0 says the four sentences of the headline.
-use Rattle.std.proofs.Common.{◌≡◌, ◌∙◌, ◌≤◌, ◌<◌, ℕ, refl, sym, ap, subst, inl, inr, List, [], ◌∷◌, ◌++◌, Contains, Option, Some, None, IfSome, get_or, length, map, arith}
+use Rattle.std.proofs.Common.{◌≡◌, ◌∙◌, ◌≤◌, ◌<◌, ℕ, refl, sym, ap, subst, inl, inr, zero, suc, true, false, List, [], ◌∷◌, ◌++◌, Contains, Option, Some, None, IfSome, get_or, length, map, arith}
 use Rattle.std.specs.Prelude.{◌↔◌, codes, slice_get}
 use Rattle.std.specs.Io.KnownBytes.{Appends}
 use Rattle.std.specs.Str.{chars}
@@ -94,7 +94,7 @@ least w f t line (Reduced u, is, e) valid =
 
 module _ (w : TextWorld) (formed : IsWellFormed (facts_of w) (map source_of w.signatures)) where
   module _ (q : TermQuery) (of : IsQueryOf w q) where
-    s : Source
+    abbrev s : Source
     s = source_of (signature_at w (signature_of q))
 
     book : (st : TermStatement) → BookDerivable (facts_of w) s st ↔ Derivable (facts_of w) s st
@@ -154,7 +154,7 @@ equal_and_independent w g line m = record {
 line_at : {A : Type 0} {P : A → Text → Type 0} {xs : List A} {ls : List Text} → AreLines P xs ls → (k : ℕ) (x : A) (line : Text)
     → slice_get xs k ≡ Some x → slice_get ls k ≡ Some line → P x line
 line_at none k x line e d = (cc)
-line_at {P = P} (more {x} {xs} {line} is rest) 0 y other e d = subst (λ z. P z other) (same x y e) (subst (P x) (same line other d) is)
+line_at {P = P} (more {x} {xs} {line} is rest) zero y other e d = subst (λ z. P z other) (same x y e) (subst (P x) (same line other d) is)
   where
     same : {B : Type 0} (a b : B) → (let z : Option B = Some a in z) ≡ Some b → a ≡ b
     same a b i = cc
@@ -204,12 +204,12 @@ module _ (w : TextWorld) where
 -- a verdict with status 0 is an answer
 only_answered : (line : CommandLine) (text : Text) (o : Outcome) (told : List Event) → o.status ≡ 0 → IsVerdict line text o told
     → IsAnswered line text false o told
-only_answered line text o told zero (is_refused r) = absurd (elim (refused_status line text o told r) [
-  | inl one ↦ omega (arith, zero, one)
-  | inr three ↦ omega (arith, zero, three)
+only_answered line text o told nought (is_refused r) = absurd (elim (refused_status line text o told r) [
+  | inl one ↦ omega (arith, nought, one)
+  | inr three ↦ omega (arith, nought, three)
 ])
-only_answered line text o told zero (is_cut_short c) = absurd (let three : o.status ≡ 3 = ap (λ (p : Outcome). p.status) c.outcome in omega (arith, zero, three))
-only_answered line text o told zero (is_answered a) = a
+only_answered line text o told nought (is_cut_short c) = absurd (let three : o.status ≡ 3 = ap (λ (p : Outcome). p.status) c.outcome in omega (arith, nought, three))
+only_answered line text o told nought (is_answered a) = a
 
 module _ (Sentence : TextWorld → Command → List Text → Type 0)
     (holds : (w : TextWorld) → IsClosed w → IsWellFormed (facts_of w) (map source_of w.signatures) → (c : Command) (lines : List Text)
@@ -230,9 +230,12 @@ module _ (Sentence : TextWorld → Command → List Text → Type 0)
   -- what is delivered with status 0 says so
   pub taken_say : (words : List Text) (left rest old new : Option Text) (old_told new_told : Option (List Event)) (status : ℕ) → status ≡ 0
       → Delivers words left rest old new old_told new_told status → TakenSay Sentence words left old new
-  taken_say words left rest old new old_told new_told status zero d =
-      (d.line, d.says, of_text (known_text d.line.command left) (subst (λ n. IfSome (known_text d.line.command left)
-      (λ text. IsToldVerdict d.line text old_told new_told (record { status = n; output = d.output }))) zero d.verdict))
+  taken_say words left rest old new old_told new_told status nought d = (
+    d.line,
+    d.says,
+    of_text (known_text d.line.command left) (subst (λ n. IfSome (known_text d.line.command left)
+        (λ text. IsToldVerdict d.line text old_told new_told (record { status = n; output = d.output }))) nought d.verdict),
+  )
     where
       of_text : (known : Option Text) → IfSome known (λ text. IsToldVerdict d.line text old_told new_told (record { status = 0; output = d.output }))
           → IfSome known (λ text. (w : TextWorld) × HasWorld text w × ((lines : List Text) × ArePrinted false w d.line.command lines

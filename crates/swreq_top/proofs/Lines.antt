@@ -45,7 +45,7 @@ module _ {A : Type 0} (P : A → Text → Type 0) where
   pub lines_all : (all : List A) (k : ℕ) (ls : List Text) → length all ≤ k → AreLines P (take k all) ls → AreLines P all ls
   lines_all all k ls l h = subst (λ (qs : List A). AreLines P qs ls) (take_all k all l) h
 
-lines_by : {A : Type 0} (P Q : A → Text → Type 0) {xs : List A} {ls : List Text} → ((x : A) (l : Text) → Contains xs x → P x l → Q x l)
+pub lines_by : {A : Type 0} (P Q : A → Text → Type 0) {xs : List A} {ls : List Text} → ((x : A) (l : Text) → Contains xs x → P x l → Q x l)
     → AreLines P xs ls → AreLines Q xs ls
 lines_by P Q by none = none
 lines_by P Q by (more {x} {xs} {line} is rest) = more (by x line (first_member x xs) is) (lines_by P Q (λ y m c. by y m (later_member x y xs c)) rest)

@@ -265,7 +265,7 @@ module _ (line : CommandLine) (text : List ℕ) where
   never_whole (Err e) o is whole = whole
 
   -- a text that is too long is refused for that alone
-  long_refused : TEXT_LIMIT < length text → {o : Outcome} {events : List Event} → IsRefused line text o events → o ≡ refused_with refusals.TooLarge
+  pub long_refused : TEXT_LIMIT < length text → {o : Outcome} {events : List Event} → IsRefused line text o events → o ≡ refused_with refusals.TooLarge
   long_refused long {o} (without_world refusal has is none) = is ∙ ap refused_with (is_too_large refusal has)
     where
       is_too_large : (kind : RefusalKind) → HasNoWorld text kind → kind ≡ refusals.TooLarge

@@ -1,5 +1,5 @@
 -- What a text is answered with is a verdict on it.
-use Rattle.std.proofs.Common.{◌≡◌, ◌≢◌, ◌⊎◌, ℕ, ◌≤◌, List, [], ◌++◌, append_assoc, append-nil, length, Option, Some, None, IfErr, IfOk, IsOk, Result, Ok, Err, refl, sym, ◌∙◌, ap, inl, inr, subst}
+use Rattle.std.proofs.Common.{◌≡◌, ◌≢◌, ◌⊎◌, ℕ, ◌≤◌, List, [], ◌++◌, append_assoc, append-nil, length, Option, Some, None, IfErr, IfOk, IsOk, Result, Ok, Err, refl, true, sym, ◌∙◌, ap, inl, inr, subst}
 use Rattle.std.specs.declared.alloc.AllocError.{AllocError}
 use Rattle.swreq_lex.specs.declared.refusal.LexErr.{LexErr}
 use Rattle.swreq_lex.specs.declared.refusal.LexErr.TheVariants as lexical

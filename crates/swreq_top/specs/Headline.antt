@@ -1,5 +1,5 @@
 -- What the lines say that a run with status 0 prints, in terms of the written signatures and of the book's rules.
-use Rattle.std.specs.Prelude.{◌≡◌, ◌↔◌, ℕ, List, ◌++◌, Option, Some, IfSome, codes, slice_get}
+use Rattle.std.specs.Prelude.{◌≡◌, ◌↔◌, ℕ, false, List, ◌++◌, Option, Some, IfSome, codes, slice_get}
 use Rattle.std.specs.Io.KnownBytes.{Appends}
 use Rattle.swreq_param.specs.Terms.{Term}
 use Rattle.swreq_derive.specs.Derivation.{BookDerivable, TermRequirement, TermStatement}

@@ -10,7 +10,7 @@ use Rattle.swreq_world.specs.Worlds.{TextWorld}
 use Rattle.swreq_top.specs.declared.outcome.Outcome.{Outcome}
 use Rattle.swreq_top.specs.Machines.{HasWorld, IsBuiltOver}
 use Rattle.swreq_top.specs.Told.{CheckTells, MinimisingPartTells}
-use Rattle.swreq_top.specs.Verdict.{IsVerdict, limits_of}
+use Rattle.swreq_top.specs.Verdict.{IsRefused, IsVerdict, limits_of}
 
 -- So far as this a text tells where memory runs out: nothing, a part of what its check tells, or that and a part of what minimising tells.
 abbrev pub TellsPart : CommandLine → Text → List Event → Type 0
@@ -25,6 +25,10 @@ WasToldPart line text old new = (told : List Event) × TellsPart line text told 
 -- The outcome is a verdict on the text, and the watcher was told what is told with it.
 abbrev pub IsToldVerdict : CommandLine → Text → Option (List Event) → Option (List Event) → Outcome → Type 0
 IsToldVerdict line text old new o = (told : List Event) × IsVerdict line text o told × GrewBy old new told
+
+-- Where the text is refused, it is so.
+abbrev pub IsOnlyRefusal : CommandLine → Text → Outcome → Type 0
+IsOnlyRefusal line text o = (p : Outcome) (told : List Event) → IsRefused line text p told → o ≡ p
 
 -- A verdict, with what is told with it; for want of memory a part of that.
 abbrev pub Replies : CommandLine → Text → Option (List Event) → Option (List Event) → Result Outcome AllocError → Type 0

@@ -15,7 +15,7 @@ use Rattle.swreq_words.specs.declared.command.Command.{Command}
 use Rattle.swreq_words.specs.declared.command.Command.TheVariants as command
 use Rattle.swreq_words.specs.declared.command.CommandLine.{CommandLine}
 use Rattle.swreq_top.specs.declared.outcome.Outcome.{Outcome}
-use Rattle.swreq_top.specs.Replies.{IsToldVerdict, WasToldPart}
+use Rattle.swreq_top.specs.Replies.{IsOnlyRefusal, IsToldVerdict, WasToldPart}
 use Rattle.swreq_top.specs.Verdict.{IsCutShort, IsRefused, IsVerdict}
 
 -- The words of the command line say no command.
@@ -50,7 +50,8 @@ LeavesSource command.Signatures left rest = IsRead left rest
 LeavesSource command.Rules left rest = IsRead left rest
 LeavesSource (command.Gen n) left rest = rest ≡ left
 
--- With this status the output of a verdict on the text of the command was taken, and what is told with it was told.
+-- With this status the output of a verdict on the text of the command was taken, and what is told with it was told. A text that is refused
+-- has no other verdict.
 pub record Delivers (words : List Text) (left rest old_taken new_taken : Option Text) (old_told new_told : Option (List Event)) (status : ℕ) : Type 0 where
   pub line : CommandLine
   pub says : Says words line
@@ -58,6 +59,7 @@ pub record Delivers (words : List Text) (left rest old_taken new_taken : Option 
   pub output : Text
   pub taken : Appends old_taken new_taken output
   pub verdict : IfSome (known_text line.command left) (λ text. IsToldVerdict line text old_told new_told (record { status = status; output = output }))
+  pub refusal : IfSome (known_text line.command left) (λ text. IsOnlyRefusal line text (record { status = status; output = output }))
 
 -- What a run prints: for wrong words the usage line; for others the output of a verdict, the line of a read that failed, or that of no
 -- memory.
@@ -84,7 +86,7 @@ IsAnswerable words left = (line : CommandLine) → Says words line → (text : T
 
 -- of a text that was read
 abbrev pub AnswersText : CommandLine → Text → Option (List Event) → Option (List Event) → Result Outcome ReadErr → Type 0
-AnswersText line text old new (Ok o) = IsToldVerdict line text old new o
+AnswersText line text old new (Ok o) = IsToldVerdict line text old new o × IsOnlyRefusal line text o
 AnswersText line text old new (Err TooLarge) = ⊥
 AnswersText line text old new (Err Fault) = ⊥
 AnswersText line text old new (Err Memory) = WasToldPart line text old new
@@ -93,7 +95,8 @@ AnswersText line text old new (Err Memory) = WasToldPart line text old new
 -- and then nothing is told; or for want of memory a part of what is told.
 abbrev pub Answers : CommandLine → (left rest : Option Text) → (old new : Option (List Event)) → Result Outcome ReadErr → Type 0
 Answers line left rest old new (Ok o) =
-    LeavesSource line.command left rest × IfSome (known_text line.command left) (λ text. IsToldVerdict line text old new o)
+    LeavesSource line.command left rest
+    × IfSome (known_text line.command left) (λ text. IsToldVerdict line text old new o × IsOnlyRefusal line text o)
     × ((o.status ≡ 0) ⊎ ((o.status ≡ 1) ⊎ (o.status ≡ 3)))
 Answers line left rest old new (Err TooLarge) =
     GivesCount left rest (TEXT_LIMIT + 1) × (IsGen line.command → ⊥) × GrewBy old new []

@@ -133,7 +133,15 @@ pub(crate) fn answers(
     let mut lines = Vec::new(alloc);
     for k in 0..world.queries().len() {
         let mut line = Vec::new(alloc);
-        answer_one(alloc, world, table, checked, lists, &world.queries()[k], &mut line)?;
+        answer_one(
+            alloc,
+            world,
+            table,
+            checked,
+            lists,
+            &world.queries()[k],
+            &mut line,
+        )?;
         lines.push(Seq::new(line))?;
     }
     Ok(lines)

@@ -130,7 +130,12 @@ fn count_of(line: &[u8], lines: &[Seq<u8>]) -> usize
 }
 
 /// Appends a word and how many of the lines are that word.
-fn put_count(word: &str, line: &[u8], lines: &[Seq<u8>], out: &mut Vec<u8>) -> Result<(), AllocError>
+fn put_count(
+    word: &str,
+    line: &[u8],
+    lines: &[Seq<u8>],
+    out: &mut Vec<u8>,
+) -> Result<(), AllocError>
     ensures { OnOk result (out.new.items ≡ out.old.items ++ (word.now ++ decimal (count_of line.now lines.now))) }
 {
     append_bytes(out, word.as_bytes())?;

@@ -1,5 +1,5 @@
 // From the words and the source to the sink and the status.
-ghost use Rattle.std.specs.Prelude.{◌≡◌, ◌≢◌, ◌+◌, ◌≤◌, ◌⊎◌, ℕ, Err, List, [], map, string_bytes};
+ghost use Rattle.std.specs.Prelude.{◌≡◌, ◌≢◌, ◌+◌, ◌≤◌, ◌⊎◌, ℕ, Err, List, Some, [], map, string_bytes};
 ghost use Rattle.std.specs.Io.KnownBytes.{Appends};
 ghost use Rattle.swreq_complete.specs.Limits.{AreInRange};
 ghost use Rattle.swreq_text.specs.Faults.{HasRisen};
@@ -53,8 +53,9 @@ pub fn run<S: Source, K: Sink, W: Watch>(
     // Equivalent signatures print alike.
     ensures alike { result ≡ 0 → TakenSay SayAlike (map string_bytes words.now) (S.left src.old) (K.taken out.old) (K.taken out.new) }
 
-    // A text that nothing refuses is answered.
+    // A text that nothing refuses is answered, and so is the empty one, whatever the limits are.
     ensures answered { IsAnswerable (map string_bytes words.now) (S.left src.old) → (result ≡ 1) ⊎ (result ≡ 3) → ⊥ }
+    ensures empty { (SayGen (map string_bytes words.now) → ⊥) → S.left src.old ≡ Some [] → (result ≡ 1) ⊎ (result ≡ 3) → ⊥ }
 
     // The words.
     ensures wrong_words { AreWrong (map string_bytes words.now) → (result ≡ 2) ⊎ ((result ≡ 5) ⊎ (result ≡ 6)) }

@@ -1,5 +1,5 @@
 //! What a command wants of the signatures of a text.
-ghost use Rattle.std.specs.Prelude.{◌≡◌, ◌<◌, [], length, repeat, Contains, IfOk};
+ghost use Rattle.std.specs.Prelude.{◌≡◌, ◌<◌, [], length, Contains, IfOk};
 ghost use Rattle.swreq_written.specs.ByTable.{HasQueryIdsOf, query_by};
 ghost use Rattle.swreq_top.specs.Ready.{HasShortSides};
 ghost use Rattle.swreq_top.specs.Wanted.{AreFlags, asks, function_of, is_asked, list_asked, wants_list, wants_machine};
