@@ -70,13 +70,20 @@ read_too_large (Some all) None came = absurd came.1
 read_too_large (Some all) (Some rest) came = inr (omega (arith, ap length came.1, length-append came.0 rest, came.2), came)
 
 -- which is refused for that
-pub too_large : (line : CommandLine) (left rest : Option Text) (old : Option (List Event)) → GivesCount left rest (TEXT_LIMIT + 1)
-    → IfSome left (λ text. IsToldVerdict line text old old (refused_with refusals.TooLarge) × IsOnlyRefusal line text (refused_with refusals.TooLarge))
-too_large line None rest old came = tt
-too_large line (Some all) None old came = absurd came.1
-too_large line (Some all) (Some rest) old came =
+pub too_large : (line : CommandLine) (left rest : Option Text) (old new : Option (List Event)) → GivesCount left rest (TEXT_LIMIT + 1)
+    → GrewBy old new []
+    → IfSome left (λ text. IsToldVerdict line text old new (refused_with refusals.TooLarge) × IsOnlyRefusal line text (refused_with refusals.TooLarge))
+too_large line None rest old new came grew = tt
+too_large line (Some all) None old new came grew = absurd came.1
+too_large line (Some all) (Some rest) old new came grew =
     let long : TEXT_LIMIT < length all = omega (arith, ap length came.1, length-append came.0 rest, came.2) in
-    (([], is_refused (without_world refusals.TooLarge long refl refl), grew_none old), λ p told refused. sym (long_refused line all long refused))
+    (([], is_refused (without_world refusals.TooLarge long refl refl), grew), λ p told refused. sym (long_refused line all long refused))
+
+-- nothing is told of a text before it is read
+pub told_nothing : (line : CommandLine) (known : Option Text) (old new : Option (List Event)) → GrewBy old new []
+    → IfSome known (λ text. WasToldPart line text old new)
+told_nothing line None old new grew = tt
+told_nothing line (Some text) old new grew = ([], inl refl, grew)
 
 -- nothing is gone of what stayed as it was
 pub none_given : (left : Option Text) → GivesCount left left 0
@@ -107,7 +114,14 @@ module _ (line : CommandLine) where
   source_known command.Rules left rest P text reads came end holds = of_source P left rest text came end holds
   source_known (command.Gen n) left rest P text reads came end holds = absurd (reads (n, refl))
 
-  leaves_read : (c : Command) (left rest : Option Text) → (IsGen c → ⊥) → IsRead left rest → LeavesSource c left rest
+  -- what holds of what a source has left holds of the text of a command that reads it
+  pub known_left : (c : Command) (left : Option Text) (P : Text → Type 0) → (IsGen c → ⊥) → IfSome left P → IfSome (known_text c left) P
+  known_left command.Answer left P reads h = h
+  known_left command.Signatures left P reads h = h
+  known_left command.Rules left P reads h = h
+  known_left (command.Gen n) left P reads h = absurd (reads (n, refl))
+
+  pub leaves_read : (c : Command) (left rest : Option Text) → (IsGen c → ⊥) → IsRead left rest → LeavesSource c left rest
   leaves_read command.Answer left rest reads read = read
   leaves_read command.Signatures left rest reads read = read
   leaves_read command.Rules left rest reads read = read

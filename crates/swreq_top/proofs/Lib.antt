@@ -14,3 +14,4 @@ pub mod Delivering
 pub mod Written
 pub mod Headlines
 pub mod EmptyText
+pub mod Ending

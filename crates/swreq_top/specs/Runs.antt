@@ -1,7 +1,8 @@
 -- What a run reads, writes and tells.
 use Rattle.std.specs.Prelude.{◌≡◌, ◌⊎◌, ℕ, ◌+◌, ◌<◌, ◌≤◌, List, [], length, Option, Some, IfSome, Result, Ok, Err}
 use Rattle.std.specs.Io.KnownBytes.{Appends, IsAtEnd}
-use Rattle.swreq_text.specs.Given.{GivesCount}
+use Rattle.swreq_text.specs.Faults.{HasRisen}
+use Rattle.swreq_text.specs.Given.{AppendsPart, GivesCount}
 use Rattle.swreq_text.specs.declared.whole.ReadErr.{ReadErr}
 use Rattle.swreq_text.specs.declared.whole.ReadErr.TheVariants.{TooLarge, Fault, Memory}
 use Rattle.swreq_gen.specs.Generated.{generated}
@@ -102,3 +103,40 @@ Answers line left rest old new (Err TooLarge) =
     GivesCount left rest (TEXT_LIMIT + 1) × (IsGen line.command → ⊥) × GrewBy old new []
 Answers line left rest old new (Err Fault) = (IsGen line.command → ⊥) × GrewBy old new []
 Answers line left rest old new (Err Memory) = IfSome (known_text line.command left) (λ text. WasToldPart line text old new)
+
+-- ---- how a run ends
+
+-- What is left of the source and how often it failed, what the sink has taken and how often it failed, and what the watcher was told.
+pub record Surroundings : Type 0 where
+  pub left : Option Text
+  pub read_faults : ℕ
+  pub taken : Option Text
+  pub write_faults : ℕ
+  pub told : Option (List Event)
+
+-- Of the bytes all were taken, and the status is this; or a write failed, a part of them was taken, and the status is 5.
+abbrev pub IsFinished : (taken new_taken : Option Text) → (faults new_faults : ℕ) → Text → (status result : ℕ) → Type 0
+IsFinished taken new_taken faults new_faults bytes status result =
+    ((result ≡ status) × Appends taken new_taken bytes × (new_faults ≡ faults))
+    ⊎ ((result ≡ 5) × AppendsPart taken new_taken bytes × HasRisen faults new_faults)
+
+-- The run of these words ends with this status.
+pub data IsEnd (words : List Text) (before after : Surroundings) : (status : ℕ) → Type 0 where
+  -- A verdict, whose output was taken.
+  delivered : {status : ℕ} → Delivers words before.left after.left before.taken after.taken before.told after.told status
+      → (status ≡ 0) ⊎ ((status ≡ 1) ⊎ (status ≡ 3)) → after.read_faults ≡ before.read_faults → after.write_faults ≡ before.write_faults
+      → IsEnd words before after status
+  -- The words are wrong, and the usage line was taken.
+  wrong_words : AreWrong words → Appends before.taken after.taken USAGE.now → after.read_faults ≡ before.read_faults
+      → after.write_faults ≡ before.write_faults → GrewBy before.told after.told [] → IsEnd words before after 2
+  -- A read failed.
+  read_failed : (line : CommandLine) → Says words line → HasRisen before.read_faults after.read_faults
+      → Appends before.taken after.taken READ_FAULT.now → after.write_faults ≡ before.write_faults → GrewBy before.told after.told []
+      → IsEnd words before after 4
+  -- A write failed, and a part of what was to be printed was taken.
+  write_failed : (printed : Text) → IsPrinted words (HasRisen before.read_faults after.read_faults) before.left printed
+      → AppendsPart before.taken after.taken printed → HasRisen before.write_faults after.write_faults
+      → TellsSome words before.left before.told after.told → IsEnd words before after 5
+  -- There was no memory.
+  no_memory : Appends before.taken after.taken OUT_OF_MEMORY.now → after.read_faults ≡ before.read_faults
+      → after.write_faults ≡ before.write_faults → TellsSome words before.left before.told after.told → IsEnd words before after 6

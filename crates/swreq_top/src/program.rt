@@ -6,7 +6,7 @@ ghost use Rattle.swreq_text.specs.Faults.{HasRisen};
 ghost use Rattle.swreq_text.specs.Given.{AppendsPart, GivesCount};
 ghost use Rattle.swreq_watch.specs.Told.{GrewBy};
 ghost use Rattle.swreq_top.specs.Headline.{SayAlike, SayEqualLists, SayTheLeast, SayYesWhereImplied, TakenSay};
-ghost use Rattle.swreq_top.specs.Runs.{Answers, AnswersText, AreWrong, Delivers, IsAnswerable, IsGen, IsPrinted, SayGen, TellsSome};
+ghost use Rattle.swreq_top.specs.Runs.{Answers, AnswersText, AreWrong, Delivers, IsAnswerable, IsEnd, IsFinished, IsGen, IsPrinted, SayGen, TellsSome};
 ghost use Rattle.swreq_top.specs.Verdict.{answered_text, limits_of};
 ghost use Rattle.swreq_text.specs.declared.whole.ReadErr.TheVariants.{Fault};
 ghost use Rattle.swreq_top.specs.Wanted.{HasCount};
@@ -67,7 +67,7 @@ pub fn run<S: Source, K: Sink, W: Watch>(
     ensures no_more { (n : ℕ) × (n ≤ TEXT_LIMIT + 1) × GivesCount (S.left src.old) (S.left src.new) n }
 
     // What the watcher is told.
-    ensures untold { (result ≡ 2) ⊎ (result ≡ 4) → GrewBy (W.told watch.old) (W.told watch.new) [] }
+    ensures untold { AreWrong (map string_bytes words.now) ⊎ (result ≡ 4) → GrewBy (W.told watch.old) (W.told watch.new) [] }
     ensures told_part { TellsSome (map string_bytes words.now) (S.left src.old) (W.told watch.old) (W.told watch.new) }
 
     // The faults of the streams, and memory.
@@ -81,6 +81,25 @@ pub fn run<S: Source, K: Sink, W: Watch>(
     ensures no_write_fault { (result ≡ 5) ⊎ (K.faults out.new ≡ K.faults out.old) }
     ensures memory_line { result ≡ 6 → Appends (K.taken out.old) (K.taken out.new) OUT_OF_MEMORY.now }
     ensures statuses { result ≤ 6 }
+{
+    carry_out(alloc, words, src, out, watch)
+}
+
+/// Does what the words say, and gives the status.
+fn carry_out<S: Source, K: Sink, W: Watch>(
+    alloc: Global,
+    words: &[String],
+    src: &mut S,
+    out: &mut K,
+    watch: &mut W,
+) -> u8
+    ensures end { IsEnd (map string_bytes words.now)
+        (record { left = S.left src.old; read_faults = S.faults src.old; taken = K.taken out.old; write_faults = K.faults out.old; told = W.told watch.old })
+        (record { left = S.left src.new; read_faults = S.faults src.new; taken = K.taken out.new; write_faults = K.faults out.new; told = W.told watch.new })
+        result }
+    ensures unread { AreWrong (map string_bytes words.now) ⊎ SayGen (map string_bytes words.now) → src.new ≡ src.old }
+    ensures no_more { (n : ℕ) × (n ≤ TEXT_LIMIT + 1) × GivesCount (S.left src.old) (S.left src.new) n }
+    ensures untold { AreWrong (map string_bytes words.now) → W.told watch.new ≡ W.told watch.old }
 {
     match swreq_words::read(alloc, words) {
         Ok(line) => match answer(alloc, &line, src, watch) {
@@ -137,12 +156,7 @@ fn replied<W: Watch>(
 
 /// Writes the bytes, and gives the status, which is 5 where a write failed.
 fn finish<K: Sink>(out: &mut K, status: u8, bytes: &[u8]) -> u8
-    requires { status ≢ 5 }
-    ensures written { result ≢ 5 → Appends (K.taken out.old) (K.taken out.new) bytes.now }
-    ensures status { result ≢ 5 → result ≡ status }
-    ensures fault { result ≡ 5 → HasRisen (K.faults out.old) (K.faults out.new) }
-    ensures part { result ≡ 5 → AppendsPart (K.taken out.old) (K.taken out.new) bytes.now }
-    ensures uncounted { (result ≡ 5) ⊎ (K.faults out.new ≡ K.faults out.old) }
+    ensures { IsFinished (K.taken out.old) (K.taken out.new) (K.faults out.old) (K.faults out.new) bytes.now status result }
 {
     match write_all(out, bytes) {
         Ok(()) => status,
