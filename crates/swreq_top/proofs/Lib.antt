@@ -15,3 +15,4 @@ pub mod Written
 pub mod Headlines
 pub mod EmptyText
 pub mod Ending
+pub mod OfMinimising

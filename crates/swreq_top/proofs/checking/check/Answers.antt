@@ -7,12 +7,12 @@ pub returns-in-Err-clause-check : goal.returns-in-Err-clause-check
 returns-in-Err-clause-check g c =
     protocols_failed c.args.limits (world_by c.args.table.now c.args.world.now) _ _ c.in-Err.refused c.in-Err.ensures.answer
 
-pub returns-in-Ok-Err-clause-check : goal.returns-in-Ok-Err-clause-check
-returns-in-Ok-Err-clause-check g c =
+pub returns-in-Err-check_all-clause-check : goal.returns-in-Err-check_all-clause-check
+returns-in-Err-check_all-clause-check g c =
     then_failed c.args.limits (world_by c.args.table.now c.args.world.now) _ _ (g.W.Watch.told c.build.new.watch) (last_rules c.in-Ok.protocols.rounds) _
-    c.in-Ok.ensures.answer c.check_all.ensures.check
+    c.in-Ok.ensures.answer c.in-Err-check_all.ensures.check
 
-pub returns-in-Ok-Ok-clause-check : goal.returns-in-Ok-Ok-clause-check
-returns-in-Ok-Ok-clause-check g c =
-    then_all c.args.limits (world_by c.args.table.now c.args.world.now) _ _ (g.W.Watch.told c.build.new.watch) _ c.in-Ok.ensures.answer
-    c.check_all.ensures.check
+pub returns-in-Ok-check_all-clause-check : goal.returns-in-Ok-check_all-clause-check
+returns-in-Ok-check_all-clause-check g c =
+    then_all c.args.limits (world_by c.args.table.now c.args.world.now) _ _ (g.W.Watch.told c.build.new.watch)
+    (record { protocols = c.in-Ok.protocols; kept = c.in-Ok-check_all.kept }) c.in-Ok.ensures.answer c.in-Ok-check_all.ensures.check
