@@ -1,5 +1,5 @@
 -- Which signatures a command wants.
-use Rattle.std.proofs.Common.{◌≡◌, ◌≢◌, ◌⊎◌, ◌∙◌, inl, inr, refl, sym, ap, ap₂, subst, ℕ, ◌+◌, ◌<◌, ◌||◌, ◌&&◌, Bool, true, false, nat_eq, List, [], ◌∷◌, ◌++◌, get_or, set, length, map, Contains, Some, None, true≢false, arith, eq-eqb, ne_eqb}
+use Rattle.std.proofs.Common.{◌≡◌, ◌≢◌, ◌⊎◌, ◌∙◌, inl, inr, refl, sym, ap, ap₂, subst, ℕ, ◌+◌, ◌<◌, ◌||◌, ◌&&◌, Bool, true, false, nat_eq, List, [], ◌∷◌, ◌++◌, get_or, set, length, map, Contains, Option, Some, None, true≢false, arith, eq-eqb, ne_eqb}
 use Rattle.std.specs.List.{list_any}
 use Rattle.std.proofs.lemmas.Bool.{cases_eq, eqb-true}
 use Rattle.std.proofs.lemmas.List.{get_or-set_other, get_or-set_same, length-map, length-set}
@@ -57,10 +57,10 @@ module _ (asking : Asking) (qs : List Query) (count : ℕ) (flags : List Bool) (
       h.set k below
       ∙ sym (ends k ∙ ap (λ (b : Bool). is_asked asking qs k || b) (or_false (asks_at asking k q) ∙ other) ∙ or_false (is_asked asking qs k))
 
-  module _ (yes : asks asking q ≡ true) (l : at < count) where
+  module _ (it_asks : asks asking q ≡ true) (l : at < count) where
     flag_of : (k : ℕ) → k < count → (k ≡ at) ⊎ (k ≢ at) → get_or (set flags at true) k false ≡ is_asked asking (qs ++ q ∷ []) k
     flag_of k below (inl e) =
-        let same : asks_at asking k q ≡ true = and_both (asks asking q) (nat_eq at k) yes (eq-eqb at k (sym e)) in
+        let same : asks_at asking k q ≡ true = and_both (asks asking q) (nat_eq at k) it_asks (eq-eqb at k (sym e)) in
         let within : at < length flags = omega (arith, h.counted, l) in
         ap (λ (n : ℕ). get_or (set flags at true) n false) e ∙ get_or-set_same flags at true false within
         ∙ sym (ends k ∙ ap (λ (b : Bool). is_asked asking qs k || b) (or_false (asks_at asking k q) ∙ same) ∙ or_true (is_asked asking qs k))
@@ -72,9 +72,9 @@ module _ (asking : Asking) (qs : List Query) (count : ℕ) (flags : List Bool) (
     asked_more = record { counted = length-set flags at true ∙ h.counted; set = λ k below. flag_of k below (cases_eq k at) }
 
   pub asked_same : asks asking q ≡ false → AreFlags (is_asked asking (qs ++ q ∷ [])) count flags
-  asked_same no = record {
+  asked_same lacks = record {
     counted = h.counted;
-    set = λ k below. unasked k below (ap (λ (b : Bool). b && nat_eq at k) no);
+    set = λ k below. unasked k below (ap (λ (b : Bool). b && nat_eq at k) lacks);
   }
 
 -- ---- what is asked
@@ -98,8 +98,8 @@ asked_within w terms closed q c =
 -- the query asks this
 pub is_asked_by : (asking : Asking) (qs : List Query) (q : Query) → Contains qs q → asks asking q ≡ true
     → is_asked asking qs (function_of q).place ≡ true
-is_asked_by asking qs q c yes =
-    any_in (asks_at asking (function_of q).place) qs q c (and_both (asks asking q) (nat_eq (function_of q).place (function_of q).place) yes (eq-eqb _ _ refl))
+is_asked_by asking qs q c it_asks =
+    any_in (asks_at asking (function_of q).place) qs q c (and_both (asks asking q) (nat_eq (function_of q).place (function_of q).place) it_asks (eq-eqb _ _ refl))
 
 -- a query that asks for a list asks for that of the signature
 pub list_is : (q : Query) (f : FuncId) → list_asked q ≡ Some f → q ≡ queries.Signature f

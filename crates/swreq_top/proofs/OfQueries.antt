@@ -47,7 +47,7 @@ module _ (w : TextWorld) (wants : ℕ → Bool) (c : Checked) (kept : IsCheckedF
   ready_at entry r is some = subst (IsKept w wants f) some (kept_at entry is)
 
   pub never_none : (entry : Option Ready) → entry ≡ slice_index_or c.kept.items f.place entry → entry ≡ None → wants f.place ≡ true → ⊥
-  never_none entry is nothing yes = true≢false (sym yes ∙ subst (IsKept w wants f) nothing (kept_at entry is))
+  never_none entry is nothing wanted = true≢false (sym wanted ∙ subst (IsKept w wants f) nothing (kept_at entry is))
 
 -- ---- minimised lists
 
@@ -64,7 +64,7 @@ module _ (w : TextWorld) (wants : ℕ → Bool) (lists : List (Option Text)) (ke
   is_list entry line is some = subst (IsLineKept w wants f) some (line_at entry is)
 
   pub never_unlisted : (entry : Option Text) → entry ≡ slice_index_or lists f.place entry → entry ≡ None → wants f.place ≡ true → ⊥
-  never_unlisted entry is nothing yes = true≢false (sym yes ∙ subst (IsLineKept w wants f) nothing (line_at entry is))
+  never_unlisted entry is nothing wanted = true≢false (sym wanted ∙ subst (IsLineKept w wants f) nothing (line_at entry is))
 
 -- ---- queries
 
@@ -98,12 +98,26 @@ module _ (terms : List Term) (w : IdWorld) (text : IsTextOver terms w) where
         subst (λ (g : SignatureOver PlacedRequirement). IsReady (world_by terms w) g r) signature_here
         (ready_at (world_by terms w) (is_asked Anything w.queries) kept h f asked_here entry r is some)
 
-  -- so is that for which it asks
-  pub listed_here : (f : FuncId) → Contains w.queries (Signature f) → f.place < length (world_by terms w).signatures
-  listed_here f c = asked_here (Signature f) c f refl
+  -- so is that for whose list it asks
+  module _ (f : FuncId) (c : Contains w.queries (Signature f)) (lists : List (Option Text))
+      (kept : AreLinesKept (world_by terms w) (is_asked ASignature w.queries) lists) (count : length lists ≡ length w.signatures) where
+    listed_here : f.place < length (world_by terms w).signatures
+    listed_here = asked_here (Signature f) c f refl
 
-  pub list_wanted_here : (f : FuncId) → Contains w.queries (Signature f) → is_asked ASignature w.queries f.place ≡ true
-  list_wanted_here f c = is_asked_by ASignature w.queries (Signature f) c refl
+    count_here : length lists ≡ length (world_by terms w).signatures
+    count_here = count ∙ sym (length-map w.signatures (signature_by terms))
+
+    pub list_here_below : f.place < length lists
+    list_here_below = list_below (world_by terms w) (is_asked ASignature w.queries) lists kept count_here f listed_here
+
+    pub list_here : (entry : Option Text) (line : Text) → entry ≡ slice_index_or lists f.place entry → entry ≡ Some line
+        → IsMinimisedLine (world_by terms w) (signature_at (world_by terms w) f) line
+    list_here = is_list (world_by terms w) (is_asked ASignature w.queries) lists kept count_here f listed_here
+
+    pub list_here_never_none : (entry : Option Text) → entry ≡ slice_index_or lists f.place entry → entry ≡ None → ⊥
+    list_here_never_none entry is nothing =
+        never_unlisted (world_by terms w) (is_asked ASignature w.queries) lists kept count_here f listed_here entry is nothing
+        (is_asked_by ASignature w.queries (Signature f) c refl)
 
   -- a line more
   pub line_more : (k : ℕ) (q : Query) (ls : List Text) (l : Text) → k < length w.queries → get_or w.queries k q ≡ q
