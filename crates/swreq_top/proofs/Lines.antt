@@ -75,8 +75,11 @@ one_same l line e = one_step (bytes_eq l line) true e
 one_other : (l line : Text) → bytes_eq l line ≡ false → count_of line (l ∷ []) ≡ 0
 one_other l line e = one_step (bytes_eq l line) false e
 
+count_none : (n : ℕ) → n ≡ 0 + n
+count_none n = omega arith
+
 count_end : (ls : List Text) (l line : Text) → count_of line (ls ++ l ∷ []) ≡ count_of line ls + count_of line (l ∷ [])
-count_end [] l line = refl
+count_end [] l line = count_none (count_of line (l ∷ []))
 count_end (m ∷ ls) l line =
     ap (λ (n : ℕ). if bytes_eq m line then suc n else n) (count_end ls l line) ∙ count_step (bytes_eq m line) (count_of line ls) (count_of line (l ∷ []))
 
