@@ -1,7 +1,10 @@
 -- Lines, and the lines of queries.
-use Rattle.std.proofs.Common.{◌≡◌, ◌∙◌, refl, sym, ap, subst, ℕ, ◌+◌, ◌<◌, ◌≤◌, Bool, true, false, List, [], ◌∷◌, ◌++◌, take, get_or, length, map, Contains}
-use Rattle.std.proofs.lemmas.List.{take_all, take_more}
+use Rattle.std.proofs.Common.{◌≡◌, ◌∙◌, refl, sym, ap, subst, ℕ, suc, ◌+◌, ◌-◌, ◌<◌, ◌≤◌, arith, Bool, true, false, if◌then◌else◌, List, [], ◌∷◌, ◌++◌, take, get_or, length, map, append-nil, Contains}
+use Rattle.std.specs.List.{concat}
+use Rattle.std.specs.Str.{bytes_eq}
+use Rattle.std.proofs.lemmas.List.{get_or_default, take_all, take_more}
 use Rattle.std.proofs.lemmas.List.Elements.{All-contains, Contains-get_or}
+use Rattle.std.proofs.lemmas.List.Folds.{concat-append}
 use Rattle.swreq_derive.specs.Derivation.{BookDerivable, Derivable}
 use Rattle.swreq_derive.specs.Derivation.Source.{Written}
 use Rattle.swreq_derive.specs.Facts.{generic_params}
@@ -25,7 +28,7 @@ use Rattle.swreq_query.specs.Asked.{AppendsAnswer, IsOfTypes}
 use Rattle.swreq_query.proofs.Along.{along}
 use Rattle.swreq_output.specs.Signatures.{source_of, written_list}
 use Rattle.swreq_top.specs.declared.ready.Ready.{Ready}
-use Rattle.swreq_top.specs.Lines.{AreLines}
+use Rattle.swreq_top.specs.Lines.{AreLines, count_of, last_line}
 use Rattle.swreq_top.specs.Lines.AreLines.{none, more}
 use Rattle.swreq_top.specs.Outputs.{AnswersByTypes, ArePrinted, IsLineOf, IsOutput, signature_of}
 use Rattle.swreq_top.specs.Ready.{IsReady}
@@ -42,6 +45,13 @@ module _ {A : Type 0} (P : A → Text → Type 0) where
   lines_more all k x ls l below at h is =
       subst (λ (qs : List A). AreLines P qs (ls ++ l ∷ [])) (sym (take_more all k x below ∙ ap (λ (z : A). take k all ++ z ∷ []) at)) (lines_end h is)
 
+  pub no_lines : (all : List A) (ls : List Text) → ls ≡ [] → AreLines P (take 0 all) ls
+  no_lines all ls e = subst (AreLines P (take 0 all)) (sym e) none
+
+  pub lines_next : (all : List A) (k : ℕ) (d : A) (ls : List Text) (l : Text) → k < length all → AreLines P (take k all) ls
+      → P (get_or all k d) l → AreLines P (take (k + 1) all) (ls ++ l ∷ [])
+  lines_next all k d ls l below = lines_more all k (get_or all k d) ls l below (get_or_default all k (get_or all k d) d below)
+
   pub lines_all : (all : List A) (k : ℕ) (ls : List Text) → length all ≤ k → AreLines P (take k all) ls → AreLines P all ls
   lines_all all k ls l h = subst (λ (qs : List A). AreLines P qs ls) (take_all k all l) h
 
@@ -49,6 +59,57 @@ pub lines_by : {A : Type 0} (P Q : A → Text → Type 0) {xs : List A} {ls : Li
     → AreLines P xs ls → AreLines Q xs ls
 lines_by P Q by none = none
 lines_by P Q by (more {x} {xs} {line} is rest) = more (by x line (first_member x xs) is) (lines_by P Q (λ y m c. by y m (later_member x y xs c)) rest)
+
+-- ---- how many lines are this one
+
+count_step : (b : Bool) (m n : ℕ) → (if b then suc (m + n) else m + n) ≡ (if b then suc m else m) + n
+count_step true m n = omega arith
+count_step false m n = refl
+
+one_step : (b c : Bool) → b ≡ c → (if b then suc 0 else 0) ≡ (if c then suc 0 else 0)
+one_step b c e = ap (λ (d : Bool). if d then suc 0 else 0) e
+
+one_same : (l line : Text) → bytes_eq l line ≡ true → count_of line (l ∷ []) ≡ 1
+one_same l line e = one_step (bytes_eq l line) true e
+
+one_other : (l line : Text) → bytes_eq l line ≡ false → count_of line (l ∷ []) ≡ 0
+one_other l line e = one_step (bytes_eq l line) false e
+
+count_none : (n : ℕ) → n ≡ 0 + n
+count_none n = omega arith
+
+count_end : (ls : List Text) (l line : Text) → count_of line (ls ++ l ∷ []) ≡ count_of line ls + count_of line (l ∷ [])
+count_end [] l line = count_none (count_of line (l ∷ []))
+count_end (m ∷ ls) l line =
+    ap (λ (n : ℕ). if bytes_eq m line then suc n else n) (count_end ls l line) ∙ count_step (bytes_eq m line) (count_of line ls) (count_of line (l ∷ []))
+
+-- ---- the last line
+
+pub last_is : (ls : List Text) (d : Text) → 0 < length ls → get_or ls (length ls - 1) d ≡ last_line ls
+last_is [] d h = absurd (omega (arith, h))
+last_is (l ∷ []) d h = refl
+last_is (l ∷ m ∷ ls) d h =
+    let outer : suc (suc (length ls)) - 1 ≡ suc (length ls) = omega arith in
+    let inner : suc (length ls) - 1 ≡ length ls = omega arith in
+    ap (λ (n : ℕ). get_or (l ∷ m ∷ ls) n d) outer ∙ sym (ap (λ (n : ℕ). get_or (m ∷ ls) n d) inner) ∙ last_is (m ∷ ls) d (omega arith)
+
+-- ---- all of a list of lines, from its first ones and the next
+
+module _ (all : List Text) (k : ℕ) (l : Text) (below : k < length all) (at : get_or all k l ≡ l) where
+  first_ones : take (k + 1) all ≡ take k all ++ l ∷ []
+  first_ones = take_more all k l below ∙ ap (λ (z : Text). take k all ++ z ∷ []) at
+
+  pub joined_more : (old new : Text) → old ≡ concat (take k all) → new ≡ old ++ l → new ≡ concat (take (k + 1) all)
+  joined_more old new h e =
+      e ∙ ap (λ (t : Text). t ++ l) h
+      ∙ sym (ap concat first_ones ∙ concat-append (take k all) (l ∷ []) ∙ ap (λ (t : Text). concat (take k all) ++ t) (append-nil l))
+
+  module _ (line : Text) where
+    pub counted_more : (n : ℕ) → bytes_eq l line ≡ true → n ≡ count_of line (take k all) → n + 1 ≡ count_of line (take (k + 1) all)
+    counted_more n same h = omega (arith, h, ap (count_of line) first_ones, count_end (take k all) l line, one_same l line same)
+
+    pub counted_same : (n : ℕ) → bytes_eq l line ≡ false → n ≡ count_of line (take k all) → n ≡ count_of line (take (k + 1) all)
+    counted_same n other h = omega (arith, h, ap (count_of line) first_ones, count_end (take k all) l line, one_other l line other)
 
 -- ---- one line
 

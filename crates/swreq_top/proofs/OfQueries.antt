@@ -22,11 +22,11 @@ use Rattle.swreq_top.specs.declared.ready.Checked.{Checked}
 use Rattle.swreq_top.specs.declared.ready.Ready.{Ready}
 use Rattle.swreq_top.specs.declared.wanted.Asking.TheVariants.{Anything, ASignature}
 use Rattle.swreq_top.specs.Lines.{AreLines}
-use Rattle.swreq_top.specs.Outputs.{IsLineOf, signature_of}
+use Rattle.swreq_top.specs.Outputs.{AnswersByTypes, IsLineOf, signature_of}
 use Rattle.swreq_top.specs.Ready.{AreLinesKept, IsCheckedFor, IsKept, IsLineKept, IsReady}
-use Rattle.swreq_top.specs.Wanted.{function_of, is_asked}
-use Rattle.swreq_top.proofs.Flags.{asked_alike, asked_within, is_asked_by}
-use Rattle.swreq_top.proofs.Lines.{lines_more}
+use Rattle.swreq_top.specs.Wanted.{function_of, is_asked, list_asked}
+use Rattle.swreq_top.proofs.Flags.{asked_alike, asked_within, is_asked_by, list_is, of_types}
+use Rattle.swreq_top.proofs.Lines.{lines_more, types_line}
 
 -- an element that is read by way of an equal list
 pub same_default : {X : Type 0} (xs ys : List X) (k : ℕ) (d : X) → ys ≡ xs → k < length xs → get_or xs k (get_or ys k d) ≡ get_or ys k d
@@ -128,3 +128,18 @@ module _ (terms : List Term) (w : IdWorld) (text : IsTextOver terms w) where
       lines_more (IsLineOf true (world_by terms w)) (world_by terms w).queries k (query_by terms q) ls l
       (omega (arith, below, length-map w.queries (query_by terms)))
       (get_or-map (query_by terms) w.queries k q ∙ ap (query_by terms) at) h is
+
+-- ---- the line of a query
+
+module _ (terms : List Term) (w : TextWorld) (q : Query) (old new : Text) where
+  pub list_line : (f : FuncId) → list_asked q ≡ Some f → (line : Text) × IsMinimisedLine w (signature_at w f) line × (new ≡ old ++ line)
+      → (line : Text) × IsLineOf true w (query_by terms q) line × (new ≡ old ++ line)
+  list_line f e h = subst (λ (p : Query). (line : Text) × IsLineOf true w (query_by terms p) line × (new ≡ old ++ line)) (sym (list_is q f e)) h
+
+  pub type_line : list_asked q ≡ None → (line : Text) × AnswersByTypes true w (query_by terms q) line × (new ≡ old ++ line)
+      → (line : Text) × IsLineOf true w (query_by terms q) line × (new ≡ old ++ line)
+  type_line e (line, is, t) = (line, types_line true w (query_by terms q) line (of_types terms q e) is, t)
+
+  -- written into a fresh list, it is that list
+  pub whole_line : old ≡ [] → (line : Text) × IsLineOf true w (query_by terms q) line × (new ≡ old ++ line) → IsLineOf true w (query_by terms q) new
+  whole_line none (line, is, t) = subst (IsLineOf true w (query_by terms q)) (sym (t ∙ ap (λ (o : Text). o ++ line) none)) is
