@@ -48,9 +48,10 @@ module _ {A : Type 0} (P : A → Text → Type 0) where
   pub no_lines : (all : List A) (ls : List Text) → ls ≡ [] → AreLines P (take 0 all) ls
   no_lines all ls e = subst (AreLines P (take 0 all)) (sym e) none
 
-  pub lines_next : (all : List A) (k : ℕ) (d : A) (ls : List Text) (l : Text) → k < length all → AreLines P (take k all) ls
-      → P (get_or all k d) l → AreLines P (take (k + 1) all) (ls ++ l ∷ [])
-  lines_next all k d ls l below = lines_more all k (get_or all k d) ls l below (get_or_default all k (get_or all k d) d below)
+  pub lines_next : (all : List A) (k : ℕ) (d : A) (ls new : List Text) (l : Text) → k < length all → AreLines P (take k all) ls
+      → P (get_or all k d) l → new ≡ ls ++ l ∷ [] → AreLines P (take (k + 1) all) new
+  lines_next all k d ls new l below h is e =
+      subst (AreLines P (take (k + 1) all)) (sym e) (lines_more all k (get_or all k d) ls l below (get_or_default all k (get_or all k d) d below) h is)
 
   pub lines_all : (all : List A) (k : ℕ) (ls : List Text) → length all ≤ k → AreLines P (take k all) ls → AreLines P all ls
   lines_all all k ls l h = subst (λ (qs : List A). AreLines P qs ls) (take_all k all l) h

@@ -29,7 +29,7 @@ use Rattle.swreq_top.proofs.Flags.{asked_alike, asked_within, is_asked_by, list_
 use Rattle.swreq_top.proofs.Lines.{lines_more, types_line}
 
 -- an element that is read by way of an equal list
-pub same_default : {X : Type 0} (xs ys : List X) (k : ℕ) (d : X) → ys ≡ xs → k < length xs → get_or xs k (get_or ys k d) ≡ get_or ys k d
+same_default : {X : Type 0} (xs ys : List X) (k : ℕ) (d : X) → ys ≡ xs → k < length xs → get_or xs k (get_or ys k d) ≡ get_or ys k d
 same_default {X} xs ys k d is below =
     get_or_default xs k (get_or ys k d) d below ∙ ap (λ (zs : List X). get_or zs k d) (sym is)
 
@@ -119,16 +119,6 @@ module _ (terms : List Term) (w : IdWorld) (text : IsTextOver terms w) where
         never_unlisted (world_by terms w) (is_asked ASignature w.queries) lists kept count_here f listed_here entry is nothing
         (is_asked_by ASignature w.queries (Signature f) c refl)
 
-  -- a line more
-  pub line_more : (k : ℕ) (q : Query) (ls : List Text) (l : Text) → k < length w.queries → get_or w.queries k q ≡ q
-      → AreLines (IsLineOf true (world_by terms w)) (take k (world_by terms w).queries) ls
-      → IsLineOf true (world_by terms w) (query_by terms q) l
-      → AreLines (IsLineOf true (world_by terms w)) (take (k + 1) (world_by terms w).queries) (ls ++ l ∷ [])
-  line_more k q ls l below at h is =
-      lines_more (IsLineOf true (world_by terms w)) (world_by terms w).queries k (query_by terms q) ls l
-      (omega (arith, below, length-map w.queries (query_by terms)))
-      (get_or-map (query_by terms) w.queries k q ∙ ap (query_by terms) at) h is
-
 -- ---- the line of a query
 
 module _ (terms : List Term) (w : TextWorld) (q : Query) (old new : Text) where
@@ -141,5 +131,19 @@ module _ (terms : List Term) (w : TextWorld) (q : Query) (old new : Text) where
   type_line e (line, is, t) = (line, types_line true w (query_by terms q) line (of_types terms q e) is, t)
 
   -- written into a fresh list, it is that list
-  pub whole_line : old ≡ [] → (line : Text) × IsLineOf true w (query_by terms q) line × (new ≡ old ++ line) → IsLineOf true w (query_by terms q) new
+  whole_line : old ≡ [] → (line : Text) × IsLineOf true w (query_by terms q) line × (new ≡ old ++ line) → IsLineOf true w (query_by terms q) new
   whole_line none (line, is, t) = subst (IsLineOf true w (query_by terms q)) (sym (t ∙ ap (λ (o : Text). o ++ line) none)) is
+
+-- a query more
+pub lines_of_more : (terms : List Term) (w : IdWorld) (k : ℕ) (d : Query) (qs : List Query) (ls more : List Text) (old new : Text)
+    → qs ≡ w.queries → k < length qs → old ≡ [] → AreLines (IsLineOf true (world_by terms w)) (take k (world_by terms w).queries) ls
+    → (line : Text) × IsLineOf true (world_by terms w) (query_by terms (get_or qs k d)) line × (new ≡ old ++ line) → more ≡ ls ++ new ∷ []
+    → AreLines (IsLineOf true (world_by terms w)) (take (k + 1) (world_by terms w).queries) more
+lines_of_more terms w k d qs ls more old new same below none h is e =
+    let within : k < length w.queries = omega (arith, below, ap length same) in
+    let q = get_or qs k d in
+    subst (AreLines (IsLineOf true (world_by terms w)) (take (k + 1) (world_by terms w).queries)) (sym e)
+    (lines_more (IsLineOf true (world_by terms w)) (world_by terms w).queries k (query_by terms q) ls new
+    (omega (arith, within, length-map w.queries (query_by terms)))
+    (get_or-map (query_by terms) w.queries k q ∙ ap (query_by terms) (same_default w.queries qs k d same within)) h
+    (whole_line terms (world_by terms w) q old new none is))
