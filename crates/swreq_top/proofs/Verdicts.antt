@@ -1,5 +1,5 @@
 -- What a text is answered with is a verdict on it.
-use Rattle.std.proofs.Common.{◌≡◌, ◌≢◌, ◌⊎◌, ℕ, ◌≤◌, List, [], ◌++◌, append_assoc, append-nil, length, Option, Some, None, IfErr, IfOk, IsOk, Result, Ok, Err, refl, true, sym, ◌∙◌, ap, inl, inr, subst}
+use Rattle.std.proofs.Common.{◌≡◌, ◌≢◌, ◌⊎◌, ℕ, ◌<◌, ◌≤◌, List, [], ◌++◌, append_assoc, append-nil, length, Option, Some, None, IfErr, IfOk, IsOk, OnErr, Result, Ok, Err, refl, true, sym, ◌∙◌, ap, inl, inr, subst}
 use Rattle.std.specs.declared.alloc.AllocError.{AllocError}
 use Rattle.swreq_lex.specs.declared.refusal.LexErr.{LexErr}
 use Rattle.swreq_lex.specs.declared.refusal.LexErr.TheVariants as lexical
@@ -17,6 +17,7 @@ use Rattle.swreq_names.specs.declared.refusal.NameErr.{NameErr}
 use Rattle.swreq_names.specs.declared.refusal.NameErr.TheVariants as names
 use Rattle.swreq_names.specs.Names.{Refuses}
 use Rattle.swreq_print.specs.declared.refusal.RefusalKind.{RefusalKind}
+use Rattle.swreq_print.specs.declared.refusal.RefusalKind.TheVariants as refusals
 use Rattle.swreq_complete.specs.declared.limit.Failed.{Failed}
 use Rattle.swreq_complete.specs.declared.limit.Failed.TheVariants as failed
 use Rattle.swreq_complete.specs.declared.limit.Which.{Which}
@@ -24,6 +25,8 @@ use Rattle.swreq_rule.specs.declared.rules.Rule.{Rule}
 use Rattle.swreq_watch.specs.declared.events.Event.{Event}
 use Rattle.swreq_watch.specs.Told.{GrewBy}
 use Rattle.swreq_watch.proofs.Told.{grew_none, grew_on}
+use Rattle.swreq_words.specs.declared.command.Command.{Command}
+use Rattle.swreq_words.specs.declared.command.Command.TheVariants as command
 use Rattle.swreq_words.specs.declared.command.CommandLine.{CommandLine}
 use Rattle.swreq_world.specs.Closed.{IsClosed}
 use Rattle.swreq_world.specs.Worlds.{TextWorld}
@@ -35,11 +38,11 @@ use Rattle.swreq_top.specs.declared.ready.Checked.{Checked}
 use Rattle.swreq_top.specs.Machines.{HasWorld, IsBuiltOver, IsChecked}
 use Rattle.swreq_top.specs.Outputs.{IsOutput}
 use Rattle.swreq_top.specs.Ready.{Checks}
-use Rattle.swreq_top.specs.Replies.{Finishes, Replies, WasToldPart}
+use Rattle.swreq_top.specs.Replies.{Finishes, IsToldVerdict, Replies, WasToldPart}
 use Rattle.swreq_top.specs.Reports.{name_refusal, refusal_of}
 use Rattle.swreq_top.specs.Told.{MinimisingAllTells, MinimisingEndsIn}
 use Rattle.swreq_top.specs.Told.MinimisingAllTells.{nothing}
-use Rattle.swreq_top.specs.Verdict.{HasNoWorld, IsRefused, IsVerdict, limits_of, machine_outcome, refused_with, stopped_with}
+use Rattle.swreq_top.specs.Verdict.{HasNoWorld, IsRefused, IsVerdict, answered_text, limits_of, machine_outcome, refused_with, stopped_with}
 use Rattle.swreq_top.specs.Verdict.IsRefused.{without_world, not_a_type_parameter, past_a_limit}
 use Rattle.swreq_top.specs.Verdict.IsVerdict.{answered as is_answered, cut_short as is_cut_short, refused as is_refused}
 use Rattle.swreq_top.proofs.Checked.{built_checked, check_tells, is_formed}
@@ -103,6 +106,13 @@ unresolved_refused text skeleton result e is real within stands some =
       | inr none ↦ absurd (real none)
     ])
 
+-- the text of a command that reads a source is that of the source
+pub source_text : (c : Command) (text : List ℕ) → ((n : ℕ) → c ≢ command.Gen n) → answered_text c text ≡ text
+source_text command.Answer text reads = refl
+source_text command.Signatures text reads = refl
+source_text command.Rules text reads = refl
+source_text (command.Gen n) text reads = absurd (reads n refl)
+
 -- ---- replies
 
 module _ (line : CommandLine) (text : List ℕ) where
@@ -115,6 +125,29 @@ module _ (line : CommandLine) (text : List ℕ) where
       → IfOk result (λ o. real × (o ≡ refused_with refusal)) → (real → HasNoWorld text refusal) → Replies line text old old result
   refused_early old refusal real (Ok o) (r, is) refused = ([], is_refused (without_world refusal (refused r) is refl), grew_none old)
   refused_early old refusal real (Err e) h refused = replies_nothing old e
+
+  -- and so is one that is too long
+  pub refused_long : (old : Option (List Event)) (result : Result Outcome AllocError) → TEXT_LIMIT < length text
+      → IfOk result (λ o. o ≡ refused_with refusals.TooLarge) → Replies line text old old result
+  refused_long old (Ok o) long is = ([], is_refused (without_world refusals.TooLarge long is refl), grew_none old)
+  refused_long old (Err e) long h = replies_nothing old e
+
+  -- what a reply says
+  pub replied_verdict : (old new : Option (List Event)) (result : Result Outcome AllocError) → Replies line text old new result
+      → IfOk result (IsToldVerdict line text old new)
+  replied_verdict old new (Ok o) h = h
+  replied_verdict old new (Err e) h = tt
+
+  pub replied_part : (old new : Option (List Event)) (result : Result Outcome AllocError) → Replies line text old new result
+      → OnErr result (WasToldPart line text old new)
+  replied_part old new (Ok o) h = tt
+  replied_part old new (Err e) h = h
+
+  pub replied_refusal : (old new : Option (List Event)) (result : Result Outcome AllocError) → Replies line text old new result
+      → ((l : CommandLine) (o p : Outcome) (told also : List Event) → IsRefused l text o told → IsVerdict l text p also → p ≡ o)
+      → (o : Outcome) (told : List Event) → IsRefused line text o told → IfOk result (λ answer. answer ≡ o)
+  replied_refusal old new (Ok answer) (t, verdict, grew) one o told refused = one line o answer told t refused verdict
+  replied_refusal old new (Err e) h one o told refused = tt
 
   module _ (w : TextWorld) (has : HasWorld text w) where
     -- one whose machines are refused

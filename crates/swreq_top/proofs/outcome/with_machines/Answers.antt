@@ -1,0 +1,55 @@
+use Rattle.std.proofs.Common.{◌≡◌, ℕ, true, List, Option, IfOk, subst, sym}
+use Rattle.swreq_complete.specs.declared.limit.Failed.TheVariants as failed
+use Rattle.swreq_complete.specs.declared.limit.Limits.{Limits}
+use Rattle.swreq_valid.specs.Rounds.{last_rules}
+use Rattle.swreq_watch.specs.declared.events.Event.{Event}
+use Rattle.swreq_watch.specs.Told.{GrewBy}
+use Rattle.swreq_world.specs.ByTable.{world_by}
+use Rattle.swreq_world.specs.Worlds.{TextWorld}
+use Rattle.swreq_top.specs.Outputs.{IsOutput}
+use Rattle.swreq_top.specs.Ready.{AreLinesKept}
+use Rattle.swreq_top.specs.Replies.{Finishes}
+use Rattle.swreq_top.specs.Told.{MinimisingAllTells, MinimisingEndsIn}
+use Rattle.swreq_top.specs.Wanted.{wants_list}
+use Rattle.swreq_top.proofs.Flags.{asked_within}
+use Rattle.swreq_top.proofs.Verdicts.{finishes_answered, finishes_nothing, finishes_stopped}
+use Rattle.swreq_top.proofs.outcome.with_machines.Goals as goal
+
+pub lists_wanted-requires : goal.lists_wanted-requires
+lists_wanted-requires g c q member = asked_within c.args.world.now c.args.table.now c.requires.text.closed q member
+
+pub returns-in_err-wanted : goal.returns-in_err-wanted
+returns-in_err-wanted g c =
+    subst (Finishes c.args.line.now c.args.text.now (world_by c.args.table.now c.args.world.now) (last_rules c.args.checked.now.protocols.rounds)
+    (g.W.Watch.told c.args.watch.now) (g.W.Watch.told c.args.watch.now)) (sym c.from_residual.ensures)
+    (finishes_nothing c.args.line.now c.args.text.now (world_by c.args.table.now c.args.world.now) c.requires.world
+    (last_rules c.args.checked.now.protocols.rounds) (g.W.Watch.told c.args.watch.now) (g.W.Watch.told c.args.watch.now) _)
+
+pub answered-requires-clause-lists : goal.answered-requires-clause-lists
+answered-requires-clause-lists g c =
+    subst (AreLinesKept (world_by c.minimised_lines.new.table c.args.world.now) (wants_list c.args.line.now.command c.args.world.now.queries))
+    (sym c.deref-in-Ok.ensures.value)
+    (subst (λ (w : TextWorld). AreLinesKept w (wants_list c.args.line.now.command c.args.world.now.queries) c.in-Ok.lists.items)
+    (sym c.minimised_lines.ensures.world) c.in-Ok.ensures.lines)
+
+pub returns-in-Ok : goal.returns-in-Ok
+returns-in-Ok g c =
+    finishes_answered c.args.line.now c.args.text.now (world_by c.args.table.now c.args.world.now) c.requires.world
+    (last_rules c.args.checked.now.protocols.rounds) (g.W.Watch.told c.args.watch.now) (g.W.Watch.told c.minimised_lines.new.watch)
+    c.requires.text.closed c.answered.result
+    (subst (λ (limits : Limits). (told : List Event)
+    × MinimisingAllTells limits (world_by c.args.table.now c.args.world.now) c.args.line.now.command (last_rules c.args.checked.now.protocols.rounds) told
+    × GrewBy (g.W.Watch.told c.args.watch.now) (g.W.Watch.told c.minimised_lines.new.watch) told) c.limits_of.ensures c.in-Ok.ensures.told)
+    (subst (λ (w : TextWorld). IfOk c.answered.result (λ o. (o.status ≡ 0) × IsOutput true w c.args.line.now.command o.output))
+    c.minimised_lines.ensures.world c.answered.ensures)
+
+pub returns : goal.returns
+returns g c =
+    finishes_stopped c.args.line.now c.args.text.now (world_by c.args.table.now c.args.world.now) c.requires.world
+    (last_rules c.args.checked.now.protocols.rounds) (g.W.Watch.told c.args.watch.now) (g.W.Watch.told c.minimised_lines.new.watch)
+    c.in-Err-Limit.which c.items.result.now c.stopped.result
+    (subst (λ (limits : Limits). (told : List Event)
+    × MinimisingEndsIn limits (world_by c.args.table.now c.args.world.now) c.args.line.now.command (last_rules c.args.checked.now.protocols.rounds)
+    (failed.Limit c.in-Err-Limit.which c.items.result.now) told
+    × GrewBy (g.W.Watch.told c.args.watch.now) (g.W.Watch.told c.minimised_lines.new.watch) told) c.limits_of.ensures c.in-Err-Limit.ensures.failed)
+    c.stopped.ensures
