@@ -1,6 +1,5 @@
 -- Which signatures a command wants.
-use Rattle.std.proofs.Common.{◌≡◌, ◌≢◌, ◌⊎◌, ◌∙◌, inl, inr, refl, sym, ap, ap₂, subst, ℕ, ◌+◌, ◌<◌, ◌||◌, ◌&&◌, Bool, true, false, nat_eq, List, [], ◌∷◌, ◌++◌, get_or, set, length, map, Contains, Option, Some, None, true≢false, arith, eq-eqb, ne_eqb}
-use Rattle.std.specs.List.{list_any}
+use Rattle.std.proofs.Common.{◌≡◌, ◌≢◌, ◌⊎◌, ◌∙◌, inl, inr, refl, sym, ap, subst, ℕ, ◌<◌, ◌||◌, ◌&&◌, Bool, true, false, nat_eq, List, [], ◌∷◌, ◌++◌, get_or, set, length, map, Contains, true≢false, arith, eq-eqb, ne_eqb}
 use Rattle.std.proofs.lemmas.Bool.{cases_eq, eqb-true}
 use Rattle.std.proofs.lemmas.List.{get_or-set_other, get_or-set_same, length-map, length-set}
 use Rattle.std.proofs.lemmas.List.Elements.{All-contains, Contains-get_or}
@@ -14,17 +13,15 @@ use Rattle.swreq_written.specs.declared.ids.FuncId.{FuncId}
 use Rattle.swreq_written.specs.declared.ids.Query.{Query}
 use Rattle.swreq_written.specs.declared.ids.Query.TheVariants as queries
 use Rattle.swreq_written.specs.ByTable.{query_by}
-use Rattle.swreq_written.specs.Queries.{TermQuery}
 use Rattle.swreq_written.specs.Queries.TermQuery.{AsksSignature}
 use Rattle.swreq_world.specs.ByTable.{signature_by, world_by}
 use Rattle.swreq_world.specs.Closed.{IsClosed, IsQueryOf}
 use Rattle.swreq_world.specs.Worlds.{IdWorld, no_signature, signature_at}
-use Rattle.swreq_query.specs.Asked.{IsOfTypes}
 use Rattle.swreq_top.specs.declared.wanted.Asking.{Asking}
 use Rattle.swreq_top.specs.declared.wanted.Asking.TheVariants.{Anything, ASignature}
 use Rattle.swreq_top.specs.Outputs.{signature_of}
 use Rattle.swreq_top.specs.Told.{IsMinimisedFor}
-use Rattle.swreq_top.specs.Wanted.{AreFlags, asks, function_of, is_asked, list_asked, wants_list, wants_machine}
+use Rattle.swreq_top.specs.Wanted.{AreFlags, asks, function_of, is_asked, wants_list, wants_machine}
 use Rattle.swreq_top.proofs.Lines.{query_signature}
 use Rattle.swreq_top.proofs.OneWorld.{any_in, any_of}
 
@@ -100,25 +97,6 @@ pub is_asked_by : (asking : Asking) (qs : List Query) (q : Query) → Contains q
     → is_asked asking qs (function_of q).place ≡ true
 is_asked_by asking qs q c it_asks =
     any_in (asks_at asking (function_of q).place) qs q c (and_both (asks asking q) (nat_eq (function_of q).place (function_of q).place) it_asks (eq-eqb _ _ refl))
-
--- a query that asks for a list asks for that of the signature
-pub list_is : (q : Query) (f : FuncId) → list_asked q ≡ Some f → q ≡ queries.Signature f
-list_is (queries.Signature g) f e = ap queries.Signature (inner g f e)
-  where
-    inner : (a b : FuncId) → (let o : Option FuncId = Some a in o) ≡ Some b → a ≡ b
-    inner a b e = cc
-list_is (queries.Reduced g t) f e = absurd (let clash : (let o : Option FuncId = None in o) ≡ Some f = e in cc)
-list_is (queries.Conf g t p) f e = absurd (let clash : (let o : Option FuncId = None in o) ≡ Some f = e in cc)
-list_is (queries.Layout g t) f e = absurd (let clash : (let o : Option FuncId = None in o) ≡ Some f = e in cc)
-list_is (queries.Same g t u) f e = absurd (let clash : (let o : Option FuncId = None in o) ≡ Some f = e in cc)
-
--- another one asks by types
-pub of_types : (terms : List Term) (q : Query) → list_asked q ≡ None → IsOfTypes (query_by terms q)
-of_types terms (queries.Signature f) h g e = (let clash : (let o : Option FuncId = Some f in o) ≡ None = h in cc)
-of_types terms (queries.Reduced f t) h g e = (cc)
-of_types terms (queries.Conf f t p) h g e = (cc)
-of_types terms (queries.Layout f t) h g e = (cc)
-of_types terms (queries.Same f t u) h g e = (cc)
 
 asking_list : (q : Query) → asks ASignature q ≡ true → (f : FuncId) × (q ≡ queries.Signature f)
 asking_list (queries.Signature f) h = (f, refl)

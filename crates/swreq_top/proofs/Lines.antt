@@ -16,7 +16,6 @@ use Rattle.swreq_print.specs.Names.{Text}
 use Rattle.swreq_rounds.proofs.Members.{contains_map}
 use Rattle.swreq_words.specs.declared.command.Command.{Command}
 use Rattle.swreq_words.specs.declared.command.Command.TheVariants as command
-use Rattle.swreq_written.specs.declared.ids.FuncId.{FuncId}
 use Rattle.swreq_written.specs.Queries.{TermQuery}
 use Rattle.swreq_written.specs.Queries.TermQuery.{AsksSignature, AsksReduced, AsksConforms, AsksAnyObject, AsksEquals}
 use Rattle.swreq_world.specs.Closed.{IsClosed, IsQueryOf}
@@ -24,7 +23,7 @@ use Rattle.swreq_world.specs.Worlds.{TextWorld, no_signature, signature_at}
 use Rattle.swreq_shown.specs.Meaning.{facts_of}
 use Rattle.swreq_valid.specs.Asked.{IsDerivable}
 use Rattle.swreq_query.specs.Answers.{IsAnswerLine}
-use Rattle.swreq_query.specs.Asked.{AppendsAnswer, IsOfTypes}
+use Rattle.swreq_query.specs.Asked.{AppendsAnswer}
 use Rattle.swreq_query.proofs.Along.{along}
 use Rattle.swreq_output.specs.Signatures.{source_of, written_list}
 use Rattle.swreq_top.specs.declared.ready.Ready.{Ready}
@@ -122,15 +121,6 @@ machine_line w q r old new ready answer =
     subst (λ (p : Params). (line : List ℕ)
     × IsAnswerLine w.lexicon (Derivable (facts_of w) (Written (generic_params p) (written_list (signature_at w (signature_of q))))) q line × (new ≡ old ++ line))
     ready.params answer
-
--- a query that asks by types is answered by types
-pub types_line : (guarded : Bool) (w : TextWorld) (q : TermQuery) (line : Text) → IsOfTypes q → AnswersByTypes guarded w q line
-    → IsLineOf guarded w q line
-types_line guarded w (AsksSignature f) line of h = absurd (of f refl)
-types_line guarded w (AsksReduced f t) line of h = h
-types_line guarded w (AsksConforms f t p) line of h = h
-types_line guarded w (AsksAnyObject f t) line of h = h
-types_line guarded w (AsksEquals f t u) line of h = h
 
 -- ---- by the book's rules
 

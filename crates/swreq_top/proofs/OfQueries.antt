@@ -1,5 +1,5 @@
 -- The queries of a world over ids, and what is kept for them.
-use Rattle.std.proofs.Common.{◌≡◌, ◌∙◌, refl, sym, ap, subst, ℕ, ◌+◌, ◌<◌, ◌≤◌, Bool, true, false, true≢false, arith, List, ◌∷◌, [], ◌++◌, take, get_or, length, map, slice_get, slice_index_or, Contains, Option, Some, None}
+use Rattle.std.proofs.Common.{◌≡◌, ◌∙◌, refl, sym, ap, subst, ℕ, ◌+◌, ◌<◌, Bool, true, true≢false, arith, List, ◌∷◌, [], ◌++◌, take, get_or, length, map, slice_index_or, Contains, Option, Some, None}
 use Rattle.std.proofs.lemmas.List.{get_or_default, length-map}
 use Rattle.std.proofs.lemmas.List.Elements.{All-contains}
 use Rattle.std.proofs.lemmas.Option.{slice_get_read}
@@ -22,11 +22,11 @@ use Rattle.swreq_top.specs.declared.ready.Checked.{Checked}
 use Rattle.swreq_top.specs.declared.ready.Ready.{Ready}
 use Rattle.swreq_top.specs.declared.wanted.Asking.TheVariants.{Anything, ASignature}
 use Rattle.swreq_top.specs.Lines.{AreLines}
-use Rattle.swreq_top.specs.Outputs.{AnswersByTypes, IsLineOf, signature_of}
+use Rattle.swreq_top.specs.Outputs.{IsLineOf, signature_of}
 use Rattle.swreq_top.specs.Ready.{AreLinesKept, IsCheckedFor, IsKept, IsLineKept, IsReady}
-use Rattle.swreq_top.specs.Wanted.{function_of, is_asked, list_asked}
-use Rattle.swreq_top.proofs.Flags.{asked_alike, asked_within, is_asked_by, list_is, of_types}
-use Rattle.swreq_top.proofs.Lines.{lines_more, types_line}
+use Rattle.swreq_top.specs.Wanted.{function_of, is_asked}
+use Rattle.swreq_top.proofs.Flags.{asked_alike, asked_within, is_asked_by}
+use Rattle.swreq_top.proofs.Lines.{lines_more}
 
 -- an element that is read by way of an equal list
 same_default : {X : Type 0} (xs ys : List X) (k : ℕ) (d : X) → ys ≡ xs → k < length xs → get_or xs k (get_or ys k d) ≡ get_or ys k d
@@ -121,18 +121,10 @@ module _ (terms : List Term) (w : IdWorld) (text : IsTextOver terms w) where
 
 -- ---- the line of a query
 
-module _ (terms : List Term) (w : TextWorld) (q : Query) (old new : Text) where
-  pub list_line : (f : FuncId) → list_asked q ≡ Some f → (line : Text) × IsMinimisedLine w (signature_at w f) line × (new ≡ old ++ line)
-      → (line : Text) × IsLineOf true w (query_by terms q) line × (new ≡ old ++ line)
-  list_line f e h = subst (λ (p : Query). (line : Text) × IsLineOf true w (query_by terms p) line × (new ≡ old ++ line)) (sym (list_is q f e)) h
-
-  pub type_line : list_asked q ≡ None → (line : Text) × AnswersByTypes true w (query_by terms q) line × (new ≡ old ++ line)
-      → (line : Text) × IsLineOf true w (query_by terms q) line × (new ≡ old ++ line)
-  type_line e (line, is, t) = (line, types_line true w (query_by terms q) line (of_types terms q e) is, t)
-
-  -- written into a fresh list, it is that list
-  whole_line : old ≡ [] → (line : Text) × IsLineOf true w (query_by terms q) line × (new ≡ old ++ line) → IsLineOf true w (query_by terms q) new
-  whole_line none (line, is, t) = subst (IsLineOf true w (query_by terms q)) (sym (t ∙ ap (λ (o : Text). o ++ line) none)) is
+-- written into a fresh list, it is that list
+whole_line : (terms : List Term) (w : TextWorld) (q : Query) (old new : Text) → old ≡ []
+    → (line : Text) × IsLineOf true w (query_by terms q) line × (new ≡ old ++ line) → IsLineOf true w (query_by terms q) new
+whole_line terms w q old new none (line, is, t) = subst (IsLineOf true w (query_by terms q)) (sym (t ∙ ap (λ (o : Text). o ++ line) none)) is
 
 -- a query more
 pub lines_of_more : (terms : List Term) (w : IdWorld) (k : ℕ) (d : Query) (qs : List Query) (ls more : List Text) (old new : Text)

@@ -5,7 +5,6 @@ use Rattle.swreq_world.specs.ByTable.{world_by}
 use Rattle.swreq_world.specs.Worlds.{signature_at}
 use Rattle.swreq_written.specs.ByTable.{query_by}
 use Rattle.swreq_top.specs.Outputs.{signature_of}
-use Rattle.swreq_top.specs.Ready.{IsReady}
 use Rattle.swreq_top.proofs.Lines.{machine_line}
 use Rattle.swreq_top.proofs.OfQueries.{asked_here, machine_below, never_none, query_in, ready_here, wanted_here}
 use Rattle.swreq_top.proofs.answering.answer_by_types.Goals as goal

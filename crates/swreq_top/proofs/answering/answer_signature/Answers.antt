@@ -15,9 +15,11 @@ unreachable-requires c =
 pub returns : goal.returns
 returns c = record {
   line = on_ok_weaker c.append_bytes.result
-      (λ e. (c.in-Some.line,
-          list_here c.args.table.now c.args.world.now c.requires.text c.args.f c.requires.query c.args.lists.now c.requires.lists c.requires.count
-          c.index-lists-f.result c.in-Some.line c.index-lists-f.is c.in-Some.is,
-          e ∙ ap (λ l. c.args.out.now.items ++ l) c.items.ensures))
+      (λ e. (
+        c.in-Some.line,
+        list_here c.args.table.now c.args.world.now c.requires.text c.args.f c.requires.query c.args.lists.now c.requires.lists c.requires.count
+            c.index-lists-f.result c.in-Some.line c.index-lists-f.is c.in-Some.is,
+        e ∙ ap (λ l. c.args.out.now.items ++ l) c.items.ensures,
+      ))
       c.append_bytes.ensures.ok;
 }

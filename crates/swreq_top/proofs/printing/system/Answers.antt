@@ -1,4 +1,4 @@
-use Rattle.std.proofs.Common.{◌<◌, arith, length, refl}
+use Rattle.std.proofs.Common.{arith, refl}
 use Rattle.std.proofs.lemmas.List.{length-map}
 use Rattle.swreq_words.specs.declared.command.Command.TheVariants.{Rules}
 use Rattle.swreq_world.specs.ByTable.{signature_by, world_by}
