@@ -1,6 +1,7 @@
 -- Which signatures a command wants.
-use Rattle.std.proofs.Common.{◌≡◌, ◌≢◌, ◌⊎◌, ◌∙◌, inl, inr, refl, sym, ap, subst, ℕ, ◌<◌, ◌||◌, ◌&&◌, Bool, true, false, nat_eq, List, [], ◌∷◌, ◌++◌, get_or, set, length, map, Contains, true≢false, arith, eq-eqb, ne_eqb}
+use Rattle.std.proofs.Common.{◌≡◌, ◌≢◌, ◌⊎◌, ◌∙◌, inl, inr, refl, sym, ap, subst, ℕ, ◌<◌, ◌||◌, ◌&&◌, Bool, true, false, nat_eq, List, [], ◌∷◌, ◌++◌, get_or, set, length, map, Contains, Option, Some, None, true≢false, arith, eq-eqb, ne_eqb}
 use Rattle.std.proofs.lemmas.Bool.{cases_eq, eqb-true}
+use Rattle.std.proofs.lemmas.Option.{slice_get_within}
 use Rattle.std.proofs.lemmas.List.{get_or-set_other, get_or-set_same, length-map, length-set}
 use Rattle.std.proofs.lemmas.List.Elements.{All-contains, Contains-get_or}
 use Rattle.std.proofs.lemmas.List.Folds.{list_any-append}
@@ -16,12 +17,15 @@ use Rattle.swreq_written.specs.ByTable.{query_by}
 use Rattle.swreq_written.specs.Queries.TermQuery.{AsksSignature}
 use Rattle.swreq_world.specs.ByTable.{signature_by, world_by}
 use Rattle.swreq_world.specs.Closed.{IsClosed, IsQueryOf}
-use Rattle.swreq_world.specs.Worlds.{IdWorld, no_signature, signature_at}
+use Rattle.swreq_world.specs.Worlds.{IdWorld, TextWorld, no_signature, signature_at}
+use Rattle.swreq_top.specs.declared.ready.Checked.{Checked}
+use Rattle.swreq_top.specs.declared.ready.Ready.{Ready}
 use Rattle.swreq_top.specs.declared.wanted.Asking.{Asking}
 use Rattle.swreq_top.specs.declared.wanted.Asking.TheVariants.{Anything, ASignature}
 use Rattle.swreq_top.specs.Outputs.{signature_of}
+use Rattle.swreq_top.specs.Ready.{IsCheckedFor, IsKept}
 use Rattle.swreq_top.specs.Told.{IsMinimisedFor}
-use Rattle.swreq_top.specs.Wanted.{AreFlags, asks, function_of, is_asked, wants_list, wants_machine}
+use Rattle.swreq_top.specs.Wanted.{AreFlags, asks, function_of, is_asked, is_set, wants_list, wants_machine}
 use Rattle.swreq_top.proofs.Lines.{query_signature}
 use Rattle.swreq_top.proofs.OneWorld.{any_in, any_of}
 
@@ -145,3 +149,20 @@ module _ (w : IdWorld) (terms : List Term) (f : FuncId) where
       Contains-get_or (map (signature_by terms) w.signatures) f.place no_signature (omega (arith, length-map w.signatures (signature_by terms), l))
   minimised_for command.Rules l h = true≢false (sym h)
   minimised_for (command.Gen n) l h = for_query h
+
+-- ---- what is kept by flags
+
+module _ (w : TextWorld) (wants : ℕ → Bool) (count : ℕ) (flags : List Bool) (h : AreFlags wants count flags) where
+  kept_one : (k : ℕ) (entry : Option Ready) → k < count → IsKept w (is_set flags) (record { place = k }) entry
+      → IsKept w wants (record { place = k }) entry
+  kept_one k (Some r) below ready = ready
+  kept_one k None below unset = sym (h.set k below) ∙ unset
+
+  -- what is kept by flags is kept for what they stand for
+  pub kept_for : (c : Checked) → count ≡ length w.signatures → IsCheckedFor w (is_set flags) c → IsCheckedFor w wants c
+  kept_for c same checked = record {
+    rules = checked.rules;
+    kept = λ k entry is.
+        kept_one k entry (omega (arith, slice_get_within c.kept.items k entry is, checked.count, same)) (checked.kept k entry is);
+    count = checked.count;
+  }

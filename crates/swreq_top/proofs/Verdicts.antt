@@ -42,7 +42,7 @@ use Rattle.swreq_top.specs.Replies.{Finishes, IsToldVerdict, Replies, WasToldPar
 use Rattle.swreq_top.specs.Reports.{name_refusal, refusal_of}
 use Rattle.swreq_top.specs.Told.{MinimisingAllTells, MinimisingEndsIn}
 use Rattle.swreq_top.specs.Told.MinimisingAllTells.{nothing}
-use Rattle.swreq_top.specs.Verdict.{HasNoWorld, IsRefused, IsVerdict, answered_text, limits_of, machine_outcome, refused_with, stopped_with}
+use Rattle.swreq_top.specs.Verdict.{HasNoWorld, IsRefused, IsStopOf, IsVerdict, answered_text, limits_of, machine_outcome, refused_with, stopped_with}
 use Rattle.swreq_top.specs.Verdict.IsRefused.{without_world, not_a_type_parameter, past_a_limit}
 use Rattle.swreq_top.specs.Verdict.IsVerdict.{answered as is_answered, cut_short as is_cut_short, refused as is_refused}
 use Rattle.swreq_top.proofs.Checked.{built_checked, check_tells, is_formed}
@@ -253,3 +253,11 @@ module _ (line : CommandLine) (text : List ℕ) where
         λ first built. record { rules = rules; first = first; more = told; built = built; failed = failed.Memory; part = part; told_is = refl },
         grew,
       )
+
+      -- where minimising fails
+      pub finishes_failed : (cause : Failed) (result : Result Outcome AllocError)
+          → (told : List Event) × MinimisingEndsIn (limits_of line) w line.command rules cause told × GrewBy old new told
+          → IfOk result (IsStopOf line w.lexicon cause) → Finishes line text w rules old new result
+      finishes_failed (failed.Limit which trace) result told is = finishes_stopped which trace result told is
+      finishes_failed failed.Memory (Ok o) told is = absurd is
+      finishes_failed failed.Memory (Err e) told is = finishes_lost e told

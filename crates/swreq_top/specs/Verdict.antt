@@ -12,6 +12,7 @@ use Rattle.swreq_names.specs.Names.{Refuses}
 use Rattle.swreq_ranks.specs.Views.{LexiconView}
 use Rattle.swreq_rule.specs.declared.rules.Rule.{Rule}
 use Rattle.swreq_watch.specs.declared.events.Event.{Event}
+use Rattle.swreq_complete.specs.declared.limit.Failed.{Failed}
 use Rattle.swreq_complete.specs.declared.limit.Failed.TheVariants as failed
 use Rattle.swreq_complete.specs.declared.limit.Limits.{Limits}
 use Rattle.swreq_complete.specs.declared.limit.Which.{Which}
@@ -61,6 +62,11 @@ abbrev pub machine_outcome : CommandLine → LexiconView → Refused → Outcome
 machine_outcome line x (Limit which trace) = stopped_with line x which trace
 machine_outcome line x (NotATypeParameter at) = refused_with (refusals.NotATypeParameter at)
 machine_outcome line x Memory = refused_with refusals.OutOfMemory
+
+-- The outcome is that of a limit that minimising passed.
+abbrev pub IsStopOf : CommandLine → LexiconView → Failed → Outcome → Type 0
+IsStopOf line x (failed.Limit which trace) o = o ≡ stopped_with line x which trace
+IsStopOf line x failed.Memory o = ⊥
 
 -- ---- refusals
 

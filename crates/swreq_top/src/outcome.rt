@@ -17,7 +17,7 @@ ghost use Rattle.swreq_top.specs.Outputs.{IsOutput};
 ghost use Rattle.swreq_top.specs.Ready.{AreLinesKept, IsCheckedFor};
 ghost use Rattle.swreq_top.specs.Replies.{Finishes, IsToldVerdict, Replies, WasToldPart};
 ghost use Rattle.swreq_top.specs.Reports.{name_refusal, refusal_of};
-ghost use Rattle.swreq_top.specs.Verdict.{IsRefused, answered_text, limits_of, machine_outcome, refused_with, stopped_with};
+ghost use Rattle.swreq_top.specs.Verdict.{IsRefused, IsStopOf, answered_text, limits_of, machine_outcome, refused_with, stopped_with};
 ghost use Rattle.swreq_top.specs.Wanted.{HasCount, wants_list, wants_machine};
 
 use crate::checking::check;
@@ -236,8 +236,22 @@ fn with_machines<W: Watch>(
         watch,
     ) {
         Ok(lists) => answered(alloc, line.command, world, table, checked, &lists),
-        Err(Failed::Memory) => Err(AllocError),
-        Err(Failed::Limit { which, trace }) => stopped(alloc, line, world, which, trace.items()),
+        Err(failed) => cut_short(alloc, line, world, &failed),
+    }
+}
+
+/// What is answered where minimising fails so.
+fn cut_short(
+    alloc: Global,
+    line: &CommandLine,
+    world: &World,
+    failed: &Failed,
+) -> Result<Outcome, AllocError>
+    ensures { IfOk result (IsStopOf line.now world.now.lexicon failed.now) }
+{
+    match failed {
+        Failed::Memory => Err(AllocError),
+        Failed::Limit { which, trace } => stopped(alloc, line, world, *which, trace.items()),
     }
 }
 

@@ -1,5 +1,5 @@
 use Rattle.std.proofs.Common.{◌≡◌, ℕ, true, List, Option, IfOk, subst, sym}
-use Rattle.swreq_complete.specs.declared.limit.Failed.TheVariants as failed
+use Rattle.std.proofs.lemmas.Result.{err_from_is_err_and}
 use Rattle.swreq_complete.specs.declared.limit.Limits.{Limits}
 use Rattle.swreq_valid.specs.Rounds.{last_rules}
 use Rattle.swreq_watch.specs.declared.events.Event.{Event}
@@ -12,7 +12,7 @@ use Rattle.swreq_top.specs.Replies.{Finishes}
 use Rattle.swreq_top.specs.Told.{MinimisingAllTells, MinimisingEndsIn}
 use Rattle.swreq_top.specs.Wanted.{wants_list}
 use Rattle.swreq_top.proofs.Flags.{asked_within}
-use Rattle.swreq_top.proofs.Verdicts.{finishes_answered, finishes_nothing, finishes_stopped}
+use Rattle.swreq_top.proofs.Verdicts.{finishes_answered, finishes_failed, finishes_nothing}
 use Rattle.swreq_top.proofs.outcome.with_machines.Goals as goal
 
 pub lists_wanted-requires : goal.lists_wanted-requires
@@ -20,10 +20,11 @@ lists_wanted-requires g c q member = asked_within c.args.world.now c.args.table.
 
 pub returns-in_err-wanted : goal.returns-in_err-wanted
 returns-in_err-wanted g c =
+    let p = err_from_is_err_and c.from_residual.result c.from_residual.ensures.1 in
     subst (Finishes c.args.line.now c.args.text.now (world_by c.args.table.now c.args.world.now) (last_rules c.args.checked.now.protocols.rounds)
-    (g.W.Watch.told c.args.watch.now) (g.W.Watch.told c.args.watch.now)) (sym c.from_residual.ensures)
+    (g.W.Watch.told c.args.watch.now) (g.W.Watch.told c.args.watch.now)) (sym p.1)
     (finishes_nothing c.args.line.now c.args.text.now (world_by c.args.table.now c.args.world.now) c.requires.world
-    (last_rules c.args.checked.now.protocols.rounds) (g.W.Watch.told c.args.watch.now) (g.W.Watch.told c.args.watch.now) _)
+    (last_rules c.args.checked.now.protocols.rounds) (g.W.Watch.told c.args.watch.now) (g.W.Watch.told c.args.watch.now) p.0)
 
 pub answered-requires-clause-lists : goal.answered-requires-clause-lists
 answered-requires-clause-lists g c =
@@ -45,11 +46,11 @@ returns-in-Ok g c =
 
 pub returns : goal.returns
 returns g c =
-    finishes_stopped c.args.line.now c.args.text.now (world_by c.args.table.now c.args.world.now) c.requires.world
+    finishes_failed c.args.line.now c.args.text.now (world_by c.args.table.now c.args.world.now) c.requires.world
     (last_rules c.args.checked.now.protocols.rounds) (g.W.Watch.told c.args.watch.now) (g.W.Watch.told c.minimised_lines.new.watch)
-    c.in-Err-Limit.which c.items.result.now c.stopped.result
+    c.in-Err.failed c.cut_short.result
     (subst (λ (limits : Limits). (told : List Event)
     × MinimisingEndsIn limits (world_by c.args.table.now c.args.world.now) c.args.line.now.command (last_rules c.args.checked.now.protocols.rounds)
-    (failed.Limit c.in-Err-Limit.which c.items.result.now) told
-    × GrewBy (g.W.Watch.told c.args.watch.now) (g.W.Watch.told c.minimised_lines.new.watch) told) c.limits_of.ensures c.in-Err-Limit.ensures.failed)
-    c.stopped.ensures
+    c.in-Err.failed told
+    × GrewBy (g.W.Watch.told c.args.watch.now) (g.W.Watch.told c.minimised_lines.new.watch) told) c.limits_of.ensures c.in-Err.ensures.failed)
+    c.cut_short.ensures
