@@ -8,19 +8,22 @@ use Rattle.swreq_print.specs.declared.refusal.RefusalKind.TheVariants as refusal
 use Rattle.swreq_print.specs.declared.refusal.TheConstants.{OUT_OF_MEMORY, READ_FAULT, TOO_LARGE, USAGE}
 use Rattle.swreq_text.specs.Faults.{HasRisen}
 use Rattle.swreq_text.specs.Given.{AppendsPart, GivesCount}
+use Rattle.swreq_text.specs.declared.whole.ReadErr.{ReadErr}
 use Rattle.swreq_text.specs.declared.whole.ReadErr.TheVariants.{Fault, Memory, TooLarge}
 use Rattle.swreq_watch.specs.declared.events.Event.{Event}
 use Rattle.swreq_watch.specs.Told.{GrewBy}
 use Rattle.swreq_words.specs.Form.{Says}
 use Rattle.swreq_words.specs.declared.command.Command.{Command}
+use Rattle.swreq_words.specs.declared.command.Command.TheVariants as command
 use Rattle.swreq_words.specs.declared.command.CommandLine.{CommandLine}
 use Rattle.swreq_words.proofs.Lines.{one_line}
 use Rattle.swreq_top.specs.declared.outcome.Outcome.{Outcome}
 use Rattle.swreq_top.specs.Replies.{IsOnlyRefusal, IsToldVerdict, WasToldPart}
-use Rattle.swreq_top.specs.Runs.{Answers, AreWrong, Delivers, IsAnswerable, IsEnd, IsFinished, IsGen, IsOutputOn, IsPrinted, Surroundings, TellsSome, known_text}
+use Rattle.swreq_top.specs.Runs.{Answers, AreWrong, Delivers, IsAnswerable, IsEnd, IsFinished, IsGen, IsOutputOn, IsPrinted, SayGen, Surroundings, TellsSome, known_text}
 use Rattle.swreq_top.specs.Runs.IsEnd.{delivered, no_memory, read_failed, write_failed, wrong_words}
 use Rattle.swreq_top.specs.Verdict.{IsCutShort, IsRefused, IsVerdict, refused_with}
 use Rattle.swreq_top.specs.Verdict.IsVerdict.{answered as is_answered, cut_short as is_cut_short, refused as is_refused}
+use Rattle.swreq_top.specs.Wanted.{HasCount}
 use Rattle.swreq_top.proofs.Delivering.{known_left, leaves_read, read_too_large, told_nothing, too_large}
 
 module _ (words : List Text) (before after : Surroundings) where
@@ -49,6 +52,15 @@ module _ (words : List Text) (before after : Surroundings) where
       → Finished USAGE.now 2 result → IsEnd words before after result
   ended_wrong result wrong unread grew finished =
       ended USAGE.now 2 result finished (λ taken same. wrong_words wrong taken unread same grew) (inl (wrong, refl)) (λ line says. absurd (wrong line says))
+
+  -- ---- words for which there was no memory
+
+  pub ended_unread : (result : ℕ) → after.read_faults ≡ before.read_faults → GrewBy before.told after.told []
+      → Finished OUT_OF_MEMORY.now 6 result → IsEnd words before after result
+  ended_unread result unread grew finished =
+      let told : Tells = λ line says. IfSome_then (known_text line.command before.left)
+      (told_nothing line (known_text line.command before.left) before.told after.told grew) (λ text part. inr part) in
+      ended OUT_OF_MEMORY.now 6 result finished (λ taken same. no_memory taken unread same told) (inr (inl refl)) told
 
   -- ---- words of a command line
 
@@ -81,7 +93,7 @@ module _ (words : List Text) (before after : Surroundings) where
           verdict = IfSome_then (known_text line.command before.left) verdict (λ text k. k.0);
           refusal = IfSome_then (known_text line.command before.left) verdict (λ text k. k.1);
         }) status unread same)
-        (inr (line, says, inl (IfSome_then (known_text line.command before.left) verdict (λ text k. (o.status, k.0.0, k.0.1)))))
+        (inr (inr (line, says, inl (IfSome_then (known_text line.command before.left) verdict (λ text k. (o.status, k.0.0, k.0.1))))))
         (verdict_told o (IfSome_then (known_text line.command before.left) verdict (λ text k. k.0)))
 
     pub ended_verdict : (o : Outcome) (result : ℕ) → Answers line before.left after.left before.told after.told (Ok o)
@@ -103,7 +115,7 @@ module _ (words : List Text) (before after : Surroundings) where
         → HasRisen before.read_faults after.read_faults → Finished READ_FAULT.now 4 result → IsEnd words before after result
     ended_fault result (reads, grew) risen finished =
         ended READ_FAULT.now 4 result finished (λ taken same. read_failed line says risen taken same grew)
-        (inr (line, says, inr (inl (risen, refl))))
+        (inr (inr (line, says, inr (risen, refl))))
         (part_told (told_nothing line (known_text line.command before.left) before.told after.told grew))
 
     -- no memory for an answer
@@ -111,7 +123,25 @@ module _ (words : List Text) (before after : Surroundings) where
         → after.read_faults ≡ before.read_faults → Finished OUT_OF_MEMORY.now 6 result → IsEnd words before after result
     ended_memory result told unread finished =
         ended OUT_OF_MEMORY.now 6 result finished (λ taken same. no_memory taken unread same (part_told told))
-        (inr (line, says, inr (inr refl))) (part_told told)
+        (inr (inl refl)) (part_told told)
+
+-- ---- words
+
+-- words that say `gen` say no other command
+pub gen_said : (words : List Text) (line : CommandLine) → Says words line → SayGen words → IsGen line.command
+gen_said words line says (other, also, gen) = subst (λ (l : CommandLine). IsGen l.command) (one_line words other line also says) gen
+
+-- the number of `gen` is in its range
+pub has_count : (c : Command) → ((n : ℕ) → c ≡ command.Gen n → (1 ≤ n) × (n ≤ 100)) → HasCount c
+has_count command.Answer within = tt
+has_count command.Signatures within = tt
+has_count command.Rules within = tt
+has_count (command.Gen n) within = within n refl
+
+-- an answer that is no failed read
+pub no_fault : {A : Type 0} (result : Result Outcome ReadErr) (e : Result Outcome ReadErr) → result ≡ e → e ≢ Err Fault → (result ≡ Err Fault) ⊎ A → A
+no_fault result e is other (inl fault) = absurd (other (sym is ∙ fault))
+no_fault result e is other (inr same) = same
 
 -- ---- statuses
 

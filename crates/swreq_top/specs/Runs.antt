@@ -62,8 +62,8 @@ pub record Delivers (words : List Text) (left rest old_taken new_taken : Option 
   pub verdict : IfSome (known_text line.command left) (λ text. IsToldVerdict line text old_told new_told (record { status = status; output = output }))
   pub refusal : IfSome (known_text line.command left) (λ text. IsOnlyRefusal line text (record { status = status; output = output }))
 
--- What a run prints: for wrong words the usage line; for others the output of a verdict, the line of a read that failed, or that of no
--- memory.
+-- What a run prints: for wrong words the usage line; the line of no memory; for other words the output of a verdict, or the line of a read
+-- that failed.
 abbrev pub IsOutputOn : CommandLine → Option Text → Text → Type 0
 IsOutputOn line left output =
     IfSome (known_text line.command left) (λ text. (status : ℕ) × (told : List Event) × IsVerdict line text (record { status = status; output = output }) told)
@@ -71,7 +71,8 @@ IsOutputOn line left output =
 abbrev pub IsPrinted : (words : List Text) (read_failed : Type 0) (left : Option Text) → Text → Type 0
 IsPrinted words read_failed left printed =
     (AreWrong words × (printed ≡ USAGE.now))
-    ⊎ ((line : CommandLine) × Says words line × (IsOutputOn line left printed ⊎ ((read_failed × (printed ≡ READ_FAULT.now)) ⊎ (printed ≡ OUT_OF_MEMORY.now))))
+    ⊎ ((printed ≡ OUT_OF_MEMORY.now)
+    ⊎ ((line : CommandLine) × Says words line × (IsOutputOn line left printed ⊎ (read_failed × (printed ≡ READ_FAULT.now)))))
 
 -- The watcher was told what is told with a verdict, or a part of that.
 abbrev pub TellsSome : List Text → Option Text → Option (List Event) → Option (List Event) → Type 0

@@ -16,6 +16,7 @@ use std::alloc::Global;
 use swreq_print::{OUT_OF_MEMORY, READ_FAULT, TOO_LARGE, USAGE};
 use swreq_text::{ReadErr, Sink, Source, read_all, write_all};
 use swreq_watch::Watch;
+use swreq_words::laws::numbers_are_in_range;
 use swreq_words::{Command, CommandLine, UsageErr};
 
 /// The most bytes that a text may have.
@@ -101,6 +102,7 @@ fn carry_out<S: Source, K: Sink, W: Watch>(
     ensures no_more { (n : ℕ) × (n ≤ TEXT_LIMIT + 1) × GivesCount (S.left src.old) (S.left src.new) n }
     ensures untold { AreWrong (map string_bytes words.now) → W.told watch.new ≡ W.told watch.old }
 {
+    numbers_are_in_range();
     match swreq_words::read(alloc, words) {
         Ok(line) => match answer(alloc, &line, src, watch) {
             Ok(outcome) => finish(out, outcome.status, outcome.output.items()),

@@ -9,3 +9,4 @@ pub mod Told
 pub mod Accepts
 pub mod Values
 pub mod Lines
+pub mod InRange

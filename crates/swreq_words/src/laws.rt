@@ -1,7 +1,8 @@
 //! What follows from the form of the words, over the definitions alone.
 
-ghost use Rattle.std.specs.Prelude.{◌≡◌, List, ℕ, true};
+ghost use Rattle.std.specs.Prelude.{◌≡◌, ◌≤◌, List, ℕ, true};
 ghost use Rattle.clap.specs.Words.{takes};
+ghost use Rattle.swreq_words.specs.declared.command.Command.TheVariants as command;
 ghost use Rattle.swreq_words.specs.declared.command.CommandLine.{CommandLine};
 ghost use Rattle.swreq_words.specs.Form.{Says};
 ghost use Rattle.swreq_words.specs.Taken.{genreq};
@@ -14,4 +15,11 @@ pub fn one_command_line()
 /// The command takes all words of the form, so it can fail on them for want of memory alone.
 pub fn words_of_the_form_are_taken()
     ensures { (words : List (List ℕ)) (line : CommandLine) → Says words line → takes genreq words ≡ true }
+{}
+
+/// The numbers that words say are in their ranges.
+pub fn numbers_are_in_range()
+    ensures limits { (words : List (List ℕ)) (line : CommandLine) → Says words line
+        → (1 ≤ line.max_rules) × (line.max_rules ≤ 100000) × (1 ≤ line.max_length) × (line.max_length ≤ 255) }
+    ensures count { (words : List (List ℕ)) (line : CommandLine) (n : ℕ) → Says words line → line.command ≡ command.Gen n → (1 ≤ n) × (n ≤ 100) }
 {}

@@ -1,0 +1,69 @@
+use Rattle.std.proofs.Common.{◌≡◌, ◌≢◌, ◌⊎◌, ℕ, List, Result, Ok, Err, ap, inl, inr, map, refl, string_bytes, subst, sym}
+use Rattle.swreq_text.specs.declared.whole.ReadErr.{ReadErr}
+use Rattle.swreq_text.specs.declared.whole.ReadErr.TheVariants.{Fault, Memory, TooLarge}
+use Rattle.swreq_watch.proofs.Told.{grew_none}
+use Rattle.swreq_top.specs.declared.outcome.Outcome.{Outcome}
+use Rattle.swreq_top.specs.Runs.{IsFinished}
+use Rattle.swreq_top.proofs.Ending.{ended_fault, ended_memory, ended_too_large, ended_unread, ended_verdict, ended_wrong, gen_said, has_count, no_fault}
+use Rattle.swreq_top.proofs.program.carry_out.Goals as goal
+
+pub answer-requires-clause-limits : goal.answer-requires-clause-limits
+answer-requires-clause-limits g c = c.numbers_are_in_range.ensures.limits _ c.in-Ok.line c.in-Ok.ensures.ok
+
+pub answer-requires-clause-count : goal.answer-requires-clause-count
+answer-requires-clause-count g c = has_count c.in-Ok.line.command (λ n is. c.numbers_are_in_range.ensures.count _ c.in-Ok.line n c.in-Ok.ensures.ok is)
+
+pub returns-in-Ok-answer-clause-end : goal.returns-in-Ok-answer-clause-end
+returns-in-Ok-answer-clause-end g c =
+    ended_verdict _ _ _ c.in-Ok.line c.in-Ok.ensures.ok c.in-Ok-answer.outcome c.finish.result c.in-Ok-answer.ensures.answer
+    (no_fault _ (Ok c.in-Ok-answer.outcome) refl (λ is. (cc)) c.in-Ok-answer.ensures.no_fault)
+    (subst (λ (bytes : List ℕ). IsFinished (g.K.Sink.taken c.args.out.now) (g.K.Sink.taken c.finish.new.out) (g.K.Sink.faults c.args.out.now)
+    (g.K.Sink.faults c.finish.new.out) bytes c.in-Ok-answer.outcome.status c.finish.result) c.items.ensures c.finish.ensures)
+
+pub returns-in-Ok-answer-clause-unread : goal.returns-in-Ok-answer-clause-unread
+returns-in-Ok-answer-clause-unread g c some = elim some [
+  | inl wrong ↦ absurd (wrong c.in-Ok.line c.in-Ok.ensures.ok)
+  | inr says ↦ c.answer.ensures.unread (gen_said _ c.in-Ok.line c.in-Ok.ensures.ok says)
+]
+
+pub returns-in-Err-TooLarge-clause-end : goal.returns-in-Err-TooLarge-clause-end
+returns-in-Err-TooLarge-clause-end g c =
+    ended_too_large _ _ _ c.in-Ok.line c.in-Ok.ensures.ok c.finish-in-Err-TooLarge.result c.in-Err-TooLarge.ensures.answer
+    (no_fault _ (Err TooLarge) refl (λ is. (cc)) c.in-Err-TooLarge.ensures.no_fault) c.finish-in-Err-TooLarge.ensures
+
+pub returns-in-Err-TooLarge-clause-unread : goal.returns-in-Err-TooLarge-clause-unread
+returns-in-Err-TooLarge-clause-unread g c some = elim some [
+  | inl wrong ↦ absurd (wrong c.in-Ok.line c.in-Ok.ensures.ok)
+  | inr says ↦ c.answer.ensures.unread (gen_said _ c.in-Ok.line c.in-Ok.ensures.ok says)
+]
+
+pub returns-in-Err-Fault-clause-end : goal.returns-in-Err-Fault-clause-end
+returns-in-Err-Fault-clause-end g c =
+    ended_fault _ _ _ c.in-Ok.line c.in-Ok.ensures.ok c.finish-in-Err-Fault.result c.in-Err-Fault.ensures.answer (c.in-Err-Fault.ensures.fault refl)
+    c.finish-in-Err-Fault.ensures
+
+pub returns-in-Err-Fault-clause-unread : goal.returns-in-Err-Fault-clause-unread
+returns-in-Err-Fault-clause-unread g c some = elim some [
+  | inl wrong ↦ absurd (wrong c.in-Ok.line c.in-Ok.ensures.ok)
+  | inr says ↦ c.answer.ensures.unread (gen_said _ c.in-Ok.line c.in-Ok.ensures.ok says)
+]
+
+pub returns-in-Err-Memory-answer-clause-end : goal.returns-in-Err-Memory-answer-clause-end
+returns-in-Err-Memory-answer-clause-end g c =
+    ended_memory _ _ _ c.in-Ok.line c.in-Ok.ensures.ok c.finish-in-Err-Memory-answer.result c.in-Err-Memory-answer.ensures.answer
+    (no_fault _ (Err Memory) refl (λ is. (cc)) c.in-Err-Memory-answer.ensures.no_fault) c.finish-in-Err-Memory-answer.ensures
+
+pub returns-in-Err-Memory-answer-clause-unread : goal.returns-in-Err-Memory-answer-clause-unread
+returns-in-Err-Memory-answer-clause-unread g c some = elim some [
+  | inl wrong ↦ absurd (wrong c.in-Ok.line c.in-Ok.ensures.ok)
+  | inr says ↦ c.answer.ensures.unread (gen_said _ c.in-Ok.line c.in-Ok.ensures.ok says)
+]
+
+pub returns-in-Err-Usage-clause-end : goal.returns-in-Err-Usage-clause-end
+returns-in-Err-Usage-clause-end g c =
+    ended_wrong _ _ _ c.finish-in-Err-Usage.result (c.in-Err-Usage.ensures.usage.0 refl) refl (grew_none (g.W.Watch.told c.args.watch.now))
+    c.finish-in-Err-Usage.ensures
+
+pub returns-in-Err-Memory-clause-end : goal.returns-in-Err-Memory-clause-end
+returns-in-Err-Memory-clause-end g c =
+    ended_unread _ _ _ c.finish-in-Err-Memory.result refl (grew_none (g.W.Watch.told c.args.watch.now)) c.finish-in-Err-Memory.ensures
