@@ -6,7 +6,7 @@ use std::io::{self, ErrorKind};
 use std::process::ExitCode;
 use swreq_text::{StdSink, StdSource};
 use swreq_top::run;
-use swreq_watch::Quiet;
+use swreq_watch::{Counter, Fan};
 
 /// The status where there is no memory for the words.
 const OUT_OF_MEMORY: u8 = 6;
@@ -20,7 +20,12 @@ fn main(rt: HostRuntime) -> ExitCode {
     };
     let mut src = StdSource::new(rt.stdin());
     let mut out = StdSink::new(rt.stdout());
-    ExitCode::from(run(rt.alloc(), &words, &mut src, &mut out, &mut Quiet))
+    let mut watch = Fan::new(rt.alloc());
+    // Where there is no memory for a counter, nothing watches.
+    if let Ok(counter) = Box::new(rt.alloc(), Counter::new()) {
+        let _ = watch.push(counter);
+    }
+    ExitCode::from(run(rt.alloc(), &words, &mut src, &mut out, &mut watch))
 }
 
 /// The words of the command line, without the name of the program.

@@ -1,11 +1,34 @@
-//! Texts with their statuses and outputs.
+//! Texts with the words they are run with, their statuses and outputs.
 
-/// Each text ends at a line of four bars with its status; behind it is its output, up to a line of four equals signs.
-pub(crate) const TEXTS: &str = "---- 0
+/// Each row begins with the words of the command line behind a dollar sign. Its text ends at a line of four bars with the status; behind
+/// it is the output, up to a line of four equals signs.
+pub(crate) const TEXTS: &str = "\
+$ answer
+---- 0
 ====
+$ answer --max-rules=100000
+---- 0
+====
+$ rules --max-length 255 --max-rules 1
+---- 0
+====
+$ answer
 func f<T>()
 ---- 0
 ====
+$ answer
+func f<T>()
+query f()
+---- 0
+<τ_0_0>
+====
+$ answer
+func g()
+query g()
+---- 0
+<>
+====
+$ answer
 protocol Base { }
 protocol Derived: Base { }
 func f<T: Derived, U>()
@@ -15,6 +38,7 @@ query f(U : Base)
 yes
 no
 ====
+$ answer
 protocol IteratorProtocol { associatedtype Element }
 protocol Sequence {
   associatedtype Iterator: IteratorProtocol
@@ -38,6 +62,7 @@ query f(C.SubSequence.Indices.Element)
 query f(C.Indices.Indices.SubSequence)
 query f(C.Element == C.Index)
 query f(C.Iterator : Sequence)
+query f()
 ---- 0
 yes
 τ_0_0.[Sequence]Element
@@ -46,7 +71,9 @@ yes
 τ_0_0.[Collection]Indices.[Collection]Indices
 no
 no
+<τ_0_0 where τ_0_0 : BidirectionalCollection, τ_0_0.[Sequence]Element : Equatable>
 ====
+$ answer
 protocol N { associatedtype Next: N }
 func f<T: N>()
 query f(T.Next.Next.Next : N)
@@ -54,19 +81,161 @@ query f(T.Next == T.Next.Next)
 query f(T.Missing : N)
 query f(T.Next.Next)
 query f(T.Next : AnyObject)
+query f()
 ---- 0
 yes
 no
 invalid
 τ_0_0.[N]Next.[N]Next
 no
+<τ_0_0 where τ_0_0 : N>
 ====
+$ rules
+protocol N { associatedtype Next: N }
+func f<T: N>()
+query f(T.Next.Next.Next : N)
+query f(T.Next == T.Next.Next)
+query f(T.Missing : N)
+query f(T.Next.Next)
+query f()
+---- 0
+f: 7 rules
+  [N].[N] => [N]
+  [N].[N:Next] => [N:Next]
+  [N].Next => [N:Next]
+  [N:Next].[N] => [N:Next]
+  [N:Next].Next => [N:Next].[N:Next]
+  τ_0_0.[N] => τ_0_0
+  τ_0_0.Next => τ_0_0.[N:Next]
+====
+$ answer --max-rules 7
+protocol N { associatedtype Next: N }
+func f<T: N>()
+query f(T.Next.Next.Next : N)
+query f(T.Next == T.Next.Next)
+query f(T.Missing : N)
+query f(T.Next.Next)
+query f()
+---- 0
+yes
+no
+invalid
+τ_0_0.[N]Next.[N]Next
+<τ_0_0 where τ_0_0 : N>
+====
+$ answer --max-rules 6
+protocol N { associatedtype Next: N }
+func f<T: N>()
+query f(T.Next.Next.Next : N)
+query f(T.Next == T.Next.Next)
+query f(T.Missing : N)
+query f(T.Next.Next)
+query f()
+---- 3
+error: more than 6 rules
+====
+$ answer --max-rules 3
+protocol N { associatedtype Next: N }
+func f<T: N>()
+query f(T.Next.Next.Next : N)
+query f(T.Next == T.Next.Next)
+query f(T.Missing : N)
+query f(T.Next.Next)
+query f()
+---- 3
+error: more than 3 rules
+====
+$ answer --max-length 2
+protocol N { associatedtype Next: N }
+func f<T: N>()
+query f(T.Next.Next.Next : N)
+query f(T.Next == T.Next.Next)
+query f(T.Missing : N)
+query f(T.Next.Next)
+query f()
+---- 0
+yes
+no
+invalid
+τ_0_0.[N]Next.[N]Next
+<τ_0_0 where τ_0_0 : N>
+====
+$ answer --max-length 1
+protocol N { associatedtype Next: N }
+func f<T: N>()
+query f(T.Next.Next.Next : N)
+query f(T.Next == T.Next.Next)
+query f(T.Missing : N)
+query f(T.Next.Next)
+query f()
+---- 3
+error: rule longer than 1 symbols
+====
+$ answer --max-length 4
+protocol P { associatedtype A: P associatedtype B: P where A.B.A == B.A.B }
+---- 3
+error: rule longer than 4 symbols
+====
+$ answer
+protocol N { associatedtype A: N }
+func f<T: N>() where T.A.A.A.A.A.A.A.A.A.A.A.A.A.A.A.A.A.A.A.A.A.A.A.A.A.A.A.A.A.A.A.A.A.A.A.A.A.A.A.A.A.A.A.A.A.A.A.A.A.A.A.A.A.A.A.A.A.A.A.A.A.A.A.A.A.A.A.A.A.A.A.A == T
+func g<T>() where T.A == T
+---- 3
+error: rule longer than 64 symbols
+====
+$ answer --max-rules 3 --trace
+protocol N { associatedtype Next: N }
+func f<T: N>()
+query f(T.Next.Next.Next : N)
+query f(T.Next == T.Next.Next)
+query f(T.Missing : N)
+query f(T.Next.Next)
+query f()
+---- 3
+error: more than 3 rules
+  1: [N].[N] => [N] (given 1)
+  2: [N].Next => [N:Next] (given 2)
+  3: [N:Next].[N] => [N:Next] (given 3)
+  4: [N].[N:Next] => [N:Next] (pair 1 2 1)
+====
+$ signatures --trace --max-rules=6
+protocol N { associatedtype Next: N }
+func f<T: N>()
+query f(T.Next.Next.Next : N)
+query f(T.Next == T.Next.Next)
+query f(T.Missing : N)
+query f(T.Next.Next)
+query f()
+---- 3
+error: more than 6 rules
+  1: [N].[N] => [N] (given 1)
+  2: [N].Next => [N:Next] (given 2)
+  3: [N:Next].[N] => [N:Next] (given 3)
+  4: [N].[N:Next] => [N:Next] (pair 1 2 1)
+  5: [N:Next].Next => [N:Next].[N:Next] (pair 3 2 1)
+  6: τ_0_0.[N] => τ_0_0 (given 1)
+  7: τ_0_0.Next => τ_0_0.[N:Next] (pair 6 2 1)
+====
+$ rules --max-length=1 --trace
+protocol N { associatedtype Next: N }
+func f<T: N>()
+query f(T.Next.Next.Next : N)
+query f(T.Next == T.Next.Next)
+query f(T.Missing : N)
+query f(T.Next.Next)
+query f()
+---- 3
+error: rule longer than 1 symbols
+  1: [N].[N] => [N] (given 1)
+====
+$ answer
 protocol P { associatedtype A }
 protocol Q { associatedtype A }
 func f<T: P & Q>()
 func g<T: P>()
 query f(T.[P]A == T.[Q]A)
 query f(T.A)
+query f()
 query g(T.[Q]A)
 query g(T.[Q]A : P)
 query g(T.[Q]A == T)
@@ -75,186 +244,321 @@ query g(T.A)
 ---- 0
 yes
 τ_0_0.[P]A
+<τ_0_0 where τ_0_0 : P, τ_0_0 : Q>
 invalid
 invalid
 invalid
 invalid
 τ_0_0.[P]A
 ====
+$ answer
 protocol Late { associatedtype Next: Late }
 protocol Early: Late { associatedtype Next: Early }
 func f<T: Early>()
 query f(T.Next)
 query f(T.Next.Next : Early)
 query f(T.Next.Next)
+query f()
 ---- 0
 τ_0_0.[Late]Next
 yes
 τ_0_0.[Late]Next.[Late]Next
+<τ_0_0 where τ_0_0 : Early>
 ====
+$ answer
 protocol P { associatedtype B where B == Self }
 func f<X: P, Y>() where X.B == Y
+query f()
 query f(Y : P)
 query f(Y)
 ---- 0
+<τ_0_0, τ_0_1 where τ_0_0 : P, τ_0_0 == τ_0_1>
 yes
 τ_0_0
 ====
+$ answer
+protocol Base { }
+protocol Derived: Base { }
+func f<T, U>() where T == U, U == T, T == T
+func g<T: Base & Derived>()
+query f()
+query g()
+---- 0
+<τ_0_0, τ_0_1 where τ_0_0 == τ_0_1>
+<τ_0_0 where τ_0_0 : Derived>
+====
+$ signatures --trace
+func f<T, U, V>() where T == U, U == V, T == V
+func g<T, U, V>() where V == T, U == V
+---- 0
+f: <τ_0_0, τ_0_1, τ_0_2 where τ_0_0 == τ_0_1, τ_0_0 == τ_0_2>
+g: <τ_0_0, τ_0_1, τ_0_2 where τ_0_0 == τ_0_1, τ_0_0 == τ_0_2>
+====
+$ answer
+func f<T, U, V>() where T == U, U == V, T == V
+func g<T, U, V>() where V == T, U == V
+query f()
+query g()
+---- 0
+<τ_0_0, τ_0_1, τ_0_2 where τ_0_0 == τ_0_1, τ_0_0 == τ_0_2>
+<τ_0_0, τ_0_1, τ_0_2 where τ_0_0 == τ_0_1, τ_0_0 == τ_0_2>
+====
+$ answer
+protocol Q { }
+protocol P { associatedtype A: Q }
+func f<T: P, U: Q>() where T.A == U
+query f()
+---- 0
+<τ_0_0, τ_0_1 where τ_0_0 : P, τ_0_1 == τ_0_0.[P]A>
+====
+$ answer
 protocol P { associatedtype A }
 protocol Q { associatedtype B: P }
 func f<T>() where T.A: Q, T.A.B == T {}
 ---- 1
 error: not a type parameter at 85
 ====
+$ answer
 protocol P: AnyObject { }
 func f<T: P, U>() where U == T
 func g<T: AnyObject, U>() where T == U
 func h<T: P, U>()
 query f(U : AnyObject)
+query f()
+query g()
 query g(U)
 query g(U : AnyObject)
 query h(U : AnyObject)
 ---- 0
 yes
+<τ_0_0, τ_0_1 where τ_0_0 : P, τ_0_0 == τ_0_1>
+<τ_0_0, τ_0_1 where τ_0_0 : AnyObject, τ_0_0 == τ_0_1>
 τ_0_0
 yes
 no
 ====
+$ answer
 protocol P { associatedtype A }
 struct S<T: P> {
   func f<U: P>() where U.A == T.A { }
   func g()
 }
 query S.f(U.A)
+query S.f()
+query S.g()
+query S()
 query S.f(U)
 query S(T.A)
 ---- 0
 τ_0_0.[P]A
+<τ_0_0, τ_1_0 where τ_0_0 : P, τ_1_0 : P, τ_0_0.[P]A == τ_1_0.[P]A>
+<τ_0_0 where τ_0_0 : P>
+<τ_0_0 where τ_0_0 : P>
 τ_1_0
 τ_0_0.[P]A
 ====
+$ signatures
+protocol P { associatedtype A }
+struct S<T: P> {
+  func f<U: P>() where U.A == T.A { }
+  func g()
+}
+query S.f(U.A)
+query S.f()
+query S.g()
+query S()
+---- 0
+S: <τ_0_0 where τ_0_0 : P>
+S.f: <τ_0_0, τ_1_0 where τ_0_0 : P, τ_1_0 : P, τ_0_0.[P]A == τ_1_0.[P]A>
+S.g: <τ_0_0 where τ_0_0 : P>
+====
+$ answer
+struct S { func f<T>() }
+query S.f()
+---- 0
+<τ_0_0>
+====
+$ answer
 protocol Sequence<Element> { associatedtype Element }
 func f<S: Sequence<E>, E>()
 func g<S: Sequence, E>() where S.Element == E
+query f()
+query g()
 query f(S.Element)
 query g(E == S.Element)
 ---- 0
+<τ_0_0, τ_0_1 where τ_0_0 : Sequence, τ_0_1 == τ_0_0.[Sequence]Element>
+<τ_0_0, τ_0_1 where τ_0_0 : Sequence, τ_0_1 == τ_0_0.[Sequence]Element>
 τ_0_1
 yes
 ====
-func f<T>()
-query f()
-query f(T)
----- 1
-error: not built
+$ gen 3
+this text is not read
+---- 0
+protocols 3
+functions 1
+queries 13
+yes 6
+no 4
+invalid 2
+<τ_0_0, τ_0_1 where τ_0_0 : L1, τ_0_1 : L1, τ_0_0.[L1]A1 == τ_0_1.[L1]A1>
 ====
+$ gen 1
+---- 0
+protocols 1
+functions 1
+queries 5
+yes 4
+no 0
+invalid 0
+<τ_0_0, τ_0_1 where τ_0_0 : L1, τ_0_1 : L1, τ_0_0.[L1]A1 == τ_0_1.[L1]A1>
+====
+$ answer
 func f<T>()
 query f(T)
 func g<T>() where T.A == T
 ---- 1
 error: not a type parameter at 41
 ====
+$ answer
 protocol P where Self.A: P { }
 func f<T>() where T.A == T
 ---- 1
 error: not a type parameter at 17
 ====
-protocol P { } protocol P { }
+$ answer
+protocol P { }
+protocol P { }
 ---- 1
 error: duplicate name at 24
 ====
+$ answer
 func f<T, T>() where T == T
 ---- 1
 error: duplicate name at 10
 ====
+$ answer
 func f<T>() where T == Int
 ---- 1
 error: concrete type at 23
 ====
+$ answer
 func f<T: Base>()
 ---- 1
 error: not a protocol at 10
 ====
+$ answer
+protocol P: P { }
+---- 1
+error: circular inheritance at 9
+====
+$ answer
 protocol P: Q { }
 protocol Q: P { }
 ---- 1
 error: circular inheritance at 9
 ====
+$ answer
 protocol A: B { } protocol B: C { } protocol C: B { }
 ---- 1
 error: circular inheritance at 27
 ====
+$ answer
 query g()
 ---- 1
 error: unknown signature at 6
 ====
+$ answer
 \u{FEFF}query g()
 ---- 1
 error: unknown signature at 9
 ====
+$ answer
 protocol P { }
 func f<T: P>()
 query f(T.[P]A)
 ---- 1
 error: no such member at 43
 ====
+$ answer
 class C { }
 ---- 1
 error: unsupported class at 0
 ====
+$ answer
 protocol P { func g() }
 ---- 1
 error: unsupported member at 13
 ====
+$ answer
 func f<T>(x: T)
 ---- 1
 error: unsupported parameters at 10
 ====
+$ answer
 func f<T>() where T == Array<T>
 ---- 1
 error: unsupported generic arguments at 28
 ====
+$ answer
 func f<T>() #
 ---- 1
 error: bad character at 12
 ====
+$ answer
 /* a /* b */ c
 ---- 1
 error: open comment at 0
 ====
+$ answer
 /* a /* b */ c */
 ---- 0
 ====
+$ answer
 struct S { }
 query S.h()
 ---- 1
 error: unknown signature at 21
 ====
+$ answer
 struct S { struct R { } }
 ---- 1
 error: unsupported struct at 11
 ====
+$ answer
 protocol P { }
 func f<T: P<T>>()
 ---- 1
 error: wrong number of arguments at 25
 ====
+$ answer
 protocol P<A> { }
 ---- 1
 error: no such member at 11
 ====
+$ answer
 protocol P<A> { associatedtype A }
 query f(T : P<T>)
 ---- 1
 error: unsupported generic arguments at 48
-====
-protocol N { associatedtype A: N }
-func f<T: N>() where T.A.A.A.A.A.A.A.A.A.A.A.A.A.A.A.A.A.A.A.A.A.A.A.A.A.A.A.A.A.A.A.A.A.A.A.A.A.A.A.A.A.A.A.A.A.A.A.A.A.A.A.A.A.A.A.A.A.A.A.A.A.A.A.A.A.A.A.A.A.A.A.A == T
-func g<T>() where T.A == T
----- 3
-error: rule longer than 64 symbols
-====
-protocol P { associatedtype A: P associatedtype B: P where A.B.A == B.A.B }
----- 3
-error: rule longer than 64 symbols
+";
+
+/// Infinitely many classes, and an invalid side among good ones.
+pub(crate) const ENDLESS: &str = "\
+protocol N { associatedtype Next: N }
+func f<T: N>()
+query f(T.Next.Next.Next : N)
+query f(T.Next == T.Next.Next)
+query f(T.Missing : N)
+query f(T.Next.Next)
+query f()
+";
+
+/// What is answered of it.
+pub(crate) const ENDLESS_ANSWERS: &str = "\
+yes
+no
+invalid
+τ_0_0.[N]Next.[N]Next
+<τ_0_0 where τ_0_0 : N>
 ";

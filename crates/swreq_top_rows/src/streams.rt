@@ -1,0 +1,125 @@
+//! What the words and the streams do to a run.
+use crate::running::{Setting, runs, undisturbed, words_of};
+use crate::texts::{ENDLESS, ENDLESS_ANSWERS};
+use std::alloc::Global;
+use std::process::Abort;
+use std::test::Fail;
+use swreq_text::{CountSink, MemSink, MemSource, Source, SureSource};
+use swreq_top::run;
+use swreq_watch::Quiet;
+
+/// A run with these words gives this status, prints this, and leaves the source as it was.
+fn reads_nothing(
+    rt: &impl Abort,
+    alloc: Global,
+    words: &[String],
+    status: u8,
+    taken: &[u8],
+) -> Result<(), Fail> {
+    let mut src = MemSource::new(b"query".to_vec(alloc)?, 10, Vec::new(alloc));
+    let mut out = MemSink::new(alloc, 1000, 1000, Vec::new(alloc))?;
+    assert_eq!(rt; run(alloc, words, &mut src, &mut out, &mut Quiet), status);
+    assert_eq!(rt; out.bytes(), taken);
+    let mut buf = [0u8; 10];
+    assert_eq!(rt; src.read(&mut buf), Ok(5));
+    Ok(())
+}
+
+const USAGE: &[u8] =
+    b"usage: genreq (answer | signatures | rules | gen N) [--max-rules N] [--max-length N] [--trace]\n";
+
+/// Words that are refused, a line each.
+const WRONG: &str = "answer --max-rules 0
+answer --max-rules 100001
+answer --max-length 256
+gen
+gen 0
+gen 101
+fly";
+
+#[test]
+fn wrong_words_read_nothing(rt: HostRuntime) -> Result<(), Fail> {
+    let alloc = rt.alloc();
+    reads_nothing(&rt, alloc, &[], 2, USAGE)?;
+    for line in WRONG.split("\n") {
+        let words = words_of(alloc, line)?;
+        reads_nothing(&rt, alloc, &words, 2, USAGE)?;
+    }
+    Ok(())
+}
+
+#[test]
+fn a_generated_text_is_not_read(rt: HostRuntime) -> Result<(), Fail> {
+    let alloc = rt.alloc();
+    let words = words_of(alloc, "gen 3 --max-rules 1")?;
+    reads_nothing(&rt, alloc, &words, 3, b"error: more than 1 rules\n")
+}
+
+/// The text comes in 17 pieces, and the next read finds its end.
+const READS: u32 = 18;
+
+#[test]
+fn each_read_may_fail(rt: HostRuntime) -> Result<(), Fail> {
+    let all = undisturbed("answer", ENDLESS.as_bytes());
+    for before in 0..READS {
+        let setting = Setting {
+            failing_read: before + 1,
+            ..all
+        };
+        runs(&rt, rt.alloc(), setting, "4", b"error: read fault\n")?;
+    }
+    let setting = Setting {
+        failing_read: READS + 1,
+        ..all
+    };
+    runs(&rt, rt.alloc(), setting, "0", ENDLESS_ANSWERS.as_bytes())
+}
+
+#[test]
+fn a_write_may_fail(rt: HostRuntime) -> Result<(), Fail> {
+    let setting = Setting {
+        failing_write: 2,
+        ..undisturbed("answer", ENDLESS.as_bytes())
+    };
+    runs(&rt, rt.alloc(), setting, "5", b"yes")
+}
+
+#[test]
+fn room_may_be_short_by_any_part_of_the_answers(rt: HostRuntime) -> Result<(), Fail> {
+    let answers = ENDLESS_ANSWERS.as_bytes();
+    let all = undisturbed("answer", ENDLESS.as_bytes());
+    for room in 0..answers.len() {
+        let setting = Setting {
+            room: u32::try_from(room)?,
+            ..all
+        };
+        runs(&rt, rt.alloc(), setting, "5", &answers[..room])?;
+    }
+    Ok(())
+}
+
+const UNJUSTIFIED: &[u8] = b"\
+protocol P { associatedtype A }
+protocol Q { associatedtype B: P }
+func f<T>() where T.A: Q, T.A.B == T {}
+";
+
+#[test]
+fn room_may_be_short_for_a_refusal(rt: HostRuntime) -> Result<(), Fail> {
+    let setting = Setting {
+        room: 5,
+        ..undisturbed("answer", UNJUSTIFIED)
+    };
+    runs(&rt, rt.alloc(), setting, "5", b"error")
+}
+
+#[test]
+fn streams_that_never_fail_give_status_0(rt: HostRuntime) -> Result<(), Fail> {
+    let alloc = rt.alloc();
+    let words = words_of(alloc, "answer")?;
+    let mut src = SureSource::new(ENDLESS.as_bytes().to_vec(alloc)?);
+    let mut out = CountSink::new();
+    assert_eq!(rt; run(alloc, &words, &mut src, &mut out, &mut Quiet), 0);
+    assert_eq!(rt; out.count(), ENDLESS_ANSWERS.len() as u64);
+    Ok(())
+}
