@@ -3,7 +3,7 @@ use Rattle.swreq_text.specs.declared.whole.ReadErr.{ReadErr}
 use Rattle.swreq_text.specs.declared.whole.ReadErr.TheVariants.{Fault, Memory, TooLarge}
 use Rattle.swreq_watch.proofs.Told.{grew_none}
 use Rattle.swreq_top.specs.declared.outcome.Outcome.{Outcome}
-use Rattle.swreq_top.specs.Runs.{IsFinished, Surroundings}
+use Rattle.swreq_top.specs.Runs.{Answers, IsFinished, Surroundings}
 use Rattle.swreq_top.proofs.Ending.{ended_fault, ended_memory, ended_too_large, ended_unread, ended_verdict, ended_wrong, gen_said, has_count, no_fault}
 use Rattle.swreq_top.proofs.program.carry_out.Goals as goal
 
@@ -58,8 +58,8 @@ returns-in-Err-TooLarge-clause-end g c =
       write_faults = g.K.Sink.faults c.finish-in-Err-TooLarge.new.out;
       told = g.W.Watch.told c.answer.new.watch;
     } in
-    ended_too_large words before after c.in-Ok.line c.in-Ok.ensures.ok c.finish-in-Err-TooLarge.result c.in-Err-TooLarge.ensures.answer
-    (no_fault {A = after.read_faults ≡ before.read_faults} _ (Err TooLarge) refl (λ is. (cc)) c.in-Err-TooLarge.ensures.no_fault) c.finish-in-Err-TooLarge.ensures
+    ended_too_large words before after c.in-Ok.line c.in-Ok.ensures.ok c.finish-in-Err-TooLarge.result (subst (λ (e : ReadErr). Answers c.in-Ok.line before.left after.left before.told after.told (Err e)) c.in-Err-TooLarge.field-0-is c.in-Err-TooLarge.ensures.answer)
+    (no_fault {A = after.read_faults ≡ before.read_faults} (Err c.in-Err-TooLarge.field-0) (Err TooLarge) (ap Err c.in-Err-TooLarge.field-0-is) (λ is. (cc)) c.in-Err-TooLarge.ensures.no_fault) c.finish-in-Err-TooLarge.ensures
 
 pub returns-in-Err-TooLarge-clause-unread : goal.returns-in-Err-TooLarge-clause-unread
 returns-in-Err-TooLarge-clause-unread g c some = elim some [
@@ -84,7 +84,7 @@ returns-in-Err-Fault-clause-end g c =
       write_faults = g.K.Sink.faults c.finish-in-Err-Fault.new.out;
       told = g.W.Watch.told c.answer.new.watch;
     } in
-    ended_fault words before after c.in-Ok.line c.in-Ok.ensures.ok c.finish-in-Err-Fault.result c.in-Err-Fault.ensures.answer (c.in-Err-Fault.ensures.fault refl)
+    ended_fault words before after c.in-Ok.line c.in-Ok.ensures.ok c.finish-in-Err-Fault.result (subst (λ (e : ReadErr). Answers c.in-Ok.line before.left after.left before.told after.told (Err e)) c.in-Err-Fault.field-0-is c.in-Err-Fault.ensures.answer) (c.in-Err-Fault.ensures.fault (ap Err c.in-Err-Fault.field-0-is))
     c.finish-in-Err-Fault.ensures
 
 pub returns-in-Err-Fault-clause-unread : goal.returns-in-Err-Fault-clause-unread
@@ -110,8 +110,8 @@ returns-in-Err-Memory-answer-clause-end g c =
       write_faults = g.K.Sink.faults c.finish-in-Err-Memory-answer.new.out;
       told = g.W.Watch.told c.answer.new.watch;
     } in
-    ended_memory words before after c.in-Ok.line c.in-Ok.ensures.ok c.finish-in-Err-Memory-answer.result c.in-Err-Memory-answer.ensures.answer
-    (no_fault {A = after.read_faults ≡ before.read_faults} _ (Err Memory) refl (λ is. (cc)) c.in-Err-Memory-answer.ensures.no_fault) c.finish-in-Err-Memory-answer.ensures
+    ended_memory words before after c.in-Ok.line c.in-Ok.ensures.ok c.finish-in-Err-Memory-answer.result (subst (λ (e : ReadErr). Answers c.in-Ok.line before.left after.left before.told after.told (Err e)) c.in-Err-Memory-answer.field-0-is c.in-Err-Memory-answer.ensures.answer)
+    (no_fault {A = after.read_faults ≡ before.read_faults} (Err c.in-Err-Memory-answer.field-0) (Err Memory) (ap Err c.in-Err-Memory-answer.field-0-is) (λ is. (cc)) c.in-Err-Memory-answer.ensures.no_fault) c.finish-in-Err-Memory-answer.ensures
 
 pub returns-in-Err-Memory-answer-clause-unread : goal.returns-in-Err-Memory-answer-clause-unread
 returns-in-Err-Memory-answer-clause-unread g c some = elim some [
@@ -136,7 +136,7 @@ returns-in-Err-Usage-clause-end g c =
       write_faults = g.K.Sink.faults c.finish-in-Err-Usage.new.out;
       told = g.W.Watch.told c.args.watch.now;
     } in
-    ended_wrong words before after c.finish-in-Err-Usage.result (c.in-Err-Usage.ensures.usage.0 refl) refl (grew_none (g.W.Watch.told c.args.watch.now))
+    ended_wrong words before after c.finish-in-Err-Usage.result (c.in-Err-Usage.ensures.usage.0 (ap Err c.in-Err-Usage.field-0-is)) refl (grew_none (g.W.Watch.told c.args.watch.now))
     c.finish-in-Err-Usage.ensures
 
 pub returns-in-Err-Memory-clause-end : goal.returns-in-Err-Memory-clause-end
