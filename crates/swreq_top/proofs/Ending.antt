@@ -1,13 +1,12 @@
 -- How a run ends, and what that says of its status.
-use Rattle.std.proofs.Common.{◌≡◌, ◌≢◌, ◌⊎◌, ◌∙◌, ℕ, ◌+◌, ◌≤◌, List, [], Option, Some, None, IfSome, Result, Ok, Err, refl, sym, subst, inl, inr, arith}
+use Rattle.std.proofs.Common.{◌≡◌, ◌≢◌, ◌⊎◌, ◌∙◌, ℕ, ◌≤◌, List, [], Option, IfSome, Result, Ok, Err, refl, sym, subst, inl, inr, arith}
 use Rattle.std.specs.Io.KnownBytes.{Appends}
 use Rattle.std.proofs.lemmas.Option.{IfSome_then}
-use Rattle.swreq_lex.specs.declared.lexer.TheConstants.{TEXT_LIMIT}
 use Rattle.swreq_print.specs.Names.{Text}
 use Rattle.swreq_print.specs.declared.refusal.RefusalKind.TheVariants as refusals
 use Rattle.swreq_print.specs.declared.refusal.TheConstants.{OUT_OF_MEMORY, READ_FAULT, TOO_LARGE, USAGE}
 use Rattle.swreq_text.specs.Faults.{HasRisen}
-use Rattle.swreq_text.specs.Given.{AppendsPart, GivesCount}
+use Rattle.swreq_text.specs.Given.{AppendsPart}
 use Rattle.swreq_text.specs.declared.whole.ReadErr.{ReadErr}
 use Rattle.swreq_text.specs.declared.whole.ReadErr.TheVariants.{Fault, Memory, TooLarge}
 use Rattle.swreq_watch.specs.declared.events.Event.{Event}
@@ -18,8 +17,8 @@ use Rattle.swreq_words.specs.declared.command.Command.TheVariants as command
 use Rattle.swreq_words.specs.declared.command.CommandLine.{CommandLine}
 use Rattle.swreq_words.proofs.Lines.{one_line}
 use Rattle.swreq_top.specs.declared.outcome.Outcome.{Outcome}
-use Rattle.swreq_top.specs.Replies.{IsOnlyRefusal, IsToldVerdict, WasToldPart}
-use Rattle.swreq_top.specs.Runs.{Answers, AreWrong, Delivers, IsAnswerable, IsEnd, IsFinished, IsGen, IsOutputOn, IsPrinted, SayGen, Surroundings, TellsSome, known_text}
+use Rattle.swreq_top.specs.Replies.{IsToldVerdict, WasToldPart}
+use Rattle.swreq_top.specs.Runs.{Answers, AreWrong, Delivers, IsAnswerable, IsEnd, IsFinished, IsGen, IsPrinted, SayGen, Surroundings, TellsSome, known_text}
 use Rattle.swreq_top.specs.Runs.IsEnd.{delivered, no_memory, read_failed, write_failed, wrong_words}
 use Rattle.swreq_top.specs.Verdict.{IsCutShort, IsRefused, IsVerdict, refused_with}
 use Rattle.swreq_top.specs.Verdict.IsVerdict.{answered as is_answered, cut_short as is_cut_short, refused as is_refused}

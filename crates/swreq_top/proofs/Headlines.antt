@@ -1,5 +1,5 @@
 -- What is printed with status 0 says the four sentences of the headline.
-use Rattle.std.proofs.Common.{◌≡◌, ◌∙◌, ◌≤◌, ◌<◌, ℕ, refl, sym, ap, subst, inl, inr, zero, suc, true, false, List, [], ◌∷◌, ◌++◌, Contains, Option, Some, None, IfSome, get_or, length, map, arith}
+use Rattle.std.proofs.Common.{◌≡◌, ◌∙◌, ℕ, refl, sym, ap, subst, inl, inr, zero, suc, false, List, ◌++◌, Option, Some, None, IfSome, map, arith}
 use Rattle.std.specs.Prelude.{◌↔◌, codes, slice_get}
 use Rattle.std.specs.Io.KnownBytes.{Appends}
 use Rattle.std.specs.Str.{chars}
@@ -17,7 +17,6 @@ use Rattle.swreq_derive.specs.WellFormed as well_formed
 use Rattle.swreq_derive.proofs.Guard.{from_function}
 use Rattle.swreq_derive.proofs.Substitution.{valid_sides}
 use Rattle.swreq_canonical.proofs.Agreement.{minimised_independent}
-use Rattle.swreq_rule.specs.declared.rules.Rule.{Rule}
 use Rattle.swreq_watch.specs.declared.events.Event.{Event}
 use Rattle.swreq_words.specs.declared.command.Command.{Command}
 use Rattle.swreq_words.specs.declared.command.Command.TheVariants as command
@@ -32,20 +31,20 @@ use Rattle.swreq_world.proofs.Closing.{closed}
 use Rattle.swreq_world.proofs.ProtocolOffsets.{protocols_rising}
 use Rattle.swreq_shown.specs.Meaning.{facts_of}
 use Rattle.swreq_print.specs.Names.{Text}
-use Rattle.swreq_query.specs.Answers.{Answer, HasValidSides, IsAnswer, IsAnswerLine, IsLeastEqual, IsSide, answer_line, asked}
+use Rattle.swreq_query.specs.Answers.{Answer, HasValidSides, IsAnswer, IsLeastEqual, answer_line, asked}
 use Rattle.swreq_query.specs.Answers.Answer.{Invalid, Yes, No, Reduced}
 use Rattle.swreq_query.proofs.OneAnswer.{one_line}
-use Rattle.swreq_output.specs.Signatures.{IsMinimisedLine, IsNamedLine, full_name, source_of, written_list}
+use Rattle.swreq_output.specs.Signatures.{IsMinimisedLine, full_name, source_of, written_list}
 use Rattle.swreq_output.proofs.PrintingAlike.{lines_alike}
 use Rattle.swreq_top.specs.declared.outcome.Outcome.{Outcome}
-use Rattle.swreq_top.specs.Headline.{AreAlike, IsEqualAndIndependent, IsImplied, IsLeastWhereValid, IsYesWhereImplied, PrintsOf, SayAlike, SayEqualLists, SayTheLeast, SayYesWhereImplied, TakenSay}
+use Rattle.swreq_top.specs.Headline.{IsEqualAndIndependent, IsImplied, IsLeastWhereValid, IsYesWhereImplied, PrintsOf, SayAlike, SayEqualLists, SayTheLeast, SayYesWhereImplied, TakenSay}
 use Rattle.swreq_top.specs.Lines.{AreLines}
 use Rattle.swreq_top.specs.Lines.AreLines.{none, more}
 use Rattle.swreq_top.specs.Machines.{HasWorld}
 use Rattle.swreq_top.specs.Outputs.{AnswersByTypes, ArePrinted, IsLineOf, printed_text, signature_of}
 use Rattle.swreq_top.specs.Runs.{Delivers, known_text}
 use Rattle.swreq_top.specs.Replies.{IsToldVerdict}
-use Rattle.swreq_top.specs.Verdict.{IsAnswered, IsCutShort, IsRefused, IsVerdict, limits_of}
+use Rattle.swreq_top.specs.Verdict.{IsAnswered, IsVerdict, limits_of}
 use Rattle.swreq_top.specs.Verdict.IsVerdict.{answered as is_answered, cut_short as is_cut_short, refused as is_refused}
 use Rattle.swreq_top.proofs.Checked.{is_formed}
 use Rattle.swreq_top.proofs.Delivering.{refused_status}

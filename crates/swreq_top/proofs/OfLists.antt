@@ -1,5 +1,5 @@
 -- What building the machine of a signature says, where its list is read from a world over ids.
-use Rattle.std.proofs.Common.{◌≡◌, ◌∙◌, sym, ap, subst, ℕ, ◌<◌, ◌≤◌, arith, List, Option, Result, Ok, Err, Contains, length, map}
+use Rattle.std.proofs.Common.{◌≡◌, ◌∙◌, sym, ap, subst, ◌<◌, arith, List, Option, Result, Ok, Err, Contains, length, map}
 use Rattle.std.proofs.lemmas.List.{length-map}
 use Rattle.std.proofs.lemmas.List.Elements.{All-contains, All-get_or}
 use Rattle.swreq_complete.specs.declared.limit.Limits.{Limits}

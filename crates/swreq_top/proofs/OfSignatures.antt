@@ -30,7 +30,7 @@ use Rattle.swreq_top.specs.declared.ready.Checked.{Checked}
 use Rattle.swreq_top.specs.declared.ready.Ready.{Ready}
 use Rattle.swreq_complete.specs.declared.limit.Limits.{Limits}
 use Rattle.swreq_output.specs.Signatures.{source_of, written_list}
-use Rattle.swreq_top.specs.Machines.{IsBuiltOver, SignatureComes, SignaturesCome}
+use Rattle.swreq_top.specs.Machines.{SignatureComes, SignaturesCome}
 use Rattle.swreq_top.specs.Machines.IsChecked.{protocols_built, protocols_refused}
 use Rattle.swreq_top.specs.Machines.SignaturesCome.{all, next, stopped}
 use Rattle.swreq_top.specs.Ready.{AreKept, Checks, ChecksAll, ChecksOne, IsKept}

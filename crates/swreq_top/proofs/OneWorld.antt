@@ -1,5 +1,5 @@
 -- The worlds of a text differ in how its inheritance is kept alone, and so they are checked alike.
-use Rattle.std.proofs.Common.{◌≡◌, ◌∙◌, inl, inr, refl, sym, ap, ap₂, subst, ℕ, zero, suc, ◌+◌, ◌<◌, arith, Bool, true, false, cond, not, ◌&&◌, nat_eq, List, [], ◌∷◌, length, map, slice_get, Contains, Option, Some, None, get_or, true≢false}
+use Rattle.std.proofs.Common.{◌≡◌, ◌∙◌, inl, inr, refl, sym, ap, ap₂, subst, ℕ, zero, suc, ◌+◌, ◌<◌, arith, Bool, true, cond, not, ◌&&◌, nat_eq, List, [], ◌∷◌, length, map, slice_get, Contains, Option, Some, get_or, true≢false}
 use Rattle.std.specs.List.{list_any}
 use Rattle.std.specs.Cmp.{IsTotalOrder}
 use Rattle.std.specs.Ordering.{nat_cmp, ordering_then}
@@ -23,18 +23,13 @@ use Rattle.swreq_ranks.specs.Views.{HasMember, IsProtocol, LexiconView, assoc_cm
 use Rattle.swreq_ranks.proofs.RankLaws.{assoc_total}
 use Rattle.swreq_rule.specs.declared.rules.Rule.{Rule}
 use Rattle.swreq_watch.specs.declared.events.Event.{Event}
-use Rattle.swreq_derive.specs.Derivation.{Derives, TermStatement}
-use Rattle.swreq_written.specs.declared.ids.FuncId.{FuncId}
 use Rattle.swreq_written.specs.Requirements.{PlacedRequirement}
-use Rattle.swreq_written.specs.Signatures.{in_order}
 use Rattle.swreq_written.specs.Words.{WordsView}
 use Rattle.swreq_world.specs.Closed.{AreIds}
 use Rattle.swreq_world.specs.Text.{requirements_named, signatures}
 use Rattle.swreq_world.specs.WorldOf.{IsWorldOf, words_of}
-use Rattle.swreq_world.specs.Worlds.{SignatureOver, TextWorld, signature_at}
-use Rattle.swreq_shown.specs.Meaning.{facts_of}
+use Rattle.swreq_world.specs.Worlds.{SignatureOver, TextWorld}
 use Rattle.swreq_valid.specs.declared.refused.Refused.{Refused}
-use Rattle.swreq_derive.specs.Derivation.{TermRequirement}
 use Rattle.swreq_complete.specs.declared.limit.Limits.{Limits}
 use Rattle.swreq_top.specs.Machines.{IsChecked, SignaturesCome}
 use Rattle.swreq_top.specs.Machines.IsChecked.{protocols_built, protocols_refused}

@@ -1,5 +1,5 @@
 -- What a text is answered with is a verdict on it.
-use Rattle.std.proofs.Common.{◌≡◌, ◌≢◌, ◌⊎◌, ℕ, ◌<◌, ◌≤◌, List, [], ◌++◌, append_assoc, append-nil, length, Option, Some, None, IfErr, IfOk, IsOk, OnErr, Result, Ok, Err, refl, true, sym, ◌∙◌, ap, inl, inr, subst}
+use Rattle.std.proofs.Common.{◌≡◌, ◌≢◌, ◌⊎◌, ℕ, ◌<◌, ◌≤◌, List, [], ◌++◌, length, Option, Some, None, IfErr, IfOk, OnErr, Result, Ok, Err, refl, true, sym, ◌∙◌, inl, inr, subst}
 use Rattle.std.specs.declared.alloc.AllocError.{AllocError}
 use Rattle.swreq_lex.specs.declared.refusal.LexErr.{LexErr}
 use Rattle.swreq_lex.specs.declared.refusal.LexErr.TheVariants as lexical
@@ -35,7 +35,7 @@ use Rattle.swreq_valid.specs.declared.refused.Refused.{Refused}
 use Rattle.swreq_valid.specs.declared.refused.Refused.TheVariants.{Limit, NotATypeParameter, Memory}
 use Rattle.swreq_top.specs.declared.outcome.Outcome.{Outcome}
 use Rattle.swreq_top.specs.declared.ready.Checked.{Checked}
-use Rattle.swreq_top.specs.Machines.{HasWorld, IsBuiltOver, IsChecked}
+use Rattle.swreq_top.specs.Machines.{HasWorld, IsChecked}
 use Rattle.swreq_top.specs.Outputs.{IsOutput}
 use Rattle.swreq_top.specs.Ready.{Checks}
 use Rattle.swreq_top.specs.Replies.{Finishes, IsToldVerdict, Replies, WasToldPart}
@@ -45,7 +45,7 @@ use Rattle.swreq_top.specs.Told.MinimisingAllTells.{nothing}
 use Rattle.swreq_top.specs.Verdict.{HasNoWorld, IsRefused, IsStopOf, IsVerdict, answered_text, limits_of, machine_outcome, refused_with, stopped_with}
 use Rattle.swreq_top.specs.Verdict.IsRefused.{without_world, not_a_type_parameter, past_a_limit}
 use Rattle.swreq_top.specs.Verdict.IsVerdict.{answered as is_answered, cut_short as is_cut_short, refused as is_refused}
-use Rattle.swreq_top.proofs.Checked.{built_checked, check_tells, is_formed}
+use Rattle.swreq_top.proofs.Checked.{check_tells, is_formed}
 use Rattle.swreq_top.proofs.Lines.{by_book}
 
 -- what a text was read with is exact

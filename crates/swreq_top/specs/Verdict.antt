@@ -1,5 +1,5 @@
 -- The verdicts on a text.
-use Rattle.std.specs.Prelude.{◌≡◌, ◌≢◌, ℕ, ◌<◌, ◌≤◌, Bool, true, false, List, [], ◌++◌, length, Some, None, if◌then◌else◌}
+use Rattle.std.specs.Prelude.{◌≡◌, ℕ, ◌<◌, ◌≤◌, Bool, false, List, [], ◌++◌, length, Some, None, if◌then◌else◌}
 use Rattle.swreq_lex.specs.declared.refusal.LexErr.TheVariants as lexical
 use Rattle.swreq_lex.specs.declared.lexer.TheConstants.{TEXT_LIMIT}
 use Rattle.swreq_lex.specs.Refusals.{HasRefusal}

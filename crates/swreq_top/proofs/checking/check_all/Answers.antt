@@ -1,4 +1,4 @@
-use Rattle.std.proofs.Common.{◌≡◌, ◌<◌, ◌∷◌, [], length, arith, ap, length-append, subst, sym}
+use Rattle.std.proofs.Common.{◌∷◌, [], length, arith, ap, length-append, subst, sym}
 use Rattle.std.proofs.lemmas.List.{length-map}
 use Rattle.swreq_valid.specs.Rounds.{last_rules}
 use Rattle.swreq_world.specs.ByTable.{signature_by, world_by}

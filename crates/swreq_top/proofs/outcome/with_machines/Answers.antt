@@ -1,4 +1,4 @@
-use Rattle.std.proofs.Common.{◌≡◌, ℕ, true, List, Option, IfOk, subst, sym}
+use Rattle.std.proofs.Common.{◌≡◌, true, List, IfOk, subst, sym}
 use Rattle.std.proofs.lemmas.Result.{err_from_is_err_and}
 use Rattle.swreq_complete.specs.declared.limit.Limits.{Limits}
 use Rattle.swreq_valid.specs.Rounds.{last_rules}

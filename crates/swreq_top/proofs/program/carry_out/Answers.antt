@@ -1,8 +1,7 @@
-use Rattle.std.proofs.Common.{◌≡◌, ◌≢◌, ◌⊎◌, ℕ, List, Result, Ok, Err, ap, inl, inr, map, refl, string_bytes, subst, sym}
+use Rattle.std.proofs.Common.{◌≡◌, ℕ, List, Ok, Err, ap, inl, inr, map, refl, string_bytes, subst}
 use Rattle.swreq_text.specs.declared.whole.ReadErr.{ReadErr}
-use Rattle.swreq_text.specs.declared.whole.ReadErr.TheVariants.{Fault, Memory, TooLarge}
+use Rattle.swreq_text.specs.declared.whole.ReadErr.TheVariants.{Memory, TooLarge}
 use Rattle.swreq_watch.proofs.Told.{grew_none}
-use Rattle.swreq_top.specs.declared.outcome.Outcome.{Outcome}
 use Rattle.swreq_top.specs.Runs.{Answers, IsFinished, Surroundings}
 use Rattle.swreq_top.proofs.Ending.{ended_fault, ended_memory, ended_too_large, ended_unread, ended_verdict, ended_wrong, gen_said, has_count, no_fault}
 use Rattle.swreq_top.proofs.program.carry_out.Goals as goal
