@@ -1,5 +1,5 @@
 use Rattle.swreq_valid_rows.proofs.OfText.{text_over}
-use Rattle.swreq_valid_rows.proofs.shown.world_over.Goals as goal
+use Rattle.swreq_valid_rows.proofs.lines.world_over.Goals as goal
 
 pub returns : goal.returns
 returns c =
