@@ -7,7 +7,6 @@ ghost use Rattle.swreq_shown.specs.Known.{IsTextOver};
 use crate::answers::add_answers;
 use crate::systems::add_systems;
 use std::alloc::Global;
-use std::process::Abort;
 use std::test::Fail;
 use swreq_complete::Limits;
 use swreq_decl::{Skeleton, parse};
@@ -68,18 +67,32 @@ fn lines_of_skeleton(
     }
 }
 
-/// The answers of a text with queries, and the equations and systems of one without.
-pub(crate) fn lines_of(
-    rt: &impl Abort,
-    alloc: Global,
-    text: &[u8],
-    limits: Limits,
-) -> Result<Vec<u8>, Fail> {
-    assert!(rt; text.len() <= 1_048_576);
-    assert!(rt; 1 <= limits.max_rules && limits.max_rules <= 100_000);
-    assert!(rt; 1 <= limits.max_length && limits.max_length <= 255);
+/// The skeleton of a text.
+fn skeleton_of(alloc: Global, text: &[u8]) -> Result<Skeleton, Fail>
+    requires { length text.now ≤ 1048576 }
+    ensures { IfOk result (StandsFor text.now) }
+{
     match parse(alloc, text) {
-        Ok(skeleton) => lines_of_skeleton(alloc, text, &skeleton, limits),
+        Ok(skeleton) => Ok(skeleton),
         Err(_) => Err("no skeleton".into()),
     }
+}
+
+/// The lines of a text that is not too long.
+fn lines_of_text(alloc: Global, text: &[u8], limits: Limits) -> Result<Vec<u8>, Fail>
+    requires limit { length text.now ≤ 1048576 }
+    requires limits { AreInRange limits }
+{
+    let skeleton = skeleton_of(alloc, text)?;
+    lines_of_skeleton(alloc, text, &skeleton, limits)
+}
+
+/// The answers of a text with queries, and the equations and systems of one without.
+pub(crate) fn lines_of(alloc: Global, text: &[u8], limits: Limits) -> Result<Vec<u8>, Fail>
+    requires { AreInRange limits }
+{
+    if text.len() > 1_048_576 {
+        return Err("a text that is too long".into());
+    }
+    lines_of_text(alloc, text, limits)
 }

@@ -84,14 +84,8 @@ fn add_protocols(
 {
     for rank in 0..world.protocols() {
         let p = ProtoId { rank };
-        add_equations(
-            alloc,
-            world,
-            table,
-            Some(p),
-            world.bare_requirements(p),
-            out,
-        )?;
+        let list = world.bare_requirements(p);
+        add_equations(alloc, world, table, Some(p), list, out)?;
     }
     Ok(())
 }
