@@ -7,7 +7,7 @@ pub lines_of_skeleton-requires-clause-limit : goal.lines_of_skeleton-requires-cl
 lines_of_skeleton-requires-clause-limit c = c.requires.limit
 
 pub lines_of_skeleton-requires-clause-stands : goal.lines_of_skeleton-requires-clause-stands
-lines_of_skeleton-requires-clause-stands c = c.in_ok-skeleton_of.ensures
+lines_of_skeleton-requires-clause-stands c = c.in_ok-skeleton.ensures
 
 pub lines_of_skeleton-requires-clause-limits : goal.lines_of_skeleton-requires-clause-limits
 lines_of_skeleton-requires-clause-limits c = c.requires.limits
