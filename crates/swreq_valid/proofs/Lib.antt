@@ -18,3 +18,4 @@ pub mod Once
 pub mod OfKept
 pub mod Telling
 pub mod Early
+pub mod Naming

@@ -10,3 +10,4 @@ pub mod LeastTypes
 pub mod Keeping
 pub mod Having
 pub mod Early
+pub mod Named

@@ -1,17 +1,17 @@
 //! The basic equations of a text, and the requirements of its protocols.
-ghost use Rattle.std.specs.Prelude.{◌≡◌, ◌++◌, ◌∷◌, [], map, IfOk, OnOk};
-ghost use Rattle.std.specs.Bool.{if◌then◌else◌, nat_eq};
+ghost use Rattle.std.specs.Prelude.{◌≡◌, ◌<◌, ◌≤◌, ◌++◌, ◌∷◌, [], ℕ, Some, map, slice_get, IfOk, OnOk};
+ghost use Rattle.swreq_ranks.specs.declared.pair.ProtocolName.{ProtocolName};
 ghost use Rattle.swreq_rounds.specs.Given as given;
-ghost use Rattle.swreq_shown.specs.Meaning.{member_name, symbols_of};
+ghost use Rattle.swreq_shown.specs.Meaning.{symbols_of};
 ghost use Rattle.swreq_world.specs.Closed.{AreIds};
 ghost use Rattle.swreq_valid.specs.Early.{IsFront};
+ghost use Rattle.swreq_valid.specs.Named.{IsNameAdded};
 ghost use Rattle.swreq_valid.specs.Plans.{in_protocol, in_protocols};
 
 use crate::wanted::Wanted;
 use std::alloc::{AllocError, Global};
 use swreq_derive::Requirement;
 use swreq_param::{NameId, ProtoId};
-use swreq_ranks::ProtocolName;
 use swreq_shown::Over;
 use swreq_word::{Symbol, Word};
 use swreq_world::World;
@@ -44,22 +44,37 @@ fn named(alloc: Global, p: ProtoId, a: NameId, rank: u64) -> Result<(Word, Word)
     Ok((left, right))
 }
 
-/// Puts the equation of the member symbol with this rank last, where it is of this protocol.
+/// Puts the equation of the member name of the protocol last, if it is one.
 fn add_name(
     alloc: Global,
+    world: &World,
     p: ProtoId,
-    symbol: ProtocolName,
-    rank: u64,
+    a: NameId,
     v: &mut Vec<(Word, Word)>,
 ) -> Result<(), AllocError>
-    ensures { OnOk result (v.new.items ≡ v.old.items ++ (if nat_eq symbol.proto.rank p.rank then given.named p
-        (member_name symbol) rank ∷ [] else [])) }
+    ensures { OnOk result (IsNameAdded world.now.lexicon p a v.old.items v.new.items) }
 {
-    if symbol.proto.rank == p.rank {
-        let e = named(alloc, p, symbol.name, rank)?;
-        v.push(e)?;
+    match world.member_rank(p, a) {
+        None => Ok(()),
+        Some(rank) => {
+            let e = named(alloc, p, a, rank)?;
+            v.push(e)?;
+            Ok(())
+        }
     }
-    Ok(())
+}
+
+/// More than the rank of each member name.
+fn names_end(world: &World) -> u64
+    requires { AreIds world.now.lexicon }
+    ensures above { (k : ℕ) (s : ProtocolName) → slice_get world.now.lexicon.symbols k ≡ Some s → s.name.rank < result }
+    ensures within { result ≤ 4294967296 }
+{
+    let count = world.members();
+    if count == 0 {
+        return 0;
+    }
+    u64::from(world.member_at(count - 1).name.rank) + 1
 }
 
 /// Puts the equations of the member names of the protocol last, by the ranks of their symbols.
@@ -69,11 +84,12 @@ fn add_names(
     p: ProtoId,
     v: &mut Vec<(Word, Word)>,
 ) -> Result<(), AllocError>
+    requires { AreIds world.now.lexicon }
     ensures { OnOk result (v.new.items ≡ v.old.items ++ given.named_from p 0 (symbols_of world.now.lexicon).members) }
 {
-    for k in 0..world.members() {
-        let symbol = world.member_at(k);
-        add_name(alloc, p, symbol, k, v)?;
+    for rank in 0..names_end(world) {
+        let a = NameId { rank: rank as u32 };
+        add_name(alloc, world, p, a, v)?;
     }
     Ok(())
 }
@@ -85,6 +101,7 @@ fn add_protocol(
     p: ProtoId,
     v: &mut Vec<(Word, Word)>,
 ) -> Result<(), AllocError>
+    requires { AreIds world.now.lexicon }
     ensures { OnOk result (v.new.items ≡ v.old.items ++ (given.doubled p ∷ given.named_from p 0 (symbols_of world.now.lexicon).members)) }
 {
     let e = doubled(alloc, p)?;

@@ -1,18 +1,16 @@
-use Rattle.std.proofs.Common.{arith, ◌++◌, subst, sym, ◌≤◌}
-use Rattle.std.proofs.lemmas.List.{length-map}
+use Rattle.std.proofs.Common.{arith, ◌++◌}
 use Rattle.swreq_rounds.specs.Given.{named_from}
-use Rattle.swreq_shown.specs.Meaning.{member_name, symbols_of}
-use Rattle.swreq_valid.proofs.OfProtocols.{name_more, names_all}
+use Rattle.swreq_shown.specs.Meaning.{symbols_of}
+use Rattle.swreq_valid.proofs.Naming.{named_all, named_more}
 use Rattle.swreq_valid.proofs.basic.add_names.Goals as goal
 
-pub loop-k-preserved : goal.loop-k-preserved
-loop-k-preserved c =
-    name_more c.args.p c.args.world.now.lexicon.symbols c.loop-k.k c.member_at-symbol.result c.loop-k.v.items c.add_name.new.v.items
-    (c.args.v.now.items ++ named_from c.args.p 0 (symbols_of c.args.world.now.lexicon).members) c.member_at-symbol.ensures c.in_ok-add_name.ensures c.loop-k.invariant
+pub loop-rank-preserved : goal.loop-rank-preserved
+loop-rank-preserved c =
+    named_more c.args.world.now.lexicon c.requires c.args.p (c.args.v.now.items ++ named_from c.args.p 0 (symbols_of c.args.world.now.lexicon).members)
+    c.loop-rank.v.items c.add_name.new.v.items (record { rank = c.loop-rank.rank }) c.in_ok-add_name.ensures c.loop-rank.invariant
 
 pub returns : goal.returns
 returns c =
-    names_all c.args.p (symbols_of c.args.world.now.lexicon).members c.loop-k.k c.loop-k.v.items
-    (c.args.v.now.items ++ named_from c.args.p 0 (symbols_of c.args.world.now.lexicon).members)
-    (subst (λ n. n ≤ c.loop-k.k) (sym (length-map c.args.world.now.lexicon.symbols member_name))
-    (let a = c.loop-k-test.false in let b = c.members-k-end.ensures in omega (arith, a, b))) c.loop-k.invariant
+    named_all c.args.world.now.lexicon c.requires c.args.p (c.args.v.now.items ++ named_from c.args.p 0 (symbols_of c.args.world.now.lexicon).members)
+    c.loop-rank.v.items c.loop-rank.rank
+    (λ k s e. let above = c.names_end-rank-end.ensures.above k s e in let end = c.loop-rank-test.false in omega (arith, above, end)) c.loop-rank.invariant

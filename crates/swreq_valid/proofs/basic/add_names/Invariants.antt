@@ -1,8 +1,9 @@
-use Rattle.std.proofs.Common.{◌≡◌, ◌++◌, drop}
+use Rattle.std.proofs.Common.{◌++◌}
 use Rattle.swreq_rounds.specs.Given.{named_from}
 use Rattle.swreq_shown.specs.Meaning.{symbols_of}
+use Rattle.swreq_valid.proofs.Naming.{AreNamedTo}
 use Rattle.swreq_valid.proofs.basic.add_names.Given as goal
 
-abbrev pub invariant-loop-k : goal.invariant-loop-k
-invariant-loop-k l =
-    l.v.items ++ named_from l.p l.k (drop l.k (symbols_of l.world.lexicon).members) ≡ l.initial.v.items ++ named_from l.p 0 (symbols_of l.world.lexicon).members
+abbrev pub invariant-loop-rank : goal.invariant-loop-rank
+invariant-loop-rank l =
+    AreNamedTo l.world.lexicon l.p (l.initial.v.items ++ named_from l.p 0 (symbols_of l.world.lexicon).members) l.v.items l.rank

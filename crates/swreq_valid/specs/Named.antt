@@ -1,0 +1,14 @@
+-- The equation of a member name of a protocol.
+use Rattle.std.specs.Prelude.{◌≡◌, ◌⊎◌, ℕ, List, [], ◌∷◌, ◌++◌, Some, Contains, slice_get}
+use Rattle.swreq_param.specs.declared.ids.NameId.{NameId}
+use Rattle.swreq_param.specs.declared.ids.ProtoId.{ProtoId}
+use Rattle.swreq_ranks.specs.Lexicons.{pair}
+use Rattle.swreq_ranks.specs.Views.{LexiconView}
+use Rattle.swreq_reading.specs.Symbols.{Word}
+use Rattle.swreq_rounds.specs.Given.{named}
+
+-- The equation of [P:A] was put last, where A is a member name of P.
+abbrev pub IsNameAdded : LexiconView → ProtoId → NameId → (old new : List (Word × Word)) → Type 0
+IsNameAdded x p a old new =
+    ((Contains x.symbols (pair p a) → ⊥) × (new ≡ old))
+    ⊎ ((k : ℕ) × (slice_get x.symbols k ≡ Some (pair p a)) × (new ≡ old ++ named p (record { proto = p; name = a }) k ∷ []))
