@@ -141,16 +141,19 @@ fn is_plain(
     ensures { IsTrue result
         → IsPlainIn (facts_of (world_by table.now world.now)) (generic_params params) (listed table.now list.now) (term_at table.now t) }
 {
-    match table.split(t) {
-        None => params.has(table.head(t)),
-        Some((base, step)) => {
-            if gives_step(world, table, list, base, step) {
-                is_plain(world, table, params, list, base)
-            } else {
-                false
+    let mut at = t;
+    for _ in 0..u32::MAX {
+        match table.split(at) {
+            None => return params.has(table.head(at)),
+            Some((base, step)) => {
+                if !gives_step(world, table, list, base, step) {
+                    return false;
+                }
+                at = base;
             }
         }
     }
+    false
 }
 
 /// Whether the type parameters of a requirement are plain in the list. True comes only where they are.
