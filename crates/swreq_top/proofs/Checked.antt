@@ -1,5 +1,5 @@
 -- The check of a text: its parts one after another, and what a check without a refusal gives.
-use Rattle.std.proofs.Common.{◌≡◌, ◌≢◌, ◌∙◌, inl, inr, refl, sym, ap, subst, ℕ, List, [], ◌∷◌, ◌++◌, append_assoc, Contains, Option, None, Result, Ok, Err, map, length, ◌<◌}
+use Rattle.std.proofs.Common.{◌≡◌, ◌≢◌, ◌∙◌, inl, inr, refl, sym, ap, subst, ℕ, zero, suc, arith, slice_index_or, List, [], ◌∷◌, ◌++◌, append_assoc, Contains, Option, None, Result, Ok, Err, map, length, ◌<◌}
 use Rattle.std.proofs.lemmas.Bool.{cases_lt}
 use Rattle.std.proofs.lemmas.List.{get_or_past}
 use Rattle.std.proofs.lemmas.List.Elements.{Contains-append_left, Contains-append_right}
@@ -17,7 +17,7 @@ use Rattle.swreq_rounds.proofs.Members.{contains_of_map}
 use Rattle.swreq_watch.specs.declared.events.Event.{Event}
 use Rattle.swreq_written.specs.Requirements.{PlacedRequirement}
 use Rattle.swreq_world.specs.Closed.{IsClosed}
-use Rattle.swreq_world.specs.Worlds.{SignatureOver, TextWorld, requirements_of}
+use Rattle.swreq_world.specs.Worlds.{SignatureOver, TextWorld, no_signature, requirements_of}
 use Rattle.swreq_shown.specs.Meaning.{facts_of}
 use Rattle.swreq_valid.specs.Built.{IsBuilt}
 use Rattle.swreq_valid.specs.Machines.{list_of, protocols_of}
@@ -26,7 +26,7 @@ use Rattle.swreq_valid.specs.declared.refused.Refused.{Refused}
 use Rattle.swreq_valid.specs.declared.refused.Refused.TheVariants.{Limit, NotATypeParameter, Memory}
 use Rattle.swreq_complete.specs.declared.limit.Limits.{Limits}
 use Rattle.swreq_output.specs.Signatures.{source_of, written_list}
-use Rattle.swreq_top.specs.Machines.{IsBuiltOver, IsChecked, SignaturesCome}
+use Rattle.swreq_top.specs.Machines.{IsBuiltOver, IsChecked, SignatureComes, SignaturesCome}
 use Rattle.swreq_top.specs.Machines.IsChecked.{protocols_built, protocols_refused}
 use Rattle.swreq_top.specs.Machines.SignaturesCome.{all, next, stopped}
 use Rattle.swreq_top.specs.Told.{CheckTells, SignaturesTell}
@@ -51,6 +51,14 @@ module _ (limits : Limits) (w : TextWorld) (rules : List Rule) where
   tell_on all h = h
   tell_on {b = b} (next {first = first} {more = more} own one rest e) h =
       past_first own one (tell_on rest h) (ap (λ (t : List Event). t ++ b) e ∙ append_assoc first more b)
+
+  -- ---- one signature of those that come to rules
+
+  pub comes_at : {gs : Signatures} {told : List Event} → SignaturesCome limits w rules gs None told → (k : ℕ) → k < length gs
+      → (own : List Rule) × (told : List Event) × SignatureComes limits w rules (slice_index_or gs k no_signature) (Ok own) told
+  comes_at all k below = absurd (omega (arith, below))
+  comes_at (next {first = first} own one rest e) zero below = (own, first, one)
+  comes_at (next own one rest e) (suc k) below = comes_at rest k (omega (arith, below))
 
 -- ---- a check that is done tells all that it tells
 

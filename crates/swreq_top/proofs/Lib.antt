@@ -1,4 +1,6 @@
+pub mod Asked
 pub mod Checked
+pub mod Dealing
 pub mod Flags
 pub mod Lines
 pub mod OfLists
@@ -15,4 +17,5 @@ pub mod Written
 pub mod Headlines
 pub mod EmptyText
 pub mod Ending
+pub mod OfMachines
 pub mod OfMinimising

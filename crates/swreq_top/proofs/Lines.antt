@@ -22,20 +22,19 @@ use Rattle.swreq_world.specs.Closed.{IsClosed, IsQueryOf}
 use Rattle.swreq_world.specs.Worlds.{TextWorld, no_signature, signature_at}
 use Rattle.swreq_shown.specs.Meaning.{facts_of}
 use Rattle.swreq_valid.specs.Asked.{IsDerivable}
+use Rattle.swreq_valid.specs.Machines.{MachineView}
 use Rattle.swreq_query.specs.Answers.{IsAnswerLine}
 use Rattle.swreq_query.specs.Asked.{AppendsAnswer}
 use Rattle.swreq_query.proofs.Along.{along}
 use Rattle.swreq_output.specs.Signatures.{source_of, written_list}
-use Rattle.swreq_top.specs.declared.ready.Ready.{Ready}
 use Rattle.swreq_top.specs.Lines.{AreLines, count_of, last_line}
 use Rattle.swreq_top.specs.Lines.AreLines.{none, more}
 use Rattle.swreq_top.specs.Outputs.{AnswersByTypes, ArePrinted, IsLineOf, IsOutput, signature_of}
-use Rattle.swreq_top.specs.Ready.{IsReady}
 
 -- ---- lines after lines
 
 module _ {A : Type 0} (P : A → Text → Type 0) where
-  lines_end : {xs : List A} {ls : List Text} {x : A} {l : Text} → AreLines P xs ls → P x l → AreLines P (xs ++ x ∷ []) (ls ++ l ∷ [])
+  pub lines_end : {xs : List A} {ls : List Text} {x : A} {l : Text} → AreLines P xs ls → P x l → AreLines P (xs ++ x ∷ []) (ls ++ l ∷ [])
   lines_end none h = more h none
   lines_end (more a rest) h = more a (lines_end rest h)
 
@@ -59,6 +58,12 @@ pub lines_by : {A : Type 0} (P Q : A → Text → Type 0) {xs : List A} {ls : Li
     → AreLines P xs ls → AreLines Q xs ls
 lines_by P Q by none = none
 lines_by P Q by (more {x} {xs} {line} is rest) = more (by x line (first_member x xs) is) (lines_by P Q (λ y m c. by y m (later_member x y xs c)) rest)
+
+-- the lines of a list are those of what its elements stand for
+pub lines_of_map : {A B : Type 0} (P : B → Text → Type 0) (h : A → B) {xs : List A} {ls : List Text} → AreLines (λ (x : A). P (h x)) xs ls
+    → AreLines P (map h xs) ls
+lines_of_map P h none = none
+lines_of_map P h (more is rest) = more is (lines_of_map P h rest)
 
 -- ---- how many lines are this one
 
@@ -113,14 +118,13 @@ module _ (all : List Text) (k : ℕ) (l : Text) (below : k < length all) (at : g
 
 -- ---- one line
 
--- a machine's answer answers the query
-pub machine_line : (w : TextWorld) (q : TermQuery) (r : Ready) (old new : List ℕ) → IsReady w (signature_at w (signature_of q)) r
-    → AppendsAnswer w.lexicon (IsDerivable w r.machine (written_list (signature_at w (signature_of q)))) q old new
-    → (line : List ℕ) × AnswersByTypes true w q line × (new ≡ old ++ line)
-machine_line w q r old new ready answer =
-    subst (λ (p : Params). (line : List ℕ)
-    × IsAnswerLine w.lexicon (Derivable (facts_of w) (Written (generic_params p) (written_list (signature_at w (signature_of q))))) q line × (new ≡ old ++ line))
-    ready.params answer
+-- written into a fresh list, a machine's answer answers the query
+pub machine_line : (w : TextWorld) (q : TermQuery) (m : MachineView) (old new : List ℕ) → m.params ≡ (signature_at w (signature_of q)).params → old ≡ []
+    → AppendsAnswer w.lexicon (IsDerivable w m (written_list (signature_at w (signature_of q)))) q old new → AnswersByTypes true w q new
+machine_line w q m old new params fresh (line, is, e) =
+    subst (AnswersByTypes true w q) (sym (e ∙ ap (λ (o : List ℕ). o ++ line) fresh))
+    (subst (λ (p : Params). IsAnswerLine w.lexicon (Derivable (facts_of w) (Written (generic_params p) (written_list (signature_at w (signature_of q))))) q line)
+    params is)
 
 -- ---- by the book's rules
 

@@ -1,5 +1,5 @@
 -- What building the machine of a signature says, where its list is read from a world over ids.
-use Rattle.std.proofs.Common.{◌≡◌, ◌∙◌, sym, ap, subst, ◌<◌, arith, List, Option, Result, Ok, Err, Contains, length, map}
+use Rattle.std.proofs.Common.{◌≡◌, ◌∙◌, inl, inr, sym, ap, subst, ◌<◌, arith, List, Option, None, Result, Ok, Err, Contains, length, map}
 use Rattle.std.proofs.lemmas.List.{length-map}
 use Rattle.std.proofs.lemmas.List.Elements.{All-contains, All-get_or}
 use Rattle.swreq_complete.specs.declared.limit.Limits.{Limits}
@@ -18,16 +18,18 @@ use Rattle.swreq_world.specs.Closed.{HasOwn, IsOfSignature}
 use Rattle.swreq_world.specs.Worlds.{IdWorld, SignatureOver, no_signature, signature_at}
 use Rattle.swreq_shown.specs.Known.{IsTextOver}
 use Rattle.swreq_shown.specs.Meaning.{facts_of}
-use Rattle.swreq_valid.specs.Built.{Builds}
-use Rattle.swreq_valid.specs.Machines.{IsMachineOf, MachineView, machine_plan}
+use Rattle.swreq_rounds.specs.Plan.{Plan}
+use Rattle.swreq_valid.specs.Built.{Builds, IsBuilt, IsOnlyBuilt}
+use Rattle.swreq_valid.specs.Machines.{IsMachineOf, MachineView, list_of, machine_plan}
 use Rattle.swreq_valid.specs.Plans.{AreWritten, bare, listed}
-use Rattle.swreq_valid.specs.Sides.{list_sides}
+use Rattle.swreq_valid.specs.Sides.{Side, list_sides, sides}
 use Rattle.swreq_valid.specs.declared.refused.Refused.{Refused}
 use Rattle.swreq_valid.specs.declared.refused.Refused.TheVariants.{Memory}
-use Rattle.swreq_top.specs.declared.ready.Ready.{Ready}
-use Rattle.swreq_output.specs.Signatures.{written_list}
-use Rattle.swreq_top.specs.Ready.{ChecksOne}
-use Rattle.swreq_top.proofs.OfSignatures.{built, list_is, one_kept, one_lost, one_refused, signature_is}
+use Rattle.swreq_output.specs.Signatures.{source_of, written_list}
+use Rattle.swreq_top.specs.Checks.{ChecksOne}
+use Rattle.swreq_top.specs.Machines.{SignaturesCome}
+use Rattle.swreq_top.proofs.Checked.{comes_at}
+use Rattle.swreq_top.proofs.OfSignatures.{list_is, one_done, one_lost, one_refused, plan_is, sides_are, signature_is}
 
 module _ (w : IdWorld) (terms : List Term) (f : FuncId) where
   -- the list of a signature is of the table and of the text
@@ -56,27 +58,71 @@ module _ (w : IdWorld) (terms : List Term) (f : FuncId) where
   params_are params own same e = same ∙ e ∙ sym (ap (λ (g : SignatureOver PlacedRequirement). g.params) (signature_is w terms f))
 
   -- building it with these generic parameters and this list checks the signature
-  module _ (limits : Limits) (base : List Rule) (old new : Option (List Event)) (params : Params) (list : List Written)
+  module _ (limits : Limits) (base : List Rule) (params : Params) (list : List Written)
       (params_is : params ≡ (signature_at w f).params) (list_are : list ≡ (signature_at w f).requirements) where
-    abbrev BuildsList : Params → List Written → Result (List Rule) Refused → Type 0
-    BuildsList p rs = Builds limits (machine_plan terms w base p (bare rs)) (facts_of (world_by terms w)) (list_sides terms p rs) old new
+    abbrev meant : SignatureOver PlacedRequirement
+    meant = signature_at (world_by terms w) f
 
-    of_signature : (answer : Result (List Rule) Refused) → BuildsList params list answer
-        → BuildsList (signature_at w f).params (signature_at w f).requirements answer
-    of_signature answer b = subst (λ (p : Params). BuildsList p (signature_at w f).requirements answer) params_is
-        (subst (λ (rs : List Written). BuildsList params rs answer) list_are b)
+    plan_of_list : machine_plan terms w base params (bare list) ≡ list_of (world_by terms w) base meant.params (written_list meant)
+    plan_of_list =
+        ap (λ (p : Params). machine_plan terms w base p (bare list)) params_is
+        ∙ ap (λ (rs : List Written). machine_plan terms w base (signature_at w f).params (bare rs)) list_are ∙ plan_is w terms base f
 
-    pub refused_one : (e : Refused) → BuildsList params list (Err e)
-        → ChecksOne limits (world_by terms w) base (signature_at (world_by terms w) f) old new (Err e)
-    refused_one e b =
-        one_refused limits (world_by terms w) base (signature_at (world_by terms w) f) old new e (built limits w terms base f old new (Err e) (of_signature (Err e) b))
+    sides_of_list : list_sides terms params list ≡ sides (source_of meant) meant.requirements
+    sides_of_list =
+        ap (λ (p : Params). list_sides terms p list) params_is
+        ∙ ap (λ (rs : List Written). list_sides terms (signature_at w f).params rs) list_are ∙ sides_are w terms base f
 
-    pub kept_one : (rules : List Rule) (entry : Option Ready) → BuildsList params list (Ok rules)
-        → ChecksOne limits (world_by terms w) base (signature_at (world_by terms w) f) old new (Ok entry)
-    kept_one rules entry b =
-        one_kept limits (world_by terms w) base (signature_at (world_by terms w) f) old new rules entry (built limits w terms base f old new (Ok rules) (of_signature (Ok rules) b))
+    -- what is said of the rounds and the sides of the one is said of those of the other
+    of_signature : (P : Plan → List Side → Type 0) → P (machine_plan terms w base params (bare list)) (list_sides terms params list)
+        → P (list_of (world_by terms w) base meant.params (written_list meant)) (sides (source_of meant) meant.requirements)
+    of_signature P h = subst (P (list_of (world_by terms w) base meant.params (written_list meant))) sides_of_list
+        (subst (λ (plan : Plan). P plan (list_sides terms params list)) plan_of_list h)
 
-    pub lost_one : (rules : List Rule) → BuildsList params list (Ok rules)
-        → ChecksOne limits (world_by terms w) base (signature_at (world_by terms w) f) old new (Err Memory)
-    lost_one rules b =
-        one_lost limits (world_by terms w) base (signature_at (world_by terms w) f) old new rules (built limits w terms base f old new (Ok rules) (of_signature (Ok rules) b))
+    of_list : (P : Plan → List Side → Type 0) → P (list_of (world_by terms w) base meant.params (written_list meant)) (sides (source_of meant) meant.requirements)
+        → P (machine_plan terms w base params (bare list)) (list_sides terms params list)
+    of_list P h = subst (P (machine_plan terms w base params (bare list))) (sym sides_of_list)
+        (subst (λ (plan : Plan). P plan (sides (source_of meant) meant.requirements)) (sym plan_of_list) h)
+
+    -- ---- in the check
+
+    module _ (old new : Option (List Event)) where
+      abbrev BuildsList : Result (List Rule) Refused → Type 0
+      BuildsList = Builds limits (machine_plan terms w base params (bare list)) (facts_of (world_by terms w)) (list_sides terms params list) old new
+
+      builds : (answer : Result (List Rule) Refused) → BuildsList answer
+          → Builds limits (list_of (world_by terms w) base meant.params (written_list meant)) (facts_of (world_by terms w))
+          (sides (source_of meant) meant.requirements) old new answer
+      builds answer b = of_signature (λ (plan : Plan) (all : List Side). Builds limits plan (facts_of (world_by terms w)) all old new answer) b
+
+      pub refused_one : (e : Refused) → BuildsList (Err e) → ChecksOne limits (world_by terms w) base meant old new (Err e)
+      refused_one e b = one_refused limits (world_by terms w) base meant old new e (builds (Err e) b)
+
+      pub done_one : (rules : List Rule) (done : Unit {0}) → BuildsList (Ok rules) → ChecksOne limits (world_by terms w) base meant old new (Ok done)
+      done_one rules done b = one_done limits (world_by terms w) base meant old new rules done (builds (Ok rules) b)
+
+      pub lost_one : (rules : List Rule) → BuildsList (Ok rules) → ChecksOne limits (world_by terms w) base meant old new (Err Memory)
+      lost_one rules b = one_lost limits (world_by terms w) base meant old new rules (builds (Ok rules) b)
+
+    -- ---- behind it
+
+    -- built anew the list of a signature that has passed comes to rules again, or there is no memory
+    pub only_memory : (told : List Event) → SignaturesCome limits (world_by terms w) base (world_by terms w).signatures None told
+        → f.place < length w.signatures → (answer : Result (List Rule) Refused)
+        → IsOnlyBuilt limits (machine_plan terms w base params (bare list)) (facts_of (world_by terms w)) (list_sides terms params list) answer
+        → (e : Refused) → answer ≡ Err e → e ≡ Memory
+    only_memory told come l answer only e is =
+        let within : f.place < length (world_by terms w).signatures = omega (arith, length-map w.signatures (signature_by terms), l) in
+        let one = comes_at limits (world_by terms w) base come f.place within in
+        let built : IsBuilt limits (machine_plan terms w base params (bare list)) (facts_of (world_by terms w)) (list_sides terms params list) (Ok one.0) one.1 =
+        of_list (λ (plan : Plan) (all : List Side). IsBuilt limits plan (facts_of (world_by terms w)) all (Ok one.0) one.1) one.2 in
+        elim (only (Ok one.0) one.1 built) [
+          | inl same ↦ clash one.0 e (sym same ∙ is)
+          | inr lost ↦ elim lost [ inl m ↦ refusal_is e Memory (sym is ∙ m) | inr m ↦ clash one.0 Memory m ]
+        ]
+      where
+        clash : {A : Type 0} (rules : List Rule) (r : Refused) → (let a : Result (List Rule) Refused = Ok rules in a) ≡ Err r → A
+        clash rules r c = absurd (cc)
+
+        refusal_is : (r s : Refused) → (let a : Result (List Rule) Refused = Err r in a) ≡ Err s → r ≡ s
+        refusal_is r s c = cc

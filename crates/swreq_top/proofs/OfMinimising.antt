@@ -10,7 +10,7 @@ use Rattle.swreq_watch.proofs.Told.{grew_none, grew_on}
 use Rattle.swreq_words.specs.declared.command.Command.{Command}
 use Rattle.swreq_written.specs.Requirements.{PlacedRequirement}
 use Rattle.swreq_world.specs.Worlds.{SignatureOver, TextWorld}
-use Rattle.swreq_top.specs.Ready.{AreLinesKept, IsLineKept}
+use Rattle.swreq_top.specs.Made.{AreLinesKept, IsLineKept}
 use Rattle.swreq_top.specs.Told.{FailsAt, MinimisingAllTells, MinimisingEndsIn, TellsOne}
 use Rattle.swreq_top.specs.Told.MinimisingAllTells.{nothing, one_more}
 use Rattle.swreq_top.proofs.OfSignatures.{end_cases}

@@ -1,4 +1,4 @@
--- The queries of a world over ids, and what is kept for them.
+-- The queries of a world over ids, and the minimised lists that are kept for them.
 use Rattle.std.proofs.Common.{◌≡◌, ◌∙◌, refl, sym, ap, subst, ℕ, ◌+◌, ◌<◌, Bool, true, true≢false, arith, List, ◌∷◌, [], ◌++◌, take, get_or, length, map, slice_index_or, Contains, Option, Some, None}
 use Rattle.std.proofs.lemmas.List.{get_or_default, length-map}
 use Rattle.std.proofs.lemmas.List.Elements.{All-contains}
@@ -18,36 +18,10 @@ use Rattle.swreq_written.specs.Requirements.{PlacedRequirement}
 use Rattle.swreq_shown.specs.Known.{IsTextOver}
 use Rattle.swreq_output.specs.Signatures.{IsMinimisedLine}
 use Rattle.swreq_query.specs.Asked.{IsQueryIn}
-use Rattle.swreq_top.specs.declared.ready.Checked.{Checked}
-use Rattle.swreq_top.specs.declared.ready.Ready.{Ready}
-use Rattle.swreq_top.specs.declared.wanted.Asking.TheVariants.{Anything, ASignature}
-use Rattle.swreq_top.specs.Lines.{AreLines}
-use Rattle.swreq_top.specs.Outputs.{IsLineOf, signature_of}
-use Rattle.swreq_top.specs.Ready.{AreLinesKept, IsCheckedFor, IsKept, IsLineKept, IsReady}
-use Rattle.swreq_top.specs.Wanted.{function_of, is_asked}
-use Rattle.swreq_top.proofs.Flags.{asked_alike, asked_within, is_asked_by}
-use Rattle.swreq_top.proofs.Lines.{lines_more}
-
--- an element that is read by way of an equal list
-same_default : {X : Type 0} (xs ys : List X) (k : ℕ) (d : X) → ys ≡ xs → k < length xs → get_or xs k (get_or ys k d) ≡ get_or ys k d
-same_default {X} xs ys k d is below =
-    get_or_default xs k (get_or ys k d) d below ∙ ap (λ (zs : List X). get_or zs k d) (sym is)
-
--- ---- machines
-
-module _ (w : TextWorld) (wants : ℕ → Bool) (c : Checked) (kept : IsCheckedFor w wants c) (f : FuncId) (l : f.place < length w.signatures) where
-  pub machine_below : f.place < length c.kept.items
-  machine_below = omega (arith, l, kept.count)
-
-  kept_at : (entry : Option Ready) → entry ≡ slice_index_or c.kept.items f.place entry → IsKept w wants f entry
-  kept_at entry is = kept.kept f.place entry (slice_get_read c.kept.items (length c.kept.items) f.place entry refl machine_below is)
-
-  pub ready_at : (entry : Option Ready) (r : Ready) → entry ≡ slice_index_or c.kept.items f.place entry → entry ≡ Some r
-      → IsReady w (signature_at w f) r
-  ready_at entry r is some = subst (IsKept w wants f) some (kept_at entry is)
-
-  pub never_none : (entry : Option Ready) → entry ≡ slice_index_or c.kept.items f.place entry → entry ≡ None → wants f.place ≡ true → ⊥
-  never_none entry is nothing wanted = true≢false (sym wanted ∙ subst (IsKept w wants f) nothing (kept_at entry is))
+use Rattle.swreq_top.specs.Outputs.{signature_of}
+use Rattle.swreq_top.specs.Made.{AreLinesKept, IsLineKept}
+use Rattle.swreq_top.specs.Wanted.{function_of, is_list_asked}
+use Rattle.swreq_top.proofs.Flags.{asked_alike, asked_within, is_listed}
 
 -- ---- minimised lists
 
@@ -84,23 +58,12 @@ module _ (terms : List Term) (w : IdWorld) (text : IsTextOver terms w) where
         let same : f.place ≡ (function_of q).place = ap (λ (g : FuncId). g.place) asks in
         omega (arith, below, same, length-map w.signatures (signature_by terms))
 
-    pub wanted_here : is_asked Anything w.queries f.place ≡ true
-    wanted_here = ap (λ (g : FuncId). is_asked Anything w.queries g.place) asks ∙ is_asked_by Anything w.queries q c refl
-
     pub signature_here : signature_at (world_by terms w) f ≡ signature_at (world_by terms w) (signature_of (query_by terms q))
     signature_here = ap (signature_at (world_by terms w)) (asks ∙ sym (asked_alike terms q))
 
-    -- what is kept for it is the machine of that signature
-    pub ready_here : (kept : Checked) → IsCheckedFor (world_by terms w) (is_asked Anything w.queries) kept → (entry : Option Ready) (r : Ready)
-        → entry ≡ slice_index_or kept.kept.items f.place entry → entry ≡ Some r
-        → IsReady (world_by terms w) (signature_at (world_by terms w) (signature_of (query_by terms q))) r
-    ready_here kept h entry r is some =
-        subst (λ (g : SignatureOver PlacedRequirement). IsReady (world_by terms w) g r) signature_here
-        (ready_at (world_by terms w) (is_asked Anything w.queries) kept h f asked_here entry r is some)
-
   -- so is that for whose list it asks
   module _ (f : FuncId) (c : Contains w.queries (Signature f)) (lists : List (Option Text))
-      (kept : AreLinesKept (world_by terms w) (is_asked ASignature w.queries) lists) (count : length lists ≡ length w.signatures) where
+      (kept : AreLinesKept (world_by terms w) (is_list_asked w.queries) lists) (count : length lists ≡ length w.signatures) where
     listed_here : f.place < length (world_by terms w).signatures
     listed_here = asked_here (Signature f) c f refl
 
@@ -108,34 +71,13 @@ module _ (terms : List Term) (w : IdWorld) (text : IsTextOver terms w) where
     count_here = count ∙ sym (length-map w.signatures (signature_by terms))
 
     pub list_here_below : f.place < length lists
-    list_here_below = list_below (world_by terms w) (is_asked ASignature w.queries) lists kept count_here f listed_here
+    list_here_below = list_below (world_by terms w) (is_list_asked w.queries) lists kept count_here f listed_here
 
     pub list_here : (entry : Option Text) (line : Text) → entry ≡ slice_index_or lists f.place entry → entry ≡ Some line
         → IsMinimisedLine (world_by terms w) (signature_at (world_by terms w) f) line
-    list_here = is_list (world_by terms w) (is_asked ASignature w.queries) lists kept count_here f listed_here
+    list_here = is_list (world_by terms w) (is_list_asked w.queries) lists kept count_here f listed_here
 
     pub list_here_never_none : (entry : Option Text) → entry ≡ slice_index_or lists f.place entry → entry ≡ None → ⊥
     list_here_never_none entry is nothing =
-        never_unlisted (world_by terms w) (is_asked ASignature w.queries) lists kept count_here f listed_here entry is nothing
-        (is_asked_by ASignature w.queries (Signature f) c refl)
-
--- ---- the line of a query
-
--- written into a fresh list, it is that list
-whole_line : (terms : List Term) (w : TextWorld) (q : Query) (old new : Text) → old ≡ []
-    → (line : Text) × IsLineOf true w (query_by terms q) line × (new ≡ old ++ line) → IsLineOf true w (query_by terms q) new
-whole_line terms w q old new none (line, is, t) = subst (IsLineOf true w (query_by terms q)) (sym (t ∙ ap (λ (o : Text). o ++ line) none)) is
-
--- a query more
-pub lines_of_more : (terms : List Term) (w : IdWorld) (k : ℕ) (d : Query) (qs : List Query) (ls more : List Text) (old new : Text)
-    → qs ≡ w.queries → k < length qs → old ≡ [] → AreLines (IsLineOf true (world_by terms w)) (take k (world_by terms w).queries) ls
-    → (line : Text) × IsLineOf true (world_by terms w) (query_by terms (get_or qs k d)) line × (new ≡ old ++ line) → more ≡ ls ++ new ∷ []
-    → AreLines (IsLineOf true (world_by terms w)) (take (k + 1) (world_by terms w).queries) more
-lines_of_more terms w k d qs ls more old new same below none h is e =
-    let within : k < length w.queries = omega (arith, below, ap length same) in
-    let q = get_or qs k d in
-    subst (AreLines (IsLineOf true (world_by terms w)) (take (k + 1) (world_by terms w).queries)) (sym e)
-    (lines_more (IsLineOf true (world_by terms w)) (world_by terms w).queries k (query_by terms q) ls new
-    (omega (arith, within, length-map w.queries (query_by terms)))
-    (get_or-map (query_by terms) w.queries k q ∙ ap (query_by terms) (same_default w.queries qs k d same within)) h
-    (whole_line terms (world_by terms w) q old new none is))
+        never_unlisted (world_by terms w) (is_list_asked w.queries) lists kept count_here f listed_here entry is nothing
+        (is_listed w.queries f c)

@@ -20,20 +20,19 @@ use Rattle.swreq_world.specs.ByTable.{signature_by, world_by}
 use Rattle.swreq_world.specs.Worlds.{IdWorld, SignatureOver, TextWorld, no_signature, signature_at}
 use Rattle.swreq_shown.specs.Meaning.{facts_of}
 use Rattle.swreq_valid.specs.Built.{Builds}
-use Rattle.swreq_valid.specs.Machines.{list_of, protocols_of}
+use Rattle.swreq_valid.specs.Machines.{AreRulesOf, list_of, protocols_of}
 use Rattle.swreq_valid.specs.Plans.{bare, listed}
 use Rattle.swreq_valid.specs.Sides.{protocol_sides, sides}
 use Rattle.swreq_valid.specs.declared.refused.Refused.{Refused}
 use Rattle.swreq_valid.specs.declared.refused.Refused.TheVariants.{Limit, NotATypeParameter, Memory}
 use Rattle.swreq_valid.specs.Rounds.{last_rules}
-use Rattle.swreq_top.specs.declared.ready.Checked.{Checked}
-use Rattle.swreq_top.specs.declared.ready.Ready.{Ready}
+use Rattle.swreq_top.specs.declared.checking.Checked.{Checked}
 use Rattle.swreq_complete.specs.declared.limit.Limits.{Limits}
 use Rattle.swreq_output.specs.Signatures.{source_of, written_list}
 use Rattle.swreq_top.specs.Machines.{SignatureComes, SignaturesCome}
 use Rattle.swreq_top.specs.Machines.IsChecked.{protocols_built, protocols_refused}
 use Rattle.swreq_top.specs.Machines.SignaturesCome.{all, next, stopped}
-use Rattle.swreq_top.specs.Ready.{AreKept, Checks, ChecksAll, ChecksOne, IsKept}
+use Rattle.swreq_top.specs.Checks.{Checks, ChecksAll, ChecksOne, HavePassed}
 use Rattle.swreq_top.specs.Told.{SignaturesTell}
 use Rattle.swreq_top.specs.Told.CheckTells.{in_protocols, past_protocols}
 use Rattle.swreq_top.specs.Told.SignaturesTell.{nothing_yet, in_first, past_first}
@@ -50,20 +49,24 @@ pub list_is : (terms : List Term) (rs : List Written)
 list_is terms [] = refl
 list_is terms (r ∷ rs) = ap (λ (xs : List TermRequirement). requirement_of terms r.requirement ∷ xs) (list_is terms rs)
 
--- what building a machine says, of the signature
-pub built : (limits : Limits) (w : IdWorld) (terms : List Term) (base : List Rule) (f : FuncId) (old new : Option (List Event)) (answer : Result (List Rule) Refused)
-    → (let h : SignatureOver Written = signature_at w f in
-    Builds limits (list_of (world_by terms w) base h.params (listed terms (bare h.requirements))) (facts_of (world_by terms w))
-    (sides (WrittenList (generic_params h.params) (listed terms (bare h.requirements))) (placed terms h.requirements)) old new answer)
-    → (let g : SignatureOver PlacedRequirement = signature_at (world_by terms w) f in
-    Builds limits (list_of (world_by terms w) base g.params (written_list g)) (facts_of (world_by terms w)) (sides (source_of g) g.requirements) old new answer)
-built limits w terms base f old new answer b =
-    subst (λ (g : SignatureOver PlacedRequirement).
-    Builds limits (list_of (world_by terms w) base g.params (written_list g)) (facts_of (world_by terms w)) (sides (source_of g) g.requirements) old new answer)
-    (sym (signature_is w terms f))
-    (subst (λ (rs : List TermRequirement). Builds limits (list_of (world_by terms w) base (signature_at w f).params rs) (facts_of (world_by terms w))
-    (sides (WrittenList (generic_params (signature_at w f).params) rs) (placed terms (signature_at w f).requirements)) old new answer)
-    (list_is terms (signature_at w f).requirements) b)
+-- the rounds and the sides of the list of a signature
+module _ (w : IdWorld) (terms : List Term) (base : List Rule) (f : FuncId) where
+  abbrev own : SignatureOver Written
+  own = signature_at w f
+
+  abbrev meant : SignatureOver PlacedRequirement
+  meant = signature_at (world_by terms w) f
+
+  pub plan_is : list_of (world_by terms w) base own.params (listed terms (bare own.requirements)) ≡ list_of (world_by terms w) base meant.params (written_list meant)
+  plan_is =
+      ap (λ (rs : List TermRequirement). list_of (world_by terms w) base own.params rs) (list_is terms own.requirements)
+      ∙ sym (ap (λ (g : SignatureOver PlacedRequirement). list_of (world_by terms w) base g.params (written_list g)) (signature_is w terms f))
+
+  pub sides_are : sides (WrittenList (generic_params own.params) (listed terms (bare own.requirements))) (placed terms own.requirements)
+      ≡ sides (source_of meant) meant.requirements
+  sides_are =
+      ap (λ (rs : List TermRequirement). sides (WrittenList (generic_params own.params) rs) (placed terms own.requirements)) (list_is terms own.requirements)
+      ∙ sym (ap (λ (g : SignatureOver PlacedRequirement). sides (source_of g) g.requirements) (signature_is w terms f))
 
 module _ (limits : Limits) (w : TextWorld) (base : List Rule) (g : SignatureOver PlacedRequirement) (old new : Option (List Event)) where
   abbrev BuildsIt : Result (List Rule) Refused → Type 0
@@ -74,8 +77,8 @@ module _ (limits : Limits) (w : TextWorld) (base : List Rule) (g : SignatureOver
   one_refused (NotATypeParameter at) b = b
   one_refused Memory b = (b.0, inl b.1, b.2)
 
-  pub one_kept : (rules : List Rule) (entry : Option Ready) → BuildsIt (Ok rules) → ChecksOne limits w base g old new (Ok entry)
-  one_kept rules entry b = (b.0, (rules, b.1), b.2)
+  pub one_done : (rules : List Rule) (done : Unit {0}) → BuildsIt (Ok rules) → ChecksOne limits w base g old new (Ok done)
+  one_done rules done b = (b.0, (rules, b.1), b.2)
 
   pub one_lost : (rules : List Rule) → BuildsIt (Ok rules) → ChecksOne limits w base g old new (Err Memory)
   one_lost rules b = (b.0, inr (rules, b.1), b.2)
@@ -85,10 +88,6 @@ module _ (limits : Limits) (w : TextWorld) (base : List Rule) (g : SignatureOver
 -- The first k signatures came to rules, and this was told.
 abbrev pub CameFirst : Limits → TextWorld → List Rule → ℕ → Option (List Event) → Option (List Event) → Type 0
 CameFirst limits w base k old new = (told : List Event) × SignaturesCome limits w base (take k w.signatures) None told × GrewBy old new told
-
--- before the first of them nothing is kept
-pub none_kept : (w : TextWorld) (wants : ℕ → Bool) → AreKept w wants []
-none_kept w wants k entry e = absurd (let clash : (let o : Option (Option Ready) = None in o) ≡ Some entry = e in cc)
 
 -- before the first of them nothing was told
 pub none_checked : (limits : Limits) (w : TextWorld) (base : List Rule) (old : Option (List Event)) → ChecksAll limits w base old old (Err Memory)
@@ -102,18 +101,18 @@ module _ (limits : Limits) (w : TextWorld) (base : List Rule) (old : Option (Lis
       → SignaturesCome limits w base (g ∷ []) None told
   came_one g told (own, come) = next own come all (sym (append-nil told))
 
-  pub came_more : (k : ℕ) (mid new : Option (List Event)) (entry : Option Ready) → k < length w.signatures → CameFirst limits w base k old mid
-      → ChecksOne limits w base (signature_at w (record { place = k })) mid new (Ok entry) → CameFirst limits w base (k + 1) old new
-  came_more k mid new entry l (a, h, grew) (b, come, more) = (
+  pub came_more : (k : ℕ) (mid new : Option (List Event)) (done : Unit {0}) → k < length w.signatures → CameFirst limits w base k old mid
+      → ChecksOne limits w base (signature_at w (record { place = k })) mid new (Ok done) → CameFirst limits w base (k + 1) old new
+  came_more k mid new done l (a, h, grew) (b, come, more) = (
     a ++ b,
     subst (λ (gs : List (SignatureOver PlacedRequirement)). SignaturesCome limits w base gs None (a ++ b)) (sym (take_more w.signatures k no_signature l))
         (come_on limits w base h (came_one (signature_at w (record { place = k })) b come)),
     grew_on old mid new a b grew more,
   )
 
-  pub came_all : (k : ℕ) (new : Option (List Event)) (v : List (Option Ready)) → length w.signatures ≤ k → CameFirst limits w base k old new
-      → ChecksAll limits w base old new (Ok v)
-  came_all k new v l (a, h, grew) =
+  pub came_all : (k : ℕ) (new : Option (List Event)) (done : Unit {0}) → length w.signatures ≤ k → CameFirst limits w base k old new
+      → ChecksAll limits w base old new (Ok done)
+  came_all k new done l (a, h, grew) =
       (a, subst (λ (gs : List (SignatureOver PlacedRequirement)). SignaturesCome limits w base gs None a) (take_all k w.signatures l) h, grew)
 
   module _ (k : ℕ) (mid new : Option (List Event)) (l : k < length w.signatures) (first : CameFirst limits w base k old mid) where
@@ -145,9 +144,6 @@ module _ (limits : Limits) (w : TextWorld) (base : List Rule) (old : Option (Lis
       grew_on old mid new first.0 b first.2 more,
     )
 
-    pub lost_at : (entry : Option Ready) → ChecksOne limits w base g mid new (Ok entry) → ChecksAll limits w base old new (Err Memory)
-    lost_at entry (b, come, more) = stopped_at Memory (b, inr come, more)
-
 -- ---- the protocols, and then the signatures
 
 module _ (limits : Limits) (w : TextWorld) (old new : Option (List Event)) where
@@ -168,15 +164,25 @@ module _ (limits : Limits) (w : TextWorld) (old new : Option (List Event)) where
   then_failed mid rules Memory (told, h, grew) (after, rest, more) =
       (told ++ after, past_protocols rules h rest refl, grew_on old mid new told after grew more)
 
-  pub then_all : (mid : Option (List Event)) (c : Checked) → BuildsProtocols mid (Ok (last_rules c.protocols.rounds))
-      → ChecksAll limits w (last_rules c.protocols.rounds) mid new (Ok c.kept.items) → Checks limits w old new (Ok c)
-  then_all mid c (told, h, grew) (after, rest, more) = (
-    told ++ after,
-    record { first = told; more = after; protocols = h; signatures = rest; told_is = refl },
-    grew_on old mid new told after grew more,
-  )
+  module _ (mid : Option (List Event)) (c : Checked) (done : Unit {0}) where
+    pub then_all : BuildsProtocols mid (Ok (last_rules c.protocols.rounds)) → ChecksAll limits w (last_rules c.protocols.rounds) mid new (Ok done)
+        → Checks limits w old new (Ok c)
+    then_all (told, h, grew) (after, rest, more) = (
+      told ++ after,
+      record { first = told; more = after; protocols = h; signatures = rest; told_is = refl },
+      grew_on old mid new told after grew more,
+    )
 
--- ---- what is kept
+    -- such rules of the protocols have passed
+    pub then_passed : AreRulesOf w (last_rules c.protocols.rounds) → BuildsProtocols mid (Ok (last_rules c.protocols.rounds))
+        → ChecksAll limits w (last_rules c.protocols.rounds) mid new (Ok done) → HavePassed limits w (last_rules c.protocols.rounds)
+    then_passed rules (told, h, grew) (after, rest, more) = record {
+      rules_are = rules;
+      told = told ++ after;
+      built = record { first = told; more = after; protocols = h; signatures = rest; told_is = refl };
+    }
+
+-- ---- lists at whose end one more stands
 
 pub end_cases : {X : Type 0} (xs : List X) (x e : X) (i : ℕ) → slice_get (xs ++ x ∷ []) i ≡ Some e
     → (slice_get xs i ≡ Some e) ⊎ ((i ≡ length xs) × (x ≡ e))
@@ -184,10 +190,3 @@ end_cases [] x e zero h = inr (refl, same_Some x e h)
 end_cases {X} [] x e (suc i) h = absurd (let clash : (let o : Option X = None in o) ≡ Some e = h in cc)
 end_cases (y ∷ ys) x e zero h = inl h
 end_cases (y ∷ ys) x e (suc i) h = elim (end_cases ys x e i h) [ inl k ↦ inl k | inr k ↦ inr (ap suc k.0, k.1) ]
-
-pub kept_more : (w : TextWorld) (wants : ℕ → Bool) (kept : List (Option Ready)) (k : ℕ) (entry : Option Ready) → length kept ≡ k
-    → AreKept w wants kept → IsKept w wants (record { place = k }) entry → AreKept w wants (kept ++ entry ∷ [])
-kept_more w wants kept k entry l before one i e h = elim (end_cases kept entry e i h) [
-  | inl at ↦ before i e at
-  | inr at ↦ subst (λ (n : ℕ). IsKept w wants (record { place = n }) e) (sym (at.0 ∙ l)) (subst (IsKept w wants (record { place = k })) at.1 one)
-]

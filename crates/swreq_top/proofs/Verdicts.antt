@@ -34,10 +34,10 @@ use Rattle.swreq_valid.specs.Rounds.{last_rules}
 use Rattle.swreq_valid.specs.declared.refused.Refused.{Refused}
 use Rattle.swreq_valid.specs.declared.refused.Refused.TheVariants.{Limit, NotATypeParameter, Memory}
 use Rattle.swreq_top.specs.declared.outcome.Outcome.{Outcome}
-use Rattle.swreq_top.specs.declared.ready.Checked.{Checked}
+use Rattle.swreq_top.specs.declared.checking.Checked.{Checked}
 use Rattle.swreq_top.specs.Machines.{HasWorld, IsChecked}
 use Rattle.swreq_top.specs.Outputs.{IsOutput}
-use Rattle.swreq_top.specs.Ready.{Checks}
+use Rattle.swreq_top.specs.Checks.{Checks}
 use Rattle.swreq_top.specs.Replies.{Finishes, IsToldVerdict, Replies, WasToldPart}
 use Rattle.swreq_top.specs.Reports.{name_refusal, refusal_of}
 use Rattle.swreq_top.specs.Told.{MinimisingAllTells, MinimisingEndsIn}

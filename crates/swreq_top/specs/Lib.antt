@@ -1,5 +1,6 @@
 pub mod Machines
-pub mod Ready
+pub mod Checks
+pub mod Made
 pub mod Wanted
 pub mod Lines
 pub mod Outputs

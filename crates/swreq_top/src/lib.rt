@@ -4,11 +4,11 @@
 mod answering;
 mod checking;
 pub mod laws;
+mod making;
 mod minimising;
 mod outcome;
 mod printing;
 mod program;
-mod ready;
 mod refusal;
 mod wanted;
 

@@ -1,72 +1,102 @@
 //! The minimised lists that a command asks for, each as its line.
-ghost use Rattle.std.specs.Prelude.{◌≡◌, ◌<◌, List, ℕ, length, true, IfErr, IfOk, OnOk};
+ghost use Rattle.std.specs.Prelude.{◌≡◌, ◌<◌, List, length, IfErr, IfOk, OnOk};
 ghost use Rattle.swreq_complete.specs.Limits.{AreInRange};
 ghost use Rattle.swreq_minimal.specs.Inheritance.{IsInheritanceWritten};
 ghost use Rattle.swreq_output.specs.Minimising.{MinimisingFails, MinimisingTells};
-ghost use Rattle.swreq_output.specs.Signatures.{IsMinimisedLine};
+ghost use Rattle.swreq_output.specs.Signatures.{IsMinimisedLine, written_list};
 ghost use Rattle.swreq_shown.specs.Known.{IsTextOver};
+ghost use Rattle.swreq_valid.specs.Machines.{IsMachineOf};
 ghost use Rattle.swreq_valid.specs.Rounds.{last_rules};
+ghost use Rattle.swreq_valid.specs.declared.refused.Refused.TheVariants.{Memory};
 ghost use Rattle.swreq_watch.specs.declared.events.Event.{Event};
 ghost use Rattle.swreq_watch.specs.Told.{GrewBy};
 ghost use Rattle.swreq_world.specs.ByTable.{world_by};
 ghost use Rattle.swreq_world.specs.Worlds.{signature_at};
-ghost use Rattle.swreq_top.specs.Ready.{AreLinesKept, IsCheckedFor, IsLineKept};
+ghost use Rattle.swreq_top.specs.Checks.{HavePassed};
+ghost use Rattle.swreq_top.specs.Made.{AreLinesKept, IsLineKept};
 ghost use Rattle.swreq_top.specs.Told.{FailsAt, MinimisingAllTells, MinimisingEndsIn, TellsOne};
-ghost use Rattle.swreq_top.specs.Wanted.{AreFlags, wants_list, wants_machine};
+ghost use Rattle.swreq_top.specs.Wanted.{AreFlags, wants_list};
 
-use crate::ready::Checked;
-use std::alloc::Global;
+use std::alloc::{AllocError, Global};
 use swreq_complete::{Failed, Limits};
 use swreq_output::minimised_line;
 use swreq_param::ParamTable;
 use swreq_text::Seq;
-use swreq_watch::Watch;
+use swreq_valid::{Machine, Protocols, Refused};
+use swreq_watch::{Quiet, Watch};
 use swreq_words::Command;
 use swreq_world::World;
 use swreq_written::FuncId;
 
-/// The line of the minimised list of a signature whose machine is kept.
+/// The want of memory for which alone a list that has passed the check is refused.
+fn lost(_refused: &Refused) -> AllocError
+    requires { _refused.now ≡ Memory }
+{
+    AllocError
+}
+
+/// The machine of a signature that has passed the check, built anew, which is told to nobody.
+fn machine_of(
+    alloc: Global,
+    world: &World,
+    table: &ParamTable,
+    protocols: &Protocols,
+    f: FuncId,
+    limits: Limits,
+) -> Result<Machine, AllocError>
+    requires text { IsTextOver table.now world.now }
+    requires passed { HavePassed limits (world_by table.now world.now) (last_rules protocols.now.rounds) }
+    requires f { f.place < length world.now.signatures }
+    requires limits { AreInRange limits }
+    ensures machine { IfOk result (IsMachineOf (world_by table.now world.now) (written_list (signature_at (world_by table.now world.now) f))) }
+    ensures params { IfOk result (λ m. m.params ≡ (signature_at (world_by table.now world.now) f).params) }
+{
+    match Machine::build(
+        alloc,
+        world,
+        table,
+        protocols,
+        world.params(f),
+        world.signature(f),
+        limits,
+        &mut Quiet,
+    ) {
+        Ok(machine) => Ok(machine),
+        Err(refused) => Err(lost(&refused)),
+    }
+}
+
+/// The line of the minimised list of a signature.
 fn line_of<W: Watch>(
     alloc: Global,
     world: &World,
     table: &mut ParamTable,
-    checked: &Checked,
-    command: Command,
+    protocols: &Protocols,
     f: FuncId,
     limits: Limits,
     watch: &mut W,
 ) -> Result<Seq<u8>, Failed>
     requires text { IsTextOver table.old world.now }
     requires inheritance { IsInheritanceWritten (world_by table.old world.now) }
-    requires checked { IsCheckedFor (world_by table.old world.now) (wants_machine command world.now.queries) checked.now }
+    requires passed { HavePassed limits (world_by table.old world.now) (last_rules protocols.now.rounds) }
     requires f { f.place < length world.now.signatures }
-    requires kept { wants_machine command world.now.queries f.place ≡ true }
     requires limits { AreInRange limits }
     ensures line { IfOk result (IsMinimisedLine (world_by table.old world.now) (signature_at (world_by table.old world.now) f)) }
     ensures told { OnOk result ((told : List Event)
-        × MinimisingTells limits (world_by table.old world.now) (last_rules checked.now.protocols.rounds) (signature_at (world_by table.old world.now) f) told
+        × MinimisingTells limits (world_by table.old world.now) (last_rules protocols.now.rounds) (signature_at (world_by table.old world.now) f) told
         × GrewBy (W.told watch.old) (W.told watch.new) told) }
     ensures failed { IfErr result (λ failed. (told : List Event)
-        × MinimisingFails limits (world_by table.old world.now) (last_rules checked.now.protocols.rounds) (signature_at (world_by table.old world.now) f) failed told
+        × MinimisingFails limits (world_by table.old world.now) (last_rules protocols.now.rounds) (signature_at (world_by table.old world.now) f) failed told
         × GrewBy (W.told watch.old) (W.told watch.new) told) }
     ensures world { world_by table.new world.now ≡ world_by table.old world.now }
     ensures text { IsTextOver table.new world.now }
 {
-    let _ = command;
-    match &checked.kept[f.place as usize] {
-        None => unreachable!(),
-        Some(ready) => {
+    match machine_of(alloc, world, table, protocols, f, limits) {
+        Err(_) => Err(Failed::Memory),
+        Ok(machine) => {
             let mut line = Vec::new(alloc);
             minimised_line(
-                alloc,
-                world,
-                table,
-                &checked.protocols,
-                &ready.machine,
-                f,
-                limits,
-                watch,
-                &mut line,
+                alloc, world, table, protocols, &machine, f, limits, watch, &mut line,
             )?;
             Ok(Seq::new(line))
         }
@@ -78,7 +108,7 @@ fn line_if_wanted<W: Watch>(
     alloc: Global,
     world: &World,
     table: &mut ParamTable,
-    checked: &Checked,
+    protocols: &Protocols,
     lists: &[bool],
     command: Command,
     f: FuncId,
@@ -87,16 +117,16 @@ fn line_if_wanted<W: Watch>(
 ) -> Result<Option<Seq<u8>>, Failed>
     requires text { IsTextOver table.old world.now }
     requires inheritance { IsInheritanceWritten (world_by table.old world.now) }
-    requires checked { IsCheckedFor (world_by table.old world.now) (wants_machine command world.now.queries) checked.now }
+    requires passed { HavePassed limits (world_by table.old world.now) (last_rules protocols.now.rounds) }
     requires lists { AreFlags (wants_list command world.now.queries) (length world.now.signatures) lists.now }
     requires f { f.place < length world.now.signatures }
     requires limits { AreInRange limits }
     ensures line { IfOk result (IsLineKept (world_by table.old world.now) (wants_list command world.now.queries) f) }
     ensures told { OnOk result ((told : List Event)
-        × TellsOne limits (world_by table.old world.now) command (last_rules checked.now.protocols.rounds) (signature_at (world_by table.old world.now) f) told
+        × TellsOne limits (world_by table.old world.now) command (last_rules protocols.now.rounds) (signature_at (world_by table.old world.now) f) told
         × GrewBy (W.told watch.old) (W.told watch.new) told) }
     ensures failed { IfErr result (λ failed. (told : List Event)
-        × FailsAt limits (world_by table.old world.now) command (last_rules checked.now.protocols.rounds) (signature_at (world_by table.old world.now) f) failed told
+        × FailsAt limits (world_by table.old world.now) command (last_rules protocols.now.rounds) (signature_at (world_by table.old world.now) f) failed told
         × GrewBy (W.told watch.old) (W.told watch.new) told) }
     ensures world { world_by table.new world.now ≡ world_by table.old world.now }
     ensures text { IsTextOver table.new world.now }
@@ -104,7 +134,7 @@ fn line_if_wanted<W: Watch>(
     if !lists[f.place as usize] {
         return Ok(None);
     }
-    match line_of(alloc, world, table, checked, command, f, limits, watch) {
+    match line_of(alloc, world, table, protocols, f, limits, watch) {
         Ok(line) => Ok(Some(line)),
         Err(failed) => Err(failed),
     }
@@ -118,7 +148,7 @@ pub(crate) fn minimised_lines<W: Watch>(
     alloc: Global,
     world: &World,
     table: &mut ParamTable,
-    checked: &Checked,
+    protocols: &Protocols,
     lists: &[bool],
     command: Command,
     limits: Limits,
@@ -126,16 +156,16 @@ pub(crate) fn minimised_lines<W: Watch>(
 ) -> Result<Vec<Option<Seq<u8>>>, Failed>
     requires text { IsTextOver table.old world.now }
     requires inheritance { IsInheritanceWritten (world_by table.old world.now) }
-    requires checked { IsCheckedFor (world_by table.old world.now) (wants_machine command world.now.queries) checked.now }
+    requires passed { HavePassed limits (world_by table.old world.now) (last_rules protocols.now.rounds) }
     requires lists { AreFlags (wants_list command world.now.queries) (length world.now.signatures) lists.now }
     requires limits { AreInRange limits }
     ensures lines { IfOk result (λ v. AreLinesKept (world_by table.old world.now) (wants_list command world.now.queries) v.items) }
     ensures count { IfOk result (λ v. length v.items ≡ length world.now.signatures) }
     ensures told { OnOk result ((told : List Event)
-        × MinimisingAllTells limits (world_by table.old world.now) command (last_rules checked.now.protocols.rounds) told
+        × MinimisingAllTells limits (world_by table.old world.now) command (last_rules protocols.now.rounds) told
         × GrewBy (W.told watch.old) (W.told watch.new) told) }
     ensures failed { IfErr result (λ failed. (told : List Event)
-        × MinimisingEndsIn limits (world_by table.old world.now) command (last_rules checked.now.protocols.rounds) failed told
+        × MinimisingEndsIn limits (world_by table.old world.now) command (last_rules protocols.now.rounds) failed told
         × GrewBy (W.told watch.old) (W.told watch.new) told) }
     ensures world { world_by table.new world.now ≡ world_by table.old world.now }
     ensures text { IsTextOver table.new world.now }
@@ -146,7 +176,7 @@ pub(crate) fn minimised_lines<W: Watch>(
             alloc,
             world,
             table,
-            checked,
+            protocols,
             lists,
             command,
             FuncId { place: k },

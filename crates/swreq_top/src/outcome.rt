@@ -14,19 +14,20 @@ ghost use Rattle.swreq_world.specs.ByTable.{IsOverTable, world_by};
 ghost use Rattle.swreq_top.specs.declared.outcome.Outcome.{Outcome};
 ghost use Rattle.swreq_top.specs.Machines.{HasWorld};
 ghost use Rattle.swreq_top.specs.Outputs.{IsOutput};
-ghost use Rattle.swreq_top.specs.Ready.{AreLinesKept, IsCheckedFor};
+ghost use Rattle.swreq_top.specs.Checks.{IsCheckedFor};
+ghost use Rattle.swreq_top.specs.Made.{AreLinesKept, IsMadeOf};
 ghost use Rattle.swreq_top.specs.Replies.{Finishes, IsToldVerdict, Replies, WasToldPart};
 ghost use Rattle.swreq_top.specs.Reports.{name_refusal, refusal_of};
 ghost use Rattle.swreq_top.specs.Verdict.{IsRefused, IsStopOf, answered_text, limits_of, machine_outcome, refused_with, stopped_with};
-ghost use Rattle.swreq_top.specs.Wanted.{HasCount, wants_list, wants_machine};
+ghost use Rattle.swreq_top.specs.Wanted.{HasCount, wants_list};
 
-use crate::checking::check;
+use crate::checking::{Checked, check};
 use crate::laws::one_verdict;
+use crate::making::Made;
 use crate::minimising::minimised_lines;
 use crate::printing::output;
-use crate::ready::Checked;
 use crate::refusal::{limit_refusal, name_refusal, refusal_of};
-use crate::wanted::{lists_wanted, machines_wanted};
+use crate::wanted::{Asked, lists_wanted};
 use std::alloc::{AllocError, Global};
 use swreq_complete::{Failed, Limits, Which};
 use swreq_decl::laws::one_skeleton;
@@ -180,9 +181,9 @@ fn with_world<W: Watch>(
 {
     worlds_are_closed(text);
     inheritance_is_written();
-    let wanted = machines_wanted(alloc, world, line.command)?;
-    match check(alloc, world, table, &wanted, limits_of(line), watch) {
-        Ok(checked) => with_machines(alloc, line, text, world, table, &checked, watch),
+    let asked = Asked::of(alloc, world, table, line.command)?;
+    match check(alloc, world, table, &asked, limits_of(line), watch) {
+        Ok(checked) => finish(alloc, line, text, world, table, checked, watch),
         Err(e) => unchecked(alloc, line, world, &e),
     }
 }
@@ -206,36 +207,37 @@ fn unchecked(
 }
 
 /// What is answered where nothing refuses the text.
-fn with_machines<W: Watch>(
+fn finish<W: Watch>(
     alloc: Global,
     line: &CommandLine,
     text: &[u8],
     world: &World,
     table: &mut ParamTable,
-    checked: &Checked,
+    checked: Checked,
     watch: &mut W,
 ) -> Result<Outcome, AllocError>
     requires world { HasWorld text.now (world_by table.old world.now) }
     requires text { IsTextOver table.old world.now }
     requires inheritance { IsInheritanceWritten (world_by table.old world.now) }
-    requires checked { IsCheckedFor (world_by table.old world.now) (wants_machine line.now.command world.now.queries) checked.now }
+    requires checked { IsCheckedFor (limits_of line.now) (world_by table.old world.now) line.now.command checked }
     requires limits { AreInRange (limits_of line.now) }
     requires count { HasCount line.now.command }
-    ensures { Finishes line.now text.now (world_by table.old world.now) (last_rules checked.now.protocols.rounds) (W.told watch.old) (W.told watch.new) result }
+    ensures { Finishes line.now text.now (world_by table.old world.now) (last_rules checked.protocols.rounds) (W.told watch.old) (W.told watch.new) result }
 {
     let _ = text;
+    let Checked { protocols, made } = checked;
     let wanted = lists_wanted(alloc, world, line.command)?;
     match minimised_lines(
         alloc,
         world,
         table,
-        checked,
+        &protocols,
         &wanted,
         line.command,
         limits_of(line),
         watch,
     ) {
-        Ok(lists) => answered(alloc, line.command, world, table, checked, &lists),
+        Ok(lists) => answered(alloc, line.command, world, table, made, &lists),
         Err(failed) => cut_short(alloc, line, world, &failed),
     }
 }
@@ -261,17 +263,17 @@ fn answered(
     command: Command,
     world: &World,
     table: &ParamTable,
-    checked: &Checked,
+    made: Made,
     lists: &[Option<Seq<u8>>],
 ) -> Result<Outcome, AllocError>
     requires text { IsTextOver table.now world.now }
-    requires checked { IsCheckedFor (world_by table.now world.now) (wants_machine command world.now.queries) checked.now }
+    requires made { IsMadeOf (world_by table.now world.now) command (length (world_by table.now world.now).signatures) made }
     requires lists { AreLinesKept (world_by table.now world.now) (wants_list command world.now.queries) lists.now }
     requires lines { length lists.now ≡ length world.now.signatures }
     requires count { HasCount command }
     ensures { IfOk result (λ o. (o.status ≡ 0) × IsOutput true (world_by table.now world.now) command o.output) }
 {
-    let output = output(alloc, command, world, table, checked, lists)?;
+    let output = output(alloc, command, world, table, made, lists)?;
     Ok(Outcome {
         status: 0,
         output: Seq::new(output),

@@ -2,21 +2,20 @@
 ghost use Rattle.std.specs.Prelude.{◌≡◌, ◌<◌, ◌≤◌, ◌++◌, decimal, length, IfOk, OnOk, true};
 ghost use Rattle.std.specs.List.{concat};
 ghost use Rattle.swreq_output.specs.Signatures.{IsNamedLine};
-ghost use Rattle.swreq_output.specs.Systems.{IsSystemText};
 ghost use Rattle.swreq_shown.specs.Known.{IsTextOver};
-ghost use Rattle.swreq_words.specs.declared.command.Command.TheVariants.{Rules, Signatures};
+ghost use Rattle.swreq_words.specs.declared.command.Command.TheVariants.{Signatures};
 ghost use Rattle.swreq_world.specs.ByTable.{world_by};
 ghost use Rattle.swreq_world.specs.Worlds.{signature_at};
 ghost use Rattle.swreq_top.specs.Lines.{AreLines, count_of, last_line};
 ghost use Rattle.swreq_top.specs.Outputs.{IsOutput, counts_text};
-ghost use Rattle.swreq_top.specs.Ready.{AreLinesKept, IsCheckedFor};
-ghost use Rattle.swreq_top.specs.Wanted.{HasCount, wants_list, wants_machine};
+ghost use Rattle.swreq_top.specs.Made.{AreLinesKept, IsMadeOf};
+ghost use Rattle.swreq_top.specs.Wanted.{HasCount, wants_list};
 
 use crate::answering::answers;
-use crate::ready::Checked;
+use crate::making::Made;
 use std::alloc::{AllocError, Global};
 use swreq_bytes::{append_bytes, append_number};
-use swreq_output::{full_name, system_text};
+use swreq_output::full_name;
 use swreq_param::ParamTable;
 use swreq_text::Seq;
 use swreq_words::Command;
@@ -62,47 +61,6 @@ fn signatures(
         lines.push(named_line(alloc, world, table, lists, FuncId { place: k })?)?;
     }
     Ok(lines)
-}
-
-/// The reduced rewriting system of a signature.
-fn system(
-    alloc: Global,
-    world: &World,
-    table: &ParamTable,
-    checked: &Checked,
-    f: FuncId,
-) -> Result<Seq<u8>, AllocError>
-    requires text { IsTextOver table.now world.now }
-    requires checked { IsCheckedFor (world_by table.now world.now) (wants_machine Rules world.now.queries) checked.now }
-    requires f { f.place < length world.now.signatures }
-    ensures { IfOk result (IsSystemText (world_by table.now world.now) (signature_at (world_by table.now world.now) f)) }
-{
-    match &checked.kept[f.place as usize] {
-        None => unreachable!(),
-        Some(ready) => {
-            let mut text = Vec::new(alloc);
-            system_text(alloc, world, table, &ready.machine, f, &mut text)?;
-            Ok(Seq::new(text))
-        }
-    }
-}
-
-/// The reduced rewriting systems of the signatures, in written order.
-fn systems(
-    alloc: Global,
-    world: &World,
-    table: &ParamTable,
-    checked: &Checked,
-) -> Result<Vec<Seq<u8>>, AllocError>
-    requires text { IsTextOver table.now world.now }
-    requires checked { IsCheckedFor (world_by table.now world.now) (wants_machine Rules world.now.queries) checked.now }
-    ensures { IfOk result (λ v. AreLines (IsSystemText (world_by table.now world.now)) (world_by table.now world.now).signatures v.items) }
-{
-    let mut texts = Vec::new(alloc);
-    for k in 0..world.functions() {
-        texts.push(system(alloc, world, table, checked, FuncId { place: k })?)?;
-    }
-    Ok(texts)
 }
 
 /// The lines, one after the other.
@@ -170,17 +128,17 @@ fn counts(alloc: Global, n: u32, lines: &[Seq<u8>]) -> Result<Vec<u8>, AllocErro
     Ok(out)
 }
 
-/// What the command prints of a checked text.
+/// What the command prints of a checked text, of whose machines this is made, and which has these minimised lists.
 pub(crate) fn output(
     alloc: Global,
     command: Command,
     world: &World,
     table: &ParamTable,
-    checked: &Checked,
+    made: Made,
     lists: &[Option<Seq<u8>>],
 ) -> Result<Vec<u8>, AllocError>
     requires text { IsTextOver table.now world.now }
-    requires checked { IsCheckedFor (world_by table.now world.now) (wants_machine command world.now.queries) checked.now }
+    requires made { IsMadeOf (world_by table.now world.now) command (length (world_by table.now world.now).signatures) made }
     requires lists { AreLinesKept (world_by table.now world.now) (wants_list command world.now.queries) lists.now }
     requires count { length lists.now ≡ length world.now.signatures }
     requires count_of { HasCount command }
@@ -188,19 +146,16 @@ pub(crate) fn output(
 {
     match command {
         Command::Answer => {
-            let lines = answers(alloc, world, table, checked, lists)?;
+            let lines = answers(alloc, world, table, &made.answers, lists)?;
             joined(alloc, &lines)
         }
         Command::Signatures => {
             let lines = signatures(alloc, world, table, lists)?;
             joined(alloc, &lines)
         }
-        Command::Rules => {
-            let texts = systems(alloc, world, table, checked)?;
-            joined(alloc, &texts)
-        }
+        Command::Rules => Ok(made.systems),
         Command::Gen { n } => {
-            let lines = answers(alloc, world, table, checked, lists)?;
+            let lines = answers(alloc, world, table, &made.answers, lists)?;
             counts(alloc, n, &lines)
         }
     }

@@ -1,8 +1,8 @@
 //! What a command wants of the signatures of a text.
-ghost use Rattle.std.specs.Prelude.{◌≡◌, ◌<◌, [], length, Contains, IfOk};
+ghost use Rattle.std.specs.Prelude.{◌≡◌, ◌<◌, [], All, List, Vec, length, Contains, IfOk};
+ghost use Rattle.swreq_param.specs.Terms.{Term};
 ghost use Rattle.swreq_written.specs.ByTable.{HasQueryIdsOf, query_by};
-ghost use Rattle.swreq_top.specs.Ready.{HasShortSides};
-ghost use Rattle.swreq_top.specs.Wanted.{AreFlags, asks, function_of, is_asked, list_asked, wants_list, wants_machine};
+ghost use Rattle.swreq_top.specs.Wanted.{AreFlags, HasShortSides, AreAsked, by_machine, function_of, is_list_asked, list_asked, wants_list};
 
 use std::alloc::{AllocError, Global};
 use swreq_param::ParamTable;
@@ -10,11 +10,12 @@ use swreq_words::Command;
 use swreq_world::World;
 use swreq_written::{FuncId, Query};
 
-/// What a query asks of a signature.
-#[derive(Clone, Copy)]
-pub(crate) enum Asking {
-    Anything,
-    ASignature,
+/// What a command asks of the machines of a text.
+#[derive(Drop)]
+pub(crate) struct Asked {
+    pub command: Command,
+    /// Of each signature the queries that its machine answers, in written order.
+    pub queries: Vec<Vec<Query>>,
 }
 
 /// The signature that a query asks.
@@ -40,12 +41,49 @@ pub(crate) fn list_asked(query: &Query) -> Option<FuncId>
     }
 }
 
-fn asks(asking: Asking, query: &Query) -> bool
-    ensures { result ≡ asks asking query.now }
+/// Whether the command answers the query by a machine.
+fn by_machine(command: Command, query: &Query) -> bool
+    ensures { (terms : List Term) → result ≡ by_machine command (query_by terms query.now) }
 {
-    match asking {
-        Asking::Anything => true,
-        Asking::ASignature => list_asked(query).is_some(),
+    match command {
+        Command::Answer | Command::Gen { .. } => list_asked(query).is_none(),
+        Command::Signatures | Command::Rules => false,
+    }
+}
+
+/// So many lists without queries.
+fn no_queries(alloc: Global, count: usize) -> Result<Vec<Vec<Query>>, AllocError>
+    ensures count { IfOk result (λ v. length v.items ≡ count) }
+    ensures empty { IfOk result (λ v. All (λ (queries : Vec Query Global). queries.items ≡ []) v.items) }
+{
+    let mut groups = Vec::new(alloc);
+    for _ in 0..count {
+        groups.push(Vec::new(alloc))?;
+    }
+    Ok(groups)
+}
+
+impl Asked {
+    /// What the command asks of the machines.
+    pub(crate) fn of(
+        alloc: Global,
+        world: &World,
+        table: &ParamTable,
+        command: Command,
+    ) -> Result<Asked, AllocError>
+        requires { (q : Query) → Contains world.now.queries q → (function_of q).place < length world.now.signatures }
+        ensures command { IfOk result (λ asked. asked.command ≡ command) }
+        ensures queries { IfOk result (λ asked. AreAsked table.now command world.now.queries (length world.now.signatures) asked.queries.items) }
+    {
+        let _ = table;
+        let mut queries = no_queries(alloc, world.functions() as usize)?;
+        for k in 0..world.queries().len() {
+            let query = world.queries()[k];
+            if by_machine(command, &query) {
+                queries[function_of(&query).place as usize].push(query)?;
+            }
+        }
+        Ok(Asked { command, queries })
     }
 }
 
@@ -60,34 +98,18 @@ fn flags(alloc: Global, count: usize, flag: bool) -> Result<Vec<bool>, AllocErro
     Ok(flags)
 }
 
-/// Of each signature, whether some query asks this of it.
-fn asked(alloc: Global, world: &World, asking: Asking) -> Result<Vec<bool>, AllocError>
+/// Of each signature, whether some query asks for its minimised list.
+fn lists_asked(alloc: Global, world: &World) -> Result<Vec<bool>, AllocError>
     requires { (q : Query) → Contains world.now.queries q → (function_of q).place < length world.now.signatures }
-    ensures { IfOk result (λ v. AreFlags (is_asked asking world.now.queries) (length world.now.signatures) v.items) }
+    ensures { IfOk result (λ v. AreFlags (is_list_asked world.now.queries) (length world.now.signatures) v.items) }
 {
     let mut flags = flags(alloc, world.functions() as usize, false)?;
     for k in 0..world.queries().len() {
-        let query = &world.queries()[k];
-        if asks(asking, query) {
-            flags[function_of(query).place as usize] = true;
+        if let Some(f) = list_asked(&world.queries()[k]) {
+            flags[f.place as usize] = true;
         }
     }
     Ok(flags)
-}
-
-/// Of each signature, whether the command wants its machine.
-pub(crate) fn machines_wanted(
-    alloc: Global,
-    world: &World,
-    command: Command,
-) -> Result<Vec<bool>, AllocError>
-    requires { (q : Query) → Contains world.now.queries q → (function_of q).place < length world.now.signatures }
-    ensures { IfOk result (λ v. AreFlags (wants_machine command world.now.queries) (length world.now.signatures) v.items) }
-{
-    match command {
-        Command::Answer | Command::Gen { .. } => asked(alloc, world, Asking::Anything),
-        Command::Signatures | Command::Rules => flags(alloc, world.functions() as usize, true),
-    }
 }
 
 /// Of each signature, whether the command wants its minimised list.
@@ -100,7 +122,7 @@ pub(crate) fn lists_wanted(
     ensures { IfOk result (λ v. AreFlags (wants_list command world.now.queries) (length world.now.signatures) v.items) }
 {
     match command {
-        Command::Answer | Command::Gen { .. } => asked(alloc, world, Asking::ASignature),
+        Command::Answer | Command::Gen { .. } => lists_asked(alloc, world),
         Command::Signatures => flags(alloc, world.functions() as usize, true),
         Command::Rules => flags(alloc, world.functions() as usize, false),
     }

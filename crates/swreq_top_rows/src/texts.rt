@@ -39,6 +39,29 @@ yes
 no
 ====
 $ answer
+protocol P { }
+protocol Q { }
+func f<T: P>()
+func g<T: Q, U: P>()
+query g(U : P)
+query f(T : Q)
+query g()
+query f(T)
+query g(U)
+query g(T : P)
+query f()
+query f(T : P)
+---- 0
+yes
+no
+<τ_0_0, τ_0_1 where τ_0_0 : Q, τ_0_1 : P>
+τ_0_0
+τ_0_1
+no
+<τ_0_0 where τ_0_0 : P>
+yes
+====
+$ answer
 protocol IteratorProtocol { associatedtype Element }
 protocol Sequence {
   associatedtype Iterator: IteratorProtocol

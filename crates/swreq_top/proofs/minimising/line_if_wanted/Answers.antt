@@ -1,11 +1,6 @@
 use Rattle.std.proofs.Common.{◌∙◌, inr, sym}
-use Rattle.swreq_top.proofs.Flags.{machine_too, minimised_for}
+use Rattle.swreq_top.proofs.Flags.{minimised_for}
 use Rattle.swreq_top.proofs.minimising.line_if_wanted.Goals as goal
-
-pub line_of-requires-clause-kept : goal.line_of-requires-clause-kept
-line_of-requires-clause-kept g c =
-    machine_too c.args.command c.args.world.now.queries c.args.f.place
-    (sym (c.requires.lists.set c.args.f.place c.requires.f) ∙ c.if-not-lists-f.false)
 
 pub returns-in-Ok-clause-told : goal.returns-in-Ok-clause-told
 returns-in-Ok-clause-told g c = (

@@ -1,15 +1,14 @@
-use Rattle.std.proofs.Common.{Ok, Err, length, subst, sym}
-use Rattle.std.proofs.lemmas.List.{length-map}
+use Rattle.std.proofs.Common.{Ok, Err, subst}
 use Rattle.swreq_complete.specs.declared.limit.Limits.{Limits}
-use Rattle.swreq_world.specs.ByTable.{signature_by, world_by}
-use Rattle.swreq_top.specs.Ready.{Checks}
-use Rattle.swreq_top.specs.Wanted.{AreFlags, wants_machine}
-use Rattle.swreq_top.proofs.Flags.{asked_within, kept_for}
+use Rattle.swreq_words.specs.declared.command.Command.{Command}
+use Rattle.swreq_world.specs.ByTable.{world_by}
+use Rattle.swreq_top.specs.Checks.{Checks, IsCheckedFor}
+use Rattle.swreq_top.proofs.Flags.{asked_within}
 use Rattle.swreq_top.proofs.Verdicts.{replies_checked, replies_refused}
 use Rattle.swreq_top.proofs.outcome.with_world.Goals as goal
 
-pub machines_wanted-requires : goal.machines_wanted-requires
-machines_wanted-requires g c q member =
+pub of-requires : goal.of-requires
+of-requires g c q member =
     asked_within c.args.world.now c.args.table.now
     (c.worlds_are_closed.ensures.closed c.requires.world.skeleton _ c.requires.world.stands c.requires.world.world c.requires.world.resolve) q member
 
@@ -19,26 +18,24 @@ check-requires-clause-text g c = record {
   closed = c.worlds_are_closed.ensures.closed c.requires.world.skeleton _ c.requires.world.stands c.requires.world.world c.requires.world.resolve;
 }
 
-pub with_machines-requires-clause-text : goal.with_machines-requires-clause-text
-with_machines-requires-clause-text g c = record {
+pub finish-requires-clause-text : goal.finish-requires-clause-text
+finish-requires-clause-text g c = record {
   table = c.requires.over;
   closed = c.worlds_are_closed.ensures.closed c.requires.world.skeleton _ c.requires.world.stands c.requires.world.world c.requires.world.resolve;
 }
 
-pub with_machines-requires-clause-checked : goal.with_machines-requires-clause-checked
-with_machines-requires-clause-checked g c =
-    kept_for (world_by c.args.table.now c.args.world.now) (wants_machine c.args.line.now.command c.args.world.now.queries) (length c.args.world.now.signatures)
-    c.deref.result.now
-    (subst (AreFlags (wants_machine c.args.line.now.command c.args.world.now.queries) (length c.args.world.now.signatures)) (sym c.deref.ensures.value)
-    c.in_ok-wanted.ensures)
-    c.in-Ok.checked (sym (length-map c.args.world.now.signatures (signature_by c.args.table.now))) c.in-Ok.ensures.kept
+pub finish-requires-clause-checked : goal.finish-requires-clause-checked
+finish-requires-clause-checked g c =
+    subst (λ (limits : Limits). IsCheckedFor limits (world_by c.args.table.now c.args.world.now) c.args.line.now.command c.in-Ok.checked) c.limits_of.ensures
+    (subst (λ (k : Command). IsCheckedFor c.limits_of.result (world_by c.args.table.now c.args.world.now) k c.in-Ok.checked) c.in_ok-asked.ensures.command
+    c.in-Ok.ensures.checked)
 
 pub returns-in-Ok : goal.returns-in-Ok
 returns-in-Ok g c =
-    replies_checked c.args.line.now c.args.text.now (world_by c.args.table.now c.args.world.now) c.requires.world c.in-Ok.checked _ _ _ c.with_machines.result
+    replies_checked c.args.line.now c.args.text.now (world_by c.args.table.now c.args.world.now) c.requires.world c.in-Ok.checked _ _ _ c.finish.result
     (subst (λ (limits : Limits). Checks limits (world_by c.args.table.now c.args.world.now) (g.W.Watch.told c.args.watch.now) (g.W.Watch.told c.check.new.watch)
     (Ok c.in-Ok.checked)) c.limits_of.ensures c.in-Ok.ensures.check)
-    c.with_machines.ensures
+    c.finish.ensures
 
 pub returns : goal.returns
 returns g c =
