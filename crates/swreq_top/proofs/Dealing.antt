@@ -1,5 +1,5 @@
 -- The answers of machines stand signature by signature, and are dealt to the queries in written order.
-use Rattle.std.proofs.Common.{◌≡◌, ◌≢◌, ◌⊎◌, ◌∙◌, inl, inr, refl, sym, ap, subst, ℕ, zero, suc, ◌+◌, ◌<◌, ◌&&◌, Bool, true, false, cond, nat_eq, List, [], ◌∷◌, ◌++◌, Vec, Option, Some, None, IfSome, get_or, set, length, map, option_map, replicate, slice_get, take, arith, eq-eqb, ne_eqb}
+use Rattle.std.proofs.Common.{◌≡◌, ◌≢◌, ◌⊎◌, ◌∙◌, inl, inr, refl, sym, ap, subst, ℕ, zero, suc, ◌+◌, ◌<◌, ◌&&◌, Bool, true, false, cond, nat_eq, List, [], ◌∷◌, ◌++◌, Vec, Option, Some, None, IfSome, get_or, set, length, option_map, replicate, slice_get, take, arith, eq-eqb, ne_eqb}
 use Rattle.std.specs.List.{filter}
 use Rattle.std.specs.declared.alloc.Global.{Global}
 use Rattle.std.proofs.lemmas.Bool.{cases_eq}
@@ -76,9 +76,9 @@ module _ (w : TextWorld) (count : ℕ) (next : List ℕ) where
   pub next_first : (n : ℕ) → next ≡ replicate n 0 → n ≡ count → AreNext w 0 count next
   next_first n from n_is =
       let is : next ≡ replicate count 0 = from ∙ ap (λ (m : ℕ). replicate m 0) n_is in record {
-    counted = ap length is ∙ length-replicate count 0;
-    each = λ k below. ap (λ (ns : List ℕ). get_or ns k 0) is ∙ get_or-replicate count k 0 0 below;
-  }
+        counted = ap length is ∙ length-replicate count 0;
+        each = λ k below. ap (λ (ns : List ℕ). get_or ns k 0) is ∙ get_or-replicate count k 0 0 below;
+      }
 
   module _ (asked : ℕ) (q : TermQuery) (h : AreNext w asked count next) (is : slice_get w.queries asked ≡ Some q) where
     abbrev test : ℕ → TermQuery → Bool

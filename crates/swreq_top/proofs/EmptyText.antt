@@ -50,7 +50,8 @@ use Rattle.swreq_written.specs.Queries.{TermQuery}
 use Rattle.swreq_written.specs.Queries.TermQuery.{AsksSignature}
 use Rattle.swreq_written.specs.Requirements.{PlacedRequirement}
 use Rattle.swreq_top.specs.declared.outcome.Outcome.{Outcome}
-use Rattle.swreq_top.specs.Machines.{HasWorld, IsChecked, ProtocolsCome, SignaturesCome}
+use Rattle.swreq_output.specs.Ended.{IsWorldOfText}
+use Rattle.swreq_top.specs.Machines.{IsChecked, ProtocolsCome, SignaturesCome}
 use Rattle.swreq_top.specs.Machines.IsChecked.{protocols_built, protocols_refused}
 use Rattle.swreq_top.specs.Machines.SignaturesCome.{all}
 use Rattle.swreq_top.specs.Runs.{IsAnswerable, IsGen, SayGen, known_text}
@@ -127,7 +128,7 @@ record IsBare (w : TextWorld) : Type 0 where
   signatures : w.signatures ≡ []
   queries : w.queries ≡ []
 
-bare_world : (w : TextWorld) → HasWorld [] w → IsBare w
+bare_world : (w : TextWorld) → IsWorldOfText [] w → IsBare w
 bare_world w has = record { protocols = world.lexicon.written_order; signatures = world.signatures; queries = world.queries }
   where
     world : IsWorldOf [] bare_skeleton w

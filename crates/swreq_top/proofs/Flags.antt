@@ -1,11 +1,10 @@
 -- Of which signatures a command wants the minimised list.
-use Rattle.std.proofs.Common.{◌≡◌, ◌≢◌, ◌⊎◌, ◌∙◌, inl, inr, refl, sym, ap, subst, ℕ, ◌<◌, ◌||◌, ◌&&◌, Bool, true, false, nat_eq, List, [], ◌∷◌, ◌++◌, get_or, set, length, map, Contains, Option, Some, None, true≢false, arith, eq-eqb, ne_eqb}
+use Rattle.std.proofs.Common.{◌≡◌, ◌≢◌, ◌⊎◌, ◌∙◌, inl, inr, refl, sym, ap, subst, ℕ, ◌<◌, ◌||◌, Bool, true, false, List, [], ◌∷◌, ◌++◌, get_or, set, length, map, Contains, Option, Some, None, true≢false, arith, eq-eqb, ne_eqb}
 use Rattle.std.proofs.lemmas.Bool.{cases_eq, eqb-true}
 use Rattle.std.proofs.lemmas.Option.{same_Some}
 use Rattle.std.proofs.lemmas.List.{get_or-set_other, get_or-set_same, length-map, length-set}
 use Rattle.std.proofs.lemmas.List.Elements.{All-contains, Contains-get_or}
 use Rattle.std.proofs.lemmas.List.Folds.{list_any-append}
-use Rattle.swreq_names.proofs.Booleans.{and_both, and_first, and_second}
 use Rattle.swreq_param.specs.Terms.{Term}
 use Rattle.swreq_rounds.proofs.Members.{contains_map}
 use Rattle.swreq_words.specs.declared.command.Command.{Command}
@@ -17,7 +16,7 @@ use Rattle.swreq_written.specs.ByTable.{query_by}
 use Rattle.swreq_written.specs.Queries.TermQuery.{AsksSignature}
 use Rattle.swreq_world.specs.ByTable.{signature_by, world_by}
 use Rattle.swreq_world.specs.Closed.{IsClosed, IsQueryOf}
-use Rattle.swreq_world.specs.Worlds.{IdWorld, TextWorld, no_signature, signature_at}
+use Rattle.swreq_world.specs.Worlds.{IdWorld, no_signature, signature_at}
 use Rattle.swreq_top.specs.Outputs.{signature_of}
 use Rattle.swreq_top.specs.Told.{IsMinimisedFor}
 use Rattle.swreq_top.specs.Wanted.{AreFlags, function_of, is_at, is_list_asked, list_asked, wants_list}

@@ -40,7 +40,7 @@ use Rattle.swreq_top.specs.declared.outcome.Outcome.{Outcome}
 use Rattle.swreq_top.specs.Headline.{IsEqualAndIndependent, IsImplied, IsLeastWhereValid, IsYesWhereImplied, PrintsOf, SayAlike, SayEqualLists, SayTheLeast, SayYesWhereImplied, TakenSay}
 use Rattle.swreq_top.specs.Lines.{AreLines}
 use Rattle.swreq_top.specs.Lines.AreLines.{none, more}
-use Rattle.swreq_top.specs.Machines.{HasWorld}
+use Rattle.swreq_output.specs.Ended.{IsWorldOfText}
 use Rattle.swreq_top.specs.Outputs.{AnswersByTypes, ArePrinted, IsLineOf, printed_text, signature_of}
 use Rattle.swreq_top.specs.Runs.{Delivers, known_text}
 use Rattle.swreq_top.specs.Replies.{IsToldVerdict}
@@ -51,7 +51,7 @@ use Rattle.swreq_top.proofs.Delivering.{refused_status}
 use Rattle.swreq_top.proofs.Lines.{asked_list, lines_by}
 
 -- the world of a text is closed
-world_closed : (text : Text) (w : TextWorld) → HasWorld text w → IsClosed w
+world_closed : (text : Text) (w : TextWorld) → IsWorldOfText text w → IsClosed w
 world_closed text w has =
     closed text has.skeleton w (first_offset (chars text)) (protocols_rising text has.skeleton (are_slices text) has.stands) has.world has.resolve
 
@@ -215,7 +215,7 @@ module _ (Sentence : TextWorld → Command → List Text → Type 0)
     → ArePrinted false w c lines → Sentence w c lines) where
   of_answer : (line : CommandLine) (text output : Text) (old new : Option Text) (told : List Event) → Appends old new output
       → IsAnswered line text false (record { status = 0; output = output }) told
-      → (w : TextWorld) × HasWorld text w × ((lines : List Text) × ArePrinted false w line.command lines
+      → (w : TextWorld) × IsWorldOfText text w × ((lines : List Text) × ArePrinted false w line.command lines
       × Appends old new (printed_text line.command lines) × Sentence w line.command lines)
   of_answer line text output old new told taken a =
       let w : TextWorld = a.world in
@@ -237,7 +237,7 @@ module _ (Sentence : TextWorld → Command → List Text → Type 0)
   )
     where
       of_text : (known : Option Text) → IfSome known (λ text. IsToldVerdict d.line text old_told new_told (record { status = 0; output = d.output }))
-          → IfSome known (λ text. (w : TextWorld) × HasWorld text w × ((lines : List Text) × ArePrinted false w d.line.command lines
+          → IfSome known (λ text. (w : TextWorld) × IsWorldOfText text w × ((lines : List Text) × ArePrinted false w d.line.command lines
           × Appends old new (printed_text d.line.command lines) × Sentence w d.line.command lines))
       of_text None h = tt
       of_text (Some text) (told, verdict, grew) =

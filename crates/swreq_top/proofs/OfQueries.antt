@@ -1,9 +1,8 @@
 -- The queries of a world over ids, and the minimised lists that are kept for them.
-use Rattle.std.proofs.Common.{◌≡◌, ◌∙◌, refl, sym, ap, subst, ℕ, ◌+◌, ◌<◌, Bool, true, true≢false, arith, List, ◌∷◌, [], ◌++◌, take, get_or, length, map, slice_index_or, Contains, Option, Some, None}
-use Rattle.std.proofs.lemmas.List.{get_or_default, length-map}
+use Rattle.std.proofs.Common.{◌≡◌, ◌∙◌, refl, sym, ap, subst, ℕ, ◌<◌, Bool, true, true≢false, arith, List, length, map, slice_index_or, Contains, Option, Some, None}
+use Rattle.std.proofs.lemmas.List.{length-map}
 use Rattle.std.proofs.lemmas.List.Elements.{All-contains}
 use Rattle.std.proofs.lemmas.Option.{slice_get_read}
-use Rattle.std.proofs.Math.ListN.{get_or-map}
 use Rattle.swreq_param.specs.Terms.{Term}
 use Rattle.swreq_print.specs.Names.{Text}
 use Rattle.swreq_rounds.proofs.Members.{contains_map}
@@ -13,8 +12,7 @@ use Rattle.swreq_written.specs.declared.ids.Query.TheVariants.{Signature}
 use Rattle.swreq_written.specs.ByTable.{HasQueryIdsOf, query_by}
 use Rattle.swreq_world.specs.ByTable.{signature_by, world_by}
 use Rattle.swreq_world.specs.Closed.{IsQueryOf}
-use Rattle.swreq_world.specs.Worlds.{IdWorld, SignatureOver, TextWorld, signature_at}
-use Rattle.swreq_written.specs.Requirements.{PlacedRequirement}
+use Rattle.swreq_world.specs.Worlds.{IdWorld, TextWorld, signature_at}
 use Rattle.swreq_shown.specs.Known.{IsTextOver}
 use Rattle.swreq_output.specs.Signatures.{IsMinimisedLine}
 use Rattle.swreq_query.specs.Asked.{IsQueryIn}

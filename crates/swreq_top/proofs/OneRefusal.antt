@@ -28,7 +28,8 @@ use Rattle.swreq_world.specs.Worlds.{TextWorld}
 use Rattle.swreq_valid.specs.declared.refused.Refused.{Refused}
 use Rattle.swreq_valid.specs.declared.refused.Refused.TheVariants.{Limit, NotATypeParameter, Memory}
 use Rattle.swreq_words.specs.declared.command.CommandLine.{CommandLine}
-use Rattle.swreq_top.specs.Machines.{HasWorld, IsBuiltOver, IsChecked}
+use Rattle.swreq_output.specs.Ended.{IsWorldOfText}
+use Rattle.swreq_top.specs.Machines.{IsBuiltOver, IsChecked}
 use Rattle.swreq_top.specs.Reports.{limit_refusal, name_refusal, refusal_of}
 use Rattle.swreq_top.specs.Verdict.{HasNoWorld, IsRefused, IsVerdict, RefusesNames, limits_of, machine_outcome, refused_with}
 use Rattle.swreq_top.specs.Verdict.IsRefused.{without_world, not_a_type_parameter, past_a_limit}
@@ -175,10 +176,10 @@ module _ (line : CommandLine) (text : List ℕ) where
   told P r answer (inl is) read = subst P (sym is) read
   told P r answer (inr none) read = absurd (r.real none)
 
-  has_ids : AreOne text → (w : TextWorld) → HasWorld text w → AreIds w.lexicon
+  has_ids : AreOne text → (w : TextWorld) → IsWorldOfText text w → AreIds w.lexicon
   has_ids one w has = (one.closed has.skeleton w has.stands has.world has.resolve).ids
 
-  of_world : (one : AreOne text) (w : TextWorld) (has : HasWorld text w) (P : TextWorld → Type 0) → P w → OfWorld has.skeleton P
+  of_world : (one : AreOne text) (w : TextWorld) (has : IsWorldOfText text w) (P : TextWorld → Type 0) → P w → OfWorld has.skeleton P
   of_world one w has P holds = (has.resolve, (w, has.world, has_ids one w has, holds))
 
   module _ (one : AreOne text) (r : Reading text) where
@@ -209,7 +210,7 @@ module _ (line : CommandLine) (text : List ℕ) where
     no_world_read o refusals.OutOfMemory has is = absurd has
     no_world_read o refusals.Usage has is = absurd has
 
-    by_machines : (o : Outcome) (w : TextWorld) → HasWorld text w → IsStoppedAs w o → IsReadAs r.parsed o
+    by_machines : (o : Outcome) (w : TextWorld) → IsWorldOfText text w → IsStoppedAs w o → IsReadAs r.parsed o
     by_machines o w has stopped =
         told (λ p. IsReadAs p o) r (Ok has.skeleton) ((r.exact.ok has.skeleton).1 has.stands) (inr (of_world one w has (λ v. IsStoppedAs v o) stopped))
 
@@ -220,7 +221,7 @@ module _ (line : CommandLine) (text : List ℕ) where
     refused_read {o} {events} (past_a_limit w which trace has checked is) = by_machines o w has (Limit which trace, (events, checked), is)
 
     -- one that is not refused is read whole
-    whole_read : (w : TextWorld) (rules : List Rule) (events : List Event) → HasWorld text w → IsBuiltOver (limits_of line) w rules events
+    whole_read : (w : TextWorld) (rules : List Rule) (events : List Event) → IsWorldOfText text w → IsBuiltOver (limits_of line) w rules events
         → IsReadWhole r.parsed
     whole_read w rules events has built =
         told IsReadWhole r (Ok has.skeleton) ((r.exact.ok has.skeleton).1 has.stands)
@@ -292,7 +293,7 @@ module _ (line : CommandLine) (text : List ℕ) where
   long_refused long (past_a_limit w which trace has checked is) = absurd (omega (arith, long, has.within))
 
   module _ (one : AreOne text) (o p : Outcome) (events also : List Event) (refused : IsRefused line text o events) where
-    never_built : (w : TextWorld) (rules : List Rule) (first : List Event) → HasWorld text w → IsBuiltOver (limits_of line) w rules first → ⊥
+    never_built : (w : TextWorld) (rules : List Rule) (first : List Event) → IsWorldOfText text w → IsBuiltOver (limits_of line) w rules first → ⊥
     never_built w rules first has built =
         let r = reading_of text one has.within in never_whole r.parsed o (refused_read one r refused) (whole_read one r w rules first has built)
 

@@ -35,7 +35,8 @@ use Rattle.swreq_valid.specs.declared.refused.Refused.{Refused}
 use Rattle.swreq_valid.specs.declared.refused.Refused.TheVariants.{Limit, NotATypeParameter, Memory}
 use Rattle.swreq_top.specs.declared.outcome.Outcome.{Outcome}
 use Rattle.swreq_top.specs.declared.checking.Checked.{Checked}
-use Rattle.swreq_top.specs.Machines.{HasWorld, IsChecked}
+use Rattle.swreq_output.specs.Ended.{IsWorldOfText}
+use Rattle.swreq_top.specs.Machines.{IsChecked}
 use Rattle.swreq_top.specs.Outputs.{IsOutput}
 use Rattle.swreq_top.specs.Checks.{Checks}
 use Rattle.swreq_top.specs.Replies.{Finishes, IsToldVerdict, Replies, WasToldPart}
@@ -149,7 +150,7 @@ module _ (line : CommandLine) (text : List ℕ) where
   replied_refusal old new (Ok answer) (t, verdict, grew) one o told refused = one line o answer told t refused verdict
   replied_refusal old new (Err e) h one o told refused = tt
 
-  module _ (w : TextWorld) (has : HasWorld text w) where
+  module _ (w : TextWorld) (has : IsWorldOfText text w) where
     -- one whose machines are refused
     refused_so : (refused : Refused) (told : List Event) (o : Outcome) → refused ≢ Memory → IsChecked (limits_of line) w (Some refused) told
         → o ≡ machine_outcome line w.lexicon refused → IsRefused line text o told

@@ -1,5 +1,5 @@
 -- How the check of a text comes out.
-use Rattle.std.specs.Prelude.{◌≡◌, ◌⊎◌, List, Option, Some, None, Result, Ok, Err, length}
+use Rattle.std.specs.Prelude.{◌⊎◌, List, Option, Some, None, Result, Ok, Err, length}
 use Rattle.swreq_rule.specs.declared.rules.Rule.{Rule}
 use Rattle.swreq_rounds.specs.Rounds.{ComesTo}
 use Rattle.swreq_complete.specs.declared.limit.Limits.{Limits}

@@ -23,7 +23,7 @@ use Rattle.swreq_print.specs.Types.{type_text}
 use Rattle.swreq_query.specs.Answers.{IsLeastEqual, asked}
 use Rattle.swreq_output.specs.Signatures.{full_name, source_of, written_list}
 use Rattle.swreq_top.specs.Lines.{AreLines}
-use Rattle.swreq_top.specs.Machines.{HasWorld}
+use Rattle.swreq_output.specs.Ended.{IsWorldOfText}
 use Rattle.swreq_top.specs.Outputs.{ArePrinted, printed_text, signature_of}
 use Rattle.swreq_top.specs.Runs.{known_text}
 
@@ -95,5 +95,5 @@ module _ (w : TextWorld) where
 -- of which this is true.
 abbrev pub TakenSay : (TextWorld → Command → List Text → Type 0) → List Text → (left old new : Option Text) → Type 0
 TakenSay Sentence words left old new = (line : CommandLine) × Says words line
-    × IfSome (known_text line.command left) (λ text. (w : TextWorld) × HasWorld text w × ((lines : List Text) × ArePrinted false w line.command lines
+    × IfSome (known_text line.command left) (λ text. (w : TextWorld) × IsWorldOfText text w × ((lines : List Text) × ArePrinted false w line.command lines
     × Appends old new (printed_text line.command lines) × Sentence w line.command lines))

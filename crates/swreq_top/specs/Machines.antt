@@ -1,14 +1,9 @@
 -- The machines of a text: the rules of its protocols, and those of the list of each signature, or why there are none.
-use Rattle.std.specs.Prelude.{◌≡◌, ◌≢◌, ◌≤◌, ℕ, List, [], ◌∷◌, ◌++◌, Option, Some, None, Result, Ok, Err, length}
-use Rattle.swreq_lex.specs.declared.lexer.TheConstants.{TEXT_LIMIT}
-use Rattle.swreq_decl.specs.declared.skeleton.Skeleton.{Skeleton}
-use Rattle.swreq_decl.specs.Skeletons.{StandsFor}
-use Rattle.swreq_names.specs.Names.{Resolve}
+use Rattle.std.specs.Prelude.{◌≡◌, ◌≢◌, List, [], ◌∷◌, ◌++◌, Option, Some, None, Result, Ok, Err}
 use Rattle.swreq_rule.specs.declared.rules.Rule.{Rule}
 use Rattle.swreq_watch.specs.declared.events.Event.{Event}
 use Rattle.swreq_complete.specs.declared.limit.Limits.{Limits}
 use Rattle.swreq_written.specs.Requirements.{PlacedRequirement}
-use Rattle.swreq_world.specs.WorldOf.{IsWorldOf}
 use Rattle.swreq_world.specs.Worlds.{SignatureOver, TextWorld}
 use Rattle.swreq_shown.specs.Meaning.{facts_of}
 use Rattle.swreq_valid.specs.declared.refused.Refused.{Refused}
@@ -17,14 +12,6 @@ use Rattle.swreq_valid.specs.Built.{IsBuilt}
 use Rattle.swreq_valid.specs.Machines.{list_of, protocols_of}
 use Rattle.swreq_valid.specs.Sides.{protocol_sides, sides}
 use Rattle.swreq_output.specs.Signatures.{source_of, written_list}
-
--- This is the world of the text, which has at most 1,048,576 bytes: a skeleton stands for it, whose names resolve.
-pub record HasWorld (text : List ℕ) (w : TextWorld) : Type 0 where
-  pub within : length text ≤ TEXT_LIMIT
-  pub skeleton : Skeleton
-  pub stands : StandsFor text skeleton
-  pub resolve : Resolve text skeleton
-  pub world : IsWorldOf text skeleton w
 
 module _ (limits : Limits) (w : TextWorld) where
   -- The rounds of the protocols come to rules that show each side of their requirements, or to a refusal, and tell these events.

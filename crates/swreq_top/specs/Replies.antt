@@ -8,7 +8,8 @@ use Rattle.swreq_rule.specs.declared.rules.Rule.{Rule}
 use Rattle.swreq_words.specs.declared.command.CommandLine.{CommandLine}
 use Rattle.swreq_world.specs.Worlds.{TextWorld}
 use Rattle.swreq_top.specs.declared.outcome.Outcome.{Outcome}
-use Rattle.swreq_top.specs.Machines.{HasWorld, IsBuiltOver}
+use Rattle.swreq_output.specs.Ended.{IsWorldOfText}
+use Rattle.swreq_top.specs.Machines.{IsBuiltOver}
 use Rattle.swreq_top.specs.Told.{CheckTells, MinimisingPartTells}
 use Rattle.swreq_top.specs.Verdict.{IsRefused, IsVerdict, limits_of}
 
@@ -16,7 +17,7 @@ use Rattle.swreq_top.specs.Verdict.{IsRefused, IsVerdict, limits_of}
 abbrev pub TellsPart : CommandLine → Text → List Event → Type 0
 TellsPart line text told =
     (told ≡ [])
-    ⊎ ((w : TextWorld) × HasWorld text w × (CheckTells (limits_of line) w told ⊎ MinimisingPartTells (limits_of line) w line.command told))
+    ⊎ ((w : TextWorld) × IsWorldOfText text w × (CheckTells (limits_of line) w told ⊎ MinimisingPartTells (limits_of line) w line.command told))
 
 -- The watcher was told so far.
 abbrev pub WasToldPart : CommandLine → Text → Option (List Event) → Option (List Event) → Type 0

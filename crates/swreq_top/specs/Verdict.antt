@@ -28,7 +28,8 @@ use Rattle.swreq_print.specs.Names.{Text}
 use Rattle.swreq_print.specs.Refusals.{refusal_line}
 use Rattle.swreq_print.specs.Rules.{trace_text}
 use Rattle.swreq_top.specs.declared.outcome.Outcome.{Outcome}
-use Rattle.swreq_top.specs.Machines.{HasWorld, IsBuiltOver, IsChecked}
+use Rattle.swreq_output.specs.Ended.{IsWorldOfText}
+use Rattle.swreq_top.specs.Machines.{IsBuiltOver, IsChecked}
 use Rattle.swreq_top.specs.Outputs.{IsOutput}
 use Rattle.swreq_top.specs.Reports.{limit_refusal}
 use Rattle.swreq_top.specs.Told.{MinimisingAllFails, MinimisingAllTells}
@@ -98,10 +99,10 @@ module _ (line : CommandLine) (text : Text) where
     without_world : {o : Outcome} {told : List Event} (refusal : RefusalKind) → HasNoWorld text refusal → o ≡ refused_with refusal → told ≡ []
         → IsRefused o told
     -- A side of a requirement is no type parameter.
-    not_a_type_parameter : {o : Outcome} {told : List Event} (w : TextWorld) (at : ℕ) → HasWorld text w
+    not_a_type_parameter : {o : Outcome} {told : List Event} (w : TextWorld) (at : ℕ) → IsWorldOfText text w
         → IsChecked (limits_of line) w (Some (NotATypeParameter at)) told → o ≡ refused_with (refusals.NotATypeParameter at) → IsRefused o told
     -- A round of the protocols or of a signature passes a limit.
-    past_a_limit : {o : Outcome} {told : List Event} (w : TextWorld) (which : Which) (trace : List Rule) → HasWorld text w
+    past_a_limit : {o : Outcome} {told : List Event} (w : TextWorld) (which : Which) (trace : List Rule) → IsWorldOfText text w
         → IsChecked (limits_of line) w (Some (Limit which trace)) told → o ≡ stopped_with line w.lexicon which trace → IsRefused o told
 
   module _ (guarded : Bool) where
@@ -109,7 +110,7 @@ module _ (line : CommandLine) (text : Text) where
     -- the command prints. The events of the check are told, and then parts of minimising.
     pub record IsAnswered (o : Outcome) (told : List Event) : Type 0 where
       pub world : TextWorld
-      pub has_world : HasWorld text world
+      pub has_world : IsWorldOfText text world
       pub rules : List Rule
       pub first : List Event
       pub more : List Event
@@ -122,7 +123,7 @@ module _ (line : CommandLine) (text : Text) where
   -- In minimising for the command a round passes a limit.
   pub record IsCutShort (o : Outcome) (told : List Event) : Type 0 where
     pub world : TextWorld
-    pub has_world : HasWorld text world
+    pub has_world : IsWorldOfText text world
     pub rules : List Rule
     pub first : List Event
     pub more : List Event

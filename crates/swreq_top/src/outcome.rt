@@ -12,7 +12,7 @@ ghost use Rattle.swreq_valid.specs.declared.refused.Refused.TheVariants as machi
 ghost use Rattle.swreq_watch.specs.declared.events.Event.{Event};
 ghost use Rattle.swreq_world.specs.ByTable.{IsOverTable, world_by};
 ghost use Rattle.swreq_top.specs.declared.outcome.Outcome.{Outcome};
-ghost use Rattle.swreq_top.specs.Machines.{HasWorld};
+ghost use Rattle.swreq_output.specs.Ended.{IsWorldOfText};
 ghost use Rattle.swreq_top.specs.Outputs.{IsOutput};
 ghost use Rattle.swreq_top.specs.Checks.{IsCheckedFor};
 ghost use Rattle.swreq_top.specs.Made.{AreLinesKept, IsMadeOf};
@@ -173,7 +173,7 @@ fn with_world<W: Watch>(
     table: &mut ParamTable,
     watch: &mut W,
 ) -> Result<Outcome, AllocError>
-    requires world { HasWorld text.now (world_by table.old world.now) }
+    requires world { IsWorldOfText text.now (world_by table.old world.now) }
     requires over { IsOverTable table.old world.now }
     requires limits { AreInRange (limits_of line.now) }
     requires count { HasCount line.now.command }
@@ -216,7 +216,7 @@ fn finish<W: Watch>(
     checked: Checked,
     watch: &mut W,
 ) -> Result<Outcome, AllocError>
-    requires world { HasWorld text.now (world_by table.old world.now) }
+    requires world { IsWorldOfText text.now (world_by table.old world.now) }
     requires text { IsTextOver table.old world.now }
     requires inheritance { IsInheritanceWritten (world_by table.old world.now) }
     requires checked { IsCheckedFor (limits_of line.now) (world_by table.old world.now) line.now.command checked }

@@ -1,4 +1,4 @@
-use Rattle.std.proofs.Common.{◌≡◌, ◌∙◌, ◌+◌, ap, arith, List, Vec, length, sym, subst, take, true}
+use Rattle.std.proofs.Common.{◌≡◌, ◌∙◌, ◌+◌, ap, arith, List, Vec, sym, subst, take, true}
 use Rattle.std.specs.declared.alloc.Global.{Global}
 use Rattle.std.proofs.lemmas.Bool.{eqb-true}
 use Rattle.swreq_map.specs.Follows.{IsMapOf}
@@ -10,7 +10,6 @@ use Rattle.swreq_world.specs.Worlds.{signature_at}
 use Rattle.swreq_written.specs.ByTable.{query_by}
 use Rattle.swreq_written.specs.declared.ids.FuncId.{FuncId}
 use Rattle.swreq_written.specs.declared.ids.Query.{Query}
-use Rattle.swreq_print.specs.Names.{Text}
 use Rattle.swreq_top.specs.Lines.{AreLines}
 use Rattle.swreq_top.specs.Outputs.{IsLineOf}
 use Rattle.swreq_top.proofs.Asked.{group_asks, group_query, group_types, lines_of_group, no_lines_of_group, not_a_signature, types_line}
