@@ -1,5 +1,5 @@
 -- Whether a requirement is derivable, as the rules of a machine tell it.
-use Rattle.std.proofs.Common.{◌≡◌, ◌↔◌, Bool, List, [], ◌∷◌, subst, sym}
+use Rattle.std.proofs.Common.{◌≡◌, ◌↔◌, Bool, List, [], subst, sym}
 use Rattle.std.specs.Bool.{Decides}
 use Rattle.swreq_param.specs.Terms.{Term}
 use Rattle.swreq_derive.specs.Derivation.{Derivable, Source, TermFacts, TermRequirement}

@@ -1,5 +1,5 @@
 -- A table that grows keeps what is of the text.
-use Rattle.std.proofs.Common.{◌≡◌, ◌∙◌, refl, sym, ap, ap₂, subst, ◌<◌, arith, ℕ, suc, List, [], ◌∷◌, map, length, get_or, Contains}
+use Rattle.std.proofs.Common.{◌≡◌, refl, sym, ap₂, subst, arith, suc, List, [], ◌∷◌, map, Contains}
 use Rattle.std.specs.Prelude.{All}
 use Rattle.std.proofs.lemmas.List.Elements.{All-weaker}
 use Rattle.swreq_param.specs.Tables.{Extends}
@@ -8,14 +8,12 @@ use Rattle.swreq_derive.specs.declared.requirements.Requirement.{Requirement}
 use Rattle.swreq_derive.specs.declared.requirements.Requirement.TheVariants.{Conf, Layout, Same}
 use Rattle.swreq_derive.specs.Facts.{requirement_of}
 use Rattle.swreq_derive.proofs.Members.{first_member, later_member}
-use Rattle.swreq_written.specs.declared.ids.Query.{Query}
 use Rattle.swreq_written.specs.declared.ids.Written.{Written}
 use Rattle.swreq_written.specs.ByTable.{AreOf, HasIdsOf, HasQueryIdsOf, placed, query_by}
-use Rattle.swreq_written.specs.Requirements.{PlacedRequirement}
 use Rattle.swreq_written.proofs.Growing.{are_of_stay, ids_stay, placed_stay}
 use Rattle.swreq_world.specs.ByTable.{IsOverTable, signature_by, world_by}
 use Rattle.swreq_world.specs.Closed.{IsClosed, IsRequirementOf}
-use Rattle.swreq_world.specs.Worlds.{IdWorld, SignatureOver, TextWorld}
+use Rattle.swreq_world.specs.Worlds.{IdWorld, SignatureOver}
 use Rattle.swreq_world.proofs.Filled.{query_of_stay, query_stays}
 use Rattle.swreq_ranks.specs.Views.{LexiconView}
 use Rattle.swreq_shown.specs.Known.{IsRequirementIn, IsTextOver}

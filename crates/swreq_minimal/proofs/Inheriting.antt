@@ -4,7 +4,7 @@ use Rattle.std.specs.List.{flat_map}
 use Rattle.std.specs.Option.{option_to_list}
 use Rattle.std.specs.Str.{bytes_eq}
 use Rattle.std.proofs.lemmas.List.Elements.{Contains-append_cases, Contains-append_left, Contains-append_right}
-use Rattle.swreq_param.specs.Terms.{Term, self, with_steps}
+use Rattle.swreq_param.specs.Terms.{self, with_steps}
 use Rattle.swreq_decl.specs.declared.skeleton.AssocDecl.{AssocDecl}
 use Rattle.swreq_decl.specs.declared.skeleton.Entity.{Entity}
 use Rattle.swreq_decl.specs.declared.skeleton.ProtocolDecl.{ProtocolDecl}
@@ -13,7 +13,7 @@ use Rattle.swreq_decl.specs.declared.skeleton.ReqDecl.TheVariants.{Bound, Same}
 use Rattle.swreq_decl.specs.declared.skeleton.Span.{Span}
 use Rattle.swreq_decl.specs.declared.skeleton.StepDecl.{StepDecl}
 use Rattle.swreq_derive.specs.Derivation.TermRequirement.{Conforms, IsAnyObject}
-use Rattle.swreq_derive.proofs.Members.{first_member, no_member, only_member}
+use Rattle.swreq_derive.proofs.Members.{no_member, only_member}
 use Rattle.swreq_names.specs.Inheritance as inheritance
 use Rattle.swreq_names.specs.Inheritance.{direct, is_bare, named_by}
 use Rattle.swreq_names.specs.Refusals.{self_bytes}

@@ -1,13 +1,12 @@
 -- One requirement more in a strictly sorted list.
-use Rattle.std.proofs.Common.{◌≡◌, ◌⊎◌, ◌↔◌, ◌∙◌, ◌<◌, ◌≤◌, ◌+◌, ℕ, List, [], ◌∷◌, ◌++◌, Bool, true, false, IsTrue, map, take, drop, get_or, length, Contains, refl, sym, ap, subst, inl, inr, arith}
+use Rattle.std.proofs.Common.{◌≡◌, ◌⊎◌, ◌↔◌, ◌∙◌, ◌<◌, ◌≤◌, ◌+◌, ℕ, List, [], ◌∷◌, ◌++◌, take, drop, get_or, length, Contains, refl, sym, ap, subst, inl, inr, arith}
 use Rattle.std.specs.Prelude.{insert}
 use Rattle.std.proofs.Common.{drop-cons, length-take-le, length-append, append-nil}
 use Rattle.std.proofs.Math.Seq.{take-append_seam, drop-append_seam}
 use Rattle.std.proofs.lemmas.List.{take-append-drop, take_more, take_all, map-append}
 use Rattle.std.proofs.lemmas.List.Elements.{Contains-append_left, Contains-append_right, Contains-append_cases, Contains-push_cases}
-use Rattle.swreq_param.specs.declared.ids.TermId.{TermId}
 use Rattle.swreq_param.specs.Order.{TermBefore}
-use Rattle.swreq_param.specs.Tables.{AreDistinct, IsOf, term_at}
+use Rattle.swreq_param.specs.Tables.{AreDistinct}
 use Rattle.swreq_param.specs.Terms.{Term}
 use Rattle.swreq_param.proofs.TotalOrder.{strict, transitive}
 use Rattle.swreq_derive.specs.declared.requirements.Requirement.{Requirement}

@@ -1,5 +1,5 @@
 -- In the world of a text whose names resolve, written inheritance leads from a protocol to each that it inherits.
-use Rattle.std.proofs.Common.{◌≡◌, ℕ, ◌<◌, ⊎_elim, Bool, true, false, cond, List, [], Option, None, Some, get_or, map, slice_get, Contains, refl, sym, ap, subst, ◌∙◌}
+use Rattle.std.proofs.Common.{◌≡◌, ℕ, Bool, true, false, cond, [], Option, None, Some, get_or, map, slice_get, Contains, refl, sym, ap, subst, ◌∙◌}
 use Rattle.std.specs.List.{All}
 use Rattle.std.proofs.lemmas.List.Elements.{All-nil}
 use Rattle.std.proofs.lemmas.Option.{same_Some, slice_get-get_or}
@@ -11,7 +11,6 @@ use Rattle.swreq_derive.specs.Derivation.{TermFacts}
 use Rattle.swreq_derive.specs.Derivation.TermRequirement.{Conforms}
 use Rattle.swreq_derive.specs.Inheritance.{LeadsTo}
 use Rattle.swreq_derive.specs.Inheritance.LeadsTo.{further, here}
-use Rattle.swreq_names.specs.declared.directory.Declaration.{Declaration}
 use Rattle.swreq_names.specs.declared.refusal.Fault.TheVariants.{Duplicate}
 use Rattle.swreq_names.specs.First.{when}
 use Rattle.swreq_names.specs.Inheritance.{direct, inheritance}

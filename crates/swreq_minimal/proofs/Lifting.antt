@@ -1,5 +1,5 @@
 -- What the rules of a machine say is what is read off them.
-use Rattle.std.proofs.Common.{◌≡◌, ◌∙◌, ◌↔◌, refl, sym, ap, subst, ◌≤◌, ℕ, List, [], ◌∷◌, ◌++◌, append-nil, append_assoc}
+use Rattle.std.proofs.Common.{◌≡◌, ◌∙◌, refl, sym, ap, subst, List, [], ◌∷◌, ◌++◌, append_assoc}
 use Rattle.swreq_param.specs.declared.ids.AssocId.{AssocId}
 use Rattle.swreq_param.specs.declared.ids.NameId.{NameId}
 use Rattle.swreq_param.specs.declared.ids.ProtoId.{ProtoId}
@@ -12,13 +12,11 @@ use Rattle.swreq_derive.specs.Derivation.Source.{Written}
 use Rattle.swreq_derive.specs.Derivation.TermRequirement.{Conforms, IsAnyObject, Equals}
 use Rattle.swreq_derive.specs.Derivation.TermStatement.{IsValid, Requires}
 use Rattle.swreq_derive.specs.Facts.{generic_params}
-use Rattle.swreq_word.specs.declared.symbols.Symbol.{Symbol}
-use Rattle.swreq_word.specs.declared.symbols.Symbol.TheVariants.{Proto, Layout, Member as MemberSymbol, Param}
+use Rattle.swreq_word.specs.declared.symbols.Symbol.TheVariants.{Proto, Member as MemberSymbol, Param}
 use Rattle.swreq_word.proofs.Chains.{joined}
 use Rattle.swreq_rule.specs.declared.rules.Rule.{Rule}
 use Rattle.swreq_reading.specs.Equations.{AreCongruent}
-use Rattle.swreq_reading.specs.Readings.{CanRead}
-use Rattle.swreq_reading.specs.Symbols.{Symbols, Word, name_of, proto_of, spell, word_of}
+use Rattle.swreq_reading.specs.Symbols.{Symbols, Word, name_of, proto_of, spell}
 use Rattle.swreq_reading.specs.Types.{BeginsAs, IsFirstFor, IsTypeOf}
 use Rattle.swreq_reading.proofs.Chained.{chained_usable, turn_all}
 use Rattle.swreq_reading.proofs.Correspondence.{conforming_words}

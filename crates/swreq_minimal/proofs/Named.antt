@@ -1,5 +1,5 @@
 -- Where inheritance is written, `Self` of each protocol conforms to a protocol that declares the name of a member symbol of it.
-use Rattle.std.proofs.Common.{◌≡◌, ◌∙◌, ⊎_elim, ap, subst, sym, ℕ, Some, Contains}
+use Rattle.std.proofs.Common.{◌≡◌, ◌∙◌, ⊎_elim, ap, subst, sym, Some, Contains}
 use Rattle.std.proofs.lemmas.Option.{slice_get-get_or}
 use Rattle.swreq_param.specs.declared.ids.AssocId.{AssocId}
 use Rattle.swreq_param.specs.declared.ids.ProtoId.{ProtoId}

@@ -1,5 +1,5 @@
 -- Plain type parameters.
-use Rattle.std.proofs.Common.{◌≡◌, ◌<◌, ◌≤◌, ◌+◌, inl, inr, sym, subst, ℕ, List, Contains, get_or, length, take}
+use Rattle.std.proofs.Common.{◌<◌, ◌≤◌, ◌+◌, inl, inr, sym, subst, ℕ, List, Contains, get_or, length, take}
 use Rattle.std.proofs.lemmas.List.{take_all, take_more}
 use Rattle.std.proofs.lemmas.List.Elements.{Contains-push_cases}
 use Rattle.swreq_param.specs.declared.ids.ParamId.{ParamId}

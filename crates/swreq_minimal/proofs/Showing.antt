@@ -29,7 +29,7 @@ use Rattle.swreq_shown.specs.Meaning.{facts_of, symbols_of}
 use Rattle.swreq_shown.proofs.Symbols.{symbols_law, text_law}
 use Rattle.swreq_world.specs.Closed.{IsClosed}
 use Rattle.swreq_world.specs.Worlds.{TextWorld}
-use Rattle.swreq_minimal.specs.Evident.{HasSides, IsOfEquation, LinkLast}
+use Rattle.swreq_minimal.specs.Evident.{IsOfEquation, LinkLast}
 use Rattle.swreq_minimal.proofs.PlainTypes.{plain_sides}
 
 -- ---- rules

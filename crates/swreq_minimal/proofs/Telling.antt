@@ -1,16 +1,15 @@
 -- Parts that are told one after the other.
-use Rattle.std.proofs.Common.{◌≡◌, ◌∙◌, ◌⊎◌, inl, inr, refl, sym, ap, subst, List, [], ◌∷◌, ◌++◌, Option, Ok, Err, append-nil, append_assoc}
+use Rattle.std.proofs.Common.{◌≡◌, ◌∙◌, inl, inr, refl, sym, ap, subst, List, [], ◌++◌, Option, Ok, Err, append-nil, append_assoc}
 use Rattle.swreq_derive.specs.Derivation.{TermRequirement}
 use Rattle.swreq_rule.specs.declared.rules.Rule.{Rule}
 use Rattle.swreq_watch.specs.declared.events.Event.{Event}
-use Rattle.swreq_watch.specs.Told.{GrewBy}
 use Rattle.swreq_watch.proofs.Told.{grew_none, grew_on}
 use Rattle.swreq_complete.specs.declared.limit.Limits.{Limits}
 use Rattle.swreq_complete.specs.declared.limit.Failed.{Failed}
 use Rattle.swreq_complete.specs.declared.limit.Failed.TheVariants.{Limit, Memory}
 use Rattle.swreq_rounds.specs.Plan.{Plan}
 use Rattle.swreq_valid.specs.Answers.{Answers}
-use Rattle.swreq_minimal.specs.Told.{AreParts, FailsBy, IsCutOff, StopsAt, TellsFailure, TellsParts}
+use Rattle.swreq_minimal.specs.Told.{AreParts, FailsBy, TellsFailure, TellsParts}
 use Rattle.swreq_minimal.specs.Told.AreParts.{a_part, no_part}
 
 module _ (limits : Limits) (plan : List TermRequirement → Plan) where

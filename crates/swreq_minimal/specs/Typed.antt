@@ -1,8 +1,7 @@
 -- What the rules of a machine say of words: their types, and what is read off rules.
-use Rattle.std.specs.Prelude.{◌≡◌, ◌≤◌, ℕ, List, [], ◌∷◌, ◌++◌, Option, MatchOption, Contains}
+use Rattle.std.specs.Prelude.{◌≡◌, ℕ, List, [], ◌∷◌, ◌++◌, Option, MatchOption, Contains}
 use Rattle.swreq_param.specs.declared.ids.AssocId.{AssocId}
 use Rattle.swreq_param.specs.declared.ids.NameId.{NameId}
-use Rattle.swreq_param.specs.declared.ids.ProtoId.{ProtoId}
 use Rattle.swreq_param.specs.declared.ids.Step.TheVariants.{Bound, Name}
 use Rattle.swreq_param.specs.declared.ids.TermId.{TermId}
 use Rattle.swreq_param.specs.Tables.{IsOf, term_at}

@@ -26,7 +26,7 @@ use swreq_derive::{Params, Requirement};
 use swreq_homotopy::laws::evidence_links;
 use swreq_homotopy::redundant;
 use swreq_loops::loop_of_pair;
-use swreq_pair::pairs_up_to;
+use swreq_pair::{Pair, pairs_up_to};
 use swreq_param::ParamTable;
 use swreq_path::Loop;
 use swreq_rule::{Birth, Place, Rule};
@@ -150,6 +150,46 @@ fn add_loop(
     }
 }
 
+/// Whether a loop of the pair may show the last rule: one of its two sides begins with the left side of that rule, or that rule is one of
+/// the two and leads to the whole of a side. Only time rests on it.
+fn may_show(rules: &[Rule], pair: &Pair) -> bool {
+    let (left, right) = (pair.left.symbols(), pair.right.symbols());
+    match rules.last() {
+        None => false,
+        Some(last) => {
+            let start = last.left.symbols();
+            let end = last.right.symbols();
+            left.starts_with(start)
+                || right.starts_with(start)
+                || (is_of_last(rules, pair.place) && (left == end || right == end))
+        }
+    }
+}
+
+/// Whether the last rule is one of the two at the place.
+fn is_of_last(rules: &[Rule], place: Place) -> bool {
+    place.i as usize == rules.len() || place.j as usize == rules.len()
+}
+
+/// Adds the loop of the pair, if it may show the last rule, and its two sides reduce to one word.
+fn add_pair(
+    alloc: Global,
+    rules: &[Rule],
+    pair: &Pair,
+    loops: &mut Vec<Loop>,
+) -> Result<(), AllocError>
+    requires few { length rules.now < 2 ^ 32 - 1 }
+    requires pair { HasPair rules.now pair.now.place }
+    requires loops { AreLoops rules.now loops.old.items }
+    ensures { OnOk result (AreLoops rules.now loops.new.items) }
+{
+    if may_show(rules, pair) {
+        add_loop(alloc, rules, pair.place, loops)
+    } else {
+        Ok(())
+    }
+}
+
 /// Puts a loop last.
 fn put_loop(loops: &mut Vec<Loop>, round: Loop) -> Result<(), AllocError>
     ensures { OnOk result (loops.new.items ≡ loops.old.items ++ round ∷ []) }
@@ -160,7 +200,7 @@ fn put_loop(loops: &mut Vec<Loop>, round: Loop) -> Result<(), AllocError>
     }
 }
 
-/// Adds the loops of the pairs of the rule with this number with itself and with the rules before it.
+/// Adds those loops of the pairs of the rule with this number with itself and with the rules before it that may show the last rule.
 fn add_loops(
     alloc: Global,
     rules: &[Rule],
@@ -174,13 +214,12 @@ fn add_loops(
 {
     let pairs = pairs_up_to(alloc, rules, number)?;
     for k in 0..pairs.len() {
-        let pair = &pairs[k];
-        add_loop(alloc, rules, pair.place, loops)?;
+        add_pair(alloc, rules, &pairs[k], loops)?;
     }
     Ok(())
 }
 
-/// The loops of the pairs of which one rule stands from this place on.
+/// Of the pairs of which one rule stands from this place on, the loops that may show the last rule.
 fn loops_from(alloc: Global, rules: &[Rule], from: usize) -> Result<Vec<Loop>, AllocError>
     requires few { length rules.now < 2 ^ 32 - 1 }
     ensures { IfOk result (λ v. AreLoops rules.now v.items) }

@@ -1,5 +1,5 @@
 //! The generators among candidates, and what is left of them.
-ghost use Rattle.std.specs.Prelude.{◌≡◌, ◌↔◌, ◌<◌, ◌≤◌, [], ◌∷◌, ◌++◌, List, length, insert, remove, IfErr, IfOk, IsTrue, OnOk};
+ghost use Rattle.std.specs.Prelude.{◌≡◌, ◌↔◌, ◌<◌, ◌≤◌, [], ◌∷◌, ◌++◌, List, length, insert, remove, IfErr, IfOk, IfSome, IsTrue, OnOk};
 ghost use Rattle.swreq_derive.specs.Derivation.{Derivable, TermRequirement};
 ghost use Rattle.swreq_derive.specs.Derivation.Source.{Written};
 ghost use Rattle.swreq_derive.specs.Derivation.TermStatement.{Requires};
@@ -14,6 +14,7 @@ ghost use Rattle.swreq_world.specs.ByTable.{world_by};
 ghost use Rattle.swreq_valid.specs.Machines.{AreRulesOf, list_of};
 ghost use Rattle.swreq_valid.specs.Plans.{AreKnown, listed};
 ghost use Rattle.swreq_valid.specs.Rounds.{last_rules};
+ghost use Rattle.swreq_minimal.specs.Built.{IsBuiltFor};
 ghost use Rattle.swreq_minimal.specs.Inheritance.{IsInheritanceWritten};
 ghost use Rattle.swreq_minimal.specs.Passed.{IsLeftWithout, IsPassed, IsSifted, IsTakenBefore};
 ghost use Rattle.swreq_minimal.specs.Told.{TellsFailure, TellsParts};
@@ -24,7 +25,7 @@ use std::alloc::Global;
 use swreq_complete::{Failed, Limits};
 use swreq_derive::{Params, Requirement};
 use swreq_param::ParamTable;
-use swreq_valid::{Protocols, core};
+use swreq_valid::{Machine, Protocols, core};
 use swreq_watch::Watch;
 use swreq_world::World;
 
@@ -111,7 +112,40 @@ fn put(list: &mut Vec<Requirement>, r: Requirement) -> Result<(), Failed>
     }
 }
 
-/// Takes a candidate, unless it is derivable from those that were taken before.
+/// The machine of a list: the one that is there, or else one that is built.
+fn machine_for<W: Watch>(
+    alloc: Global,
+    world: &World,
+    table: &ParamTable,
+    protocols: &Protocols,
+    params: Params,
+    list: &[Requirement],
+    built: Option<Machine>,
+    limits: Limits,
+    watch: &mut W,
+) -> Result<Machine, Failed>
+    requires text { IsTextOver table.now world.now }
+    requires protocols { AreRulesOf (world_by table.now world.now) (last_rules protocols.now.rounds) }
+    requires list { AreKnown table.now world.now.lexicon list.now }
+    requires built { IfSome built (IsBuiltFor (world_by table.now world.now) params (listed table.now list.now)) }
+    requires limits { AreInRange limits }
+    ensures machine { IfOk result (IsBuiltFor (world_by table.now world.now) params (listed table.now list.now)) }
+    ensures told { IfOk result (λ _. TellsParts limits (list_of (world_by table.now world.now) (last_rules protocols.now.rounds) params)
+        (λ l. l ≡ listed table.now list.now) (W.told watch.old) (W.told watch.new)) }
+    ensures failed { IfErr result (TellsFailure limits (list_of (world_by table.now world.now) (last_rules protocols.now.rounds) params)
+        (λ l. l ≡ listed table.now list.now) (W.told watch.old) (W.told watch.new)) }
+{
+    match built {
+        Some(machine) => Ok(machine),
+        None => match core(alloc, world, table, protocols, params, list, limits, watch) {
+            Ok(machine) => Ok(machine),
+            Err(failed) => Err(failed),
+        },
+    }
+}
+
+/// Takes a candidate, unless it is derivable from those that were taken before. The machine of these is given where it is there, and is
+/// handed back while it is still theirs.
 fn take<W: Watch>(
     alloc: Global,
     world: &World,
@@ -119,13 +153,15 @@ fn take<W: Watch>(
     protocols: &Protocols,
     params: Params,
     taken: &mut Vec<Requirement>,
+    built: Option<Machine>,
     candidate: Requirement,
     limits: Limits,
     watch: &mut W,
-) -> Result<(), Failed>
+) -> Result<Option<Machine>, Failed>
     requires text { IsTextOver table.now world.now }
     requires protocols { AreRulesOf (world_by table.now world.now) (last_rules protocols.now.rounds) }
     requires taken { AreKnown table.now world.now.lexicon taken.old.items }
+    requires built { IfSome built (IsBuiltFor (world_by table.now world.now) params (listed table.now taken.old.items)) }
     requires candidate { IsRequirementIn table.now world.now.lexicon candidate }
     requires limits { AreInRange limits }
     ensures takes { OnOk result ((before : List TermRequirement)
@@ -133,21 +169,29 @@ fn take<W: Watch>(
         → Takes (facts_of (world_by table.now world.now)) (generic_params params) [] (before ++ requirement_of table.now candidate ∷ [])
         (listed table.now taken.new.items)) }
     ensures known { OnOk result (AreKnown table.now world.now.lexicon taken.new.items) }
+    ensures built { IfOk result (λ built. IfSome built (IsBuiltFor (world_by table.now world.now) params (listed table.now taken.new.items))) }
     ensures told { OnOk result (TellsParts limits (list_of (world_by table.now world.now) (last_rules protocols.now.rounds) params)
         (λ l. l ≡ listed table.now taken.old.items) (W.told watch.old) (W.told watch.new)) }
     ensures failed { IfErr result (TellsFailure limits (list_of (world_by table.now world.now) (last_rules protocols.now.rounds) params)
         (λ l. l ≡ listed table.now taken.old.items) (W.told watch.old) (W.told watch.new)) }
 {
-    let derivable = match is_derivable(
-        alloc, world, table, protocols, params, taken, candidate, limits, watch,
+    let machine = match machine_for(
+        alloc, world, table, protocols, params, taken, built, limits, watch,
     ) {
-        Ok(derivable) => derivable,
+        Ok(machine) => machine,
         Err(failed) => return Err(failed),
     };
+    let derivable = match holds(alloc, world, table, &machine, candidate) {
+        Ok(derivable) => derivable,
+        Err(_) => return Err(Failed::Memory),
+    };
     if derivable {
-        return Ok(());
+        return Ok(Some(machine));
     }
-    put(taken, candidate)
+    match put(taken, candidate) {
+        Ok(()) => Ok(None),
+        Err(failed) => Err(failed),
+    }
 }
 
 /// Those of the candidates, in order, that are not derivable from those that were taken before them.
@@ -176,6 +220,7 @@ fn generators<W: Watch>(
         (W.told watch.old) (W.told watch.new)) }
 {
     let mut taken: Vec<Requirement> = Vec::new(alloc);
+    let mut built: Option<Machine> = None;
     for k in 0..candidates.len() {
         match take(
             alloc,
@@ -184,11 +229,12 @@ fn generators<W: Watch>(
             protocols,
             params,
             &mut taken,
+            built,
             candidates[k],
             limits,
             watch,
         ) {
-            Ok(()) => {}
+            Ok(left) => built = left,
             Err(failed) => return Err(failed),
         }
     }

@@ -1,11 +1,10 @@
-use Rattle.std.proofs.Common.{◌≡◌, subst, sym, length, List}
+use Rattle.std.proofs.Common.{subst, sym, length, List}
 use Rattle.std.proofs.lemmas.Result.{IfOk-weaker}
 use Rattle.swreq_derive.specs.declared.known.Params.{Params}
 use Rattle.swreq_rule.specs.declared.rules.Rule.{Rule}
 use Rattle.swreq_complete.specs.Reduced.{IsReducedSystem}
 use Rattle.swreq_shown.specs.Vanishing.{Links}
 use Rattle.swreq_valid.specs.Plans.{listed}
-use Rattle.swreq_valid.specs.Rounds.{last_rules}
 use Rattle.swreq_world.specs.ByTable.{world_by}
 use Rattle.swreq_minimal.specs.Sorted.{IsSaidList}
 use Rattle.swreq_minimal.proofs.Collecting.{are_candidates}

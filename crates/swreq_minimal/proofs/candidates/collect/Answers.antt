@@ -1,4 +1,4 @@
-use Rattle.std.proofs.Common.{◌≡◌, ◌<◌, ap, arith, length, Contains, subst, refl}
+use Rattle.std.proofs.Common.{◌≡◌, ap, arith, length, Contains, subst, refl}
 use Rattle.std.proofs.lemmas.Option.{slice_get_read}
 use Rattle.swreq_param.proofs.Growing.{onward, unchanged}
 use Rattle.swreq_derive.proofs.Members.{no_member}

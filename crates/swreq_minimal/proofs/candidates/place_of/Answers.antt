@@ -1,4 +1,4 @@
-use Rattle.std.proofs.Common.{◌≡◌, length, take, get_or, refl, subst, arith, Contains}
+use Rattle.std.proofs.Common.{length, get_or, refl, subst, Contains}
 use Rattle.std.proofs.lemmas.List.Elements.{Contains-get_or}
 use Rattle.swreq_valid.specs.Plans.{listed}
 use Rattle.swreq_minimal.proofs.Inserting.{any, belongs_here, belongs_last, in_listed, none_more, nothing_yet}

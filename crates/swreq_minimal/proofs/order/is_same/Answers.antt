@@ -1,4 +1,4 @@
-use Rattle.std.proofs.Common.{◌≡◌, ap}
+use Rattle.std.proofs.Common.{ap}
 use Rattle.std.proofs.lemmas.Bool.Decides.{Decides-at}
 use Rattle.swreq_derive.specs.contracts.requirements.RequirementPartialEq.TheImpl.{eq-value}
 use Rattle.swreq_derive.specs.Facts.{requirement_of}

@@ -1,4 +1,4 @@
-use Rattle.std.proofs.Common.{◌≡◌, ◌∙◌, [], ap, sym, subst, take, get_or, length, Contains, List, arith}
+use Rattle.std.proofs.Common.{◌≡◌, [], sym, subst, take, get_or, Contains}
 use Rattle.std.proofs.lemmas.List.{take_all}
 use Rattle.std.proofs.lemmas.List.Elements.{Contains-get_or}
 use Rattle.swreq_derive.specs.Facts.{generic_params}
@@ -19,6 +19,7 @@ use Rattle.swreq_minimal.proofs.sifting.generators.Goals as goal
 pub loop-k-init : goal.loop-k-init
 loop-k-init g c = record {
   takes = subst (λ z. Takes (facts_of (world_by c.args.table.now c.args.world.now)) (generic_params c.args.params) [] [] (listed c.args.table.now z)) (sym c.new-taken.ensures.items) ended;
+  built = tt;
   known = λ r h. no_member r (subst (λ z. Contains z r) c.new-taken.ensures.items h);
   told = tells_none c.args.limits (list_of (world_by c.args.table.now c.args.world.now) (last_rules c.args.protocols.now.rounds) c.args.params)
       (IsTakenBefore (facts_of (world_by c.args.table.now c.args.world.now)) (generic_params c.args.params) (listed c.args.table.now c.args.candidates.now)) (g.W.Watch.told c.args.watch.now);
@@ -53,6 +54,7 @@ loop-k-preserved g c =
       takes = next_taken f ps terms c.args.candidates.now c.loop-k.k any c.loop-k-test.true (listed terms c.take.new.taken.items)
           (c.in-Ok.ensures.takes (listed terms (take c.loop-k.k c.args.candidates.now)) c.loop-k.invariant.takes);
       known = c.in-Ok.ensures.known;
+      built = c.in-Ok.ensures.built;
       told = tells_on c.args.limits plan P (g.W.Watch.told c.args.watch.now) (g.W.Watch.told c.loop-k.watch) (g.W.Watch.told c.take.new.watch) c.loop-k.invariant.told
           (tells_of c.args.limits plan (λ l. l ≡ out) P
           (λ l e. subst P (sym e) (taken_before f ps terms c.args.candidates.now c.loop-k.k any c.loop-k-test.true out c.loop-k.invariant.takes))

@@ -1,4 +1,4 @@
-use Rattle.std.proofs.Common.{[], take}
+use Rattle.std.proofs.Common.{[], IfSome, take}
 use Rattle.swreq_derive.specs.Facts.{generic_params}
 use Rattle.swreq_canonical.specs.Generators.{Takes}
 use Rattle.swreq_shown.specs.Meaning.{facts_of}
@@ -6,6 +6,7 @@ use Rattle.swreq_world.specs.ByTable.{world_by}
 use Rattle.swreq_valid.specs.Machines.{list_of}
 use Rattle.swreq_valid.specs.Plans.{AreKnown, listed}
 use Rattle.swreq_valid.specs.Rounds.{last_rules}
+use Rattle.swreq_minimal.specs.Built.{IsBuiltFor}
 use Rattle.swreq_minimal.specs.Passed.{IsTakenBefore}
 use Rattle.swreq_minimal.specs.Told.{TellsParts}
 use Rattle.swreq_minimal.proofs.sifting.generators.Given as goal
@@ -14,6 +15,7 @@ abbrev pub invariant-loop-k : goal.invariant-loop-k
 invariant-loop-k g l = record {
   takes : Takes (facts_of (world_by l.table l.world)) (generic_params l.params) [] (listed l.table (take l.k l.candidates)) (listed l.table l.taken.items);
   known : AreKnown l.table l.world.lexicon l.taken.items;
+  built : IfSome l.built (IsBuiltFor (world_by l.table l.world) l.params (listed l.table l.taken.items));
   told : TellsParts l.limits (list_of (world_by l.table l.world) (last_rules l.protocols.rounds) l.params)
       (IsTakenBefore (facts_of (world_by l.table l.world)) (generic_params l.params) (listed l.table l.candidates)) (g.W.Watch.told l.initial.watch) (g.W.Watch.told l.watch);
 }

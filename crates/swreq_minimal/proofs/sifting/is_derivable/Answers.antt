@@ -1,4 +1,4 @@
-use Rattle.std.proofs.Common.{◌≡◌, ◌↔◌, subst, List}
+use Rattle.std.proofs.Common.{◌≡◌, ◌↔◌, subst}
 use Rattle.std.specs.Bool.{IsTrue}
 use Rattle.swreq_derive.specs.declared.known.Params.{Params}
 use Rattle.swreq_derive.specs.Derivation.{Derivable}

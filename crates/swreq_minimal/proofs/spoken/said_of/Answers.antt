@@ -1,5 +1,4 @@
 use Rattle.std.proofs.lemmas.Result.{IfOk-weaker}
-use Rattle.swreq_param.proofs.Growing.{unchanged}
 use Rattle.swreq_minimal.proofs.Speaking.{property_said, same_said}
 use Rattle.swreq_minimal.proofs.spoken.said_of.Goals as goal
 

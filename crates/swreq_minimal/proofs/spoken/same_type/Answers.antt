@@ -1,5 +1,4 @@
-use Rattle.std.proofs.Common.{◌≡◌, refl, subst}
-use Rattle.std.specs.Bool.{IsTrue}
+use Rattle.std.proofs.Common.{◌≡◌, refl}
 use Rattle.std.proofs.lemmas.Bool.Decides.{Decides-at}
 use Rattle.swreq_minimal.proofs.Equal.{ids_decide}
 use Rattle.swreq_param.specs.contracts.ids.TermIdPartialEq.TheImpl.{eq-value}

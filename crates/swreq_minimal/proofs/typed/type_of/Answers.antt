@@ -1,4 +1,4 @@
-use Rattle.std.proofs.Common.{◌≡◌, ◌<◌, ◌≤◌, ◌+◌, ◌++◌, ◌∷◌, [], arith, length, take, get_or, vec_capacity, subst, sym, rules, length-take-le, IfOk, Some, None, MatchOption, Option}
+use Rattle.std.proofs.Common.{◌≤◌, ◌+◌, arith, length, take, vec_capacity, subst, sym, rules, length-take-le}
 use Rattle.std.proofs.lemmas.List.{take_all}
 use Rattle.swreq_param.proofs.Growing.{onward, unchanged}
 use Rattle.swreq_word.specs.declared.symbols.Symbol.TheVariants.{Proto}
