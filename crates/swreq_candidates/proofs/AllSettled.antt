@@ -18,12 +18,12 @@ use Rattle.swreq_derive.specs.Reduced.{IsReduced}
 use Rattle.swreq_word.specs.declared.symbols.Symbol.{Symbol}
 use Rattle.swreq_word.specs.declared.symbols.Symbol.TheVariants.{Member as MemberSymbol, Param as ParamSymbol}
 use Rattle.swreq_word.proofs.Chains.{joined}
-use Rattle.swreq_reading.specs.Equations.{UsableEquation}
-use Rattle.swreq_reading.specs.Readings.{CanRead}
-use Rattle.swreq_reading.specs.Symbols.{AreOfText, AreSymbolsOf, IsInText, Symbols, Word, name_of}
-use Rattle.swreq_reading.specs.Types.{AreRanked, HasFirsts, IsFirstFor}
-use Rattle.swreq_reading.proofs.Chained.{turn_all}
-use Rattle.swreq_reading.proofs.Readings.{sides_of, valid_bound}
+use Rattle.swreq_correspondence.specs.Equations.{UsableEquation}
+use Rattle.swreq_correspondence.specs.Readings.{CanRead}
+use Rattle.swreq_correspondence.specs.Symbols.{AreOfText, AreSymbolsOf, IsInText, Symbols, Word, name_of}
+use Rattle.swreq_correspondence.specs.Types.{AreRanked, HasFirsts, IsFirstFor}
+use Rattle.swreq_correspondence.proofs.Chained.{turn_all}
+use Rattle.swreq_correspondence.proofs.Readings.{sides_of, valid_bound}
 use Rattle.swreq_canonical.specs.Canonical.{IsCanonical, principal}
 use Rattle.swreq_canonical.specs.Generators.{Follows, IsEarlier, IsGenerator}
 use Rattle.swreq_canonical.proofs.Following.{by_one, by_two, wider}

@@ -16,16 +16,16 @@ use Rattle.swreq_word.specs.declared.symbols.Symbol.{Symbol}
 use Rattle.swreq_word.specs.declared.symbols.Symbol.TheVariants.{Layout as LayoutSymbol, Member as MemberSymbol, Name as NameSymbol, Param as ParamSymbol, Proto as ProtoSymbol}
 use Rattle.swreq_word.specs.Relations.Chain.{done, more}
 use Rattle.swreq_word.proofs.Chains.{at_once, joined}
-use Rattle.swreq_reading.specs.Equations.{AreCongruent, Equation, Gives, Link, UsableIn, UsableOf}
-use Rattle.swreq_reading.specs.Equations.Equation.{member, of_protocol, of_source, twice}
-use Rattle.swreq_reading.specs.Equations.Link.{back, forth, there}
-use Rattle.swreq_reading.specs.Readings.{CanRead, HasName, after, first}
-use Rattle.swreq_reading.specs.Symbols.{AreSymbolsOf, IsRank, Symbols, Word, left_side, name_of, proto_of, right_side, spell, steps}
-use Rattle.swreq_reading.proofs.Chained.{conf_link, layout_link, same_link, turn}
-use Rattle.swreq_reading.proofs.Correspondence.{own, read, root_param, self_conforms, valid_first}
-use Rattle.swreq_reading.proofs.Links.{of_self}
-use Rattle.swreq_reading.proofs.Readings.{unbound, valid_after}
-use Rattle.swreq_reading.proofs.Spelling.{spell-append}
+use Rattle.swreq_correspondence.specs.Equations.{AreCongruent, Equation, Gives, Link, UsableIn, UsableOf}
+use Rattle.swreq_correspondence.specs.Equations.Equation.{member, of_protocol, of_source, twice}
+use Rattle.swreq_correspondence.specs.Equations.Link.{back, forth, there}
+use Rattle.swreq_correspondence.specs.Readings.{CanRead, HasName, after, first}
+use Rattle.swreq_correspondence.specs.Symbols.{AreSymbolsOf, IsRank, Symbols, Word, left_side, name_of, proto_of, right_side, spell, steps}
+use Rattle.swreq_correspondence.proofs.Chained.{conf_link, layout_link, same_link, turn}
+use Rattle.swreq_correspondence.proofs.Correspondence.{own, read, root_param, self_conforms, valid_first}
+use Rattle.swreq_correspondence.proofs.Links.{of_self}
+use Rattle.swreq_correspondence.proofs.Readings.{unbound, valid_after}
+use Rattle.swreq_correspondence.proofs.Spelling.{spell-append}
 use Rattle.swreq_candidates.specs.Blocks.{AreMembersNamed, Cut, GoesOn, Place, blocks, current, over}
 use Rattle.swreq_candidates.specs.Blocks.Cut.{alone, on, opened}
 use Rattle.swreq_candidates.specs.Blocks.Place.{Inside, Outside}

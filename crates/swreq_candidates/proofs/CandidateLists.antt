@@ -23,14 +23,14 @@ use Rattle.swreq_word.proofs.Comparing.{not_below_itself, trichotomy}
 use Rattle.swreq_word.proofs.LeastWords.{one_least}
 use Rattle.swreq_rule.specs.declared.rules.Rule.{Rule}
 use Rattle.swreq_complete.specs.Reduced.{IsReducedSystem}
-use Rattle.swreq_reading.specs.Equations.{AreCongruent}
-use Rattle.swreq_reading.specs.Readings.{CanReadAll, HasName, HasReading, after, first}
-use Rattle.swreq_reading.specs.Symbols.{Symbols, Word, name_of}
-use Rattle.swreq_reading.specs.Types.{IsTypeOf}
-use Rattle.swreq_reading.proofs.Chained.{turn_all}
-use Rattle.swreq_reading.proofs.OneType.{one_param, one_type}
-use Rattle.swreq_reading.proofs.Orders.{has_type}
-use Rattle.swreq_reading.proofs.Readings.{sides_of, valid_base, valid_generic}
+use Rattle.swreq_correspondence.specs.Equations.{AreCongruent}
+use Rattle.swreq_correspondence.specs.Readings.{CanReadAll, HasName, HasReading, after, first}
+use Rattle.swreq_correspondence.specs.Symbols.{Symbols, Word, name_of}
+use Rattle.swreq_correspondence.specs.Types.{IsTypeOf}
+use Rattle.swreq_correspondence.proofs.Chained.{turn_all}
+use Rattle.swreq_correspondence.proofs.OneType.{one_param, one_type}
+use Rattle.swreq_correspondence.proofs.Orders.{has_type}
+use Rattle.swreq_correspondence.proofs.Readings.{sides_of, valid_base, valid_generic}
 use Rattle.swreq_canonical.proofs.ReducedLemmas.{same_or_not}
 use Rattle.swreq_canonical.proofs.Sorting.{some_sorted}
 use Rattle.swreq_rounds.proofs.Presented.{contains_get, get_contains}

@@ -9,10 +9,10 @@ use Rattle.swreq_derive.specs.Derivation.TermStatement.{Requires}
 use Rattle.swreq_derive.specs.Equivalence.{AreEquivalent}
 use Rattle.swreq_word.specs.declared.symbols.Symbol.{Symbol}
 use Rattle.swreq_word.specs.declared.symbols.Symbol.TheVariants.{Layout as LayoutSymbol, Member as MemberSymbol, Name as NameSymbol, Param as ParamSymbol, Proto as ProtoSymbol}
-use Rattle.swreq_reading.specs.Readings.{CanRead, after, first}
-use Rattle.swreq_reading.specs.Symbols.{IsOfText, Symbols, Word}
-use Rattle.swreq_reading.specs.Types.{HasFirsts}
-use Rattle.swreq_reading.proofs.Chained.{self_in_range}
+use Rattle.swreq_correspondence.specs.Readings.{CanRead, after, first}
+use Rattle.swreq_correspondence.specs.Symbols.{IsOfText, Symbols, Word}
+use Rattle.swreq_correspondence.specs.Types.{HasFirsts}
+use Rattle.swreq_correspondence.proofs.Chained.{self_in_range}
 use Rattle.swreq_canonical.specs.Canonical.{HasReducedTypes, IsCanonical, principal}
 use Rattle.swreq_canonical.specs.Generators.{AreDecided, AreEnough, AreGeneratorsTold, Follows, IsGenerator, IsGeneratorList, Takes}
 use Rattle.swreq_canonical.specs.Minimised.{IsMinimised, Leaves}

@@ -6,8 +6,8 @@ use Rattle.swreq_derive.specs.Derivation.{Source, TermFacts, TermRequirement}
 use Rattle.swreq_derive.specs.Derivation.Source.{Written}
 use Rattle.swreq_word.specs.Relations.Chain.{done}
 use Rattle.swreq_word.proofs.Chains.{joined}
-use Rattle.swreq_reading.specs.Equations.{AreCongruent, Linking, UsableEquation}
-use Rattle.swreq_reading.specs.Symbols.{AreSymbolsOf, Symbols, Word}
+use Rattle.swreq_correspondence.specs.Equations.{AreCongruent, Linking, UsableEquation}
+use Rattle.swreq_correspondence.specs.Symbols.{AreSymbolsOf, Symbols, Word}
 use Rattle.swreq_candidates.specs.Blocks.{AreMembersNamed, Cut, Place, blocks, current, joined_words}
 use Rattle.swreq_candidates.specs.Blocks.Cut.{alone, at_end, on, opened}
 use Rattle.swreq_candidates.specs.Blocks.Place.{Outside}

@@ -16,16 +16,16 @@ use Rattle.swreq_word.specs.declared.symbols.Symbol.{Symbol}
 use Rattle.swreq_word.specs.declared.symbols.Symbol.TheVariants.{Layout as LayoutSymbol, Member as MemberSymbol, Name as NameSymbol, Param as ParamSymbol, Proto as ProtoSymbol}
 use Rattle.swreq_word.proofs.Chains.{joined}
 use Rattle.swreq_word.proofs.Comparing.{trichotomy}
-use Rattle.swreq_reading.specs.Equations.{Linking, UsableEquation}
-use Rattle.swreq_reading.specs.Equations.Equation.{member, of_protocol, of_source, twice}
-use Rattle.swreq_reading.specs.Readings.{CanRead, HasName}
-use Rattle.swreq_reading.specs.Symbols.{AreOfText, AreSymbolsOf, IsInText, IsOfText, Symbols, Word, left_side, name_of, proto_of, right_side, spell}
-use Rattle.swreq_reading.specs.Types.{HasFirsts}
-use Rattle.swreq_reading.proofs.Chained.{turn_all}
-use Rattle.swreq_reading.proofs.Correspondence.{conforming_words, equal_words, layout_words}
-use Rattle.swreq_reading.proofs.Orders.{none_less}
-use Rattle.swreq_reading.proofs.Readings.{sides_of, valid_base, valid_bound, valid_generic, valid_name}
-use Rattle.swreq_reading.proofs.Shown.{linking_to}
+use Rattle.swreq_correspondence.specs.Equations.{Linking, UsableEquation}
+use Rattle.swreq_correspondence.specs.Equations.Equation.{member, of_protocol, of_source, twice}
+use Rattle.swreq_correspondence.specs.Readings.{CanRead, HasName}
+use Rattle.swreq_correspondence.specs.Symbols.{AreOfText, AreSymbolsOf, IsInText, IsOfText, Symbols, Word, left_side, name_of, proto_of, right_side, spell}
+use Rattle.swreq_correspondence.specs.Types.{HasFirsts}
+use Rattle.swreq_correspondence.proofs.Chained.{turn_all}
+use Rattle.swreq_correspondence.proofs.Correspondence.{conforming_words, equal_words, layout_words}
+use Rattle.swreq_correspondence.proofs.Orders.{none_less}
+use Rattle.swreq_correspondence.proofs.Readings.{sides_of, valid_base, valid_bound, valid_generic, valid_name}
+use Rattle.swreq_correspondence.proofs.Shown.{linking_to}
 use Rattle.swreq_rounds.specs.Presents.{ProtocolEquation}
 use Rattle.swreq_candidates.specs.Completed.{HasLeastWords}
 use Rattle.swreq_candidates.proofs.Searches.{assocs_decided, both_decided, least_member, names_decided, params_decided, some_member}

@@ -17,10 +17,10 @@ use Rattle.std.specs.Ordering.{nat_cmp}
 use Rattle.swreq_word.specs.Relations.Chain.{done, more}
 use Rattle.swreq_word.proofs.Comparing.{less_cases}
 use Rattle.swreq_word.proofs.LeastWords.{each_by_ends}
-use Rattle.swreq_reading.specs.Equations.{AreCongruent, Equation, Link, Linking, UsableIn, UsableOf}
-use Rattle.swreq_reading.specs.Equations.Equation.{member, of_protocol, of_source, twice}
-use Rattle.swreq_reading.specs.Equations.Link.{back, forth, there}
-use Rattle.swreq_reading.specs.Symbols.{Symbols, Word, proto_of}
+use Rattle.swreq_correspondence.specs.Equations.{AreCongruent, Equation, Link, Linking, UsableIn, UsableOf}
+use Rattle.swreq_correspondence.specs.Equations.Equation.{member, of_protocol, of_source, twice}
+use Rattle.swreq_correspondence.specs.Equations.Link.{back, forth, there}
+use Rattle.swreq_correspondence.specs.Symbols.{Symbols, Word, proto_of}
 use Rattle.swreq_candidates.proofs.LessParts.{less_at, nothing_less}
 use Rattle.swreq_candidates.proofs.Longer.{factor_least, least_by_none}
 

@@ -18,13 +18,13 @@ use Rattle.swreq_word.specs.Relations.Linked.{here as no_step, forth as step_for
 use Rattle.swreq_word.proofs.Chains.{at_once, joined}
 use Rattle.swreq_rule.specs.declared.rules.Rule.{Rule}
 use Rattle.swreq_rule.specs.Steps.{Step}
-use Rattle.swreq_reading.specs.Equations.{AreCongruent, Link, Linking, UsableEquation}
-use Rattle.swreq_reading.specs.Equations.Equation.{member, of_protocol, of_source, twice}
-use Rattle.swreq_reading.specs.Equations.Link.{back, forth, there}
-use Rattle.swreq_reading.specs.Symbols.{AreOfText, AreSymbolsOf, IsInText, Symbols, Word, left_side, right_side}
-use Rattle.swreq_reading.proofs.Chained.{chained_usable, turn, turn_all}
-use Rattle.swreq_reading.proofs.Correspondence.{conforming_words, equal_words, layout_words}
-use Rattle.swreq_reading.proofs.Shown.{linking_to}
+use Rattle.swreq_correspondence.specs.Equations.{AreCongruent, Link, Linking, UsableEquation}
+use Rattle.swreq_correspondence.specs.Equations.Equation.{member, of_protocol, of_source, twice}
+use Rattle.swreq_correspondence.specs.Equations.Link.{back, forth, there}
+use Rattle.swreq_correspondence.specs.Symbols.{AreOfText, AreSymbolsOf, IsInText, Symbols, Word, left_side, right_side}
+use Rattle.swreq_correspondence.proofs.Chained.{chained_usable, turn, turn_all}
+use Rattle.swreq_correspondence.proofs.Correspondence.{conforming_words, equal_words, layout_words}
+use Rattle.swreq_correspondence.proofs.Shown.{linking_to}
 use Rattle.swreq_rounds.specs.Presents.{ProtocolEquation}
 use Rattle.swreq_canonical.specs.Canonical.{IsCanonical, principal}
 use Rattle.swreq_canonical.specs.CanonicalOrder.{IsStrictlySorted, RequirementBefore}

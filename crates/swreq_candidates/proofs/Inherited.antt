@@ -8,7 +8,7 @@ use Rattle.swreq_derive.specs.Derivation.TermRequirement.{Conforms}
 use Rattle.swreq_derive.specs.Derivation.TermStatement.{Requires}
 use Rattle.swreq_derive.specs.Inheritance.{LeadsTo}
 use Rattle.swreq_derive.specs.Inheritance.LeadsTo.{further, here}
-use Rattle.swreq_reading.specs.Symbols.{Symbols}
+use Rattle.swreq_correspondence.specs.Symbols.{Symbols}
 use Rattle.swreq_candidates.specs.Blocks.{AreMembersDeclared, AreMembersNamed}
 
 pub reached : {f : TermFacts} {s : Source} {t : Term} {p q : ProtoId} → Derivable f s (Requires (Conforms t q)) → LeadsTo f q p

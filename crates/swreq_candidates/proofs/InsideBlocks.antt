@@ -10,11 +10,11 @@ use Rattle.swreq_derive.specs.Derivation.TermStatement.{Requires}
 use Rattle.swreq_word.specs.declared.symbols.Symbol.{Symbol}
 use Rattle.swreq_word.specs.Relations.Chain.{done, more}
 use Rattle.swreq_word.proofs.Chains.{joined}
-use Rattle.swreq_reading.specs.Equations.{AreCongruent}
-use Rattle.swreq_reading.specs.Readings.{CanRead, CanReadAll, after}
-use Rattle.swreq_reading.specs.Symbols.{Symbols, Word, steps, symbol}
-use Rattle.swreq_reading.proofs.Chained.{behind}
-use Rattle.swreq_reading.proofs.Readings.{read_same, rest_is_read, unbound}
+use Rattle.swreq_correspondence.specs.Equations.{AreCongruent}
+use Rattle.swreq_correspondence.specs.Readings.{CanRead, CanReadAll, after}
+use Rattle.swreq_correspondence.specs.Symbols.{Symbols, Word, steps, symbol}
+use Rattle.swreq_correspondence.proofs.Chained.{behind}
+use Rattle.swreq_correspondence.proofs.Readings.{read_same, rest_is_read, unbound}
 use Rattle.swreq_candidates.specs.Blocks.{Cut, Place, blocks, current}
 use Rattle.swreq_candidates.specs.Blocks.Cut.{alone, at_end, on, opened}
 use Rattle.swreq_candidates.specs.Blocks.Place.{Inside}

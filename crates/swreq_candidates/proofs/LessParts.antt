@@ -8,7 +8,7 @@ use Rattle.swreq_word.specs.declared.symbols.Symbol.{Symbol}
 use Rattle.swreq_word.specs.Order.{WordLess, symbol_cmp}
 use Rattle.swreq_word.specs.OrderLaws.{symbol_exact, symbol_total, then_less}
 use Rattle.swreq_word.proofs.Comparing.{by_length, by_symbols, less_cases}
-use Rattle.swreq_reading.specs.Symbols.{Word}
+use Rattle.swreq_correspondence.specs.Symbols.{Word}
 
 -- symbols from the left
 abbrev pub SymbolsLess : Word → Word → Type 0

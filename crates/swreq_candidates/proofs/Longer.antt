@@ -4,10 +4,10 @@ use Rattle.swreq_word.specs.Least.{IsLeast}
 use Rattle.swreq_word.specs.Order.{WordLess}
 use Rattle.swreq_word.specs.Relations.Chain.{done, more}
 use Rattle.swreq_word.proofs.Comparing.{less_in_context, trichotomy}
-use Rattle.swreq_reading.specs.Equations.{Link, Linking}
-use Rattle.swreq_reading.specs.Equations.Link.{back, forth, there}
-use Rattle.swreq_reading.specs.Symbols.{Word}
-use Rattle.swreq_reading.proofs.Orders.{none_less}
+use Rattle.swreq_correspondence.specs.Equations.{Link, Linking}
+use Rattle.swreq_correspondence.specs.Equations.Link.{back, forth, there}
+use Rattle.swreq_correspondence.specs.Symbols.{Word}
+use Rattle.swreq_correspondence.proofs.Orders.{none_less}
 
 module _ {E : Word → Word → Type 0} where
   link_after : (z : Word) {u v : Word} → Link E u v → Link E (u ++ z) (v ++ z)

@@ -7,9 +7,9 @@ use Rattle.swreq_derive.specs.Derivation.{Source, TermFacts, TermRequirement}
 use Rattle.swreq_derive.specs.Derivation.Source.{Written}
 use Rattle.swreq_word.specs.Least.{EachFactor, IsLeast, IsMinimal}
 use Rattle.swreq_word.specs.Order.{WordLess}
-use Rattle.swreq_reading.specs.Equations.{AreCongruent, UsableEquation}
-use Rattle.swreq_reading.specs.Symbols.{AreSymbolsOf, Symbols, Word}
-use Rattle.swreq_reading.proofs.Orders.{none_less}
+use Rattle.swreq_correspondence.specs.Equations.{AreCongruent, UsableEquation}
+use Rattle.swreq_correspondence.specs.Symbols.{AreSymbolsOf, Symbols, Word}
+use Rattle.swreq_correspondence.proofs.Orders.{none_less}
 use Rattle.swreq_candidates.specs.Blocks.{AreMembersNamed, Cut, Place, blocks, current, joined_words}
 use Rattle.swreq_candidates.specs.Blocks.Cut.{alone, at_end, on, opened}
 use Rattle.swreq_candidates.specs.Blocks.Place.{Outside}

@@ -17,9 +17,9 @@ use Rattle.swreq_derive.proofs.Substitution.{stands_for_self}
 use Rattle.swreq_word.specs.declared.symbols.Symbol.{Symbol}
 use Rattle.swreq_word.specs.declared.symbols.Symbol.TheVariants.{Layout as LayoutSymbol, Member as MemberSymbol, Name as NameSymbol, Param as ParamSymbol, Proto as ProtoSymbol}
 use Rattle.swreq_word.proofs.Cuts.{same_cut}
-use Rattle.swreq_reading.specs.Readings.{CanRead, CanReadAll, after, read_on}
-use Rattle.swreq_reading.specs.Symbols.{Symbols, Word, name_of, proto_of}
-use Rattle.swreq_reading.specs.Types.{BeginsAs, IsFirstFor, IsTypeOf}
+use Rattle.swreq_correspondence.specs.Readings.{CanRead, CanReadAll, after, read_on}
+use Rattle.swreq_correspondence.specs.Symbols.{Symbols, Word, name_of, proto_of}
+use Rattle.swreq_correspondence.specs.Types.{BeginsAs, IsFirstFor, IsTypeOf}
 use Rattle.swreq_canonical.specs.Generators.{Follows}
 use Rattle.swreq_canonical.proofs.Following.{by_one, by_two}
 use Rattle.swreq_canonical.proofs.ReducedLemmas.{base_reduced}

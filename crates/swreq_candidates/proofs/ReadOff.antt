@@ -17,15 +17,15 @@ use Rattle.swreq_word.specs.declared.symbols.Symbol.TheVariants.{Layout as Layou
 use Rattle.swreq_word.specs.Least.{IsLeast}
 use Rattle.swreq_word.proofs.Chains.{joined}
 use Rattle.swreq_word.proofs.Cuts.{same_cut}
-use Rattle.swreq_reading.specs.Equations.{AreCongruent}
-use Rattle.swreq_reading.specs.Readings.{CanRead, HasName, HasReading, after, first, reading}
-use Rattle.swreq_reading.specs.Symbols.{AreOfText, AreSymbolsOf, IsInText, Symbols, Word, spell}
-use Rattle.swreq_reading.specs.Types.{AreRanked, IsFirstFor, IsTypeOf}
-use Rattle.swreq_reading.proofs.Chained.{turn_all}
-use Rattle.swreq_reading.proofs.Correspondence.{chain_leads, conforming_words, layout_words, word_is_read}
-use Rattle.swreq_reading.proofs.OneType.{one_first, one_param, one_type, typed_length}
-use Rattle.swreq_reading.proofs.Orders.{type_is_reduced}
-use Rattle.swreq_reading.proofs.Readings.{valid_base}
+use Rattle.swreq_correspondence.specs.Equations.{AreCongruent}
+use Rattle.swreq_correspondence.specs.Readings.{CanRead, HasName, HasReading, after, first, reading}
+use Rattle.swreq_correspondence.specs.Symbols.{AreOfText, AreSymbolsOf, IsInText, Symbols, Word, spell}
+use Rattle.swreq_correspondence.specs.Types.{AreRanked, IsFirstFor, IsTypeOf}
+use Rattle.swreq_correspondence.proofs.Chained.{turn_all}
+use Rattle.swreq_correspondence.proofs.Correspondence.{chain_leads, conforming_words, layout_words, word_is_read}
+use Rattle.swreq_correspondence.proofs.OneType.{one_first, one_param, one_type, typed_length}
+use Rattle.swreq_correspondence.proofs.Orders.{type_is_reduced}
+use Rattle.swreq_correspondence.proofs.Readings.{valid_base}
 use Rattle.swreq_canonical.specs.Canonical.{CanBePrincipal, IsCanonical, principal}
 use Rattle.swreq_canonical.specs.Generators.{AreEnough, Follows, IsEarlier}
 use Rattle.swreq_canonical.proofs.Following.{wider}

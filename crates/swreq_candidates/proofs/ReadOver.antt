@@ -15,12 +15,12 @@ use Rattle.swreq_derive.proofs.Substitution.{stands_for_self}
 use Rattle.swreq_word.specs.declared.symbols.Symbol.{Symbol}
 use Rattle.swreq_word.specs.declared.symbols.Symbol.TheVariants.{Layout as LayoutSymbol, Member as MemberSymbol, Name as NameSymbol, Param as ParamSymbol, Proto as ProtoSymbol}
 use Rattle.swreq_word.specs.Relations.Chain.{done, more}
-use Rattle.swreq_reading.specs.Equations.{AreCongruent, Equation, Link, UsableIn, UsableOf}
-use Rattle.swreq_reading.specs.Equations.Equation.{member, of_protocol, of_source, twice}
-use Rattle.swreq_reading.specs.Equations.Link.{back, forth, there}
-use Rattle.swreq_reading.specs.Readings.{CanReadAll, HasName, HasReading}
-use Rattle.swreq_reading.specs.Symbols.{AreSymbolsOf, Symbols, Word, name_of, proto_of}
-use Rattle.swreq_reading.proofs.Correspondence.{link_leads, to_self}
+use Rattle.swreq_correspondence.specs.Equations.{AreCongruent, Equation, Link, UsableIn, UsableOf}
+use Rattle.swreq_correspondence.specs.Equations.Equation.{member, of_protocol, of_source, twice}
+use Rattle.swreq_correspondence.specs.Equations.Link.{back, forth, there}
+use Rattle.swreq_correspondence.specs.Readings.{CanReadAll, HasName, HasReading}
+use Rattle.swreq_correspondence.specs.Symbols.{AreSymbolsOf, Symbols, Word, name_of, proto_of}
+use Rattle.swreq_correspondence.proofs.Correspondence.{link_leads, to_self}
 
 -- ---- words without generic parameters
 

@@ -13,8 +13,8 @@ use Rattle.swreq_pair.specs.CriticalPairs.{PairsMeet}
 use Rattle.swreq_pair.proofs.CriticalPairs.{locally}
 use Rattle.swreq_complete.specs.Reduced.{IsReducedSystem}
 use Rattle.swreq_complete.proofs.ReducedSystem.{irreducible_least}
-use Rattle.swreq_reading.specs.Equations.{Linking}
-use Rattle.swreq_reading.specs.Symbols.{Word}
+use Rattle.swreq_correspondence.specs.Equations.{Linking}
+use Rattle.swreq_correspondence.specs.Symbols.{Word}
 use Rattle.swreq_rounds.specs.Presents.{Presents}
 use Rattle.swreq_candidates.specs.Completed.{HasLeastWords}
 

@@ -25,14 +25,14 @@ use Rattle.swreq_word.specs.OrderLaws.{nat_less}
 use Rattle.swreq_word.specs.Relations.Chain.{done}
 use Rattle.swreq_word.proofs.Chains.{joined}
 use Rattle.swreq_word.proofs.Comparing.{by_symbols, less_before, less_cases, less_trans}
-use Rattle.swreq_reading.specs.Equations.{AreCongruent, UsableEquation}
-use Rattle.swreq_reading.specs.Readings.{CanRead, CanReadAll, HasName, HasReading, after, read_on}
-use Rattle.swreq_reading.specs.Symbols.{AreOfText, AreSymbolsOf, IsInText, Symbols, Word, name_of, proto_of, spell}
-use Rattle.swreq_reading.specs.Types.{AreRanked, BeginsAs, HasFirsts, IsFirstFor, IsTypeOf}
-use Rattle.swreq_reading.proofs.Chained.{chained_usable, turn_all}
-use Rattle.swreq_reading.proofs.Correspondence.{chain_leads, to_self}
-use Rattle.swreq_reading.proofs.Orders.{Stands, as_name, conf_chain, front, none_less, type_order}
-use Rattle.swreq_reading.proofs.Readings.{read_same, sides_of, valid_reading}
+use Rattle.swreq_correspondence.specs.Equations.{AreCongruent, UsableEquation}
+use Rattle.swreq_correspondence.specs.Readings.{CanRead, CanReadAll, HasName, HasReading, after, read_on}
+use Rattle.swreq_correspondence.specs.Symbols.{AreOfText, AreSymbolsOf, IsInText, Symbols, Word, name_of, proto_of, spell}
+use Rattle.swreq_correspondence.specs.Types.{AreRanked, BeginsAs, HasFirsts, IsFirstFor, IsTypeOf}
+use Rattle.swreq_correspondence.proofs.Chained.{chained_usable, turn_all}
+use Rattle.swreq_correspondence.proofs.Correspondence.{chain_leads, to_self}
+use Rattle.swreq_correspondence.proofs.Orders.{Stands, as_name, conf_chain, front, none_less, type_order}
+use Rattle.swreq_correspondence.proofs.Readings.{read_same, sides_of, valid_reading}
 use Rattle.swreq_canonical.specs.Canonical.{HasReducedTypes, principal}
 use Rattle.swreq_canonical.specs.Generators.{Follows}
 use Rattle.swreq_canonical.proofs.Covering.{follows_in_list}

@@ -17,14 +17,14 @@ use Rattle.swreq_word.specs.declared.symbols.Symbol.TheVariants.{Layout as Layou
 use Rattle.swreq_word.specs.Least.{IsLeast, IsMinimal}
 use Rattle.swreq_word.proofs.Chains.{joined}
 use Rattle.swreq_word.proofs.Comparing.{by_length}
-use Rattle.swreq_reading.specs.Equations.{AreCongruent, UsableEquation}
-use Rattle.swreq_reading.specs.Readings.{CanRead, CanReadAll, HasReading}
-use Rattle.swreq_reading.specs.Symbols.{AreOfText, AreSymbolsOf, IsInText, IsRank, Symbols, Word, proto_of, spell}
-use Rattle.swreq_reading.specs.Types.{AreRanked, HasFirsts, IsTypeOf}
-use Rattle.swreq_reading.proofs.Chained.{chained_usable, turn_all}
-use Rattle.swreq_reading.proofs.Correspondence.{to_self}
-use Rattle.swreq_reading.proofs.Orders.{Stands, conf_chain, front, none_less, some_type, type_is_reduced}
-use Rattle.swreq_reading.proofs.Readings.{sides_of}
+use Rattle.swreq_correspondence.specs.Equations.{AreCongruent, UsableEquation}
+use Rattle.swreq_correspondence.specs.Readings.{CanRead, CanReadAll, HasReading}
+use Rattle.swreq_correspondence.specs.Symbols.{AreOfText, AreSymbolsOf, IsInText, IsRank, Symbols, Word, proto_of, spell}
+use Rattle.swreq_correspondence.specs.Types.{AreRanked, HasFirsts, IsTypeOf}
+use Rattle.swreq_correspondence.proofs.Chained.{chained_usable, turn_all}
+use Rattle.swreq_correspondence.proofs.Correspondence.{to_self}
+use Rattle.swreq_correspondence.proofs.Orders.{Stands, conf_chain, front, none_less, some_type, type_is_reduced}
+use Rattle.swreq_correspondence.proofs.Readings.{sides_of}
 use Rattle.swreq_canonical.specs.Canonical.{HasReducedTypes, principal}
 use Rattle.swreq_canonical.specs.Generators.{Follows}
 use Rattle.swreq_canonical.proofs.ReducedLemmas.{reduced_valid}

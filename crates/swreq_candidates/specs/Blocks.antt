@@ -9,8 +9,8 @@ use Rattle.swreq_derive.specs.Inheritance.{LeadsTo}
 use Rattle.swreq_derive.specs.Derivation.Source.{SelfOf}
 use Rattle.swreq_word.specs.declared.symbols.Symbol.{Symbol}
 use Rattle.swreq_word.specs.declared.symbols.Symbol.TheVariants.{Proto as ProtoSymbol, Member as MemberSymbol, Param as ParamSymbol, Name as NameSymbol, Layout as LayoutSymbol}
-use Rattle.swreq_reading.specs.Symbols.{Word, Symbols, IsRank, proto_of, name_of}
-use Rattle.swreq_reading.specs.Readings.{CanRead, CanBegin, HasName, after, first}
+use Rattle.swreq_correspondence.specs.Symbols.{Word, Symbols, IsRank, proto_of, name_of}
+use Rattle.swreq_correspondence.specs.Readings.{CanRead, CanBegin, HasName, after, first}
 
 -- Where one stands in a word: outside of a block, or inside one that is read over s, up to here as t.
 pub data Place : Type 0 where

@@ -11,9 +11,9 @@ use Rattle.swreq_word.specs.declared.symbols.Symbol.{Symbol}
 use Rattle.swreq_word.specs.declared.symbols.Symbol.TheVariants.{Proto as ProtoSymbol, Member as MemberSymbol, Param as ParamSymbol, Name as NameSymbol, Layout as LayoutSymbol}
 use Rattle.swreq_word.specs.Least.{IsLeast, IsMinimal}
 use Rattle.swreq_canonical.specs.CanonicalOrder.{IsStrictlySorted}
-use Rattle.swreq_reading.specs.Symbols.{Word, Symbols, IsRank, name_of}
-use Rattle.swreq_reading.specs.Equations.{AreCongruent}
-use Rattle.swreq_reading.specs.Types.{IsFirstFor, IsTypeOf}
+use Rattle.swreq_correspondence.specs.Symbols.{Word, Symbols, IsRank, name_of}
+use Rattle.swreq_correspondence.specs.Equations.{AreCongruent}
+use Rattle.swreq_correspondence.specs.Types.{IsFirstFor, IsTypeOf}
 
 -- This is a rule of the reduced system of the class: its left side is minimal, and its right side the least word of the left side's class.
 abbrev pub IsReducedRule : (Word → Word → Type 0) → Word → Word → Type 0

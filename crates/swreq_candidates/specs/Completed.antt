@@ -6,9 +6,9 @@ use Rattle.swreq_derive.specs.Derivation.Source.{Written}
 use Rattle.swreq_word.specs.declared.symbols.Symbol.{Symbol}
 use Rattle.swreq_word.specs.declared.symbols.Symbol.TheVariants.{Proto as ProtoSymbol, Member as MemberSymbol}
 use Rattle.swreq_word.specs.Least.{IsLeast}
-use Rattle.swreq_reading.specs.Symbols.{Word, Symbols, IsOfText, IsRank, proto_of, AreSymbolsOf, AreOfText, IsInText}
-use Rattle.swreq_reading.specs.Equations.{Linking, UsableEquation}
-use Rattle.swreq_reading.specs.Types.{AreRanked}
+use Rattle.swreq_correspondence.specs.Symbols.{Word, Symbols, IsOfText, IsRank, proto_of, AreSymbolsOf, AreOfText, IsInText}
+use Rattle.swreq_correspondence.specs.Equations.{Linking, UsableEquation}
+use Rattle.swreq_correspondence.specs.Types.{AreRanked}
 use Rattle.swreq_rounds.specs.Presents.{ProtocolEquation}
 use Rattle.swreq_candidates.specs.Blocks.{AreMembersNamed}
 

@@ -11,8 +11,8 @@ use Rattle.swreq_derive.specs.Derivation.Source.{Written}
 use Rattle.swreq_derive.specs.Derivation.TermRequirement.{Conforms, IsAnyObject, Equals}
 use Rattle.swreq_derive.specs.Inheritance.{LeadsTo}
 use Rattle.swreq_rule.specs.declared.rules.Rule.{Rule}
-use Rattle.swreq_reading.specs.Symbols.{Word, Symbols, left_side, right_side}
-use Rattle.swreq_reading.specs.Equations.{Linking}
+use Rattle.swreq_correspondence.specs.Symbols.{Word, Symbols, left_side, right_side}
+use Rattle.swreq_correspondence.specs.Equations.{Linking}
 use Rattle.swreq_rounds.specs.Presents.{ProtocolEquation}
 
 -- A type is plain in a list: it is a generic parameter, or a bound member [P]A of a plain type of which the list holds a conformance to P

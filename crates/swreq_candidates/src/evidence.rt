@@ -8,8 +8,8 @@ ghost use Rattle.swreq_derive.specs.WellFormed.{HasValidSides};
 ghost use Rattle.swreq_word.specs.Relations.{Linked};
 ghost use Rattle.swreq_rule.specs.declared.rules.Rule.{Rule};
 ghost use Rattle.swreq_rule.specs.Steps.{Step};
-ghost use Rattle.swreq_reading.specs.Symbols.{Word, Symbols, AreSymbolsOf, AreOfText, IsInText};
-ghost use Rattle.swreq_reading.specs.Equations.{Linking};
+ghost use Rattle.swreq_correspondence.specs.Symbols.{Word, Symbols, AreSymbolsOf, AreOfText, IsInText};
+ghost use Rattle.swreq_correspondence.specs.Equations.{Linking};
 ghost use Rattle.swreq_canonical.specs.Generators.{IsGeneratorList, AreGeneratorsTold};
 ghost use Rattle.swreq_candidates.specs.Evidence.{IsPlain, RestEquation, HasEvidence, AreRulesOfRest};
 

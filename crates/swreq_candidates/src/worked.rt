@@ -1,6 +1,6 @@
 //! Worked texts: blocks of words, candidates and evidence.
 //!
-//! Each function is one text, whose facts and lists stand in `swreq_derive` or `swreq_canonical`, and whose symbols in `swreq_reading` or
+//! Each function is one text, whose facts and lists stand in `swreq_derive` or `swreq_canonical`, and whose symbols in `swreq_correspondence` or
 //! in `specs/Worked.antt`. Nothing is computed: the clauses are theorems.
 ghost use Rattle.std.specs.Prelude.{◌≡◌, [], ◌∷◌};
 ghost use Rattle.swreq_word.specs.declared.symbols.Symbol.TheVariants.{Proto, Member, Name};
@@ -8,7 +8,7 @@ ghost use Rattle.swreq_derive.specs.Derivation.{TermRequirement};
 ghost use Rattle.swreq_derive.specs.Derivation.TermRequirement.{Conforms, IsAnyObject, Equals};
 ghost use Rattle.swreq_derive.specs.Worked.{of_one, of_two, τ_0_0, τ_0_1, bound, N, Q, A_of_P};
 ghost use Rattle.swreq_derive.specs.Worked.{endless, endless_f, shared, shared_f, layouts, layouts_f};
-ghost use Rattle.swreq_reading.specs.Worked.{first_param, endless_symbols, shared_symbols};
+ghost use Rattle.swreq_correspondence.specs.Worked.{first_param, endless_symbols, shared_symbols};
 ghost use Rattle.swreq_candidates.specs.Blocks.{Cut, AreMembersNamed, blocks};
 ghost use Rattle.swreq_candidates.specs.Blocks.Place.{Outside};
 ghost use Rattle.swreq_candidates.specs.Candidates.{IsCandidate, IsReadOff};

@@ -13,7 +13,7 @@ use Rattle.swreq_derive.specs.WellFormed.{HasValidSides}
 use Rattle.swreq_derive.proofs.Members.{first_member, later_member, member_cases, no_member}
 use Rattle.swreq_derive.proofs.Monotone.{grows}
 use Rattle.swreq_derive.proofs.Substitution.{derives_members, derives_with}
-use Rattle.swreq_reading.proofs.Correspondence.{of_usable, substitute-generic, substitute_in-generic}
+use Rattle.swreq_correspondence.proofs.Correspondence.{of_usable, substitute-generic, substitute_in-generic}
 use Rattle.swreq_canonical.specs.Generators.{Follows}
 
 substitute_into-generic : (st : TermStatement) → substitute_into Generic st ≡ st

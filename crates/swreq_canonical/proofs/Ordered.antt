@@ -6,8 +6,8 @@ use Rattle.swreq_param.specs.Order.{TermBefore}
 use Rattle.swreq_param.specs.Terms.{Term}
 use Rattle.swreq_param.proofs.Founded.{terms_founded}
 use Rattle.swreq_param.proofs.TotalOrder.{strict, total, transitive}
-use Rattle.swreq_relation.specs.WellFounded.{IsAccessible, IsWellFounded}
-use Rattle.swreq_relation.specs.WellFounded.IsAccessible.{reached}
+use Rattle.swreq_orders.specs.WellFounded.{IsAccessible, IsWellFounded}
+use Rattle.swreq_orders.specs.WellFounded.IsAccessible.{reached}
 use Rattle.swreq_derive.specs.Derivation.{Source, TermFacts, TermRequirement}
 use Rattle.swreq_derive.specs.Derivation.TermRequirement.{Conforms, IsAnyObject, Equals}
 use Rattle.swreq_derive.specs.Reduced.{IsReduced, IsReducedTypeOf}

@@ -13,7 +13,7 @@ use Rattle.swreq_derive.specs.Derivation.TermStatement.{IsValid}
 use Rattle.swreq_derive.specs.Derivation.Derives.{assoc_bind, reflex, symm, trans, same_conf, same_decl}
 use Rattle.swreq_derive.specs.Reduced.{IsReducedTypeOf, IsReduced}
 use Rattle.swreq_derive.proofs.ReducedTypes.{reduced_is_one}
-use Rattle.swreq_reading.proofs.Readings.{sides_of, valid_bound, valid_name}
+use Rattle.swreq_correspondence.proofs.Readings.{sides_of, valid_bound, valid_name}
 
 pub same_or_not : (t u : Term) → Dec (t ≡ u)
 same_or_not t u = elim (total t u) [

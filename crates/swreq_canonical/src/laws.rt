@@ -6,7 +6,7 @@ ghost use Rattle.swreq_derive.specs.Derivation.{TermRequirement, TermStatement, 
 ghost use Rattle.swreq_derive.specs.Derivation.TermRequirement.{Equals};
 ghost use Rattle.swreq_derive.specs.Derivation.Source.{Written};
 ghost use Rattle.swreq_derive.specs.Equivalence.{AreEquivalent};
-ghost use Rattle.swreq_relation.specs.WellFounded.{IsWellFounded};
+ghost use Rattle.swreq_orders.specs.WellFounded.{IsWellFounded};
 ghost use Rattle.swreq_canonical.specs.Canonical.{IsCanonical, HasReducedTypes, principal};
 ghost use Rattle.swreq_canonical.specs.CanonicalOrder.{RequirementBefore, IsStrictlySorted};
 ghost use Rattle.swreq_canonical.specs.Generators.{Follows, IsGenerator, IsGeneratorList, AreGeneratorsTold, AreEnough, Takes, AreDecided};

@@ -11,9 +11,9 @@ use Rattle.swreq_word.specs.Relations.{Linked}
 use Rattle.swreq_rule.specs.declared.rules.Rule.{Rule}
 use Rattle.swreq_rule.specs.Steps.{Step}
 use Rattle.swreq_complete.specs.Reduced.{IsReducedSystem}
-use Rattle.swreq_ranks.specs.Views.{LexiconView}
-use Rattle.swreq_reading.specs.Equations.{AreCongruent, UsableEquation}
-use Rattle.swreq_reading.specs.Symbols.{Word}
+use Rattle.swreq_lexicon.specs.Views.{LexiconView}
+use Rattle.swreq_correspondence.specs.Equations.{AreCongruent, UsableEquation}
+use Rattle.swreq_correspondence.specs.Symbols.{Word}
 use Rattle.swreq_canonical.specs.Canonical.{IsCanonical}
 use Rattle.swreq_canonical.specs.CanonicalOrder.{IsStrictlySorted}
 use Rattle.swreq_candidates.specs.Candidates.{IsCandidate, IsCandidateList}
@@ -21,7 +21,7 @@ use Rattle.swreq_candidates.specs.Completed.{IsCompleted}
 use Rattle.swreq_candidates.proofs.CandidateLists.{off_rules}
 use Rattle.swreq_candidates.proofs.Completions.{canonical_here}
 use Rattle.swreq_candidates.proofs.RulesGive.{reduced_system}
-use Rattle.swreq_shown.specs.Meaning.{facts_of, symbols_of}
+use Rattle.swreq_symbols.specs.Meaning.{facts_of, symbols_of}
 use Rattle.swreq_world.specs.Closed.{IsClosed}
 use Rattle.swreq_world.specs.Worlds.{TextWorld}
 use Rattle.swreq_valid.specs.Machines.{IsMachineOf, MachineView}

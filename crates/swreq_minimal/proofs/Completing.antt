@@ -4,13 +4,13 @@ use Rattle.swreq_derive.specs.Derivation.{TermRequirement}
 use Rattle.swreq_derive.specs.Facts.{generic_params}
 use Rattle.swreq_rule.specs.declared.rules.Rule.{Rule}
 use Rattle.swreq_complete.specs.Complete.{IsComplete}
-use Rattle.swreq_reading.specs.Equations.{UsableEquation}
+use Rattle.swreq_correspondence.specs.Equations.{UsableEquation}
 use Rattle.swreq_derive.specs.Derivation.Source.{Written}
 use Rattle.swreq_rounds.specs.Presents.{ProtocolEquation}
 use Rattle.swreq_candidates.specs.Completed.{IsCompleted}
 use Rattle.swreq_candidates.proofs.RulesGive.{least_words}
-use Rattle.swreq_shown.specs.Meaning.{facts_of, symbols_of}
-use Rattle.swreq_shown.proofs.Symbols.{ranks_law, symbols_law, text_law}
+use Rattle.swreq_symbols.specs.Meaning.{facts_of, symbols_of}
+use Rattle.swreq_symbols.proofs.Symbols.{ranks_law, symbols_law, text_law}
 use Rattle.swreq_world.specs.Closed.{IsClosed}
 use Rattle.swreq_world.specs.Worlds.{TextWorld}
 use Rattle.swreq_valid.specs.Machines.{AreRulesOf, IsMachineOf, MachineView}

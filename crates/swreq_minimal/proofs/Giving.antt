@@ -6,13 +6,13 @@ use Rattle.swreq_param.specs.declared.ids.ProtoId.{ProtoId}
 use Rattle.swreq_word.specs.declared.symbols.Symbol.{Symbol}
 use Rattle.swreq_word.specs.declared.symbols.Symbol.TheVariants.{Proto, Member as MemberSymbol}
 use Rattle.swreq_rule.specs.declared.rules.Rule.{Rule}
-use Rattle.swreq_ranks.specs.declared.pair.ProtocolName.{ProtocolName}
-use Rattle.swreq_ranks.specs.Views.{LexiconView}
-use Rattle.swreq_reading.specs.Symbols.{MemberName, Word, name_of, proto_of}
-use Rattle.swreq_shown.specs.Meaning.{member_name, symbols_of}
-use Rattle.swreq_shown.proofs.Declared.{is_rank, member_is}
+use Rattle.swreq_lexicon.specs.declared.pair.ProtocolName.{ProtocolName}
+use Rattle.swreq_lexicon.specs.Views.{LexiconView}
+use Rattle.swreq_correspondence.specs.Symbols.{MemberName, Word, name_of, proto_of}
+use Rattle.swreq_symbols.specs.Meaning.{member_name, symbols_of}
+use Rattle.swreq_symbols.proofs.Declared.{is_rank, member_is}
 use Rattle.swreq_map.specs.Properties.{Vanishes}
-use Rattle.swreq_shown.specs.Vanishing.{IsFirstBehind, IsGiven}
+use Rattle.swreq_symbols.specs.Vanishing.{IsFirstBehind, IsGiven}
 use Rattle.swreq_minimal.specs.Typed.{IsMemberBehind}
 
 same_ranks : {k j : ℕ} → MemberSymbol k ≡ MemberSymbol j → k ≡ j

@@ -8,15 +8,15 @@ use Rattle.swreq_derive.specs.declared.requirements.Requirement.{Requirement}
 use Rattle.swreq_derive.specs.declared.requirements.Requirement.TheVariants.{Conf, Layout, Same}
 use Rattle.swreq_derive.specs.Facts.{requirement_of}
 use Rattle.swreq_derive.proofs.Members.{first_member, later_member}
-use Rattle.swreq_written.specs.declared.ids.Written.{Written}
-use Rattle.swreq_written.specs.ByTable.{AreOf, HasIdsOf, HasQueryIdsOf, placed, query_by}
-use Rattle.swreq_written.proofs.Growing.{are_of_stay, ids_stay, placed_stay}
+use Rattle.swreq_lowering.specs.declared.ids.Written.{Written}
+use Rattle.swreq_lowering.specs.ByTable.{AreOf, HasIdsOf, HasQueryIdsOf, placed, query_by}
+use Rattle.swreq_lowering.proofs.Growing.{are_of_stay, ids_stay, placed_stay}
 use Rattle.swreq_world.specs.ByTable.{IsOverTable, signature_by, world_by}
 use Rattle.swreq_world.specs.Closed.{IsClosed, IsRequirementOf}
 use Rattle.swreq_world.specs.Worlds.{IdWorld, SignatureOver}
 use Rattle.swreq_world.proofs.Filled.{query_of_stay, query_stays}
-use Rattle.swreq_ranks.specs.Views.{LexiconView}
-use Rattle.swreq_shown.specs.Known.{IsRequirementIn, IsTextOver}
+use Rattle.swreq_lexicon.specs.Views.{LexiconView}
+use Rattle.swreq_symbols.specs.Known.{IsRequirementIn, IsTextOver}
 use Rattle.swreq_valid.specs.Plans.{AreKnown, listed}
 
 same_maps : {A B : Type 0} (f g : A → B) (P : A → Type 0) → ((x : A) → P x → f x ≡ g x) → (xs : List A) → All P xs → map f xs ≡ map g xs

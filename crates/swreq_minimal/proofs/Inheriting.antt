@@ -19,11 +19,11 @@ use Rattle.swreq_names.specs.Inheritance.{direct, is_bare, named_by}
 use Rattle.swreq_names.specs.Refusals.{self_bytes}
 use Rattle.swreq_names.specs.Spaces.{Spaces, protocol_of, word}
 use Rattle.swreq_names.proofs.Booleans.{and_first, and_second}
-use Rattle.swreq_ranks.proofs.Declared.{from_pieces, in_pieces}
-use Rattle.swreq_written.specs.declared.scope.Scope.TheVariants.{Protocol}
-use Rattle.swreq_written.specs.Requirements.{PlacedRequirement, bound_of, in_bound, in_bounds, in_clause, in_member, in_members, in_protocol, in_requirement, of_one_side}
-use Rattle.swreq_written.specs.Types.{member_named, step_of, type_in}
-use Rattle.swreq_written.specs.Words.{WordsView, proto_of}
+use Rattle.swreq_lexicon.proofs.Declared.{from_pieces, in_pieces}
+use Rattle.swreq_lowering.specs.declared.scope.Scope.TheVariants.{Protocol}
+use Rattle.swreq_lowering.specs.Requirements.{PlacedRequirement, bound_of, in_bound, in_bounds, in_clause, in_member, in_members, in_protocol, in_requirement, of_one_side}
+use Rattle.swreq_lowering.specs.Types.{member_named, step_of, type_in}
+use Rattle.swreq_lowering.specs.Words.{WordsView, proto_of}
 
 -- One of the requirements is that `Self` conforms to the protocol at this place, by a name that refers to it.
 pub record Says (d : Spaces) (w : WordsView) (rs : List PlacedRequirement) (j : ℕ) : Type 0 where

@@ -14,7 +14,7 @@ use Rattle.swreq_derive.specs.declared.requirements.Requirement.TheVariants.{Con
 use Rattle.swreq_derive.specs.Derivation.{Source, TermFacts, TermRequirement}
 use Rattle.swreq_derive.specs.Facts.{requirement_of}
 use Rattle.swreq_derive.proofs.Members.{first_member, later_member, member_cases, no_member}
-use Rattle.swreq_written.specs.ByTable.{HasIdsOf}
+use Rattle.swreq_lowering.specs.ByTable.{HasIdsOf}
 use Rattle.swreq_canonical.specs.Canonical.{IsCanonical, principal}
 use Rattle.swreq_canonical.specs.CanonicalOrder.{IsStrictlySorted, KindBefore, RequirementBefore}
 use Rattle.swreq_canonical.proofs.Ordered.{canonical_total, transitive_requirements}

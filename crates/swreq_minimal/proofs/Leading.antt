@@ -19,19 +19,19 @@ use Rattle.swreq_names.specs.Refusals.{duplicate_of, duplicates, of_space, of_sp
 use Rattle.swreq_names.specs.Spaces.{Spaces, declaration, is_declared_before, offset_of, place, protocol_of, spaces, word}
 use Rattle.swreq_param.specs.declared.ids.ProtoId.{ProtoId}
 use Rattle.swreq_param.specs.Terms.{self}
-use Rattle.swreq_ranks.specs.Lexicons.{proto_by}
-use Rattle.swreq_ranks.specs.Ranks.{Bytes}
-use Rattle.swreq_ranks.specs.Views.{IsProtocol, LexiconView, place_of}
-use Rattle.swreq_ranks.proofs.RankLaws.{meant, written_at}
+use Rattle.swreq_lexicon.specs.Lexicons.{proto_by}
+use Rattle.swreq_lexicon.specs.Ranks.{Bytes}
+use Rattle.swreq_lexicon.specs.Views.{IsProtocol, LexiconView, place_of}
+use Rattle.swreq_lexicon.proofs.RankLaws.{meant, written_at}
 use Rattle.swreq_rounds.proofs.Members.{contains_map}
-use Rattle.swreq_written.specs.Requirements.{PlacedRequirement, in_protocol}
-use Rattle.swreq_written.specs.Words.{WordsView, proto_of}
+use Rattle.swreq_lowering.specs.Requirements.{PlacedRequirement, in_protocol}
+use Rattle.swreq_lowering.specs.Words.{WordsView, proto_of}
 use Rattle.swreq_world.specs.Text.{of_place, of_protocol, requirements_named}
 use Rattle.swreq_world.specs.WorldOf.{IsWorldOf, words_of}
 use Rattle.swreq_world.specs.Worlds.{TextWorld, requirements_of}
 use Rattle.swreq_world.proofs.Everywhere.{all_at, all_left, all_right, at_mapped, each_piece, stands_mapped}
 use Rattle.swreq_world.proofs.Resolving.{Never, declared_at, protocol_is, referred, refused}
-use Rattle.swreq_shown.specs.Meaning.{facts_of}
+use Rattle.swreq_symbols.specs.Meaning.{facts_of}
 use Rattle.swreq_minimal.specs.Inheritance.{IsInheritanceWritten}
 use Rattle.swreq_minimal.proofs.Inheriting.{direct_says}
 

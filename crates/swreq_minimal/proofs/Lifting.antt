@@ -15,23 +15,23 @@ use Rattle.swreq_derive.specs.Facts.{generic_params}
 use Rattle.swreq_word.specs.declared.symbols.Symbol.TheVariants.{Proto, Member as MemberSymbol, Param}
 use Rattle.swreq_word.proofs.Chains.{joined}
 use Rattle.swreq_rule.specs.declared.rules.Rule.{Rule}
-use Rattle.swreq_reading.specs.Equations.{AreCongruent}
-use Rattle.swreq_reading.specs.Symbols.{Symbols, Word, name_of, proto_of, spell}
-use Rattle.swreq_reading.specs.Types.{BeginsAs, IsFirstFor, IsTypeOf}
-use Rattle.swreq_reading.proofs.Chained.{chained_usable, turn_all}
-use Rattle.swreq_reading.proofs.Correspondence.{conforming_words}
-use Rattle.swreq_reading.proofs.Readings.{valid_base, valid_generic}
-use Rattle.swreq_ranks.specs.Views.{IsProtocol}
+use Rattle.swreq_correspondence.specs.Equations.{AreCongruent}
+use Rattle.swreq_correspondence.specs.Symbols.{Symbols, Word, name_of, proto_of, spell}
+use Rattle.swreq_correspondence.specs.Types.{BeginsAs, IsFirstFor, IsTypeOf}
+use Rattle.swreq_correspondence.proofs.Chained.{chained_usable, turn_all}
+use Rattle.swreq_correspondence.proofs.Correspondence.{conforming_words}
+use Rattle.swreq_correspondence.proofs.Readings.{valid_base, valid_generic}
+use Rattle.swreq_lexicon.specs.Views.{IsProtocol}
 use Rattle.swreq_candidates.specs.Candidates.{IsReadOff, SpeaksOf}
 use Rattle.swreq_candidates.proofs.Settled.{stands, stands_for}
-use Rattle.swreq_shown.specs.Meaning.{facts_of, symbols_of}
-use Rattle.swreq_shown.proofs.Symbols.{ranks_law, symbols_law, text_law}
+use Rattle.swreq_symbols.specs.Meaning.{facts_of, symbols_of}
+use Rattle.swreq_symbols.proofs.Symbols.{ranks_law, symbols_law, text_law}
 use Rattle.swreq_map.specs.Properties.{Vanishes}
 use Rattle.swreq_world.specs.Closed.{IsClosed}
 use Rattle.swreq_world.specs.Worlds.{TextWorld}
 use Rattle.swreq_valid.specs.Machines.{IsMachineOf, MachineView}
 use Rattle.swreq_valid.specs.Rounds.{last_rules}
-use Rattle.swreq_shown.specs.Vanishing.{IsFirstBehind}
+use Rattle.swreq_symbols.specs.Vanishing.{IsFirstBehind}
 use Rattle.swreq_minimal.specs.Typed.{IsTypeBy, SaysBy, SpeaksBy}
 
 -- ---- the fronts of words of a type

@@ -6,15 +6,15 @@ use Rattle.swreq_param.specs.declared.ids.ProtoId.{ProtoId}
 use Rattle.swreq_derive.specs.Derivation.{Declares}
 use Rattle.swreq_derive.specs.Inheritance.{LeadsTo}
 use Rattle.swreq_derive.specs.Inheritance.LeadsTo.{here}
-use Rattle.swreq_ranks.specs.declared.pair.ProtocolName.{ProtocolName}
-use Rattle.swreq_ranks.specs.Lexicons.{pair}
-use Rattle.swreq_reading.specs.Symbols.{name_of, proto_of}
+use Rattle.swreq_lexicon.specs.declared.pair.ProtocolName.{ProtocolName}
+use Rattle.swreq_lexicon.specs.Lexicons.{pair}
+use Rattle.swreq_correspondence.specs.Symbols.{name_of, proto_of}
 use Rattle.swreq_world.specs.Closed.{IsClosed}
 use Rattle.swreq_world.specs.Worlds.{TextWorld}
 use Rattle.swreq_candidates.specs.Blocks.{AreMembersDeclared, AreMembersNamed}
 use Rattle.swreq_candidates.proofs.Inherited.{declared_named}
-use Rattle.swreq_shown.specs.Meaning.{facts_of, symbols_of}
-use Rattle.swreq_shown.proofs.Declared.{from_rank, member_is, of_rank, there}
+use Rattle.swreq_symbols.specs.Meaning.{facts_of, symbols_of}
+use Rattle.swreq_symbols.proofs.Declared.{from_rank, member_is, of_rank, there}
 use Rattle.swreq_minimal.specs.Inheritance.{IsInheritanceWritten}
 
 module _ (w : TextWorld) (closed : IsClosed w) (written : IsInheritanceWritten w) where

@@ -19,14 +19,14 @@ use Rattle.swreq_path.specs.Paths.{IsLoop}
 use Rattle.swreq_homotopy.specs.declared.around.Evidence.{Evidence}
 use Rattle.swreq_homotopy.specs.Evidence.{AreLoops, IsEvidence, IsMarked, NoneShown}
 use Rattle.swreq_homotopy.specs.Laws.{EvidenceLinks, HasOthers}
-use Rattle.swreq_reading.specs.Equations.{Linking}
-use Rattle.swreq_reading.specs.Symbols.{IsInText, Symbols, Word, left_side, right_side}
-use Rattle.swreq_reading.proofs.Chained.{turn_all}
+use Rattle.swreq_correspondence.specs.Equations.{Linking}
+use Rattle.swreq_correspondence.specs.Symbols.{IsInText, Symbols, Word, left_side, right_side}
+use Rattle.swreq_correspondence.proofs.Chained.{turn_all}
 use Rattle.swreq_rounds.specs.Presents.{AreProtocolRules}
 use Rattle.swreq_candidates.specs.Evidence.{AreRulesOfRest, HasEvidence, HasPlainTypes, IsPlain, RestEquation}
 use Rattle.swreq_candidates.proofs.EvidenceDrops.{derives, links}
-use Rattle.swreq_shown.specs.Meaning.{facts_of, symbols_of}
-use Rattle.swreq_shown.proofs.Symbols.{symbols_law, text_law}
+use Rattle.swreq_symbols.specs.Meaning.{facts_of, symbols_of}
+use Rattle.swreq_symbols.proofs.Symbols.{symbols_law, text_law}
 use Rattle.swreq_world.specs.Closed.{IsClosed}
 use Rattle.swreq_world.specs.Worlds.{TextWorld}
 use Rattle.swreq_minimal.specs.Evident.{IsOfEquation, LinkLast}

@@ -19,15 +19,15 @@ use Rattle.swreq_word.specs.declared.symbols.Symbol.{Symbol}
 use Rattle.swreq_word.specs.declared.symbols.Symbol.TheVariants.{Proto, Layout, Param}
 use Rattle.swreq_word.specs.Least.{IsLeast, IsMinimal}
 use Rattle.swreq_rule.specs.declared.rules.Rule.{Rule}
-use Rattle.swreq_ranks.specs.Views.{IsProtocol, LexiconView}
-use Rattle.swreq_reading.specs.Symbols.{Word}
+use Rattle.swreq_lexicon.specs.Views.{IsProtocol, LexiconView}
+use Rattle.swreq_correspondence.specs.Symbols.{Word}
 use Rattle.swreq_candidates.specs.Candidates.{IsNamed}
 use Rattle.swreq_candidates.proofs.ReadOff.{one_name, same_push}
-use Rattle.swreq_shown.specs.Known.{IsRequirementIn}
-use Rattle.swreq_shown.specs.Meaning.{symbols_of}
+use Rattle.swreq_symbols.specs.Known.{IsRequirementIn}
+use Rattle.swreq_symbols.specs.Meaning.{symbols_of}
 use Rattle.swreq_world.specs.Closed.{IsTermOf}
-use Rattle.swreq_written.proofs.Growing.{of_stays}
-use Rattle.swreq_shown.specs.Vanishing.{IsFirstBehind, IsGiven}
+use Rattle.swreq_lowering.proofs.Growing.{of_stays}
+use Rattle.swreq_symbols.specs.Vanishing.{IsFirstBehind, IsGiven}
 use Rattle.swreq_minimal.specs.Typed.{Finds, Identifies, IsTypeBy, SaysBy, SpeaksBy}
 use Rattle.swreq_minimal.proofs.Passing.{parted}
 use Rattle.swreq_minimal.proofs.Typing.{given_of_text, none_of_nothing, not_empty, nothing_before, one_first, one_type, type_of_text}

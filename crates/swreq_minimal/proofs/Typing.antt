@@ -18,13 +18,13 @@ use Rattle.swreq_word.specs.Order.{WordLess}
 use Rattle.swreq_word.proofs.Comparing.{less_after, not_below_itself, not_both_below, trichotomy}
 use Rattle.swreq_rule.specs.declared.rules.Rule.{Rule}
 use Rattle.swreq_rule.proofs.Context.{Linked-after}
-use Rattle.swreq_shown.specs.Vanishing.{IsFirstBehind, IsLeastBy}
-use Rattle.swreq_ranks.specs.Lexicons.{pair}
-use Rattle.swreq_ranks.specs.Views.{LexiconView}
-use Rattle.swreq_reading.specs.Symbols.{Word, name_of}
+use Rattle.swreq_symbols.specs.Vanishing.{IsFirstBehind, IsLeastBy}
+use Rattle.swreq_lexicon.specs.Lexicons.{pair}
+use Rattle.swreq_lexicon.specs.Views.{LexiconView}
+use Rattle.swreq_correspondence.specs.Symbols.{Word, name_of}
 use Rattle.swreq_candidates.proofs.ReadOff.{same_push}
-use Rattle.swreq_shown.specs.Meaning.{symbols_of}
-use Rattle.swreq_shown.proofs.Declared.{at_rank}
+use Rattle.swreq_symbols.specs.Meaning.{symbols_of}
+use Rattle.swreq_symbols.proofs.Declared.{at_rank}
 use Rattle.swreq_world.specs.Closed.{IsTermOf}
 use Rattle.swreq_minimal.specs.Typed.{Identifies, IsMemberBehind, IsTypeBy}
 

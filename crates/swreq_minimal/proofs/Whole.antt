@@ -21,9 +21,9 @@ use Rattle.swreq_canonical.proofs.Taking.{generator_list, generators_told}
 use Rattle.swreq_candidates.specs.Candidates.{IsCandidateList}
 use Rattle.swreq_candidates.specs.Completed.{IsCompleted}
 use Rattle.swreq_candidates.proofs.Completions.{enough_here, reduced_here}
-use Rattle.swreq_reading.specs.Symbols.{Symbols}
-use Rattle.swreq_shown.specs.Known.{IsTextOver}
-use Rattle.swreq_shown.specs.Meaning.{facts_of, symbols_of}
+use Rattle.swreq_correspondence.specs.Symbols.{Symbols}
+use Rattle.swreq_symbols.specs.Known.{IsTextOver}
+use Rattle.swreq_symbols.specs.Meaning.{facts_of, symbols_of}
 use Rattle.swreq_world.specs.ByTable.{world_by}
 use Rattle.swreq_world.specs.Worlds.{IdWorld, TextWorld}
 use Rattle.swreq_valid.specs.Machines.{AreRulesOf, IsMachineOf, MachineView, list_of}

@@ -5,7 +5,7 @@ use Rattle.swreq_derive.specs.Derivation.Source.{Written}
 use Rattle.swreq_word.specs.Relations.{Linked}
 use Rattle.swreq_rule.specs.declared.rules.Rule.{Rule}
 use Rattle.swreq_rule.specs.Steps.{Step}
-use Rattle.swreq_reading.specs.Symbols.{Symbols, Word, left_side, right_side}
+use Rattle.swreq_correspondence.specs.Symbols.{Symbols, Word, left_side, right_side}
 
 -- The rule has these two sides, the one way round or the other.
 abbrev pub HasSides : Word → Word → Rule → Type 0

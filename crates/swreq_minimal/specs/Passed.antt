@@ -6,7 +6,7 @@ use Rattle.swreq_derive.specs.Derivation.Source.{Written}
 use Rattle.swreq_canonical.specs.Generators.{Takes}
 use Rattle.swreq_canonical.specs.Minimised.{Leaves}
 use Rattle.swreq_candidates.specs.Candidates.{IsCandidateList}
-use Rattle.swreq_reading.specs.Symbols.{Symbols}
+use Rattle.swreq_correspondence.specs.Symbols.{Symbols}
 
 -- for a candidate, those that were taken before it
 pub record IsTakenBefore (f : TermFacts) (params : List ParamId) (candidates list : List TermRequirement) : Type 0 where

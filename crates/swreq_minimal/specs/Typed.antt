@@ -15,12 +15,12 @@ use Rattle.swreq_derive.specs.Facts.{generic_params, requirement_of}
 use Rattle.swreq_word.specs.declared.symbols.Symbol.{Symbol}
 use Rattle.swreq_word.specs.declared.symbols.Symbol.TheVariants.{Proto, Member as MemberSymbol, Param, Layout}
 use Rattle.swreq_rule.specs.declared.rules.Rule.{Rule}
-use Rattle.swreq_ranks.specs.Views.{IsProtocol, LexiconView}
-use Rattle.swreq_reading.specs.Symbols.{IsRank, Word, name_of, proto_of}
+use Rattle.swreq_lexicon.specs.Views.{IsProtocol, LexiconView}
+use Rattle.swreq_correspondence.specs.Symbols.{IsRank, Word, name_of, proto_of}
 use Rattle.swreq_candidates.specs.Candidates.{IsNamed}
-use Rattle.swreq_shown.specs.Known.{IsRequirementIn}
-use Rattle.swreq_shown.specs.Meaning.{symbols_of}
-use Rattle.swreq_shown.specs.Vanishing.{IsFirstBehind}
+use Rattle.swreq_symbols.specs.Known.{IsRequirementIn}
+use Rattle.swreq_symbols.specs.Meaning.{symbols_of}
+use Rattle.swreq_symbols.specs.Vanishing.{IsFirstBehind}
 use Rattle.swreq_map.specs.Properties.{Vanishes}
 
 -- Behind the word the symbol `[P:A]` stands for the bound member d: `[P]` vanishes there, and d is the first associated type A given there.

@@ -2,13 +2,13 @@
 ghost use Rattle.std.specs.Prelude.{◌+◌, ◌≤◌, length, vec_capacity, MatchOption};
 ghost use Rattle.swreq_param.specs.declared.ids.AssocId.{AssocId};
 ghost use Rattle.swreq_word.specs.declared.symbols.Symbol.TheVariants.{Member as MemberSymbol};
-ghost use Rattle.swreq_shown.specs.Vanishing.{IsLeastBy};
+ghost use Rattle.swreq_symbols.specs.Vanishing.{IsLeastBy};
 ghost use Rattle.swreq_minimal.specs.Typed.{IsMemberBehind};
 
 use swreq_complete::CompleteRules;
 use swreq_map::vanishes;
 use swreq_param::AssocId;
-use swreq_shown::first_behind;
+use swreq_symbols::first_behind;
 use swreq_word::Symbol;
 use swreq_world::World;
 

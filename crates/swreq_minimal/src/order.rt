@@ -3,7 +3,7 @@ ghost use Rattle.std.specs.Prelude.{◌≡◌, ◌↔◌, IsTrue, List};
 ghost use Rattle.swreq_param.specs.Tables.{IsOf, term_at};
 ghost use Rattle.swreq_param.specs.Terms.{Term};
 ghost use Rattle.swreq_derive.specs.Facts.{requirement_of};
-ghost use Rattle.swreq_written.specs.ByTable.{HasIdsOf};
+ghost use Rattle.swreq_lowering.specs.ByTable.{HasIdsOf};
 ghost use Rattle.swreq_canonical.specs.Canonical as canonical;
 ghost use Rattle.swreq_canonical.specs.CanonicalOrder.{KindBefore, RequirementBefore};
 

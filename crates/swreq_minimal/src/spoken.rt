@@ -13,9 +13,9 @@ ghost use Rattle.swreq_word.specs.declared.symbols.Symbol.{Symbol};
 ghost use Rattle.swreq_word.specs.declared.symbols.Symbol.TheVariants.{Proto, Layout, Member as MemberSymbol};
 ghost use Rattle.swreq_word.specs.Least.{IsMinimal};
 ghost use Rattle.swreq_candidates.specs.Candidates.{IsNamed};
-ghost use Rattle.swreq_ranks.specs.Views.{IsProtocol};
-ghost use Rattle.swreq_shown.specs.Meaning.{symbols_of};
-ghost use Rattle.swreq_shown.specs.Vanishing.{IsFirstBehind, IsLeastBy, Links};
+ghost use Rattle.swreq_lexicon.specs.Views.{IsProtocol};
+ghost use Rattle.swreq_symbols.specs.Meaning.{symbols_of};
+ghost use Rattle.swreq_symbols.specs.Vanishing.{IsFirstBehind, IsLeastBy, Links};
 ghost use Rattle.swreq_minimal.specs.Typed.{Finds, Identifies, IsTypeBy, SaysBy, SpeaksBy};
 
 use crate::typed::{bound, symbol_type, type_of};
@@ -24,7 +24,7 @@ use std::alloc::{AllocError, Global};
 use swreq_complete::CompleteRules;
 use swreq_derive::{Params, Requirement};
 use swreq_param::{AssocId, NameId, ParamTable, ProtoId, TermId};
-use swreq_shown::first_behind;
+use swreq_symbols::first_behind;
 use swreq_word::Symbol;
 use swreq_world::World;
 

@@ -7,8 +7,8 @@ ghost use Rattle.swreq_param.specs.Terms.Term.{Member};
 ghost use Rattle.swreq_derive.specs.declared.known.Params.{Params};
 ghost use Rattle.swreq_word.specs.declared.symbols.Symbol.TheVariants.{Param};
 ghost use Rattle.swreq_rule.specs.declared.rules.Rule.{Rule};
-ghost use Rattle.swreq_ranks.specs.Views.{LexiconView};
-ghost use Rattle.swreq_shown.specs.Vanishing.{IsLeastBy};
+ghost use Rattle.swreq_lexicon.specs.Views.{LexiconView};
+ghost use Rattle.swreq_symbols.specs.Vanishing.{IsLeastBy};
 ghost use Rattle.swreq_minimal.specs.Typed.{Identifies, IsMemberBehind, IsTypeBy};
 
 use crate::given::member_behind;

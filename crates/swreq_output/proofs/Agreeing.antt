@@ -1,7 +1,7 @@
 -- Lists with one minimised list are equivalent, where it is decided what they derive. A goal that is decided holds where it is not refuted.
 use Rattle.std.proofs.Common.{List, [], ◌∷◌, Contains, inl, inr, subst, sym}
-use Rattle.swreq_relation.specs.WellFounded.{IsAccessible}
-use Rattle.swreq_relation.specs.WellFounded.IsAccessible.{reached}
+use Rattle.swreq_orders.specs.WellFounded.{IsAccessible}
+use Rattle.swreq_orders.specs.WellFounded.IsAccessible.{reached}
 use Rattle.swreq_param.specs.declared.ids.ParamId.{ParamId}
 use Rattle.swreq_derive.specs.Derivation.{Derivable, Source, TermFacts, TermRequirement, TermStatement}
 use Rattle.swreq_derive.specs.Derivation.Source.{Written}
@@ -9,7 +9,7 @@ use Rattle.swreq_derive.specs.Derivation.TermRequirement.{Conforms, IsAnyObject,
 use Rattle.swreq_derive.specs.Derivation.TermStatement.{Requires}
 use Rattle.swreq_derive.specs.Equivalence.{AreEquivalent}
 use Rattle.swreq_derive.proofs.Members.{first_member, later_member, member_cases, no_member}
-use Rattle.swreq_reading.specs.Symbols.{Symbols}
+use Rattle.swreq_correspondence.specs.Symbols.{Symbols}
 use Rattle.swreq_canonical.specs.Canonical.{HasReducedTypes, IsCanonical, principal}
 use Rattle.swreq_canonical.specs.CanonicalOrder.{RequirementBefore}
 use Rattle.swreq_canonical.specs.Generators.{Follows, IsEarlier, IsGeneratorList}

@@ -7,19 +7,19 @@ use Rattle.swreq_watch.specs.declared.events.Event.{Event}
 use Rattle.swreq_pair.specs.CriticalPairs.{PairsMeet}
 use Rattle.swreq_complete.specs.declared.limit.Limits.{Limits}
 use Rattle.swreq_complete.proofs.Ended.{pairs_meet}
-use Rattle.swreq_reading.specs.Equations.{UsableEquation}
-use Rattle.swreq_reading.specs.Symbols.{IsInText}
+use Rattle.swreq_correspondence.specs.Equations.{UsableEquation}
+use Rattle.swreq_correspondence.specs.Symbols.{IsInText}
 use Rattle.swreq_rounds.specs.Plan.{Item, Plan, given}
 use Rattle.swreq_rounds.specs.Presents.{AreListRules, AreProtocolRules, ProtocolEquation}
 use Rattle.swreq_rounds.specs.Rounds.{IsLastRound}
 use Rattle.swreq_rounds.proofs.LastRound.{list_law, protocols_law}
 use Rattle.swreq_candidates.specs.Completed.{IsCompleted}
 use Rattle.swreq_candidates.proofs.RulesGive.{least_words}
-use Rattle.swreq_written.specs.Requirements.{PlacedRequirement}
+use Rattle.swreq_lowering.specs.Requirements.{PlacedRequirement}
 use Rattle.swreq_world.specs.Closed.{IsClosed}
 use Rattle.swreq_world.specs.Worlds.{SignatureOver, TextWorld}
-use Rattle.swreq_shown.specs.Meaning.{facts_of, symbols_of}
-use Rattle.swreq_shown.proofs.Symbols.{ranks_law, symbols_law, text_law}
+use Rattle.swreq_symbols.specs.Meaning.{facts_of, symbols_of}
+use Rattle.swreq_symbols.proofs.Symbols.{ranks_law, symbols_law, text_law}
 use Rattle.swreq_valid.specs.Machines.{list_of, protocols_of}
 use Rattle.swreq_minimal.specs.Inheritance.{IsInheritanceWritten}
 use Rattle.swreq_minimal.proofs.Named.{members_named}

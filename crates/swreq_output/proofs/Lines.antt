@@ -12,14 +12,14 @@ use Rattle.swreq_word.specs.Relations.{Linked}
 use Rattle.swreq_rule.specs.declared.rules.Rule.{Rule}
 use Rattle.swreq_rule.specs.Steps.{Step}
 use Rattle.swreq_complete.specs.Reduced.{IsReducedSystem}
-use Rattle.swreq_written.specs.declared.ids.FuncId.{FuncId}
-use Rattle.swreq_written.specs.Requirements.{PlacedRequirement}
+use Rattle.swreq_lowering.specs.declared.ids.FuncId.{FuncId}
+use Rattle.swreq_lowering.specs.Requirements.{PlacedRequirement}
 use Rattle.swreq_world.specs.ByTable.{world_by}
 use Rattle.swreq_world.specs.Worlds.{IdWorld, SignatureOver, TextWorld, signature_at}
-use Rattle.swreq_reading.specs.Equations.{AreCongruent, UsableEquation}
+use Rattle.swreq_correspondence.specs.Equations.{AreCongruent, UsableEquation}
 use Rattle.swreq_canonical.specs.Minimised.{IsMinimised}
 use Rattle.swreq_candidates.proofs.RulesGive.{reduced_system}
-use Rattle.swreq_shown.specs.Meaning.{facts_of, symbols_of}
+use Rattle.swreq_symbols.specs.Meaning.{facts_of, symbols_of}
 use Rattle.swreq_valid.specs.Machines.{IsMachineOf, MachineView}
 use Rattle.swreq_valid.specs.Plans.{listed}
 use Rattle.swreq_valid.specs.Rounds.{last_rules}

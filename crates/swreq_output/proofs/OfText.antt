@@ -18,15 +18,15 @@ use Rattle.swreq_derive.specs.Derivation.Source.{Written}
 use Rattle.swreq_derive.specs.Derivation.TermRequirement.{Conforms, IsAnyObject, Equals}
 use Rattle.swreq_derive.specs.Derivation.TermStatement.{IsValid, Requires}
 use Rattle.swreq_derive.proofs.Members.{first_member, later_member, no_member}
-use Rattle.swreq_ranks.specs.Lexicons.{pair}
-use Rattle.swreq_ranks.specs.Views.{LexiconView, IsName}
-use Rattle.swreq_written.specs.Heads.{IsOver}
-use Rattle.swreq_written.specs.Requirements.{PlacedRequirement}
+use Rattle.swreq_lexicon.specs.Lexicons.{pair}
+use Rattle.swreq_lexicon.specs.Views.{LexiconView, IsName}
+use Rattle.swreq_lowering.specs.Heads.{IsOver}
+use Rattle.swreq_lowering.specs.Requirements.{PlacedRequirement}
 use Rattle.swreq_world.specs.Closed.{IsClosed, IsOfProtocol, IsTermOf}
 use Rattle.swreq_world.specs.Closed as closed
 use Rattle.swreq_world.specs.Worlds.{TextWorld, requirements_of}
-use Rattle.swreq_shown.specs.Meaning.{facts_of}
-use Rattle.swreq_shown.proofs.Declared.{at_rank, of_text}
+use Rattle.swreq_symbols.specs.Meaning.{facts_of}
+use Rattle.swreq_symbols.proofs.Declared.{at_rank, of_text}
 use Rattle.swreq_print.specs.Reading.{HasNumbers, HasSteps, IsAssociated, IsRequirementOf, IsTypeOf}
 
 -- ---- type parameters

@@ -19,17 +19,17 @@ use Rattle.swreq_candidates.specs.Completed.{IsCompleted}
 use Rattle.swreq_canonical.specs.Minimised.{IsMinimised}
 use Rattle.swreq_canonical.proofs.Agreement.{minimised_canonical, same_minimised}
 use Rattle.swreq_names.specs.declared.signature.Signature.{Signature}
-use Rattle.swreq_reading.specs.Symbols.{IsInText}
-use Rattle.swreq_written.specs.Requirements.{PlacedRequirement}
-use Rattle.swreq_written.specs.Short.{HasShortLists}
-use Rattle.swreq_written.specs.Signatures.{counts, in_order, own_params, outer_params, params_of}
+use Rattle.swreq_correspondence.specs.Symbols.{IsInText}
+use Rattle.swreq_lowering.specs.Requirements.{PlacedRequirement}
+use Rattle.swreq_lowering.specs.Short.{HasShortLists}
+use Rattle.swreq_lowering.specs.Signatures.{counts, in_order, own_params, outer_params, params_of}
 use Rattle.swreq_world.specs.Closed.{HasOwn, IsClosed, IsOfSignature}
 use Rattle.swreq_world.specs.Closed as closed
 use Rattle.swreq_world.specs.Text.{signature_in, signatures}
 use Rattle.swreq_world.specs.WorldOf.{IsWorldOf, words_of}
 use Rattle.swreq_world.specs.Worlds.{SignatureOver, TextWorld}
-use Rattle.swreq_shown.specs.Meaning.{facts_of, symbols_of}
-use Rattle.swreq_shown.proofs.Symbols.{list_law}
+use Rattle.swreq_symbols.specs.Meaning.{facts_of, symbols_of}
+use Rattle.swreq_symbols.proofs.Symbols.{list_law}
 use Rattle.swreq_minimal.specs.Inheritance.{IsInheritanceWritten}
 use Rattle.swreq_print.specs.Reading.{HasNumbers, IsRequirementOf, IsSignatureOf}
 use Rattle.swreq_print.specs.Signatures.{signature_text}

@@ -4,7 +4,7 @@ use Rattle.std.specs.Option.{option_map_or}
 use Rattle.std.specs.Prelude.{codes}
 use Rattle.std.proofs.Math.ListN.{get_or-map}
 use Rattle.swreq_param.specs.Terms.{Term}
-use Rattle.swreq_written.specs.declared.ids.FuncId.{FuncId}
+use Rattle.swreq_lowering.specs.declared.ids.FuncId.{FuncId}
 use Rattle.swreq_world.specs.ByTable.{signature_by, world_by}
 use Rattle.swreq_world.specs.Lookups.{outer_name}
 use Rattle.swreq_world.specs.Worlds.{IdWorld, no_signature, signature_at}

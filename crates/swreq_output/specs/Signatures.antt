@@ -5,10 +5,10 @@ use Rattle.swreq_derive.specs.Derivation.{Source, TermRequirement}
 use Rattle.swreq_derive.specs.Derivation.Source.{Written}
 use Rattle.swreq_derive.specs.Equivalence.{AreEquivalent}
 use Rattle.swreq_derive.specs.Facts.{generic_params}
-use Rattle.swreq_written.specs.Requirements.{PlacedRequirement}
+use Rattle.swreq_lowering.specs.Requirements.{PlacedRequirement}
 use Rattle.swreq_world.specs.Lookups.{outer_name}
 use Rattle.swreq_world.specs.Worlds.{SignatureOver, TextWorld}
-use Rattle.swreq_shown.specs.Meaning.{facts_of}
+use Rattle.swreq_symbols.specs.Meaning.{facts_of}
 use Rattle.swreq_canonical.specs.Minimised.{IsMinimised}
 use Rattle.swreq_print.specs.Names.{Text}
 use Rattle.swreq_print.specs.Signatures.{signature_text}

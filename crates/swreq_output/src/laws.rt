@@ -3,16 +3,16 @@ ghost use Rattle.std.specs.Prelude.{◌≡◌, Contains, List, ℕ};
 ghost use Rattle.swreq_derive.specs.Equivalence.{AreEquivalent};
 ghost use Rattle.swreq_derive.specs.Facts.{generic_params};
 ghost use Rattle.swreq_complete.specs.declared.limit.Limits.{Limits};
-ghost use Rattle.swreq_written.specs.Requirements.{PlacedRequirement};
+ghost use Rattle.swreq_lowering.specs.Requirements.{PlacedRequirement};
 ghost use Rattle.swreq_world.specs.Worlds.{SignatureOver, TextWorld};
-ghost use Rattle.swreq_shown.specs.Meaning.{facts_of};
+ghost use Rattle.swreq_symbols.specs.Meaning.{facts_of};
 ghost use Rattle.swreq_output.specs.Ended.{HasEnded, IsWorldOfText};
 ghost use Rattle.swreq_output.specs.Signatures.{IsMinimisedLine, written_list};
 
 use swreq_minimal::laws::inheritance_is_written;
 use swreq_print::laws::signatures_of_a_text_are_told_apart;
 use swreq_world::laws::worlds_are_closed;
-use swreq_written::laws::lists_are_short;
+use swreq_lowering::laws::lists_are_short;
 
 /// Equivalent signatures with the same generic parameters have one minimised line.
 pub fn equivalent_signatures_print_alike()

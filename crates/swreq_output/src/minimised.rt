@@ -4,7 +4,7 @@ ghost use Rattle.swreq_param.specs.Tables.{Extends};
 ghost use Rattle.swreq_derive.specs.Facts.{generic_params};
 ghost use Rattle.swreq_complete.specs.declared.limit.Failed.TheVariants.{Memory};
 ghost use Rattle.swreq_complete.specs.Limits.{AreInRange};
-ghost use Rattle.swreq_shown.specs.Known.{IsTextOver};
+ghost use Rattle.swreq_symbols.specs.Known.{IsTextOver};
 ghost use Rattle.swreq_valid.specs.Machines.{AreRulesOf, IsMachineOf};
 ghost use Rattle.swreq_valid.specs.Plans.{AreKnown, listed};
 ghost use Rattle.swreq_valid.specs.Rounds.{last_rules};

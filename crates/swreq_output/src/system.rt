@@ -1,7 +1,7 @@
 //! The reduced rewriting system of a signature.
 ghost use Rattle.std.specs.Prelude.{◌≡◌, ◌<◌, ◌++◌, List, ℕ, codes, decimal, length, OnOk};
 ghost use Rattle.std.specs.List.{flat_map};
-ghost use Rattle.swreq_shown.specs.Known.{IsTextOver};
+ghost use Rattle.swreq_symbols.specs.Known.{IsTextOver};
 ghost use Rattle.swreq_valid.specs.Machines.{IsMachineOf};
 ghost use Rattle.swreq_world.specs.ByTable.{world_by};
 ghost use Rattle.swreq_world.specs.Worlds.{signature_at};
@@ -13,7 +13,7 @@ use std::alloc::{AllocError, Global};
 use swreq_bytes::{append_bytes, append_number};
 use swreq_param::ParamTable;
 use swreq_print::rule_text;
-use swreq_ranks::Lexicon;
+use swreq_lexicon::Lexicon;
 use swreq_rule::Rule;
 use swreq_valid::Machine;
 use swreq_world::{FuncId, World};

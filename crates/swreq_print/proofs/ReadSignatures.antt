@@ -7,7 +7,7 @@ use Rattle.swreq_param.specs.declared.ids.ProtoId.{ProtoId}
 use Rattle.swreq_param.specs.Terms.{Term}
 use Rattle.swreq_derive.specs.Derivation.{TermRequirement}
 use Rattle.swreq_derive.specs.Derivation.TermRequirement.{Conforms, IsAnyObject, Equals}
-use Rattle.swreq_ranks.specs.Views.{LexiconView, IsProtocol}
+use Rattle.swreq_lexicon.specs.Views.{LexiconView, IsProtocol}
 use Rattle.swreq_print.specs.Names.{Text, protocol_name}
 use Rattle.swreq_print.specs.Types.{param_text, type_text}
 use Rattle.swreq_print.specs.Signatures.{requirement_text, where_text, signature_text}

@@ -19,15 +19,15 @@ use Rattle.swreq_names.specs.Mentioned.{mentioned}
 use Rattle.swreq_names.specs.Spaces.{word}
 use Rattle.swreq_param.specs.declared.ids.NameId.{NameId}
 use Rattle.swreq_param.specs.declared.ids.ProtoId.{ProtoId}
-use Rattle.swreq_ranks.specs.declared.pair.ProtocolName.{ProtocolName}
-use Rattle.swreq_ranks.specs.Lexicons.{name_by, pair, proto_by}
-use Rattle.swreq_ranks.specs.Ranks.{bytes_cmp, rank}
-use Rattle.swreq_ranks.specs.Texts.{IsLexiconOf, declared_by, declared_in, protocol_names}
-use Rattle.swreq_ranks.specs.Views.{LexiconView, IsName, IsProtocol, assoc_cmp, inherits}
-use Rattle.swreq_ranks.proofs.Declared.{from_pieces, named_within}
-use Rattle.swreq_ranks.proofs.Passing.{one_of}
-use Rattle.swreq_ranks.proofs.RankLaws.{assoc_total, rank_is}
-use Rattle.swreq_ranks.proofs.Rising.{one_place, rising_from_sorted}
+use Rattle.swreq_lexicon.specs.declared.pair.ProtocolName.{ProtocolName}
+use Rattle.swreq_lexicon.specs.Lexicons.{name_by, pair, proto_by}
+use Rattle.swreq_lexicon.specs.Ranks.{bytes_cmp, rank}
+use Rattle.swreq_lexicon.specs.Texts.{IsLexiconOf, declared_by, declared_in, protocol_names}
+use Rattle.swreq_lexicon.specs.Views.{LexiconView, IsName, IsProtocol, assoc_cmp, inherits}
+use Rattle.swreq_lexicon.proofs.Declared.{from_pieces, named_within}
+use Rattle.swreq_lexicon.proofs.Passing.{one_of}
+use Rattle.swreq_lexicon.proofs.RankLaws.{assoc_total, rank_is}
+use Rattle.swreq_lexicon.proofs.Rising.{one_place, rising_from_sorted}
 use Rattle.swreq_spelled.specs.WordBytes.{HasWordBytes, in_word}
 use Rattle.swreq_print.specs.Names.{Text, name_text, pair_at, protocol_name}
 use Rattle.swreq_print.specs.Reading.{IsPair, IsProper, TellsApart, in_name}

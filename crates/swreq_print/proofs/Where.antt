@@ -4,7 +4,7 @@ use Rattle.swreq_param.specs.Terms.{Term}
 use Rattle.swreq_bytes.specs.Joined.{joined}
 use Rattle.swreq_derive.specs.declared.requirements.Requirement.{Requirement}
 use Rattle.swreq_derive.specs.Facts.{requirement_of}
-use Rattle.swreq_ranks.specs.Views.{LexiconView}
+use Rattle.swreq_lexicon.specs.Views.{LexiconView}
 use Rattle.swreq_print.specs.Names.{Text}
 use Rattle.swreq_print.specs.Signatures.{requirement_text, where_text}
 

@@ -11,8 +11,8 @@ use Rattle.swreq_param.specs.Terms.{Term, head}
 use Rattle.swreq_param.specs.Terms.Term.{Generic, Member}
 use Rattle.swreq_derive.specs.Derivation.{TermRequirement}
 use Rattle.swreq_derive.specs.Derivation.TermRequirement.{Conforms, IsAnyObject, Equals}
-use Rattle.swreq_ranks.specs.declared.pair.ProtocolName.{ProtocolName}
-use Rattle.swreq_ranks.specs.Views.{LexiconView, IsProtocol, IsName}
+use Rattle.swreq_lexicon.specs.declared.pair.ProtocolName.{ProtocolName}
+use Rattle.swreq_lexicon.specs.Views.{LexiconView, IsProtocol, IsName}
 use Rattle.swreq_print.specs.Names.{Text, protocol_name, name_text, pair_at}
 
 -- ---- ids of the text

@@ -4,7 +4,7 @@ use Rattle.swreq_bytes.specs.Joined.{joined}
 use Rattle.swreq_param.specs.declared.ids.ParamId.{ParamId}
 use Rattle.swreq_derive.specs.Derivation.{TermRequirement}
 use Rattle.swreq_derive.specs.Derivation.TermRequirement.{Conforms, IsAnyObject, Equals}
-use Rattle.swreq_ranks.specs.Views.{LexiconView}
+use Rattle.swreq_lexicon.specs.Views.{LexiconView}
 use Rattle.swreq_print.specs.declared.types.Scope.{Scope}
 use Rattle.swreq_print.specs.declared.types.Scope.TheVariants.{Protocol, Signature}
 use Rattle.swreq_print.specs.Names.{Text, protocol_name}

@@ -6,8 +6,8 @@ use Rattle.swreq_param.specs.declared.ids.Step.{Step}
 use Rattle.swreq_param.specs.declared.ids.Step.TheVariants.{Bound, Name}
 use Rattle.swreq_param.specs.Terms.{Term}
 use Rattle.swreq_param.specs.Terms.Term.{Generic, Member}
-use Rattle.swreq_ranks.specs.declared.pair.ProtocolName.{ProtocolName}
-use Rattle.swreq_ranks.specs.Views.{LexiconView}
+use Rattle.swreq_lexicon.specs.declared.pair.ProtocolName.{ProtocolName}
+use Rattle.swreq_lexicon.specs.Views.{LexiconView}
 use Rattle.swreq_print.specs.declared.types.Scope.{Scope}
 use Rattle.swreq_print.specs.declared.types.Scope.TheVariants.{Protocol, Signature}
 use Rattle.swreq_print.specs.Names.{Text, protocol_name, name_text, pair_at}

@@ -6,8 +6,8 @@ ghost use Rattle.swreq_decl.specs.Skeletons.{StandsFor};
 ghost use Rattle.swreq_derive.specs.Derivation.{TermRequirement};
 ghost use Rattle.swreq_print.specs.Reading.{IsSignatureOf, TellsApart};
 ghost use Rattle.swreq_print.specs.Signatures.{signature_text};
-ghost use Rattle.swreq_ranks.specs.Texts.{IsLexiconOf};
-ghost use Rattle.swreq_ranks.specs.Views.{LexiconView};
+ghost use Rattle.swreq_lexicon.specs.Texts.{IsLexiconOf};
+ghost use Rattle.swreq_lexicon.specs.Views.{LexiconView};
 
 use swreq_param::ParamId;
 use swreq_spelled::laws::{names_are_words, words_have_word_bytes};

@@ -4,7 +4,7 @@ ghost use Rattle.std.specs.Prelude.{◌≡◌};
 ghost use Rattle.swreq_print.specs.Names.{first_pair, name_text, pair_at, protocol_name, symbol_at};
 
 use swreq_param::{AssocId, NameId, ProtoId};
-use swreq_ranks::{Lexicon, ProtocolName};
+use swreq_lexicon::{Lexicon, ProtocolName};
 
 /// The first protocol with the first name.
 fn first_pair() -> ProtocolName

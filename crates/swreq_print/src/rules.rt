@@ -9,7 +9,7 @@ use crate::types::put_param;
 use std::alloc::{AllocError, Global};
 use swreq_bytes::{Print, append_bytes, append_number, put_joined};
 use swreq_param::{NameId, ParamId, ProtoId};
-use swreq_ranks::{Lexicon, ProtocolName};
+use swreq_lexicon::{Lexicon, ProtocolName};
 use swreq_rule::{Birth, Rule};
 use swreq_word::Symbol;
 

@@ -3,7 +3,7 @@
 ghost use Rattle.std.specs.Prelude.{◌≡◌, ◌++◌, ⊤, map, IfOk, OnErr, OnOk};
 ghost use Rattle.std.specs.List.{All};
 ghost use Rattle.swreq_derive.specs.Facts.{generic_params, params_of_depth, requirement_of};
-ghost use Rattle.swreq_written.specs.ByTable.{HasIdsOf};
+ghost use Rattle.swreq_lowering.specs.ByTable.{HasIdsOf};
 ghost use Rattle.swreq_print.specs.Types.{param_text};
 ghost use Rattle.swreq_print.specs.Signatures.{requirement_in, requirement_text, self_text, signature_text, where_text};
 
@@ -13,7 +13,7 @@ use std::alloc::{AllocError, Global};
 use swreq_bytes::{Print, append_bytes, put_joined};
 use swreq_derive::{Params, Requirement};
 use swreq_param::{ParamId, ParamTable};
-use swreq_ranks::Lexicon;
+use swreq_lexicon::Lexicon;
 
 fn put_requirement(
     alloc: Global,

@@ -9,7 +9,7 @@ use crate::names::{name_text, pair_at, protocol_name};
 use std::alloc::{AllocError, Global};
 use swreq_bytes::{append_bytes, append_number};
 use swreq_param::{ParamId, ParamTable, Step, TermId, TypeParam};
-use swreq_ranks::{Lexicon, ProtocolName};
+use swreq_lexicon::{Lexicon, ProtocolName};
 
 /// Where a type parameter stands, and so how its generic parameter is printed.
 #[derive(Clone, Copy)]

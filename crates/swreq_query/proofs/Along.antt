@@ -2,7 +2,7 @@
 use Rattle.swreq_derive.specs.Derivation.{TermStatement}
 use Rattle.swreq_derive.specs.Derivation.TermRequirement.{Equals}
 use Rattle.swreq_derive.specs.Derivation.TermStatement.{IsValid, Requires}
-use Rattle.swreq_written.specs.Queries.{TermQuery}
+use Rattle.swreq_lowering.specs.Queries.{TermQuery}
 use Rattle.swreq_query.specs.Answers.{Answer, IsAnswer}
 use Rattle.swreq_query.specs.Answers.Answer.{Invalid, Yes, No, Reduced}
 

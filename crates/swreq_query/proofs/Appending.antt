@@ -8,12 +8,12 @@ use Rattle.swreq_derive.specs.Derivation.{TermStatement}
 use Rattle.swreq_derive.specs.Derivation.TermStatement.{IsValid}
 use Rattle.swreq_print.specs.Names.{Text}
 use Rattle.swreq_print.specs.Types.{type_text}
-use Rattle.swreq_ranks.specs.Views.{LexiconView}
-use Rattle.swreq_written.specs.ByTable.{query_by}
-use Rattle.swreq_written.specs.Queries.{TermQuery}
-use Rattle.swreq_written.specs.Queries.TermQuery.{AsksReduced}
-use Rattle.swreq_written.specs.declared.ids.FuncId.{FuncId}
-use Rattle.swreq_written.specs.declared.ids.Query.{Query}
+use Rattle.swreq_lexicon.specs.Views.{LexiconView}
+use Rattle.swreq_lowering.specs.ByTable.{query_by}
+use Rattle.swreq_lowering.specs.Queries.{TermQuery}
+use Rattle.swreq_lowering.specs.Queries.TermQuery.{AsksReduced}
+use Rattle.swreq_lowering.specs.declared.ids.FuncId.{FuncId}
+use Rattle.swreq_lowering.specs.declared.ids.Query.{Query}
 use Rattle.swreq_query.specs.Answers.{Answer, IsAnswer, IsLeastEqual, answer_line}
 use Rattle.swreq_query.specs.Answers.Answer.{Reduced}
 use Rattle.swreq_query.specs.Asked.{AppendsAnswer}

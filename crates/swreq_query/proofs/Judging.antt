@@ -5,8 +5,8 @@ use Rattle.swreq_param.specs.Terms.{Term}
 use Rattle.swreq_derive.specs.Derivation.{TermStatement}
 use Rattle.swreq_derive.specs.Derivation.TermRequirement.{Equals}
 use Rattle.swreq_derive.specs.Derivation.TermStatement.{IsValid, Requires}
-use Rattle.swreq_written.specs.Queries.TermQuery.{AsksEquals}
-use Rattle.swreq_written.specs.declared.ids.FuncId.{FuncId}
+use Rattle.swreq_lowering.specs.Queries.TermQuery.{AsksEquals}
+use Rattle.swreq_lowering.specs.declared.ids.FuncId.{FuncId}
 use Rattle.swreq_valid.specs.declared.having.Property.{Property}
 use Rattle.swreq_valid.specs.declared.having.Property.TheVariants.{Protocol, Layout}
 use Rattle.swreq_query.specs.Answers.{IsAnswer, IsSide, asked}

@@ -7,10 +7,10 @@ use Rattle.swreq_derive.specs.Derivation.TermRequirement.{Conforms, IsAnyObject,
 use Rattle.swreq_derive.specs.Derivation.TermStatement.{IsValid, Requires}
 use Rattle.swreq_print.specs.Names.{Text}
 use Rattle.swreq_print.specs.Types.{type_text}
-use Rattle.swreq_ranks.specs.Views.{LexiconView}
-use Rattle.swreq_written.specs.Queries.{TermQuery}
-use Rattle.swreq_written.specs.Queries.TermQuery.{AsksSignature, AsksReduced, AsksConforms, AsksAnyObject, AsksEquals}
-use Rattle.swreq_written.specs.declared.ids.FuncId.{FuncId}
+use Rattle.swreq_lexicon.specs.Views.{LexiconView}
+use Rattle.swreq_lowering.specs.Queries.{TermQuery}
+use Rattle.swreq_lowering.specs.Queries.TermQuery.{AsksSignature, AsksReduced, AsksConforms, AsksAnyObject, AsksEquals}
+use Rattle.swreq_lowering.specs.declared.ids.FuncId.{FuncId}
 
 -- ---- what a query names
 

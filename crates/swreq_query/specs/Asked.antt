@@ -3,15 +3,15 @@ use Rattle.std.specs.Prelude.{◌≡◌, ℕ, ◌+◌, ◌*◌, ◌≤◌, List,
 use Rattle.swreq_param.specs.Terms.{Term, member_count}
 use Rattle.swreq_derive.specs.Derivation.{TermStatement}
 use Rattle.swreq_print.specs.Names.{Text}
-use Rattle.swreq_ranks.specs.Views.{LexiconView}
+use Rattle.swreq_lexicon.specs.Views.{LexiconView}
 use Rattle.swreq_world.specs.ByTable.{world_by}
 use Rattle.swreq_world.specs.Closed.{IsQueryOf}
 use Rattle.swreq_world.specs.Worlds.{IdWorld}
-use Rattle.swreq_written.specs.ByTable.{HasQueryIdsOf, query_by}
-use Rattle.swreq_written.specs.Queries.{TermQuery}
-use Rattle.swreq_written.specs.Queries.TermQuery.{AsksAnyObject, AsksConforms, AsksSignature}
-use Rattle.swreq_written.specs.declared.ids.FuncId.{FuncId}
-use Rattle.swreq_written.specs.declared.ids.Query.{Query}
+use Rattle.swreq_lowering.specs.ByTable.{HasQueryIdsOf, query_by}
+use Rattle.swreq_lowering.specs.Queries.{TermQuery}
+use Rattle.swreq_lowering.specs.Queries.TermQuery.{AsksAnyObject, AsksConforms, AsksSignature}
+use Rattle.swreq_lowering.specs.declared.ids.FuncId.{FuncId}
+use Rattle.swreq_lowering.specs.declared.ids.Query.{Query}
 use Rattle.swreq_valid.specs.declared.having.Property.{Property}
 use Rattle.swreq_valid.specs.declared.having.Property.TheVariants.{Protocol, Layout}
 use Rattle.swreq_query.specs.declared.verdict.Verdict.{Verdict}

@@ -2,12 +2,12 @@
 ghost use Rattle.std.specs.Prelude.{◌≡◌, List, length, OnErr, OnOk};
 ghost use Rattle.swreq_derive.specs.Derivation.{TermRequirement};
 ghost use Rattle.swreq_map.specs.Follows.{IsMapOf};
-ghost use Rattle.swreq_shown.specs.Known.{IsTextOver};
+ghost use Rattle.swreq_symbols.specs.Known.{IsTextOver};
 ghost use Rattle.swreq_valid.specs.Asked.{IsDerivable};
 ghost use Rattle.swreq_valid.specs.Machines.{IsMachineOf};
 ghost use Rattle.swreq_valid.specs.Rounds.{last_rules};
 ghost use Rattle.swreq_world.specs.ByTable.{world_by};
-ghost use Rattle.swreq_written.specs.ByTable.{query_by};
+ghost use Rattle.swreq_lowering.specs.ByTable.{query_by};
 ghost use Rattle.swreq_query.specs.Asked.{AppendsAnswer, IsOfTypes, IsQueryIn, IsRoomFor};
 
 use crate::reduced::reduced_line;
@@ -18,7 +18,7 @@ use swreq_map::PropertyMap;
 use swreq_param::ParamTable;
 use swreq_valid::{Machine, Property, Scratch};
 use swreq_world::World;
-use swreq_written::Query;
+use swreq_lowering::Query;
 
 /// Appends the line that answers a query of a requirement or a type, from every list of which m is the machine.
 ///

@@ -5,8 +5,8 @@ ghost use Rattle.swreq_derive.specs.Derivation.{BookDerivable, Derivable, Derive
 ghost use Rattle.swreq_derive.specs.Reduced.{IsReducedTypeOf};
 ghost use Rattle.swreq_derive.specs.WellFormed.{IsWellFormed};
 ghost use Rattle.swreq_print.specs.Names.{Text};
-ghost use Rattle.swreq_ranks.specs.Views.{LexiconView};
-ghost use Rattle.swreq_written.specs.Queries.{TermQuery};
+ghost use Rattle.swreq_lexicon.specs.Views.{LexiconView};
+ghost use Rattle.swreq_lowering.specs.Queries.{TermQuery};
 ghost use Rattle.swreq_query.specs.Answers.{Answer, IsAnswer, IsAnswerLine, IsLeastEqual};
 
 /// A query has at most one answer, and so one line, by the rules with the guard and by those without it.

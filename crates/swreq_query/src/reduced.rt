@@ -5,12 +5,12 @@ ghost use Rattle.swreq_param.specs.Terms.{member_count, with_steps};
 ghost use Rattle.swreq_param.specs.Terms.Term.{Generic};
 ghost use Rattle.swreq_derive.specs.Derivation.{TermRequirement};
 ghost use Rattle.swreq_print.specs.Types.{type_text};
-ghost use Rattle.swreq_shown.specs.Known.{IsTextOver, IsTypeIn};
+ghost use Rattle.swreq_symbols.specs.Known.{IsTextOver, IsTypeIn};
 ghost use Rattle.swreq_valid.specs.Asked.{IsDerivable};
 ghost use Rattle.swreq_valid.specs.Machines.{IsMachineOf};
 ghost use Rattle.swreq_world.specs.ByTable.{world_by};
-ghost use Rattle.swreq_written.specs.Queries.TermQuery.{AsksReduced};
-ghost use Rattle.swreq_written.specs.declared.ids.FuncId.{FuncId};
+ghost use Rattle.swreq_lowering.specs.Queries.TermQuery.{AsksReduced};
+ghost use Rattle.swreq_lowering.specs.declared.ids.FuncId.{FuncId};
 ghost use Rattle.swreq_query.specs.Asked.{AppendsAnswer};
 
 use crate::verdict::Verdict;
@@ -18,7 +18,7 @@ use std::alloc::{AllocError, Global};
 use swreq_bytes::append_bytes;
 use swreq_param::{ParamId, ParamTable, Step, TermId};
 use swreq_print::steps_text;
-use swreq_ranks::Lexicon;
+use swreq_lexicon::Lexicon;
 use swreq_valid::{Machine, Scratch};
 use swreq_world::World;
 

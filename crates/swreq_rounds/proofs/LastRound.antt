@@ -11,12 +11,12 @@ use Rattle.swreq_rule.specs.declared.rules.Rule.{Rule}
 use Rattle.swreq_rule.specs.Steps.{Step}
 use Rattle.swreq_watch.specs.declared.events.Event.{Event}
 use Rattle.swreq_complete.specs.declared.limit.Limits.{Limits}
-use Rattle.swreq_reading.specs.Symbols.{Word, Symbols, IsOfText, AreSymbolsOf, AreOfText, IsInText, left_side, right_side}
-use Rattle.swreq_reading.specs.Equations.{Equation, Linking, UsableOf, UsableIn, UsableEquation}
-use Rattle.swreq_reading.specs.Equations.Equation.{twice, member, of_protocol, of_source}
-use Rattle.swreq_reading.specs.Shown.{ShowsUsable}
-use Rattle.swreq_reading.proofs.Chained.{self_in_range}
-use Rattle.swreq_reading.proofs.Shown.{more_equations, usable_by_more, shown_usable, usable_shown}
+use Rattle.swreq_correspondence.specs.Symbols.{Word, Symbols, IsOfText, AreSymbolsOf, AreOfText, IsInText, left_side, right_side}
+use Rattle.swreq_correspondence.specs.Equations.{Equation, Linking, UsableOf, UsableIn, UsableEquation}
+use Rattle.swreq_correspondence.specs.Equations.Equation.{twice, member, of_protocol, of_source}
+use Rattle.swreq_correspondence.specs.Shown.{ShowsUsable}
+use Rattle.swreq_correspondence.proofs.Chained.{self_in_range}
+use Rattle.swreq_correspondence.proofs.Shown.{more_equations, usable_by_more, shown_usable, usable_shown}
 use Rattle.swreq_rounds.specs.Plan.{Item, Plan, given, equation_of}
 use Rattle.swreq_rounds.specs.Rounds.{Ends, LeavesUsable, IsRound, IsLastRound}
 use Rattle.swreq_rounds.specs.Rounds.IsRound.{first, next}

@@ -18,11 +18,11 @@ use Rattle.swreq_complete.specs.Laws.{all_equations}
 use Rattle.swreq_complete.proofs.Ended.{by_rule}
 use Rattle.swreq_word.proofs.Lists.{in_whole, get_of_map}
 use Rattle.swreq_complete.proofs.Soundness.{sound, complete}
-use Rattle.swreq_reading.specs.Symbols.{Word}
-use Rattle.swreq_reading.specs.Equations.{Link, Linking}
-use Rattle.swreq_reading.specs.Equations.Link.{forth, back, there}
-use Rattle.swreq_reading.proofs.Chained.{turn_all}
-use Rattle.swreq_reading.proofs.Shown.{linking_to}
+use Rattle.swreq_correspondence.specs.Symbols.{Word}
+use Rattle.swreq_correspondence.specs.Equations.{Link, Linking}
+use Rattle.swreq_correspondence.specs.Equations.Link.{forth, back, there}
+use Rattle.swreq_correspondence.proofs.Chained.{turn_all}
+use Rattle.swreq_correspondence.proofs.Shown.{linking_to}
 use Rattle.swreq_rounds.specs.Presents.{Presents}
 
 -- ---- elements

@@ -4,8 +4,8 @@ use Rattle.swreq_word.specs.Relations.{Linked}
 use Rattle.swreq_rule.specs.declared.rules.Rule.{Rule}
 use Rattle.swreq_rule.specs.Steps.{Step}
 use Rattle.swreq_derive.specs.Derivation.{TermRequirement, TermFacts, Source}
-use Rattle.swreq_reading.specs.Symbols.{Word, Symbols, left_side, right_side}
-use Rattle.swreq_reading.specs.Shown.{ShowsUsable}
+use Rattle.swreq_correspondence.specs.Symbols.{Word, Symbols, left_side, right_side}
+use Rattle.swreq_correspondence.specs.Shown.{ShowsUsable}
 
 -- A requirement, and the source over which it is read: the list where it is written, or [τ_0_0 : P] for a requirement of P.
 pub record Item : Type 0 where

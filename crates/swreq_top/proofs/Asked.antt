@@ -9,12 +9,12 @@ use Rattle.swreq_names.proofs.Booleans.{and_both, and_first, and_second}
 use Rattle.swreq_param.specs.Terms.{Term}
 use Rattle.swreq_words.specs.declared.command.Command.{Command}
 use Rattle.swreq_words.specs.declared.command.Command.TheVariants as command
-use Rattle.swreq_written.specs.ByTable.{query_by}
-use Rattle.swreq_written.specs.Queries.{TermQuery}
-use Rattle.swreq_written.specs.Queries.TermQuery.{AsksSignature, AsksReduced, AsksConforms, AsksAnyObject, AsksEquals}
-use Rattle.swreq_written.specs.declared.ids.FuncId.{FuncId}
-use Rattle.swreq_written.specs.declared.ids.Query.{Query}
-use Rattle.swreq_written.specs.declared.ids.Query.TheVariants as queries
+use Rattle.swreq_lowering.specs.ByTable.{query_by}
+use Rattle.swreq_lowering.specs.Queries.{TermQuery}
+use Rattle.swreq_lowering.specs.Queries.TermQuery.{AsksSignature, AsksReduced, AsksConforms, AsksAnyObject, AsksEquals}
+use Rattle.swreq_lowering.specs.declared.ids.FuncId.{FuncId}
+use Rattle.swreq_lowering.specs.declared.ids.Query.{Query}
+use Rattle.swreq_lowering.specs.declared.ids.Query.TheVariants as queries
 use Rattle.swreq_query.specs.Asked.{IsOfTypes}
 use Rattle.swreq_top.specs.Outputs.{AnswersByTypes, IsLineOf, signature_of}
 use Rattle.swreq_top.specs.Wanted.{AreAsked, by_machine, by_machine_at, function_of, is_of_types, list_asked}

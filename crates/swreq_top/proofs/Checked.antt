@@ -15,10 +15,10 @@ use Rattle.swreq_rounds.specs.Plan.{Plan, given}
 use Rattle.swreq_rounds.specs.Rounds.{ComesTo, IsOutcome}
 use Rattle.swreq_rounds.proofs.Members.{contains_of_map}
 use Rattle.swreq_watch.specs.declared.events.Event.{Event}
-use Rattle.swreq_written.specs.Requirements.{PlacedRequirement}
+use Rattle.swreq_lowering.specs.Requirements.{PlacedRequirement}
 use Rattle.swreq_world.specs.Closed.{IsClosed}
 use Rattle.swreq_world.specs.Worlds.{SignatureOver, TextWorld, no_signature, requirements_of}
-use Rattle.swreq_shown.specs.Meaning.{facts_of}
+use Rattle.swreq_symbols.specs.Meaning.{facts_of}
 use Rattle.swreq_valid.specs.Built.{IsBuilt}
 use Rattle.swreq_valid.specs.Machines.{list_of, protocols_of}
 use Rattle.swreq_valid.specs.Sides.{HoldsOfEach, IsValidSide, Side, protocol_sides, sides, sides_at, sides_in, sides_of}

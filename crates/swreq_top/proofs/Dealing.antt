@@ -10,12 +10,12 @@ use Rattle.swreq_names.proofs.Booleans.{and_both}
 use Rattle.swreq_param.specs.Terms.{Term}
 use Rattle.swreq_print.specs.Names.{Text}
 use Rattle.swreq_words.specs.declared.command.Command.TheVariants as command
-use Rattle.swreq_written.specs.ByTable.{query_by}
-use Rattle.swreq_written.specs.Queries.{TermQuery}
-use Rattle.swreq_written.specs.declared.ids.FuncId.{FuncId}
-use Rattle.swreq_written.specs.declared.ids.Query.{Query}
-use Rattle.swreq_written.specs.declared.ids.Query.TheVariants as queries
-use Rattle.swreq_shown.specs.Known.{IsTextOver}
+use Rattle.swreq_lowering.specs.ByTable.{query_by}
+use Rattle.swreq_lowering.specs.Queries.{TermQuery}
+use Rattle.swreq_lowering.specs.declared.ids.FuncId.{FuncId}
+use Rattle.swreq_lowering.specs.declared.ids.Query.{Query}
+use Rattle.swreq_lowering.specs.declared.ids.Query.TheVariants as queries
+use Rattle.swreq_symbols.specs.Known.{IsTextOver}
 use Rattle.swreq_world.specs.ByTable.{world_by}
 use Rattle.swreq_world.specs.Worlds.{IdWorld, TextWorld}
 use Rattle.swreq_top.specs.Lines.{AreLines}

@@ -25,13 +25,13 @@ use Rattle.swreq_complete.specs.declared.limit.Which.{Which}
 use Rattle.swreq_complete.specs.Limits.{Passes}
 use Rattle.swreq_complete.specs.Moments.{HasSides, greater_number}
 use Rattle.swreq_complete.specs.Reached.{IsBorn, IsReached}
-use Rattle.swreq_reading.specs.Symbols.{Word}
+use Rattle.swreq_correspondence.specs.Symbols.{Word}
 use Rattle.swreq_rounds.specs.Given.{basic_of, items_of}
 use Rattle.swreq_rounds.specs.Plan.{AreShown, Item, equation_of, given}
 use Rattle.swreq_rounds.specs.Rounds.{IsRound, IsStoppedRound, Selects}
 use Rattle.swreq_rounds.specs.Rounds.IsRound.{first, next}
 use Rattle.swreq_rounds.specs.Rounds.Selects.{none}
-use Rattle.swreq_shown.specs.Meaning.{facts_of, symbols_of}
+use Rattle.swreq_symbols.specs.Meaning.{facts_of, symbols_of}
 use Rattle.swreq_print.specs.declared.refusal.RefusalKind.{RefusalKind}
 use Rattle.swreq_print.specs.declared.refusal.RefusalKind.TheVariants as refusals
 use Rattle.swreq_print.specs.Names.{Text}
@@ -46,9 +46,9 @@ use Rattle.swreq_words.specs.Form.{Says}
 use Rattle.swreq_words.proofs.Lines.{one_line}
 use Rattle.swreq_world.specs.WorldOf.{IsWorldOf}
 use Rattle.swreq_world.specs.Worlds.{SignatureOver, TextWorld}
-use Rattle.swreq_written.specs.Queries.{TermQuery}
-use Rattle.swreq_written.specs.Queries.TermQuery.{AsksSignature}
-use Rattle.swreq_written.specs.Requirements.{PlacedRequirement}
+use Rattle.swreq_lowering.specs.Queries.{TermQuery}
+use Rattle.swreq_lowering.specs.Queries.TermQuery.{AsksSignature}
+use Rattle.swreq_lowering.specs.Requirements.{PlacedRequirement}
 use Rattle.swreq_top.specs.declared.outcome.Outcome.{Outcome}
 use Rattle.swreq_output.specs.Ended.{IsWorldOfText}
 use Rattle.swreq_top.specs.Machines.{IsChecked, ProtocolsCome, SignaturesCome}

@@ -9,11 +9,11 @@ use Rattle.swreq_param.specs.Terms.{Term}
 use Rattle.swreq_rounds.proofs.Members.{contains_map}
 use Rattle.swreq_words.specs.declared.command.Command.{Command}
 use Rattle.swreq_words.specs.declared.command.Command.TheVariants as command
-use Rattle.swreq_written.specs.declared.ids.FuncId.{FuncId}
-use Rattle.swreq_written.specs.declared.ids.Query.{Query}
-use Rattle.swreq_written.specs.declared.ids.Query.TheVariants as queries
-use Rattle.swreq_written.specs.ByTable.{query_by}
-use Rattle.swreq_written.specs.Queries.TermQuery.{AsksSignature}
+use Rattle.swreq_lowering.specs.declared.ids.FuncId.{FuncId}
+use Rattle.swreq_lowering.specs.declared.ids.Query.{Query}
+use Rattle.swreq_lowering.specs.declared.ids.Query.TheVariants as queries
+use Rattle.swreq_lowering.specs.ByTable.{query_by}
+use Rattle.swreq_lowering.specs.Queries.TermQuery.{AsksSignature}
 use Rattle.swreq_world.specs.ByTable.{signature_by, world_by}
 use Rattle.swreq_world.specs.Closed.{IsClosed, IsQueryOf}
 use Rattle.swreq_world.specs.Worlds.{IdWorld, no_signature, signature_at}

@@ -21,15 +21,15 @@ use Rattle.swreq_watch.specs.declared.events.Event.{Event}
 use Rattle.swreq_words.specs.declared.command.Command.{Command}
 use Rattle.swreq_words.specs.declared.command.Command.TheVariants as command
 use Rattle.swreq_words.specs.declared.command.CommandLine.{CommandLine}
-use Rattle.swreq_written.specs.declared.ids.FuncId.{FuncId}
-use Rattle.swreq_written.specs.Queries.{TermQuery}
-use Rattle.swreq_written.specs.Queries.TermQuery.{AsksSignature, AsksReduced, AsksConforms, AsksAnyObject, AsksEquals}
-use Rattle.swreq_written.specs.Requirements.{PlacedRequirement}
+use Rattle.swreq_lowering.specs.declared.ids.FuncId.{FuncId}
+use Rattle.swreq_lowering.specs.Queries.{TermQuery}
+use Rattle.swreq_lowering.specs.Queries.TermQuery.{AsksSignature, AsksReduced, AsksConforms, AsksAnyObject, AsksEquals}
+use Rattle.swreq_lowering.specs.Requirements.{PlacedRequirement}
 use Rattle.swreq_world.specs.Closed.{IsClosed, IsQueryOf}
 use Rattle.swreq_world.specs.Worlds.{SignatureOver, TextWorld, signature_at}
 use Rattle.swreq_world.proofs.Closing.{closed}
 use Rattle.swreq_world.proofs.ProtocolOffsets.{protocols_rising}
-use Rattle.swreq_shown.specs.Meaning.{facts_of}
+use Rattle.swreq_symbols.specs.Meaning.{facts_of}
 use Rattle.swreq_print.specs.Names.{Text}
 use Rattle.swreq_query.specs.Answers.{Answer, HasValidSides, IsAnswer, IsLeastEqual, answer_line, asked}
 use Rattle.swreq_query.specs.Answers.Answer.{Invalid, Yes, No, Reduced}

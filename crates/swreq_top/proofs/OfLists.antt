@@ -9,15 +9,15 @@ use Rattle.swreq_param.specs.Terms.{Term}
 use Rattle.swreq_rounds.proofs.Members.{contains_map}
 use Rattle.swreq_rule.specs.declared.rules.Rule.{Rule}
 use Rattle.swreq_watch.specs.declared.events.Event.{Event}
-use Rattle.swreq_written.specs.ByTable.{AreOf, HasIdsOf, placed, placed_by}
-use Rattle.swreq_written.specs.declared.ids.FuncId.{FuncId}
-use Rattle.swreq_written.specs.declared.ids.Written.{Written}
-use Rattle.swreq_written.specs.Requirements.{PlacedRequirement}
+use Rattle.swreq_lowering.specs.ByTable.{AreOf, HasIdsOf, placed, placed_by}
+use Rattle.swreq_lowering.specs.declared.ids.FuncId.{FuncId}
+use Rattle.swreq_lowering.specs.declared.ids.Written.{Written}
+use Rattle.swreq_lowering.specs.Requirements.{PlacedRequirement}
 use Rattle.swreq_world.specs.ByTable.{signature_by, world_by}
 use Rattle.swreq_world.specs.Closed.{HasOwn, IsOfSignature}
 use Rattle.swreq_world.specs.Worlds.{IdWorld, SignatureOver, no_signature, signature_at}
-use Rattle.swreq_shown.specs.Known.{IsTextOver}
-use Rattle.swreq_shown.specs.Meaning.{facts_of}
+use Rattle.swreq_symbols.specs.Known.{IsTextOver}
+use Rattle.swreq_symbols.specs.Meaning.{facts_of}
 use Rattle.swreq_rounds.specs.Plan.{Plan}
 use Rattle.swreq_valid.specs.Built.{Builds, IsBuilt, IsOnlyBuilt}
 use Rattle.swreq_valid.specs.Machines.{IsMachineOf, MachineView, list_of, machine_plan}

@@ -10,8 +10,8 @@ use Rattle.std.proofs.lemmas.List.Folds.{concat-append}
 use Rattle.swreq_print.specs.Names.{Text}
 use Rattle.swreq_words.specs.declared.command.Command.{Command}
 use Rattle.swreq_words.specs.declared.command.Command.TheVariants as command
-use Rattle.swreq_written.specs.Requirements.{PlacedRequirement}
-use Rattle.swreq_written.specs.declared.ids.FuncId.{FuncId}
+use Rattle.swreq_lowering.specs.Requirements.{PlacedRequirement}
+use Rattle.swreq_lowering.specs.declared.ids.FuncId.{FuncId}
 use Rattle.swreq_world.specs.Worlds.{SignatureOver, TextWorld, no_signature, signature_at}
 use Rattle.swreq_output.specs.Systems.{IsSystemText}
 use Rattle.swreq_top.specs.declared.making.Made.{Made}

@@ -8,7 +8,7 @@ use Rattle.swreq_watch.specs.declared.events.Event.{Event}
 use Rattle.swreq_watch.specs.Told.{GrewBy}
 use Rattle.swreq_watch.proofs.Told.{grew_none, grew_on}
 use Rattle.swreq_words.specs.declared.command.Command.{Command}
-use Rattle.swreq_written.specs.Requirements.{PlacedRequirement}
+use Rattle.swreq_lowering.specs.Requirements.{PlacedRequirement}
 use Rattle.swreq_world.specs.Worlds.{SignatureOver, TextWorld}
 use Rattle.swreq_top.specs.Made.{AreLinesKept, IsLineKept}
 use Rattle.swreq_top.specs.Told.{FailsAt, MinimisingAllTells, MinimisingEndsIn, TellsOne}

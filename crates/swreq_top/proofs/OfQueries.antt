@@ -6,14 +6,14 @@ use Rattle.std.proofs.lemmas.Option.{slice_get_read}
 use Rattle.swreq_param.specs.Terms.{Term}
 use Rattle.swreq_print.specs.Names.{Text}
 use Rattle.swreq_rounds.proofs.Members.{contains_map}
-use Rattle.swreq_written.specs.declared.ids.FuncId.{FuncId}
-use Rattle.swreq_written.specs.declared.ids.Query.{Query}
-use Rattle.swreq_written.specs.declared.ids.Query.TheVariants.{Signature}
-use Rattle.swreq_written.specs.ByTable.{HasQueryIdsOf, query_by}
+use Rattle.swreq_lowering.specs.declared.ids.FuncId.{FuncId}
+use Rattle.swreq_lowering.specs.declared.ids.Query.{Query}
+use Rattle.swreq_lowering.specs.declared.ids.Query.TheVariants.{Signature}
+use Rattle.swreq_lowering.specs.ByTable.{HasQueryIdsOf, query_by}
 use Rattle.swreq_world.specs.ByTable.{signature_by, world_by}
 use Rattle.swreq_world.specs.Closed.{IsQueryOf}
 use Rattle.swreq_world.specs.Worlds.{IdWorld, TextWorld, signature_at}
-use Rattle.swreq_shown.specs.Known.{IsTextOver}
+use Rattle.swreq_symbols.specs.Known.{IsTextOver}
 use Rattle.swreq_output.specs.Signatures.{IsMinimisedLine}
 use Rattle.swreq_query.specs.Asked.{IsQueryIn}
 use Rattle.swreq_top.specs.Outputs.{signature_of}

@@ -4,9 +4,9 @@ use Rattle.swreq_derive.specs.Derivation.{TermFacts}
 use Rattle.swreq_rule.specs.declared.rules.Rule.{Rule}
 use Rattle.swreq_rounds.specs.Plan.{Plan}
 use Rattle.swreq_watch.specs.declared.events.Event.{Event}
-use Rattle.swreq_written.specs.Requirements.{PlacedRequirement}
+use Rattle.swreq_lowering.specs.Requirements.{PlacedRequirement}
 use Rattle.swreq_world.specs.Worlds.{SignatureOver, TextWorld}
-use Rattle.swreq_shown.specs.Meaning.{facts_of}
+use Rattle.swreq_symbols.specs.Meaning.{facts_of}
 use Rattle.swreq_valid.specs.Built.{Builds, IsBuilt}
 use Rattle.swreq_valid.specs.Machines.{list_of, protocols_of}
 use Rattle.swreq_valid.specs.Sides.{Side, protocol_sides, sides}

@@ -4,8 +4,8 @@ use Rattle.std.specs.Prelude.{codes, decimal}
 use Rattle.swreq_bytes.specs.Joined.{joined}
 use Rattle.swreq_print.specs.Names.{Text, first_pair}
 use Rattle.swreq_print.specs.Rules.{birth_text, symbol_text, trace_from, trace_text}
-use Rattle.swreq_ranks.specs.Views.{LexiconView}
-use Rattle.swreq_ranks.specs.declared.pair.ProtocolName.{ProtocolName}
+use Rattle.swreq_lexicon.specs.Views.{LexiconView}
+use Rattle.swreq_lexicon.specs.declared.pair.ProtocolName.{ProtocolName}
 use Rattle.swreq_rule.specs.declared.rules.Rule.{Rule}
 use Rattle.swreq_word.specs.declared.symbols.Symbol.{Symbol}
 use Rattle.swreq_word.specs.declared.symbols.Symbol.TheVariants.{Proto, Member, Param, Name, Layout}

@@ -13,18 +13,18 @@ use Rattle.swreq_names.specs.Inheritance.{Inherits}
 use Rattle.swreq_names.specs.Mentioned.{mentioned}
 use Rattle.swreq_names.specs.Spaces.{Spaces, word}
 use Rattle.swreq_param.specs.declared.ids.ProtoId.{ProtoId}
-use Rattle.swreq_ranks.specs.declared.pair.ProtocolName.{ProtocolName}
-use Rattle.swreq_ranks.specs.Associated as over
-use Rattle.swreq_ranks.specs.Lexicons.{pair, proto_by}
-use Rattle.swreq_ranks.specs.Ranks.{Bytes, bytes_cmp}
-use Rattle.swreq_ranks.specs.Texts.{IsLexiconOf, declared_in, protocol_names}
+use Rattle.swreq_lexicon.specs.declared.pair.ProtocolName.{ProtocolName}
+use Rattle.swreq_lexicon.specs.Associated as over
+use Rattle.swreq_lexicon.specs.Lexicons.{pair, proto_by}
+use Rattle.swreq_lexicon.specs.Ranks.{Bytes, bytes_cmp}
+use Rattle.swreq_lexicon.specs.Texts.{IsLexiconOf, declared_in, protocol_names}
 use Rattle.swreq_print.specs.Rules.{trace_text}
-use Rattle.swreq_ranks.specs.Views.{HasMember, IsProtocol, LexiconView, assoc_cmp, inherits, place_of, symbol_cmp}
-use Rattle.swreq_ranks.proofs.RankLaws.{assoc_total}
+use Rattle.swreq_lexicon.specs.Views.{HasMember, IsProtocol, LexiconView, assoc_cmp, inherits, place_of, symbol_cmp}
+use Rattle.swreq_lexicon.proofs.RankLaws.{assoc_total}
 use Rattle.swreq_rule.specs.declared.rules.Rule.{Rule}
 use Rattle.swreq_watch.specs.declared.events.Event.{Event}
-use Rattle.swreq_written.specs.Requirements.{PlacedRequirement}
-use Rattle.swreq_written.specs.Words.{WordsView}
+use Rattle.swreq_lowering.specs.Requirements.{PlacedRequirement}
+use Rattle.swreq_lowering.specs.Words.{WordsView}
 use Rattle.swreq_world.specs.Closed.{AreIds}
 use Rattle.swreq_world.specs.Text.{requirements_named, signatures}
 use Rattle.swreq_world.specs.WorldOf.{IsWorldOf, words_of}

@@ -22,16 +22,16 @@ use Rattle.swreq_names.specs.declared.signature.Signature.{Signature}
 use Rattle.swreq_names.specs.declared.signature.Signature.TheVariants.{Struct, Function, Nested}
 use Rattle.swreq_names.specs.declared.signature.Param.TheVariants.{Own}
 use Rattle.swreq_names.specs.Spaces.{protocol_of}
-use Rattle.swreq_ranks.specs.Views.{LexiconView}
-use Rattle.swreq_written.specs.declared.ids.FuncId.{FuncId}
-use Rattle.swreq_written.specs.declared.scope.Scope.{Scope}
-use Rattle.swreq_written.specs.declared.scope.Scope.TheVariants as scopes
-use Rattle.swreq_written.specs.Queries.TermQuery.{AsksAnyObject, AsksConforms, AsksEquals, AsksReduced}
-use Rattle.swreq_written.specs.Queries.{asked_of, asked_signature, query_of, signature_named}
-use Rattle.swreq_written.specs.Requirements.{PlacedRequirement, bound_of, equality, of_one_side, arguments, argument, in_bound, in_bounds, in_clause, in_member, in_params, in_protocol, in_requirement, in_signature, in_struct}
-use Rattle.swreq_written.specs.Signatures.{func_id, functions_of, in_order, own_depth, params_of}
-use Rattle.swreq_written.specs.Types.{head_in, member_named, param_id, step_of, type_in}
-use Rattle.swreq_written.specs.Words.{WordsView, declared, primaries_named, proto_of}
+use Rattle.swreq_lexicon.specs.Views.{LexiconView}
+use Rattle.swreq_lowering.specs.declared.ids.FuncId.{FuncId}
+use Rattle.swreq_lowering.specs.declared.scope.Scope.{Scope}
+use Rattle.swreq_lowering.specs.declared.scope.Scope.TheVariants as scopes
+use Rattle.swreq_lowering.specs.Queries.TermQuery.{AsksAnyObject, AsksConforms, AsksEquals, AsksReduced}
+use Rattle.swreq_lowering.specs.Queries.{asked_of, asked_signature, query_of, signature_named}
+use Rattle.swreq_lowering.specs.Requirements.{PlacedRequirement, bound_of, equality, of_one_side, arguments, argument, in_bound, in_bounds, in_clause, in_member, in_params, in_protocol, in_requirement, in_signature, in_struct}
+use Rattle.swreq_lowering.specs.Signatures.{func_id, functions_of, in_order, own_depth, params_of}
+use Rattle.swreq_lowering.specs.Types.{head_in, member_named, param_id, step_of, type_in}
+use Rattle.swreq_lowering.specs.Words.{WordsView, declared, primaries_named, proto_of}
 use Rattle.swreq_world.specs.Worlds.{SignatureOver}
 use Rattle.swreq_world.specs.Text.{function_name, list_of, name_of, outer_of, signatures, struct_name, of_function, of_nested, of_nested_in, of_place, of_protocol, of_struct, requirements_named, signature_in}
 

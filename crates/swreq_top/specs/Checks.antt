@@ -6,7 +6,7 @@ use Rattle.swreq_complete.specs.declared.limit.Limits.{Limits}
 use Rattle.swreq_watch.specs.declared.events.Event.{Event}
 use Rattle.swreq_watch.specs.Told.{GrewBy}
 use Rattle.swreq_words.specs.declared.command.Command.{Command}
-use Rattle.swreq_written.specs.Requirements.{PlacedRequirement}
+use Rattle.swreq_lowering.specs.Requirements.{PlacedRequirement}
 use Rattle.swreq_world.specs.Worlds.{SignatureOver, TextWorld}
 use Rattle.swreq_valid.specs.Machines.{AreRulesOf, list_of}
 use Rattle.swreq_valid.specs.Rounds.{last_rules}

@@ -3,9 +3,9 @@ use Rattle.std.specs.Prelude.{◌≡◌, ◌≢◌, List, [], ◌∷◌, ◌++�
 use Rattle.swreq_rule.specs.declared.rules.Rule.{Rule}
 use Rattle.swreq_watch.specs.declared.events.Event.{Event}
 use Rattle.swreq_complete.specs.declared.limit.Limits.{Limits}
-use Rattle.swreq_written.specs.Requirements.{PlacedRequirement}
+use Rattle.swreq_lowering.specs.Requirements.{PlacedRequirement}
 use Rattle.swreq_world.specs.Worlds.{SignatureOver, TextWorld}
-use Rattle.swreq_shown.specs.Meaning.{facts_of}
+use Rattle.swreq_symbols.specs.Meaning.{facts_of}
 use Rattle.swreq_valid.specs.declared.refused.Refused.{Refused}
 use Rattle.swreq_valid.specs.declared.refused.Refused.TheVariants.{Memory}
 use Rattle.swreq_valid.specs.Built.{IsBuilt}

@@ -5,8 +5,8 @@ use Rattle.std.specs.declared.alloc.Global.{Global}
 use Rattle.swreq_print.specs.Names.{Text}
 use Rattle.swreq_words.specs.declared.command.Command.{Command}
 use Rattle.swreq_words.specs.declared.command.Command.TheVariants as command
-use Rattle.swreq_written.specs.Requirements.{PlacedRequirement}
-use Rattle.swreq_written.specs.declared.ids.FuncId.{FuncId}
+use Rattle.swreq_lowering.specs.Requirements.{PlacedRequirement}
+use Rattle.swreq_lowering.specs.declared.ids.FuncId.{FuncId}
 use Rattle.swreq_world.specs.Worlds.{SignatureOver, TextWorld, signature_at}
 use Rattle.swreq_output.specs.Signatures.{IsMinimisedLine}
 use Rattle.swreq_output.specs.Systems.{IsSystemText}

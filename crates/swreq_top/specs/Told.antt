@@ -8,9 +8,9 @@ use Rattle.swreq_complete.specs.declared.limit.Limits.{Limits}
 use Rattle.swreq_watch.specs.declared.events.Event.{Event}
 use Rattle.swreq_words.specs.declared.command.Command.{Command}
 use Rattle.swreq_words.specs.declared.command.Command.TheVariants as command
-use Rattle.swreq_written.specs.Queries.TermQuery.{AsksSignature}
-use Rattle.swreq_written.specs.Requirements.{PlacedRequirement}
-use Rattle.swreq_written.specs.declared.ids.FuncId.{FuncId}
+use Rattle.swreq_lowering.specs.Queries.TermQuery.{AsksSignature}
+use Rattle.swreq_lowering.specs.Requirements.{PlacedRequirement}
+use Rattle.swreq_lowering.specs.declared.ids.FuncId.{FuncId}
 use Rattle.swreq_world.specs.Worlds.{SignatureOver, TextWorld, signature_at}
 use Rattle.swreq_valid.specs.Machines.{list_of, protocols_of}
 use Rattle.swreq_output.specs.Minimising.{MinimisingFails, MinimisingTells}

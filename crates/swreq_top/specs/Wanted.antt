@@ -5,12 +5,12 @@ use Rattle.std.specs.declared.alloc.Global.{Global}
 use Rattle.swreq_param.specs.Terms.{Term, member_count}
 use Rattle.swreq_words.specs.declared.command.Command.{Command}
 use Rattle.swreq_words.specs.declared.command.Command.TheVariants as command
-use Rattle.swreq_written.specs.declared.ids.FuncId.{FuncId}
-use Rattle.swreq_written.specs.declared.ids.Query.{Query}
-use Rattle.swreq_written.specs.declared.ids.Query.TheVariants as queries
-use Rattle.swreq_written.specs.ByTable.{query_by}
-use Rattle.swreq_written.specs.Queries.{TermQuery}
-use Rattle.swreq_written.specs.Queries.TermQuery.{AsksSignature, AsksReduced, AsksConforms, AsksAnyObject, AsksEquals}
+use Rattle.swreq_lowering.specs.declared.ids.FuncId.{FuncId}
+use Rattle.swreq_lowering.specs.declared.ids.Query.{Query}
+use Rattle.swreq_lowering.specs.declared.ids.Query.TheVariants as queries
+use Rattle.swreq_lowering.specs.ByTable.{query_by}
+use Rattle.swreq_lowering.specs.Queries.{TermQuery}
+use Rattle.swreq_lowering.specs.Queries.TermQuery.{AsksSignature, AsksReduced, AsksConforms, AsksAnyObject, AsksEquals}
 use Rattle.swreq_query.specs.Answers.{IsSide}
 use Rattle.swreq_top.specs.Outputs.{signature_of}
 

@@ -4,14 +4,14 @@ ghost use Rattle.std.specs.List.{filter};
 ghost use Rattle.swreq_map.specs.Follows.{IsMapOf};
 ghost use Rattle.swreq_output.specs.Signatures.{IsMinimisedLine, written_list};
 ghost use Rattle.swreq_query.specs.Asked.{IsOfTypes, IsRoomFor};
-ghost use Rattle.swreq_shown.specs.Known.{IsTextOver};
+ghost use Rattle.swreq_symbols.specs.Known.{IsTextOver};
 ghost use Rattle.swreq_valid.specs.Machines.{IsMachineOf};
 ghost use Rattle.swreq_valid.specs.Rounds.{last_rules};
 ghost use Rattle.swreq_world.specs.ByTable.{world_by};
 ghost use Rattle.swreq_world.specs.Worlds.{signature_at};
 ghost use Rattle.swreq_words.specs.declared.command.Command.TheVariants.{Answer};
-ghost use Rattle.swreq_written.specs.ByTable.{query_by};
-ghost use Rattle.swreq_written.specs.declared.ids.Query.TheVariants.{Signature};
+ghost use Rattle.swreq_lowering.specs.ByTable.{query_by};
+ghost use Rattle.swreq_lowering.specs.declared.ids.Query.TheVariants.{Signature};
 ghost use Rattle.swreq_top.specs.Lines.{AreLines};
 ghost use Rattle.swreq_top.specs.Made.{AreAnswers, AreLinesKept, AreNext};
 ghost use Rattle.swreq_top.specs.Outputs.{AnswersByTypes, IsLineOf, signature_of};
@@ -25,7 +25,7 @@ use swreq_query::answer;
 use swreq_text::Seq;
 use swreq_valid::{Machine, Scratch};
 use swreq_world::World;
-use swreq_written::{FuncId, Query};
+use swreq_lowering::{FuncId, Query};
 
 /// Room for the type parameters that a query of the text names.
 fn scratch(

@@ -1,7 +1,7 @@
 //! The check of a text: its protocols, then its signatures in written order.
 ghost use Rattle.std.specs.Prelude.{◌≡◌, ◌+◌, ◌<◌, length, IfOk, OnOk};
 ghost use Rattle.swreq_complete.specs.Limits.{AreInRange};
-ghost use Rattle.swreq_shown.specs.Known.{IsTextOver};
+ghost use Rattle.swreq_symbols.specs.Known.{IsTextOver};
 ghost use Rattle.swreq_valid.specs.Machines.{AreRulesOf};
 ghost use Rattle.swreq_valid.specs.Rounds.{last_rules};
 ghost use Rattle.swreq_world.specs.ByTable.{world_by};
@@ -18,7 +18,7 @@ use swreq_param::ParamTable;
 use swreq_valid::{Machine, Protocols, Refused};
 use swreq_watch::Watch;
 use swreq_world::World;
-use swreq_written::FuncId;
+use swreq_lowering::FuncId;
 
 /// What a check without a refusal gives: the rules of the protocols, and what the command prints by the machines of the signatures.
 #[derive(Drop)]

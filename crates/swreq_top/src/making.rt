@@ -1,7 +1,7 @@
 //! What is made of each machine while it stands.
 ghost use Rattle.std.specs.Prelude.{◌≡◌, ◌+◌, ◌<◌, ◌++◌, [], List, length, OnOk, take};
 ghost use Rattle.swreq_output.specs.Signatures.{written_list};
-ghost use Rattle.swreq_shown.specs.Known.{IsTextOver};
+ghost use Rattle.swreq_symbols.specs.Known.{IsTextOver};
 ghost use Rattle.swreq_valid.specs.Machines.{IsMachineOf};
 ghost use Rattle.swreq_world.specs.ByTable.{world_by};
 ghost use Rattle.swreq_world.specs.Worlds.{signature_at};
@@ -17,7 +17,7 @@ use swreq_text::Seq;
 use swreq_valid::Machine;
 use swreq_words::Command;
 use swreq_world::World;
-use swreq_written::FuncId;
+use swreq_lowering::FuncId;
 
 /// What a command prints by machines. It is made of each machine as soon as that stands, so that only one has to be kept at a time.
 #[derive(Drop)]

@@ -4,7 +4,7 @@ ghost use Rattle.swreq_complete.specs.Limits.{AreInRange};
 ghost use Rattle.swreq_minimal.specs.Inheritance.{IsInheritanceWritten};
 ghost use Rattle.swreq_output.specs.Minimising.{MinimisingFails, MinimisingTells};
 ghost use Rattle.swreq_output.specs.Signatures.{IsMinimisedLine, written_list};
-ghost use Rattle.swreq_shown.specs.Known.{IsTextOver};
+ghost use Rattle.swreq_symbols.specs.Known.{IsTextOver};
 ghost use Rattle.swreq_valid.specs.Machines.{IsMachineOf};
 ghost use Rattle.swreq_valid.specs.Rounds.{last_rules};
 ghost use Rattle.swreq_valid.specs.declared.refused.Refused.TheVariants.{Memory};
@@ -26,7 +26,7 @@ use swreq_valid::{Machine, Protocols, Refused};
 use swreq_watch::{Quiet, Watch};
 use swreq_words::Command;
 use swreq_world::World;
-use swreq_written::FuncId;
+use swreq_lowering::FuncId;
 
 /// The want of memory for which alone a list that has passed the check is refused.
 fn lost(_refused: &Refused) -> AllocError

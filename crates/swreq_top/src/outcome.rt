@@ -6,7 +6,7 @@ ghost use Rattle.swreq_decl.specs.declared.refusal.ParseErr.TheVariants as gramm
 ghost use Rattle.swreq_lex.specs.declared.lexer.TheConstants.{TEXT_LIMIT};
 ghost use Rattle.swreq_minimal.specs.Inheritance.{IsInheritanceWritten};
 ghost use Rattle.swreq_names.specs.declared.refusal.NameErr.TheVariants as names;
-ghost use Rattle.swreq_shown.specs.Known.{IsTextOver};
+ghost use Rattle.swreq_symbols.specs.Known.{IsTextOver};
 ghost use Rattle.swreq_valid.specs.Rounds.{last_rules};
 ghost use Rattle.swreq_valid.specs.declared.refused.Refused.TheVariants as machines;
 ghost use Rattle.swreq_watch.specs.declared.events.Event.{Event};

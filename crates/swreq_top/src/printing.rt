@@ -2,7 +2,7 @@
 ghost use Rattle.std.specs.Prelude.{◌≡◌, ◌<◌, ◌≤◌, ◌++◌, decimal, length, IfOk, OnOk, true};
 ghost use Rattle.std.specs.List.{concat};
 ghost use Rattle.swreq_output.specs.Signatures.{IsNamedLine};
-ghost use Rattle.swreq_shown.specs.Known.{IsTextOver};
+ghost use Rattle.swreq_symbols.specs.Known.{IsTextOver};
 ghost use Rattle.swreq_words.specs.declared.command.Command.TheVariants.{Signatures};
 ghost use Rattle.swreq_world.specs.ByTable.{world_by};
 ghost use Rattle.swreq_world.specs.Worlds.{signature_at};
@@ -20,7 +20,7 @@ use swreq_param::ParamTable;
 use swreq_text::Seq;
 use swreq_words::Command;
 use swreq_world::World;
-use swreq_written::FuncId;
+use swreq_lowering::FuncId;
 
 /// The line of a signature: its name, and its minimised list.
 fn named_line(

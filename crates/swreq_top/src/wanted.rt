@@ -1,14 +1,14 @@
 //! What a command wants of the signatures of a text.
 ghost use Rattle.std.specs.Prelude.{◌≡◌, ◌<◌, [], All, List, Vec, length, Contains, IfOk};
 ghost use Rattle.swreq_param.specs.Terms.{Term};
-ghost use Rattle.swreq_written.specs.ByTable.{HasQueryIdsOf, query_by};
+ghost use Rattle.swreq_lowering.specs.ByTable.{HasQueryIdsOf, query_by};
 ghost use Rattle.swreq_top.specs.Wanted.{AreFlags, HasShortSides, AreAsked, by_machine, function_of, is_list_asked, list_asked, wants_list};
 
 use std::alloc::{AllocError, Global};
 use swreq_param::ParamTable;
 use swreq_words::Command;
 use swreq_world::World;
-use swreq_written::{FuncId, Query};
+use swreq_lowering::{FuncId, Query};
 
 /// What a command asks of the machines of a text.
 #[derive(Drop)]

@@ -13,18 +13,18 @@ use Rattle.swreq_derive.specs.Derivation.Source.{Written}
 use Rattle.swreq_derive.specs.Facts.{generic_params}
 use Rattle.swreq_derive.proofs.Substitution.{valid_sides}
 use Rattle.swreq_rule.specs.declared.rules.Rule.{Rule}
-use Rattle.swreq_reading.specs.Shown.{ShowsValid}
-use Rattle.swreq_reading.specs.Symbols.{Symbols, Word, spell, word_of}
-use Rattle.swreq_reading.proofs.Correspondence.{conforming_words, equal_words, layout_words}
-use Rattle.swreq_reading.proofs.Shown.{shown_by_params}
-use Rattle.swreq_reading.proofs.Spelling.{spell-append}
-use Rattle.swreq_shown.specs.Meaning.{facts_of, symbols_of}
-use Rattle.swreq_shown.specs.Overs.{source_of}
-use Rattle.swreq_shown.specs.declared.over.Over.TheVariants.{Signature}
+use Rattle.swreq_correspondence.specs.Shown.{ShowsValid}
+use Rattle.swreq_correspondence.specs.Symbols.{Symbols, Word, spell, word_of}
+use Rattle.swreq_correspondence.proofs.Correspondence.{conforming_words, equal_words, layout_words}
+use Rattle.swreq_correspondence.proofs.Shown.{shown_by_params}
+use Rattle.swreq_correspondence.proofs.Spelling.{spell-append}
+use Rattle.swreq_symbols.specs.Meaning.{facts_of, symbols_of}
+use Rattle.swreq_symbols.specs.Overs.{source_of}
+use Rattle.swreq_symbols.specs.declared.over.Over.TheVariants.{Signature}
 use Rattle.swreq_map.specs.Properties.{Vanishes}
-use Rattle.swreq_shown.specs.Vanishing.{IsLeastBy, Links}
-use Rattle.swreq_shown.proofs.Symbols.{symbols_law, text_law}
-use Rattle.swreq_shown.proofs.Walking.{one_least, vanishes_same}
+use Rattle.swreq_symbols.specs.Vanishing.{IsLeastBy, Links}
+use Rattle.swreq_symbols.proofs.Symbols.{symbols_law, text_law}
+use Rattle.swreq_symbols.proofs.Walking.{one_least, vanishes_same}
 use Rattle.swreq_world.specs.Closed.{IsClosed}
 use Rattle.swreq_world.specs.Worlds.{TextWorld}
 use Rattle.swreq_valid.specs.Asked.{IsBehind, IsDerivable}

@@ -10,9 +10,9 @@ use Rattle.swreq_rule.proofs.Remaining.{remaining, remaining_falls}
 use Rattle.swreq_rule.proofs.Search.{reduction_step}
 use Rattle.swreq_complete.specs.Complete.{IsComplete}
 use Rattle.swreq_complete.proofs.Answering.{reduces_least}
-use Rattle.swreq_reading.specs.Symbols.{Word}
-use Rattle.swreq_shown.specs.Vanishing.{IsLeastBy, Links}
-use Rattle.swreq_shown.proofs.Walking.{one_least}
+use Rattle.swreq_correspondence.specs.Symbols.{Word}
+use Rattle.swreq_symbols.specs.Vanishing.{IsLeastBy, Links}
+use Rattle.swreq_symbols.proofs.Walking.{one_least}
 
 -- a word reduces to some word, in as many steps as are left
 reduces_within : (rules : List Rule) (n : ℕ) (w : Word) → remaining rules w ≤ n → (u : Word) × Reduces rules w u

@@ -7,15 +7,15 @@ use Rattle.swreq_derive.specs.Derivation.{Derivable, Source, TermFacts, TermRequ
 use Rattle.swreq_derive.specs.Derivation.Source.{SelfOf, Written}
 use Rattle.swreq_derive.specs.Derivation.TermStatement.{IsValid}
 use Rattle.swreq_rule.specs.declared.rules.Rule.{Rule}
-use Rattle.swreq_reading.specs.Equations.{Equation, Linking, UsableEquation, UsableIn, UsableOf}
-use Rattle.swreq_reading.specs.Equations.Equation.{member, of_protocol, of_source, twice}
-use Rattle.swreq_reading.specs.Shown.{ShowsValid}
-use Rattle.swreq_reading.specs.Symbols.{AreOfText, AreSymbolsOf, IsInText, IsOfText, Symbols, Word, left_side, right_side}
-use Rattle.swreq_reading.proofs.Chained.{self_in_range}
-use Rattle.swreq_reading.proofs.Shown.{shown_by_more, shown_valid, valid_shown}
+use Rattle.swreq_correspondence.specs.Equations.{Equation, Linking, UsableEquation, UsableIn, UsableOf}
+use Rattle.swreq_correspondence.specs.Equations.Equation.{member, of_protocol, of_source, twice}
+use Rattle.swreq_correspondence.specs.Shown.{ShowsValid}
+use Rattle.swreq_correspondence.specs.Symbols.{AreOfText, AreSymbolsOf, IsInText, IsOfText, Symbols, Word, left_side, right_side}
+use Rattle.swreq_correspondence.proofs.Chained.{self_in_range}
+use Rattle.swreq_correspondence.proofs.Shown.{shown_by_more, shown_valid, valid_shown}
 use Rattle.swreq_rounds.specs.Presents.{AreListRules, AreProtocolRules, Presents, ProtocolEquation}
 use Rattle.swreq_rounds.proofs.Presented.{presents_to}
-use Rattle.swreq_shown.specs.Vanishing.{Links}
+use Rattle.swreq_symbols.specs.Vanishing.{Links}
 
 module _ (m : Symbols) (f : TermFacts) (fit : AreSymbolsOf m f) (ranges : AreOfText m f) (rules : List Rule) where
   -- over a list

@@ -13,14 +13,14 @@ use Rattle.swreq_derive.specs.Facts.{generic_params}
 use Rattle.swreq_derive.proofs.Substitution.{valid_sides}
 use Rattle.swreq_word.specs.declared.symbols.Symbol.TheVariants.{Proto}
 use Rattle.swreq_complete.specs.Complete.{IsComplete}
-use Rattle.swreq_ranks.specs.declared.pair.ProtocolName.{ProtocolName}
-use Rattle.swreq_ranks.specs.Lexicons.{pair}
-use Rattle.swreq_reading.specs.Symbols.{Symbols, spell, word_of}
-use Rattle.swreq_reading.specs.Types.{HasFirsts}
-use Rattle.swreq_reading.proofs.Correspondence.{conforming_words}
-use Rattle.swreq_shown.specs.Meaning.{facts_of, symbols_of}
-use Rattle.swreq_shown.proofs.Declared.{at_rank, from_rank}
-use Rattle.swreq_shown.proofs.Symbols.{symbols_law, text_law}
+use Rattle.swreq_lexicon.specs.declared.pair.ProtocolName.{ProtocolName}
+use Rattle.swreq_lexicon.specs.Lexicons.{pair}
+use Rattle.swreq_correspondence.specs.Symbols.{Symbols, spell, word_of}
+use Rattle.swreq_correspondence.specs.Types.{HasFirsts}
+use Rattle.swreq_correspondence.proofs.Correspondence.{conforming_words}
+use Rattle.swreq_symbols.specs.Meaning.{facts_of, symbols_of}
+use Rattle.swreq_symbols.proofs.Declared.{at_rank, from_rank}
+use Rattle.swreq_symbols.proofs.Symbols.{symbols_law, text_law}
 use Rattle.swreq_world.specs.Closed.{IsClosed}
 use Rattle.swreq_world.specs.Worlds.{TextWorld}
 use Rattle.swreq_valid.specs.Machines.{IsMachineOf, MachineView}

@@ -10,17 +10,17 @@ use Rattle.swreq_derive.specs.Facts.{generic_params, requirement_of}
 use Rattle.swreq_rule.specs.declared.rules.Rule.{Rule}
 use Rattle.swreq_watch.specs.declared.events.Event.{Event}
 use Rattle.swreq_complete.specs.declared.limit.Limits.{Limits}
-use Rattle.swreq_reading.specs.Symbols.{IsInText}
+use Rattle.swreq_correspondence.specs.Symbols.{IsInText}
 use Rattle.swreq_rounds.specs.Given.{of_list}
 use Rattle.swreq_rounds.proofs.LastRound.{list_law}
 use Rattle.swreq_rounds.proofs.Members.{contains_of_map}
-use Rattle.swreq_ranks.specs.Views.{LexiconView}
+use Rattle.swreq_lexicon.specs.Views.{LexiconView}
 use Rattle.swreq_world.specs.ByTable.{world_by}
 use Rattle.swreq_world.specs.Closed.{AreIds, IsClosed, IsRequirementOf}
 use Rattle.swreq_world.specs.Worlds.{IdWorld, TextWorld}
-use Rattle.swreq_shown.specs.Known.{IsRequirementIn}
-use Rattle.swreq_shown.specs.Meaning.{facts_of, symbols_of}
-use Rattle.swreq_shown.proofs.Symbols as shown
+use Rattle.swreq_symbols.specs.Known.{IsRequirementIn}
+use Rattle.swreq_symbols.specs.Meaning.{facts_of, symbols_of}
+use Rattle.swreq_symbols.proofs.Symbols as shown
 use Rattle.swreq_valid.specs.declared.wanted.Start.{Start}
 use Rattle.swreq_valid.specs.declared.wanted.Wanted.{Wanted}
 use Rattle.swreq_valid.specs.Answers.{Answers}

@@ -12,15 +12,15 @@ use Rattle.swreq_complete.specs.declared.limit.Failed.{Failed}
 use Rattle.swreq_complete.specs.declared.limit.Limits.{Limits}
 use Rattle.swreq_rounds.specs.Presents.{AreProtocolRules}
 use Rattle.swreq_rounds.proofs.Members.{contains_of_map}
-use Rattle.swreq_ranks.specs.Views.{LexiconView}
-use Rattle.swreq_written.specs.declared.ids.Written.{Written}
-use Rattle.swreq_written.specs.ByTable.{placed}
+use Rattle.swreq_lexicon.specs.Views.{LexiconView}
+use Rattle.swreq_lowering.specs.declared.ids.Written.{Written}
+use Rattle.swreq_lowering.specs.ByTable.{placed}
 use Rattle.swreq_world.specs.ByTable.{world_by}
 use Rattle.swreq_world.specs.Closed.{IsClosed}
 use Rattle.swreq_world.specs.Worlds.{IdWorld, TextWorld}
-use Rattle.swreq_shown.proofs.Symbols.{symbols_law, text_law}
-use Rattle.swreq_shown.specs.Known.{IsRequirementIn}
-use Rattle.swreq_shown.specs.Meaning.{facts_of, symbols_of}
+use Rattle.swreq_symbols.proofs.Symbols.{symbols_law, text_law}
+use Rattle.swreq_symbols.specs.Known.{IsRequirementIn}
+use Rattle.swreq_symbols.specs.Meaning.{facts_of, symbols_of}
 use Rattle.swreq_valid.specs.declared.refused.Refused.{Refused}
 use Rattle.swreq_valid.specs.declared.refused.Refused.TheVariants.{Memory}
 use Rattle.swreq_valid.specs.Answers.{Answers}

@@ -7,12 +7,12 @@ use Rattle.std.proofs.lemmas.Option.{slice_get_cases, slice_get_within}
 use Rattle.swreq_rounds.proofs.Presented.{get_contains}
 use Rattle.swreq_param.specs.declared.ids.NameId.{NameId}
 use Rattle.swreq_param.specs.declared.ids.ProtoId.{ProtoId}
-use Rattle.swreq_ranks.specs.declared.pair.ProtocolName.{ProtocolName}
-use Rattle.swreq_ranks.specs.Lexicons.{pair}
-use Rattle.swreq_ranks.specs.Views.{LexiconView}
-use Rattle.swreq_reading.specs.Symbols.{MemberName, Word}
+use Rattle.swreq_lexicon.specs.declared.pair.ProtocolName.{ProtocolName}
+use Rattle.swreq_lexicon.specs.Lexicons.{pair}
+use Rattle.swreq_lexicon.specs.Views.{LexiconView}
+use Rattle.swreq_correspondence.specs.Symbols.{MemberName, Word}
 use Rattle.swreq_rounds.specs.Given.{named, named_from}
-use Rattle.swreq_shown.specs.Meaning.{member_name}
+use Rattle.swreq_symbols.specs.Meaning.{member_name}
 use Rattle.swreq_world.specs.Closed.{AreIds}
 use Rattle.swreq_valid.specs.Named.{IsNameAdded}
 use Rattle.swreq_valid.proofs.Listing.{past_drop}

@@ -19,20 +19,20 @@ use Rattle.swreq_rule.specs.declared.rules.Rule.{Rule}
 use Rattle.swreq_watch.specs.declared.events.Event.{Event}
 use Rattle.swreq_complete.specs.declared.limit.Failed.{Failed}
 use Rattle.swreq_complete.specs.declared.limit.Limits.{Limits}
-use Rattle.swreq_reading.specs.Shown.{ShowsUsable}
-use Rattle.swreq_reading.specs.Symbols.{AreOfText, AreSymbolsOf, IsOfText, Symbols}
+use Rattle.swreq_correspondence.specs.Shown.{ShowsUsable}
+use Rattle.swreq_correspondence.specs.Symbols.{AreOfText, AreSymbolsOf, IsOfText, Symbols}
 use Rattle.swreq_rounds.specs.Given.{basic_equations, items_of as items_from, of_self}
 use Rattle.swreq_rounds.specs.Presents.{AreProtocolRules}
 use Rattle.swreq_rounds.proofs.LastRound.{protocols_law}
 use Rattle.swreq_rounds.proofs.Members.{contains_of_map}
-use Rattle.swreq_shown.specs.Known.{IsRequirementIn, IsTextOver}
-use Rattle.swreq_shown.specs.Meaning.{facts_of, symbols_of}
-use Rattle.swreq_shown.specs.Vanishing.{Links}
-use Rattle.swreq_shown.proofs.Symbols.{symbols_law, text_law}
+use Rattle.swreq_symbols.specs.Known.{IsRequirementIn, IsTextOver}
+use Rattle.swreq_symbols.specs.Meaning.{facts_of, symbols_of}
+use Rattle.swreq_symbols.specs.Vanishing.{Links}
+use Rattle.swreq_symbols.proofs.Symbols.{symbols_law, text_law}
 use Rattle.swreq_world.specs.ByTable.{world_by}
 use Rattle.swreq_world.specs.Closed.{IsClosed}
 use Rattle.swreq_world.specs.Worlds.{IdWorld, TextWorld, requirements_of}
-use Rattle.swreq_written.specs.declared.ids.Written.{Written}
+use Rattle.swreq_lowering.specs.declared.ids.Written.{Written}
 use Rattle.swreq_valid.specs.declared.wanted.Start.{Start}
 use Rattle.swreq_valid.specs.declared.wanted.Wanted.{Wanted}
 use Rattle.swreq_valid.specs.Answers.{Answers}

@@ -17,21 +17,21 @@ use Rattle.swreq_rule.specs.declared.rules.Rule.{Rule}
 use Rattle.swreq_watch.specs.declared.events.Event.{Event}
 use Rattle.swreq_complete.specs.declared.limit.Failed.{Failed}
 use Rattle.swreq_complete.specs.declared.limit.Limits.{Limits}
-use Rattle.swreq_reading.specs.Symbols.{MemberName, Word}
+use Rattle.swreq_correspondence.specs.Symbols.{MemberName, Word}
 use Rattle.swreq_rounds.specs.Given.{basic_equations, items_of as items_from, named, named_from, of_self}
 use Rattle.swreq_rounds.proofs.LastRound.{protocols_law}
 use Rattle.swreq_rounds.proofs.Members.{contains_map, contains_of_map}
-use Rattle.swreq_ranks.specs.declared.pair.ProtocolName.{ProtocolName}
-use Rattle.swreq_ranks.specs.Views.{IsProtocol, LexiconView}
-use Rattle.swreq_written.specs.declared.ids.Written.{Written}
-use Rattle.swreq_written.specs.ByTable.{AreOf, HasIdsOf, placed, placed_by}
-use Rattle.swreq_written.specs.Requirements.{PlacedRequirement}
+use Rattle.swreq_lexicon.specs.declared.pair.ProtocolName.{ProtocolName}
+use Rattle.swreq_lexicon.specs.Views.{IsProtocol, LexiconView}
+use Rattle.swreq_lowering.specs.declared.ids.Written.{Written}
+use Rattle.swreq_lowering.specs.ByTable.{AreOf, HasIdsOf, placed, placed_by}
+use Rattle.swreq_lowering.specs.Requirements.{PlacedRequirement}
 use Rattle.swreq_world.specs.ByTable.{world_by}
 use Rattle.swreq_world.specs.Closed.{AreIds, IsClosed, IsOfProtocol}
 use Rattle.swreq_world.specs.Worlds.{IdWorld, TextWorld, requirements_of}
-use Rattle.swreq_shown.proofs.Symbols.{symbols_law, text_law}
-use Rattle.swreq_shown.specs.Known.{IsRequirementIn, IsTextOver}
-use Rattle.swreq_shown.specs.Meaning.{facts_of, member_name, symbols_of}
+use Rattle.swreq_symbols.proofs.Symbols.{symbols_law, text_law}
+use Rattle.swreq_symbols.specs.Known.{IsRequirementIn, IsTextOver}
+use Rattle.swreq_symbols.specs.Meaning.{facts_of, member_name, symbols_of}
 use Rattle.swreq_valid.specs.declared.wanted.Start.{Start}
 use Rattle.swreq_valid.specs.declared.wanted.Wanted.{Wanted}
 use Rattle.swreq_valid.specs.Answers.{Answers}

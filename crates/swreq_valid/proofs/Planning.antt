@@ -8,15 +8,15 @@ use Rattle.swreq_param.specs.Terms.{Term}
 use Rattle.swreq_rule.specs.declared.rules.Rule.{Rule}
 use Rattle.swreq_derive.specs.Derivation.{TermRequirement, TermFacts}
 use Rattle.swreq_derive.specs.Facts.{generic_params, requirement_of}
-use Rattle.swreq_reading.specs.Symbols.{Word, Symbols}
-use Rattle.swreq_reading.specs.Shown.{ShowsUsable, ShowsValid}
-use Rattle.swreq_reading.proofs.Shown.{shown_by_params, usable_by_params}
+use Rattle.swreq_correspondence.specs.Symbols.{Word, Symbols}
+use Rattle.swreq_correspondence.specs.Shown.{ShowsUsable, ShowsValid}
+use Rattle.swreq_correspondence.proofs.Shown.{shown_by_params, usable_by_params}
 use Rattle.swreq_rounds.specs.Plan.{equation_of, given, AreShown}
-use Rattle.swreq_shown.specs.declared.over.Over.{Over}
-use Rattle.swreq_shown.specs.declared.over.Over.TheVariants.{Signature, Protocol}
-use Rattle.swreq_shown.specs.Meaning.{facts_of, symbols_of}
-use Rattle.swreq_shown.specs.Overs.{source_of}
-use Rattle.swreq_shown.specs.Vanishing.{Links}
+use Rattle.swreq_symbols.specs.declared.over.Over.{Over}
+use Rattle.swreq_symbols.specs.declared.over.Over.TheVariants.{Signature, Protocol}
+use Rattle.swreq_symbols.specs.Meaning.{facts_of, symbols_of}
+use Rattle.swreq_symbols.specs.Overs.{source_of}
+use Rattle.swreq_symbols.specs.Vanishing.{Links}
 use Rattle.swreq_world.specs.ByTable.{world_by}
 use Rattle.swreq_world.specs.Worlds.{IdWorld}
 use Rattle.swreq_valid.specs.declared.wanted.Start.{Start}

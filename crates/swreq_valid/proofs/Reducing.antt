@@ -17,20 +17,20 @@ use Rattle.swreq_word.specs.declared.symbols.Symbol.TheVariants.{Proto, Member a
 use Rattle.swreq_word.proofs.Chains.{joined}
 use Rattle.swreq_rule.specs.declared.rules.Rule.{Rule}
 use Rattle.swreq_complete.specs.Complete.{IsComplete}
-use Rattle.swreq_reading.specs.Equations.{AreCongruent}
-use Rattle.swreq_reading.specs.Symbols.{Symbols, Word, name_of, spell, word_of}
-use Rattle.swreq_reading.specs.Types.{BeginsAs, IsFirstFor, IsTypeOf}
-use Rattle.swreq_reading.proofs.Chained.{turn_all}
-use Rattle.swreq_reading.proofs.Correspondence.{conforming_words}
-use Rattle.swreq_reading.proofs.Orders.{Stands, front, some_type, type_is_reduced}
-use Rattle.swreq_shown.specs.Meaning.{facts_of, symbols_of}
+use Rattle.swreq_correspondence.specs.Equations.{AreCongruent}
+use Rattle.swreq_correspondence.specs.Symbols.{Symbols, Word, name_of, spell, word_of}
+use Rattle.swreq_correspondence.specs.Types.{BeginsAs, IsFirstFor, IsTypeOf}
+use Rattle.swreq_correspondence.proofs.Chained.{turn_all}
+use Rattle.swreq_correspondence.proofs.Correspondence.{conforming_words}
+use Rattle.swreq_correspondence.proofs.Orders.{Stands, front, some_type, type_is_reduced}
+use Rattle.swreq_symbols.specs.Meaning.{facts_of, symbols_of}
 use Rattle.swreq_map.specs.Properties.{Vanishes}
-use Rattle.swreq_shown.specs.Vanishing.{IsLeastBy, Links}
-use Rattle.swreq_shown.proofs.Symbols.{ranks_law, symbols_law, text_law}
+use Rattle.swreq_symbols.specs.Vanishing.{IsLeastBy, Links}
+use Rattle.swreq_symbols.proofs.Symbols.{ranks_law, symbols_law, text_law}
 use Rattle.swreq_world.specs.Closed.{IsClosed}
 use Rattle.swreq_world.specs.Worlds.{TextWorld}
 use Rattle.swreq_valid.specs.Asked.{IsLeastOf, IsReducedIn}
-use Rattle.swreq_shown.specs.Vanishing.{IsFirstBehind}
+use Rattle.swreq_symbols.specs.Vanishing.{IsFirstBehind}
 use Rattle.swreq_valid.specs.LeastTypes.{BeginsBy}
 use Rattle.swreq_valid.specs.Machines.{IsMachineOf, MachineView}
 use Rattle.swreq_valid.specs.Rounds.{last_rules}

@@ -11,7 +11,7 @@ use Rattle.swreq_complete.specs.declared.limit.Failed.TheVariants.{Limit, Memory
 use Rattle.swreq_complete.specs.Answers.{IsAnswer}
 use Rattle.swreq_complete.specs.Events.{events, Tells as TellsEvents}
 use Rattle.swreq_complete.specs.Limits.{IsWithin}
-use Rattle.swreq_reading.specs.Symbols.{Word}
+use Rattle.swreq_correspondence.specs.Symbols.{Word}
 use Rattle.swreq_rounds.specs.Plan.{Item, Plan, given, AreShown}
 use Rattle.swreq_rounds.specs.Rounds.{Ends, LeavesUsable, IsRound}
 use Rattle.swreq_rounds.specs.Rounds.IsRound.{first, next}

@@ -12,8 +12,8 @@ use Rattle.swreq_watch.specs.declared.events.Event.{Event}
 use Rattle.swreq_complete.specs.declared.limit.Failed.{Failed}
 use Rattle.swreq_complete.specs.declared.limit.Failed.TheVariants.{Limit, Memory}
 use Rattle.swreq_complete.specs.declared.limit.Limits.{Limits}
-use Rattle.swreq_reading.specs.Shown.{ShowsUsable, ShowsValid}
-use Rattle.swreq_reading.specs.Symbols.{Symbols, Word}
+use Rattle.swreq_correspondence.specs.Shown.{ShowsUsable, ShowsValid}
+use Rattle.swreq_correspondence.specs.Symbols.{Symbols, Word}
 use Rattle.swreq_rounds.specs.Plan.{AreShown, Item, Plan}
 use Rattle.swreq_rounds.specs.Rounds.{ComesTo, IsLastRound, IsOutcome, IsRound, LeavesUsable, Selects}
 use Rattle.swreq_rounds.specs.Rounds.IsRound.{first, next}

@@ -13,11 +13,11 @@ use Rattle.swreq_word.specs.Order.{WordLess}
 use Rattle.swreq_word.proofs.Comparing.{less_after, not_below_itself, not_both_below, trichotomy}
 use Rattle.swreq_rule.specs.declared.rules.Rule.{Rule}
 use Rattle.swreq_rule.proofs.Context.{Linked-after}
-use Rattle.swreq_ranks.specs.Views.{LexiconView}
-use Rattle.swreq_reading.specs.Symbols.{IsRank, Symbols, Word, name_of}
-use Rattle.swreq_shown.specs.Meaning.{symbols_of}
-use Rattle.swreq_shown.specs.Vanishing.{IsLeastBy}
-use Rattle.swreq_shown.specs.Vanishing.{IsFirstBehind}
+use Rattle.swreq_lexicon.specs.Views.{LexiconView}
+use Rattle.swreq_correspondence.specs.Symbols.{IsRank, Symbols, Word, name_of}
+use Rattle.swreq_symbols.specs.Meaning.{symbols_of}
+use Rattle.swreq_symbols.specs.Vanishing.{IsLeastBy}
+use Rattle.swreq_symbols.specs.Vanishing.{IsFirstBehind}
 use Rattle.swreq_valid.specs.LeastTypes.{BeginsBy}
 use Rattle.swreq_valid.proofs.OfProtocols.{drop_at}
 

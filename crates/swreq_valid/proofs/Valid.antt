@@ -9,14 +9,14 @@ use Rattle.swreq_derive.specs.Derivation.TermRequirement.{Conforms, IsAnyObject,
 use Rattle.swreq_derive.specs.Derivation.TermStatement.{IsValid}
 use Rattle.swreq_derive.specs.Facts.{generic_params}
 use Rattle.swreq_derive.proofs.Members.{later_member, first_member, member_cases, no_member, only_member}
-use Rattle.swreq_reading.specs.Shown.{ShowsValid}
-use Rattle.swreq_written.specs.Requirements.{PlacedRequirement}
+use Rattle.swreq_correspondence.specs.Shown.{ShowsValid}
+use Rattle.swreq_lowering.specs.Requirements.{PlacedRequirement}
 use Rattle.swreq_rule.specs.declared.rules.Rule.{Rule}
 use Rattle.swreq_world.specs.Closed.{IsClosed}
 use Rattle.swreq_world.specs.Worlds.{TextWorld, requirements_of}
-use Rattle.swreq_shown.specs.Meaning.{facts_of, symbols_of}
-use Rattle.swreq_shown.specs.Vanishing.{Links}
-use Rattle.swreq_shown.proofs.Symbols.{symbols_law, text_law}
+use Rattle.swreq_symbols.specs.Meaning.{facts_of, symbols_of}
+use Rattle.swreq_symbols.specs.Vanishing.{Links}
+use Rattle.swreq_symbols.proofs.Symbols.{symbols_law, text_law}
 use Rattle.swreq_valid.specs.Machines.{AreRulesOf, IsMachineOf, MachineView}
 use Rattle.swreq_valid.specs.Rounds.{last_rules}
 use Rattle.swreq_valid.specs.Sides.{IsShownSide, IsValidSide, Side, protocol_sides, sides, sides_at, sides_in, sides_of}

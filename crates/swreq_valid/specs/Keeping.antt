@@ -7,12 +7,12 @@ use Rattle.swreq_derive.specs.Derivation.Source.{SelfOf}
 use Rattle.swreq_derive.specs.WellFormed.{HasValidSides}
 use Rattle.swreq_rule.specs.declared.rules.Rule.{Rule}
 use Rattle.swreq_complete.specs.declared.limit.Failed.{Failed}
-use Rattle.swreq_reading.specs.Shown.{ShowsUsable}
+use Rattle.swreq_correspondence.specs.Shown.{ShowsUsable}
 use Rattle.swreq_rounds.specs.Given.{protocols_plan}
 use Rattle.swreq_rounds.specs.Plan.{Plan}
 use Rattle.swreq_world.specs.Worlds.{IdWorld, TextWorld, requirements_of}
-use Rattle.swreq_shown.specs.Meaning.{facts_of, symbols_of}
-use Rattle.swreq_shown.specs.Vanishing.{Links}
+use Rattle.swreq_symbols.specs.Meaning.{facts_of, symbols_of}
+use Rattle.swreq_symbols.specs.Vanishing.{Links}
 use Rattle.swreq_valid.specs.declared.wanted.Wanted.{Wanted}
 use Rattle.swreq_valid.specs.Flags.{Tells, chosen}
 use Rattle.swreq_valid.specs.Machines.{ProtocolsView}

@@ -5,10 +5,10 @@ use Rattle.swreq_param.specs.Terms.{Term}
 use Rattle.swreq_param.specs.Terms.Term.{Generic, Member}
 use Rattle.swreq_word.specs.declared.symbols.Symbol.TheVariants.{Member as MemberSymbol, Param}
 use Rattle.swreq_rule.specs.declared.rules.Rule.{Rule}
-use Rattle.swreq_ranks.specs.Views.{LexiconView}
-use Rattle.swreq_reading.specs.Symbols.{IsRank, Word, name_of}
-use Rattle.swreq_shown.specs.Meaning.{symbols_of}
-use Rattle.swreq_shown.specs.Vanishing.{IsFirstBehind}
+use Rattle.swreq_lexicon.specs.Views.{LexiconView}
+use Rattle.swreq_correspondence.specs.Symbols.{IsRank, Word, name_of}
+use Rattle.swreq_symbols.specs.Meaning.{symbols_of}
+use Rattle.swreq_symbols.specs.Vanishing.{IsFirstBehind}
 
 -- The word begins with a word of type T, behind which stands `rest`: with a generic parameter, and a member symbol for each member. That is
 -- the bound member with the first associated type of that name whose protocol vanishes behind the word before it.

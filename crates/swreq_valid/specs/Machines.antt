@@ -6,11 +6,11 @@ use Rattle.swreq_derive.specs.Derivation.Source.{Written}
 use Rattle.swreq_derive.specs.Facts.{generic_params}
 use Rattle.swreq_rule.specs.declared.rules.Rule.{Rule}
 use Rattle.swreq_complete.specs.declared.limit.Failed.{Failed}
-use Rattle.swreq_reading.specs.Symbols.{IsInText}
+use Rattle.swreq_correspondence.specs.Symbols.{IsInText}
 use Rattle.swreq_rounds.specs.Given.{list_plan, protocols_plan}
 use Rattle.swreq_rounds.specs.Plan.{Plan}
 use Rattle.swreq_rounds.specs.Presents.{AreListRules, AreProtocolRules}
-use Rattle.swreq_shown.specs.Meaning.{facts_of, symbols_of}
+use Rattle.swreq_symbols.specs.Meaning.{facts_of, symbols_of}
 use Rattle.swreq_world.specs.Worlds.{IdWorld, TextWorld}
 use Rattle.swreq_valid.specs.Rounds.{RoundView, last_rules}
 use Rattle.swreq_param.specs.Terms.{Term}

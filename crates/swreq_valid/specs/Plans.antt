@@ -7,16 +7,16 @@ use Rattle.swreq_derive.specs.declared.requirements.Requirement.{Requirement}
 use Rattle.swreq_derive.specs.Derivation.{Source, TermRequirement}
 use Rattle.swreq_derive.specs.Derivation.Source.{Written as WrittenList, SelfOf}
 use Rattle.swreq_derive.specs.Facts.{generic_params, requirement_of}
-use Rattle.swreq_ranks.specs.Views.{LexiconView}
+use Rattle.swreq_lexicon.specs.Views.{LexiconView}
 use Rattle.swreq_rule.specs.declared.rules.Rule.{Rule}
 use Rattle.swreq_rounds.specs.Plan.{Item, Plan}
-use Rattle.swreq_shown.specs.declared.over.Over.{Over}
-use Rattle.swreq_shown.specs.declared.over.Over.TheVariants.{Signature, Protocol}
-use Rattle.swreq_shown.specs.Known.{IsRequirementIn}
-use Rattle.swreq_shown.specs.Meaning.{facts_of, symbols_of}
+use Rattle.swreq_symbols.specs.declared.over.Over.{Over}
+use Rattle.swreq_symbols.specs.declared.over.Over.TheVariants.{Signature, Protocol}
+use Rattle.swreq_symbols.specs.Known.{IsRequirementIn}
+use Rattle.swreq_symbols.specs.Meaning.{facts_of, symbols_of}
 use Rattle.swreq_world.specs.ByTable.{world_by}
 use Rattle.swreq_world.specs.Worlds.{IdWorld, requirements_of}
-use Rattle.swreq_written.specs.declared.ids.Written.{Written}
+use Rattle.swreq_lowering.specs.declared.ids.Written.{Written}
 use Rattle.swreq_valid.specs.declared.wanted.Start.{Start}
 use Rattle.swreq_valid.specs.declared.wanted.Wanted.{Wanted}
 

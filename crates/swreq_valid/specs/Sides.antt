@@ -9,14 +9,14 @@ use Rattle.swreq_derive.specs.Facts.{generic_params}
 use Rattle.swreq_derive.specs.Derivation.TermRequirement.{Conforms, IsAnyObject, Equals}
 use Rattle.swreq_derive.specs.Derivation.TermStatement.{IsValid}
 use Rattle.swreq_rule.specs.declared.rules.Rule.{Rule}
-use Rattle.swreq_reading.specs.Shown.{ShowsValid}
-use Rattle.swreq_reading.specs.Symbols.{Symbols}
-use Rattle.swreq_written.specs.declared.ids.Written.{Written}
-use Rattle.swreq_written.specs.ByTable.{placed}
-use Rattle.swreq_written.specs.Requirements.{PlacedRequirement}
+use Rattle.swreq_correspondence.specs.Shown.{ShowsValid}
+use Rattle.swreq_correspondence.specs.Symbols.{Symbols}
+use Rattle.swreq_lowering.specs.declared.ids.Written.{Written}
+use Rattle.swreq_lowering.specs.ByTable.{placed}
+use Rattle.swreq_lowering.specs.Requirements.{PlacedRequirement}
 use Rattle.swreq_world.specs.Worlds.{TextWorld, requirements_of}
-use Rattle.swreq_shown.specs.Meaning.{facts_of, symbols_of}
-use Rattle.swreq_shown.specs.Vanishing.{Links}
+use Rattle.swreq_symbols.specs.Meaning.{facts_of, symbols_of}
+use Rattle.swreq_symbols.specs.Vanishing.{Links}
 use Rattle.swreq_valid.specs.Plans.{bare, listed}
 
 -- A type parameter where it is written, and the source over which it is read.

@@ -6,7 +6,7 @@ ghost use Rattle.swreq_param.specs.Terms.{member_count};
 ghost use Rattle.swreq_derive.specs.Derivation.{TermRequirement};
 ghost use Rattle.swreq_derive.specs.Derivation.TermRequirement.{Conforms, Equals, IsAnyObject};
 ghost use Rattle.swreq_derive.specs.Derivation.TermStatement.{IsValid, Requires};
-ghost use Rattle.swreq_shown.specs.Known.{IsTextOver, IsTypeIn};
+ghost use Rattle.swreq_symbols.specs.Known.{IsTextOver, IsTypeIn};
 ghost use Rattle.swreq_world.specs.ByTable.{world_by};
 ghost use Rattle.swreq_valid.specs.Asked.{IsBehind, IsDerivable, IsLeastWord, IsShownBy};
 ghost use Rattle.swreq_valid.specs.Machines.{IsMachineOf};
@@ -15,7 +15,7 @@ use crate::machine::Machine;
 use crate::scratch::Scratch;
 use swreq_map::vanishes;
 use swreq_param::{ParamTable, ProtoId, TermId};
-use swreq_shown::{Over, least_word};
+use swreq_symbols::{Over, least_word};
 use swreq_word::Symbol;
 use swreq_world::World;
 

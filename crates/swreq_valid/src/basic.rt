@@ -1,8 +1,8 @@
 //! The basic equations of a text, and the requirements of its protocols.
 ghost use Rattle.std.specs.Prelude.{◌≡◌, ◌<◌, ◌≤◌, ◌++◌, ◌∷◌, [], ℕ, Some, map, slice_get, IfOk, OnOk};
-ghost use Rattle.swreq_ranks.specs.declared.pair.ProtocolName.{ProtocolName};
+ghost use Rattle.swreq_lexicon.specs.declared.pair.ProtocolName.{ProtocolName};
 ghost use Rattle.swreq_rounds.specs.Given as given;
-ghost use Rattle.swreq_shown.specs.Meaning.{symbols_of};
+ghost use Rattle.swreq_symbols.specs.Meaning.{symbols_of};
 ghost use Rattle.swreq_world.specs.Closed.{AreIds};
 ghost use Rattle.swreq_valid.specs.Early.{IsFront};
 ghost use Rattle.swreq_valid.specs.Named.{IsNameAdded};
@@ -12,7 +12,7 @@ use crate::wanted::Wanted;
 use std::alloc::{AllocError, Global};
 use swreq_derive::Requirement;
 use swreq_param::{NameId, ProtoId};
-use swreq_shown::Over;
+use swreq_symbols::Over;
 use swreq_word::{Symbol, Word};
 use swreq_world::World;
 

@@ -5,7 +5,7 @@ ghost use Rattle.swreq_param.specs.Terms.{member_count};
 ghost use Rattle.swreq_derive.specs.Derivation.{TermRequirement};
 ghost use Rattle.swreq_map.specs.Follows.{IsMapOf};
 ghost use Rattle.swreq_map.specs.Properties.{IsProperty};
-ghost use Rattle.swreq_shown.specs.Known.{IsTextOver, IsTypeIn};
+ghost use Rattle.swreq_symbols.specs.Known.{IsTextOver, IsTypeIn};
 ghost use Rattle.swreq_world.specs.ByTable.{world_by};
 ghost use Rattle.swreq_valid.specs.Asked.{IsBehind, IsDerivable, IsShownBy};
 ghost use Rattle.swreq_valid.specs.Having.{IsBelow, TellsIfHas, symbol_of};

@@ -1,7 +1,7 @@
 //! Machines of lists.
 ghost use Rattle.std.specs.Prelude.{◌≡◌, map, IfOk};
 ghost use Rattle.swreq_complete.specs.Limits.{AreInRange};
-ghost use Rattle.swreq_shown.specs.Known.{IsTextOver};
+ghost use Rattle.swreq_symbols.specs.Known.{IsTextOver};
 ghost use Rattle.swreq_world.specs.ByTable.{world_by};
 ghost use Rattle.swreq_valid.specs.Answers.{Answers, IsOnlyOutcome};
 ghost use Rattle.swreq_valid.specs.Machines.{AreRulesOf, IsMachineOf, machine_plan, machine_rules};
@@ -17,7 +17,7 @@ use std::marker::Model;
 use swreq_complete::{CompleteRules, Failed, Limits};
 use swreq_derive::{Params, Requirement};
 use swreq_param::ParamTable;
-use swreq_shown::Over;
+use swreq_symbols::Over;
 use swreq_watch::Watch;
 use swreq_world::World;
 

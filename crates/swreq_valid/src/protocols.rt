@@ -1,7 +1,7 @@
 //! The rules of the protocols of a text.
 ghost use Rattle.std.specs.Prelude.{◌≡◌, IfOk, false, slice_index_or};
 ghost use Rattle.swreq_complete.specs.Limits.{AreInRange};
-ghost use Rattle.swreq_shown.specs.Known.{IsTextOver};
+ghost use Rattle.swreq_symbols.specs.Known.{IsTextOver};
 ghost use Rattle.swreq_world.specs.ByTable.{world_by};
 ghost use Rattle.swreq_valid.specs.Answers.{Answers, IsOnlyOutcome};
 ghost use Rattle.swreq_valid.specs.Keeping.{flag_at};

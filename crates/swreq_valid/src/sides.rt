@@ -2,10 +2,10 @@
 ghost use Rattle.std.specs.Prelude.{◌≡◌, IfOk, List, MatchOption};
 ghost use Rattle.swreq_param.specs.Tables.{term_at};
 ghost use Rattle.swreq_derive.specs.Derivation.{TermRequirement};
-ghost use Rattle.swreq_shown.specs.Known.{IsRequirementIn, IsTextOver, IsTypeIn};
-ghost use Rattle.swreq_shown.specs.Meaning.{facts_of, symbols_of};
+ghost use Rattle.swreq_symbols.specs.Known.{IsRequirementIn, IsTextOver, IsTypeIn};
+ghost use Rattle.swreq_symbols.specs.Meaning.{facts_of, symbols_of};
 ghost use Rattle.swreq_world.specs.ByTable.{world_by};
-ghost use Rattle.swreq_written.specs.ByTable.{placed, placed_by};
+ghost use Rattle.swreq_lowering.specs.ByTable.{placed, placed_by};
 ghost use Rattle.swreq_valid.specs.Plans.{AreWritten, within};
 ghost use Rattle.swreq_valid.specs.Sides.{FailsFirst, HoldsOfEach, IsShownIn, protocol_sides, sides, sides_of};
 
@@ -14,7 +14,7 @@ use std::alloc::{AllocError, Global};
 use swreq_complete::CompleteRules;
 use swreq_derive::Requirement;
 use swreq_param::{ParamTable, TermId};
-use swreq_shown::Over;
+use swreq_symbols::Over;
 use swreq_world::{World, Written};
 
 /// The place of a side, where the rules do not show it valid.

@@ -7,7 +7,7 @@ ghost use Rattle.swreq_complete.specs.Events.{Tells};
 ghost use Rattle.swreq_complete.specs.Limits.{AreInRange};
 ghost use Rattle.swreq_rounds.specs.Given.{basic_equations};
 ghost use Rattle.swreq_rounds.specs.Plan.{Plan};
-ghost use Rattle.swreq_shown.specs.Meaning.{symbols_of};
+ghost use Rattle.swreq_symbols.specs.Meaning.{symbols_of};
 ghost use Rattle.swreq_world.specs.Closed.{AreIds};
 ghost use Rattle.swreq_valid.specs.Answers.{Answers};
 ghost use Rattle.swreq_valid.specs.Early.{IsLimitAmong, StopsAmong, is_given};

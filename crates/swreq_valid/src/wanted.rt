@@ -1,7 +1,7 @@
 //! What the rounds of a machine start from.
 use swreq_complete::Limits;
 use swreq_derive::Requirement;
-use swreq_shown::Over;
+use swreq_symbols::Over;
 use swreq_word::Word;
 
 /// A requirement that rounds may use, and over what its type parameters are read.

@@ -5,18 +5,18 @@ use Rattle.swreq_decl.specs.declared.skeleton.Skeleton.{Skeleton}
 use Rattle.swreq_names.specs.declared.signature.Signature.{Signature}
 use Rattle.swreq_names.specs.Spaces.{Spaces}
 use Rattle.swreq_param.specs.Terms.{Term}
-use Rattle.swreq_ranks.specs.Texts.{IsLexiconOf}
-use Rattle.swreq_ranks.specs.Views.{LexiconView, assoc_cmp, inherits}
-use Rattle.swreq_ranks.proofs.RankLaws.{one_to_one, assoc_total}
-use Rattle.swreq_written.specs.declared.ids.Query.{Query}
-use Rattle.swreq_written.specs.declared.ids.Written.{Written}
-use Rattle.swreq_written.specs.ByTable.{placed, AreOf}
-use Rattle.swreq_written.specs.Queries.{query_of}
-use Rattle.swreq_written.specs.Signatures.{in_order}
-use Rattle.swreq_written.specs.Short.{HasShortLists}
-use Rattle.swreq_written.specs.Small.{HasFewParams}
-use Rattle.swreq_written.specs.Words.{WordsView}
-use Rattle.swreq_written.proofs.Growing.{extends_then, are_of_stay, placed_stay}
+use Rattle.swreq_lexicon.specs.Texts.{IsLexiconOf}
+use Rattle.swreq_lexicon.specs.Views.{LexiconView, assoc_cmp, inherits}
+use Rattle.swreq_lexicon.proofs.RankLaws.{one_to_one, assoc_total}
+use Rattle.swreq_lowering.specs.declared.ids.Query.{Query}
+use Rattle.swreq_lowering.specs.declared.ids.Written.{Written}
+use Rattle.swreq_lowering.specs.ByTable.{placed, AreOf}
+use Rattle.swreq_lowering.specs.Queries.{query_of}
+use Rattle.swreq_lowering.specs.Signatures.{in_order}
+use Rattle.swreq_lowering.specs.Short.{HasShortLists}
+use Rattle.swreq_lowering.specs.Small.{HasFewParams}
+use Rattle.swreq_lowering.specs.Words.{WordsView}
+use Rattle.swreq_lowering.proofs.Growing.{extends_then, are_of_stay, placed_stay}
 use Rattle.swreq_world.specs.declared.entry.Entry.{Entry}
 use Rattle.swreq_world.specs.ByTable.{signature_by, world_by, IsOverTable}
 use Rattle.swreq_world.specs.Entries.{entry_view, entry_meant, IsEntryOf, FillsEntries}

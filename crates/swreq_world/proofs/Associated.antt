@@ -6,9 +6,9 @@ use Rattle.std.specs.Option.{MatchOption}
 use Rattle.swreq_param.specs.declared.ids.AssocId.{AssocId}
 use Rattle.swreq_param.specs.declared.ids.NameId.{NameId}
 use Rattle.swreq_param.specs.declared.ids.ProtoId.{ProtoId}
-use Rattle.swreq_ranks.specs.declared.pair.ProtocolName.{ProtocolName}
-use Rattle.swreq_ranks.specs.Lexicons.{pair, associated_types}
-use Rattle.swreq_ranks.proofs.RankLaws.{ranked}
+use Rattle.swreq_lexicon.specs.declared.pair.ProtocolName.{ProtocolName}
+use Rattle.swreq_lexicon.specs.Lexicons.{pair, associated_types}
+use Rattle.swreq_lexicon.proofs.RankLaws.{ranked}
 
 pub declared_by : (ds : List ProtocolName) (p : ProtoId) (a : NameId) (r : Option AssocId) → MatchOption r (Contains ds (pair p a) → ⊥) (λ d. slice_get ds d.rank ≡ Some (pair p a))
     → MatchOption r ((d : AssocId) → Contains (associated_types ds) (record { proto = p; name = a; assoc = d }) → ⊥) (λ d. Contains (associated_types ds) (record { proto = p; name = a; assoc = d }))

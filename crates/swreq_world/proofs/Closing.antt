@@ -13,17 +13,17 @@ use Rattle.swreq_decl.specs.declared.skeleton.Skeleton.{Skeleton}
 use Rattle.swreq_names.specs.Names.{Resolve}
 use Rattle.swreq_names.specs.Spaces.{word}
 use Rattle.swreq_param.specs.declared.ids.ProtoId.{ProtoId}
-use Rattle.swreq_ranks.specs.declared.pair.ProtocolName.{ProtocolName}
-use Rattle.swreq_ranks.specs.Associated.{is_root, depth, order_cmp}
-use Rattle.swreq_ranks.specs.Lexicons.{pair, proto_by, name_by}
-use Rattle.swreq_ranks.specs.Ranks.{Bytes}
-use Rattle.swreq_ranks.specs.Texts.{IsLexiconOf, protocol_names, declared_by}
-use Rattle.swreq_ranks.specs.Views.{LexiconView, IsProtocol, place_of, inherits, assoc_cmp, symbol_cmp}
-use Rattle.swreq_ranks.proofs.Declared.{from_pieces, named_within}
-use Rattle.swreq_ranks.proofs.Places.{there}
-use Rattle.swreq_ranks.proofs.RankLaws.{one_to_one, assoc_total, by_name, written_at, written_protocol, written_once}
-use Rattle.swreq_ranks.proofs.Rising.{rising_from_sorted, one_place}
-use Rattle.swreq_written.specs.Signatures.{in_order}
+use Rattle.swreq_lexicon.specs.declared.pair.ProtocolName.{ProtocolName}
+use Rattle.swreq_lexicon.specs.Associated.{is_root, depth, order_cmp}
+use Rattle.swreq_lexicon.specs.Lexicons.{pair, proto_by, name_by}
+use Rattle.swreq_lexicon.specs.Ranks.{Bytes}
+use Rattle.swreq_lexicon.specs.Texts.{IsLexiconOf, protocol_names, declared_by}
+use Rattle.swreq_lexicon.specs.Views.{LexiconView, IsProtocol, place_of, inherits, assoc_cmp, symbol_cmp}
+use Rattle.swreq_lexicon.proofs.Declared.{from_pieces, named_within}
+use Rattle.swreq_lexicon.proofs.Places.{there}
+use Rattle.swreq_lexicon.proofs.RankLaws.{one_to_one, assoc_total, by_name, written_at, written_protocol, written_once}
+use Rattle.swreq_lexicon.proofs.Rising.{rising_from_sorted, one_place}
+use Rattle.swreq_lowering.specs.Signatures.{in_order}
 use Rattle.swreq_world.specs.Closed.{IsClosed, AreIds, IsOfProtocol, HasOwn, HasOuter, IsQueryOf}
 use Rattle.swreq_world.specs.Text.{requirements_named, signature_in, signatures}
 use Rattle.swreq_world.specs.WorldOf.{IsWorldOf, words_of}

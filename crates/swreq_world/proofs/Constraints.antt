@@ -19,14 +19,14 @@ use Rattle.swreq_names.specs.Spaces.{word, protocol_of, declares}
 use Rattle.swreq_param.specs.declared.ids.ParamId.{ParamId}
 use Rattle.swreq_param.specs.Terms.{Term, head, with_steps}
 use Rattle.swreq_param.specs.Terms.Term.{Member}
-use Rattle.swreq_ranks.specs.Ranks.{Bytes}
-use Rattle.swreq_ranks.specs.Views.{IsProtocol, IsName}
-use Rattle.swreq_written.specs.declared.scope.Scope.{Scope}
-use Rattle.swreq_written.specs.Heads.{IsOver}
-use Rattle.swreq_written.specs.Requirements.{PlacedRequirement, of_one_side, equality, bound_of, argument, arguments, in_bound, in_bounds, in_requirement, in_clause}
-use Rattle.swreq_written.specs.Types.{step_of, head_in, type_in}
-use Rattle.swreq_written.specs.Words.{WordsView, declared, proto_of, name_of, primaries_named}
-use Rattle.swreq_written.proofs.Over.{head_steps}
+use Rattle.swreq_lexicon.specs.Ranks.{Bytes}
+use Rattle.swreq_lexicon.specs.Views.{IsProtocol, IsName}
+use Rattle.swreq_lowering.specs.declared.scope.Scope.{Scope}
+use Rattle.swreq_lowering.specs.Heads.{IsOver}
+use Rattle.swreq_lowering.specs.Requirements.{PlacedRequirement, of_one_side, equality, bound_of, argument, arguments, in_bound, in_bounds, in_requirement, in_clause}
+use Rattle.swreq_lowering.specs.Types.{step_of, head_in, type_in}
+use Rattle.swreq_lowering.specs.Words.{WordsView, declared, proto_of, name_of, primaries_named}
+use Rattle.swreq_lowering.proofs.Over.{head_steps}
 use Rattle.swreq_world.specs.Closed.{IsStepOf, IsTermOf, IsRequirementOf}
 use Rattle.swreq_world.proofs.Everywhere.{all_left, all_right, all_in_pieces, each_piece}
 use Rattle.swreq_world.proofs.Resolving.{Never, IsRanked, Refers, Resolved, passes, refused}

@@ -4,11 +4,11 @@ use Rattle.std.proofs.lemmas.List.{map-append, take_more}
 use Rattle.std.specs.List.{All}
 use Rattle.swreq_param.specs.Terms.{Term}
 use Rattle.swreq_param.specs.Tables.{Extends}
-use Rattle.swreq_written.specs.declared.ids.Query.{Query}
-use Rattle.swreq_written.specs.declared.ids.Query.TheVariants as ids
-use Rattle.swreq_written.specs.Queries.TermQuery.{AsksReduced, AsksConforms, AsksAnyObject, AsksEquals}
-use Rattle.swreq_written.specs.ByTable.{query_by, HasQueryIdsOf}
-use Rattle.swreq_written.proofs.Growing.{extends_itself, extends_then, of_stays, are_of_stay, placed_stay}
+use Rattle.swreq_lowering.specs.declared.ids.Query.{Query}
+use Rattle.swreq_lowering.specs.declared.ids.Query.TheVariants as ids
+use Rattle.swreq_lowering.specs.Queries.TermQuery.{AsksReduced, AsksConforms, AsksAnyObject, AsksEquals}
+use Rattle.swreq_lowering.specs.ByTable.{query_by, HasQueryIdsOf}
+use Rattle.swreq_lowering.proofs.Growing.{extends_itself, extends_then, of_stays, are_of_stay, placed_stay}
 use Rattle.swreq_world.specs.declared.entry.Entry.{Entry}
 use Rattle.swreq_world.specs.Entries.{IsEntryOf, entry_meant}
 use Rattle.swreq_world.specs.Filling.{Fills}

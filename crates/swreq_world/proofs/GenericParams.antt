@@ -20,11 +20,11 @@ use Rattle.swreq_names.specs.Spaces as declarations
 use Rattle.swreq_names.proofs.Declaring.{no_element}
 use Rattle.swreq_param.specs.declared.ids.ParamId.{ParamId}
 use Rattle.swreq_param.specs.Terms.{self_param}
-use Rattle.swreq_ranks.specs.Ranks.{Bytes}
-use Rattle.swreq_written.specs.Signatures.{params_of_struct, params_of_function, functions_of, outer_params, own_params, depth_within, own_depth, counts, params_of}
-use Rattle.swreq_written.specs.Types.{param_id, param_named}
-use Rattle.swreq_written.specs.Words.{WordsView, declared}
-use Rattle.swreq_written.proofs.Referring.{outer_below, own_below}
+use Rattle.swreq_lexicon.specs.Ranks.{Bytes}
+use Rattle.swreq_lowering.specs.Signatures.{params_of_struct, params_of_function, functions_of, outer_params, own_params, depth_within, own_depth, counts, params_of}
+use Rattle.swreq_lowering.specs.Types.{param_id, param_named}
+use Rattle.swreq_lowering.specs.Words.{WordsView, declared}
+use Rattle.swreq_lowering.proofs.Referring.{outer_below, own_below}
 use Rattle.swreq_world.specs.Closed.{IsParamOf}
 use Rattle.swreq_world.proofs.Everywhere.{at_mapped, past_mapped}
 

@@ -13,11 +13,11 @@ use Rattle.swreq_names.specs.Refusals as refusals
 use Rattle.swreq_names.specs.Spaces.{word, protocol_of, has_member}
 use Rattle.swreq_param.specs.declared.ids.ParamId.{ParamId}
 use Rattle.swreq_param.specs.Terms.{self, self_param, head}
-use Rattle.swreq_ranks.specs.Ranks.{Bytes}
-use Rattle.swreq_written.specs.declared.scope.Scope.TheVariants.{Protocol}
-use Rattle.swreq_written.specs.Requirements.{in_bounds, in_clause, in_member, in_members, in_protocol}
-use Rattle.swreq_written.specs.Types.{member_named, protocol_head}
-use Rattle.swreq_written.specs.Words.{WordsView, declared}
+use Rattle.swreq_lexicon.specs.Ranks.{Bytes}
+use Rattle.swreq_lowering.specs.declared.scope.Scope.TheVariants.{Protocol}
+use Rattle.swreq_lowering.specs.Requirements.{in_bounds, in_clause, in_member, in_members, in_protocol}
+use Rattle.swreq_lowering.specs.Types.{member_named, protocol_head}
+use Rattle.swreq_lowering.specs.Words.{WordsView, declared}
 use Rattle.swreq_world.specs.Closed.{IsTermOf, IsOfProtocol}
 use Rattle.swreq_world.specs.Text.{of_protocol, of_place, requirements_named}
 use Rattle.swreq_world.proofs.Everywhere.{all_in_pieces}

@@ -20,15 +20,15 @@ use Rattle.swreq_names.specs.Mentioned as names
 use Rattle.swreq_names.specs.Refusals.{begins_in_signature, of_named, of_type, of_entity, of_protocol_name, of_ask, of_asked, of_nested_query, of_query_in, of_query}
 use Rattle.swreq_names.specs.Spaces.{Spaces, spaces, word, declarations, place, protocol_of, struct_of, function_of, signature_of, nested_in}
 use Rattle.swreq_param.specs.Terms.{Term, head}
-use Rattle.swreq_ranks.specs.Ranks.{Bytes}
-use Rattle.swreq_written.specs.declared.ids.FuncId.{FuncId}
-use Rattle.swreq_written.specs.declared.scope.Scope.TheVariants as scopes
-use Rattle.swreq_written.specs.Requirements.{PlacedRequirement}
-use Rattle.swreq_written.specs.Queries.{asked_signature, asked_of, signature_named, query_of}
-use Rattle.swreq_written.specs.Queries.TermQuery.{AsksConforms, AsksAnyObject}
-use Rattle.swreq_written.specs.Signatures.{in_order, func_id, params_of}
-use Rattle.swreq_written.specs.Types.{type_in}
-use Rattle.swreq_written.specs.Words.{WordsView, declared, proto_of}
+use Rattle.swreq_lexicon.specs.Ranks.{Bytes}
+use Rattle.swreq_lowering.specs.declared.ids.FuncId.{FuncId}
+use Rattle.swreq_lowering.specs.declared.scope.Scope.TheVariants as scopes
+use Rattle.swreq_lowering.specs.Requirements.{PlacedRequirement}
+use Rattle.swreq_lowering.specs.Queries.{asked_signature, asked_of, signature_named, query_of}
+use Rattle.swreq_lowering.specs.Queries.TermQuery.{AsksConforms, AsksAnyObject}
+use Rattle.swreq_lowering.specs.Signatures.{in_order, func_id, params_of}
+use Rattle.swreq_lowering.specs.Types.{type_in}
+use Rattle.swreq_lowering.specs.Words.{WordsView, declared, proto_of}
 use Rattle.swreq_world.specs.Closed.{IsTermOf, IsParamOf, IsSignature, IsAskedOf, IsQueryOf}
 use Rattle.swreq_world.specs.Text.{signature_in, signatures}
 use Rattle.swreq_world.specs.WorldOf.{words_of}

@@ -21,13 +21,13 @@ use Rattle.swreq_names.specs.Spaces as declarations
 use Rattle.swreq_param.specs.declared.ids.ParamId.{ParamId}
 use Rattle.swreq_param.specs.Terms.{head}
 use Rattle.swreq_param.specs.Terms.Term.{Generic}
-use Rattle.swreq_ranks.specs.Ranks.{Bytes}
-use Rattle.swreq_written.specs.declared.scope.Scope.TheVariants as scopes
-use Rattle.swreq_written.specs.Heads.{IsOver}
-use Rattle.swreq_written.specs.Requirements.{PlacedRequirement, in_clause, in_param, in_params, in_signature, in_struct, in_nested}
-use Rattle.swreq_written.specs.Signatures.{params_of_struct, params_of_function, functions_of, outer_params, own_params, own_depth, params_of}
-use Rattle.swreq_written.specs.Types.{param_id, signature_head}
-use Rattle.swreq_written.specs.Words.{WordsView, declared}
+use Rattle.swreq_lexicon.specs.Ranks.{Bytes}
+use Rattle.swreq_lowering.specs.declared.scope.Scope.TheVariants as scopes
+use Rattle.swreq_lowering.specs.Heads.{IsOver}
+use Rattle.swreq_lowering.specs.Requirements.{PlacedRequirement, in_clause, in_param, in_params, in_signature, in_struct, in_nested}
+use Rattle.swreq_lowering.specs.Signatures.{params_of_struct, params_of_function, functions_of, outer_params, own_params, own_depth, params_of}
+use Rattle.swreq_lowering.specs.Types.{param_id, signature_head}
+use Rattle.swreq_lowering.specs.Words.{WordsView, declared}
 use Rattle.swreq_world.specs.Closed.{IsTermOf, IsParamOf, IsOfSignature, HasOwn}
 use Rattle.swreq_world.specs.Text.{of_struct, of_function, of_nested, of_nested_in, list_of, signature_in}
 use Rattle.swreq_world.proofs.Everywhere.{all_left, all_right, all_at, each_piece, placed_piece}

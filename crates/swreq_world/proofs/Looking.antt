@@ -3,8 +3,8 @@ use Rattle.std.proofs.Common.{◌≡◌, ℕ, List, [], ◌∷◌, Option, Some,
 use Rattle.std.specs.Option.{option_map}
 use Rattle.swreq_names.specs.declared.signature.Signature.{Signature}
 use Rattle.swreq_names.specs.Names.{NamesView}
-use Rattle.swreq_written.specs.declared.ids.FuncId.{FuncId}
-use Rattle.swreq_written.specs.Signatures.{func_id}
+use Rattle.swreq_lowering.specs.declared.ids.FuncId.{FuncId}
+use Rattle.swreq_lowering.specs.Signatures.{func_id}
 use Rattle.swreq_world.specs.declared.entry.Entry.{Entry}
 use Rattle.swreq_world.specs.Entries.{entry_view}
 use Rattle.swreq_world.specs.Lookups.{func_named, order_of, signature_named}

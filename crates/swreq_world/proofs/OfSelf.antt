@@ -4,10 +4,10 @@ use Rattle.std.specs.List.{All}
 use Rattle.swreq_decl.specs.declared.skeleton.ProtocolDecl.{ProtocolDecl}
 use Rattle.swreq_decl.specs.declared.skeleton.Skeleton.{Skeleton}
 use Rattle.swreq_names.specs.Spaces.{protocol_of}
-use Rattle.swreq_written.specs.Heads.{IsOverSelf}
-use Rattle.swreq_written.specs.Requirements.{PlacedRequirement}
-use Rattle.swreq_written.specs.Words.{WordsView, declared}
-use Rattle.swreq_written.proofs.Over.{protocol_over, all_none}
+use Rattle.swreq_lowering.specs.Heads.{IsOverSelf}
+use Rattle.swreq_lowering.specs.Requirements.{PlacedRequirement}
+use Rattle.swreq_lowering.specs.Words.{WordsView, declared}
+use Rattle.swreq_lowering.proofs.Over.{protocol_over, all_none}
 use Rattle.swreq_world.specs.Text.{of_protocol, of_place, requirements_named}
 use Rattle.swreq_world.specs.WorldOf.{IsWorldOf, words_of}
 use Rattle.swreq_world.specs.Worlds.{TextWorld}

@@ -18,10 +18,10 @@ use Rattle.swreq_names.specs.First.{when}
 use Rattle.swreq_names.specs.Names.{HasNames}
 use Rattle.swreq_names.specs.Refusals.{duplicate_of, duplicates, of_space, of_spaces, of_protocol, of_signatures, of_query, by_place}
 use Rattle.swreq_names.specs.Spaces.{word, declaration, declarations, place, offset_of, is_declared_before, spaces}
-use Rattle.swreq_ranks.specs.Ranks.{Bytes}
-use Rattle.swreq_ranks.specs.Texts.{protocol_names}
-use Rattle.swreq_ranks.proofs.Places.{declared_names, some_place, there}
-use Rattle.swreq_ranks.proofs.Positions.{fails}
+use Rattle.swreq_lexicon.specs.Ranks.{Bytes}
+use Rattle.swreq_lexicon.specs.Texts.{protocol_names}
+use Rattle.swreq_lexicon.proofs.Places.{declared_names, some_place, there}
+use Rattle.swreq_lexicon.proofs.Positions.{fails}
 use Rattle.swreq_world.proofs.Everywhere.{all_left, all_at, each_piece, stands_mapped, mapped_from}
 use Rattle.swreq_world.proofs.ProtocolOffsets.{AreRising, starts_before, name_start}
 use Rattle.swreq_world.proofs.Resolving.{Never, refused, declared_at}

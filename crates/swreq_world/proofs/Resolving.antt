@@ -23,15 +23,15 @@ use Rattle.swreq_names.specs.Names.{HasNames}
 use Rattle.swreq_names.specs.Refusals.{duplicates, of_spaces, of_protocol, of_primaries, primary_of, of_entity, of_requirement, of_members, begins_in_protocol, of_struct, of_function, of_query, refusals_in, by_place}
 use Rattle.swreq_names.specs.Spaces.{Spaces, spaces, word, declaration, declarations, place, offset_of, is_declared, is_declared_before, refers_to, protocol_of, declares, has_member, any_below}
 use Rattle.swreq_names.proofs.Booleans.{or_cases, and_second}
-use Rattle.swreq_ranks.specs.declared.pair.ProtocolName.{ProtocolName}
-use Rattle.swreq_ranks.specs.Lexicons.{pair, proto_by, name_by, assoc_by}
-use Rattle.swreq_ranks.specs.Ranks.{Bytes, rank}
-use Rattle.swreq_ranks.specs.Texts.{IsLexiconOf, protocol_names, declared_by, declared_in}
-use Rattle.swreq_ranks.specs.Views.{LexiconView, IsProtocol, IsName}
-use Rattle.swreq_ranks.proofs.Declared.{in_pieces, named_within}
-use Rattle.swreq_ranks.proofs.Places.{there}
-use Rattle.swreq_ranks.proofs.RankLaws.{rank_is, assoc_is}
-use Rattle.swreq_written.specs.Words.{WordsView, declared, proto_of, name_of, primaries_of, primaries_at, primaries_named}
+use Rattle.swreq_lexicon.specs.declared.pair.ProtocolName.{ProtocolName}
+use Rattle.swreq_lexicon.specs.Lexicons.{pair, proto_by, name_by, assoc_by}
+use Rattle.swreq_lexicon.specs.Ranks.{Bytes, rank}
+use Rattle.swreq_lexicon.specs.Texts.{IsLexiconOf, protocol_names, declared_by, declared_in}
+use Rattle.swreq_lexicon.specs.Views.{LexiconView, IsProtocol, IsName}
+use Rattle.swreq_lexicon.proofs.Declared.{in_pieces, named_within}
+use Rattle.swreq_lexicon.proofs.Places.{there}
+use Rattle.swreq_lexicon.proofs.RankLaws.{rank_is, assoc_is}
+use Rattle.swreq_lowering.specs.Words.{WordsView, declared, proto_of, name_of, primaries_of, primaries_at, primaries_named}
 use Rattle.swreq_world.proofs.Everywhere.{all_left, all_right, all_at, each_mapped, each_piece, placed_piece, at_mapped, past_mapped, stands_mapped, mapped_from}
 
 -- ---- refusals

@@ -13,11 +13,11 @@ use Rattle.swreq_decl.specs.Signatures.{stands_before}
 use Rattle.swreq_names.specs.declared.signature.Signature.{Signature}
 use Rattle.swreq_names.specs.declared.signature.Signature.TheVariants.{Struct, Function, Nested}
 use Rattle.swreq_names.proofs.Booleans.{and_first, and_second}
-use Rattle.swreq_ranks.proofs.Positions.{fails_all}
-use Rattle.swreq_ranks.proofs.SymbolPlaces.{get_left, get_right}
-use Rattle.swreq_written.specs.Signatures.{nested_from, functions_from, with_nested, merged, in_order, is_signature, place_in, func_id}
-use Rattle.swreq_written.specs.declared.ids.FuncId.{FuncId}
-use Rattle.swreq_written.proofs.Referring.{from_below}
+use Rattle.swreq_lexicon.proofs.Positions.{fails_all}
+use Rattle.swreq_lexicon.proofs.SymbolPlaces.{get_left, get_right}
+use Rattle.swreq_lowering.specs.Signatures.{nested_from, functions_from, with_nested, merged, in_order, is_signature, place_in, func_id}
+use Rattle.swreq_lowering.specs.declared.ids.FuncId.{FuncId}
+use Rattle.swreq_lowering.proofs.Referring.{from_below}
 use Rattle.swreq_world.specs.Text.{outer_of}
 use Rattle.swreq_world.proofs.WrittenOrder.{length_rest}
 

@@ -5,10 +5,10 @@ use Rattle.swreq_decl.specs.declared.skeleton.Span.{Span}
 use Rattle.swreq_names.specs.declared.signature.Signature.{Signature}
 use Rattle.swreq_names.specs.declared.signature.Signature.TheVariants.{Struct, Function, Nested}
 use Rattle.swreq_names.specs.Spaces.{Spaces, place, word, struct_of, function_of, nested_in, nested_of}
-use Rattle.swreq_written.specs.Queries.{asked_signature, signature_named}
-use Rattle.swreq_written.specs.Signatures.{is_signature, place_in}
-use Rattle.swreq_written.specs.Words.{WordsView, declared}
-use Rattle.swreq_written.proofs.Referring.{from_below, place_below}
+use Rattle.swreq_lowering.specs.Queries.{asked_signature, signature_named}
+use Rattle.swreq_lowering.specs.Signatures.{is_signature, place_in}
+use Rattle.swreq_lowering.specs.Words.{WordsView, declared}
+use Rattle.swreq_lowering.proofs.Referring.{from_below, place_below}
 use Rattle.swreq_world.specs.Places.{IsSmall}
 
 found_within : (o : Option ℕ) (n : ℕ) → ((k : ℕ) → o ≡ Some k → k < n) → unwrap_or o 0 ≤ n

@@ -7,7 +7,7 @@ use Rattle.swreq_decl.specs.declared.skeleton.StructDecl.{StructDecl}
 use Rattle.swreq_decl.specs.Signatures.{stands_before}
 use Rattle.swreq_names.specs.declared.signature.Signature.{Signature}
 use Rattle.swreq_names.specs.declared.signature.Signature.TheVariants.{Function, Nested}
-use Rattle.swreq_written.specs.Signatures.{functions_from, nested_from, with_nested, merged}
+use Rattle.swreq_lowering.specs.Signatures.{functions_from, nested_from, with_nested, merged}
 
 functions_after : (k n m : ℕ) → k + n ≡ m → functions_from k (suc n) ≡ functions_from k n ++ Function m ∷ []
 functions_after k zero m e = let f : k ≡ m = omega arith in ap (λ (j : ℕ). Function j ∷ []) f

@@ -1,9 +1,9 @@
 -- The world over type parameters that a world over ids is, by the table that has the ids.
 use Rattle.std.specs.Prelude.{List, map, All}
 use Rattle.swreq_param.specs.Terms.{Term}
-use Rattle.swreq_written.specs.declared.ids.Written.{Written}
-use Rattle.swreq_written.specs.Requirements.{PlacedRequirement}
-use Rattle.swreq_written.specs.ByTable.{placed, query_by, AreOf, HasQueryIdsOf}
+use Rattle.swreq_lowering.specs.declared.ids.Written.{Written}
+use Rattle.swreq_lowering.specs.Requirements.{PlacedRequirement}
+use Rattle.swreq_lowering.specs.ByTable.{placed, query_by, AreOf, HasQueryIdsOf}
 use Rattle.swreq_world.specs.Worlds.{SignatureOver, IdWorld, TextWorld}
 
 abbrev pub signature_by : List Term → SignatureOver Written → SignatureOver PlacedRequirement

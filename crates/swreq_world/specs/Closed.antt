@@ -11,14 +11,14 @@ use Rattle.swreq_param.specs.declared.ids.Step.{Step}
 use Rattle.swreq_param.specs.declared.ids.Step.TheVariants.{Bound, Name}
 use Rattle.swreq_param.specs.Terms.{Term, head}
 use Rattle.swreq_param.specs.Terms.Term.{Generic, Member}
-use Rattle.swreq_ranks.specs.declared.pair.ProtocolName.{ProtocolName}
-use Rattle.swreq_ranks.specs.Lexicons.{pair, associated_types}
-use Rattle.swreq_ranks.specs.Views.{LexiconView, IsProtocol, IsName, HasMember}
-use Rattle.swreq_written.specs.declared.ids.FuncId.{FuncId}
-use Rattle.swreq_written.specs.Heads.{IsOver, IsOverSelf}
-use Rattle.swreq_written.specs.Requirements.{PlacedRequirement}
-use Rattle.swreq_written.specs.Queries.{TermQuery}
-use Rattle.swreq_written.specs.Queries.TermQuery.{AsksSignature, AsksReduced, AsksConforms, AsksAnyObject, AsksEquals}
+use Rattle.swreq_lexicon.specs.declared.pair.ProtocolName.{ProtocolName}
+use Rattle.swreq_lexicon.specs.Lexicons.{pair, associated_types}
+use Rattle.swreq_lexicon.specs.Views.{LexiconView, IsProtocol, IsName, HasMember}
+use Rattle.swreq_lowering.specs.declared.ids.FuncId.{FuncId}
+use Rattle.swreq_lowering.specs.Heads.{IsOver, IsOverSelf}
+use Rattle.swreq_lowering.specs.Requirements.{PlacedRequirement}
+use Rattle.swreq_lowering.specs.Queries.{TermQuery}
+use Rattle.swreq_lowering.specs.Queries.TermQuery.{AsksSignature, AsksReduced, AsksConforms, AsksAnyObject, AsksEquals}
 use Rattle.swreq_world.specs.Worlds.{TextWorld, SignatureOver, signature_at}
 
 -- ---- protocols, names, associated types and member symbols

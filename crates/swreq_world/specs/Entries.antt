@@ -1,9 +1,9 @@
 -- What the code keeps of a signature.
 use Rattle.std.specs.Prelude.{List}
 use Rattle.swreq_param.specs.Terms.{Term}
-use Rattle.swreq_written.specs.declared.ids.Written.{Written}
-use Rattle.swreq_written.specs.Requirements.{PlacedRequirement}
-use Rattle.swreq_written.specs.ByTable.{AreOf}
+use Rattle.swreq_lowering.specs.declared.ids.Written.{Written}
+use Rattle.swreq_lowering.specs.Requirements.{PlacedRequirement}
+use Rattle.swreq_lowering.specs.ByTable.{AreOf}
 use Rattle.swreq_world.specs.declared.entry.Entry.{Entry}
 use Rattle.swreq_world.specs.ByTable.{signature_by}
 use Rattle.swreq_world.specs.Filling.{Fills}

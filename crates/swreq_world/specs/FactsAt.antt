@@ -1,8 +1,8 @@
 -- What the list of a signature is derived from, over ids.
 use Rattle.std.specs.Prelude.{length, map}
 use Rattle.swreq_derive.specs.Facts.{IdFacts}
-use Rattle.swreq_ranks.specs.Lexicons.{associated_types}
-use Rattle.swreq_written.specs.declared.ids.FuncId.{FuncId}
+use Rattle.swreq_lexicon.specs.Lexicons.{associated_types}
+use Rattle.swreq_lowering.specs.declared.ids.FuncId.{FuncId}
 use Rattle.swreq_world.specs.Worlds.{IdWorld, requirements_of, signature_at}
 
 abbrev pub facts_at : IdWorld → FuncId → IdFacts

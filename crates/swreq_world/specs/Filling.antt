@@ -2,11 +2,11 @@
 use Rattle.std.specs.Prelude.{◌≡◌, List, All, map}
 use Rattle.swreq_param.specs.Terms.{Term}
 use Rattle.swreq_param.specs.Tables.{Extends}
-use Rattle.swreq_written.specs.declared.ids.Written.{Written}
-use Rattle.swreq_written.specs.declared.ids.Query.{Query}
-use Rattle.swreq_written.specs.Requirements.{PlacedRequirement}
-use Rattle.swreq_written.specs.Queries.{TermQuery}
-use Rattle.swreq_written.specs.ByTable.{placed, AreOf, query_by, HasQueryIdsOf}
+use Rattle.swreq_lowering.specs.declared.ids.Written.{Written}
+use Rattle.swreq_lowering.specs.declared.ids.Query.{Query}
+use Rattle.swreq_lowering.specs.Requirements.{PlacedRequirement}
+use Rattle.swreq_lowering.specs.Queries.{TermQuery}
+use Rattle.swreq_lowering.specs.ByTable.{placed, AreOf, query_by, HasQueryIdsOf}
 
 -- The new table begins with the old one, it has the ids of the items, and by it the items mean these.
 pub record Fills {A B : Type 0} (HasIds : List Term → A → Type 0) (meaning : List Term → A → B) (old new : List Term) (meant : List B) (items : List A) : Type 0 where

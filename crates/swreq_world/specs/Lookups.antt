@@ -5,9 +5,9 @@ use Rattle.swreq_param.specs.declared.ids.ParamId.{ParamId}
 use Rattle.swreq_names.specs.declared.signature.Signature.{Signature}
 use Rattle.swreq_names.specs.declared.signature.Signature.TheVariants.{Struct}
 use Rattle.swreq_names.specs.Spaces.{Spaces, signature_of, nested_of, param_of}
-use Rattle.swreq_written.specs.declared.ids.FuncId.{FuncId}
-use Rattle.swreq_written.specs.Signatures.{func_id}
-use Rattle.swreq_written.specs.Types.{param_id}
+use Rattle.swreq_lowering.specs.declared.ids.FuncId.{FuncId}
+use Rattle.swreq_lowering.specs.Signatures.{func_id}
+use Rattle.swreq_lowering.specs.Types.{param_id}
 use Rattle.swreq_world.specs.Worlds.{WorldOver, signature_at}
 
 abbrev pub is_struct : Signature → Bool

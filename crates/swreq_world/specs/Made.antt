@@ -1,9 +1,9 @@
 -- The lists of a world, made over a table that grows.
 use Rattle.std.specs.Prelude.{◌≡◌, List, map}
 use Rattle.swreq_param.specs.Terms.{Term}
-use Rattle.swreq_written.specs.Queries.{query_of}
-use Rattle.swreq_written.specs.Signatures.{in_order}
-use Rattle.swreq_written.specs.Words.{WordsView}
+use Rattle.swreq_lowering.specs.Queries.{query_of}
+use Rattle.swreq_lowering.specs.Signatures.{in_order}
+use Rattle.swreq_lowering.specs.Words.{WordsView}
 use Rattle.swreq_world.specs.declared.made.Lists.{Lists}
 use Rattle.swreq_world.specs.Entries.{FillsEntries}
 use Rattle.swreq_world.specs.Filling.{FillsLists, FillsQueries}

@@ -2,7 +2,7 @@
 use Rattle.std.specs.Prelude.{◌≡◌, ℕ, ◌≤◌, List, Option, None, slice_index_or}
 use Rattle.swreq_names.specs.declared.signature.Signature.{Signature}
 use Rattle.swreq_names.specs.declared.signature.Signature.TheVariants.{Struct, Function, Nested}
-use Rattle.swreq_written.specs.Signatures.{place_in}
+use Rattle.swreq_lowering.specs.Signatures.{place_in}
 
 -- For each struct and each function at the top there is its place.
 pub record ArePlaces (order : List Signature) (of_structs of_functions : List (Option ℕ)) : Type 0 where

@@ -1,9 +1,9 @@
 -- What makes a world of a lexicon and lists.
 use Rattle.std.specs.Prelude.{◌≡◌, ℕ, ◌≤◌, [], length, map, slice_index_or}
 use Rattle.swreq_derive.specs.Facts.{AreOneToOne}
-use Rattle.swreq_ranks.specs.Lexicons.{associated_types}
-use Rattle.swreq_ranks.specs.Views.{LexiconView}
-use Rattle.swreq_written.specs.Small.{HasFewParams}
+use Rattle.swreq_lexicon.specs.Lexicons.{associated_types}
+use Rattle.swreq_lexicon.specs.Views.{LexiconView}
+use Rattle.swreq_lowering.specs.Small.{HasFewParams}
 use Rattle.swreq_world.specs.declared.made.Lists.{Lists}
 
 -- Each protocol has its list, the signatures stand in their order, and places fit 32 bits. Each declared pair is one associated type.

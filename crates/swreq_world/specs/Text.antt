@@ -6,10 +6,10 @@ use Rattle.swreq_decl.specs.declared.skeleton.StructDecl.{StructDecl}
 use Rattle.swreq_names.specs.declared.signature.Signature.{Signature}
 use Rattle.swreq_names.specs.declared.signature.Signature.TheVariants.{Struct, Function, Nested}
 use Rattle.swreq_names.specs.Spaces.{word, protocol_of}
-use Rattle.swreq_written.specs.declared.ids.FuncId.{FuncId}
-use Rattle.swreq_written.specs.Requirements.{PlacedRequirement, in_protocol, in_struct, in_function, in_nested}
-use Rattle.swreq_written.specs.Signatures.{functions_of, func_id, in_order, own_depth, params_of}
-use Rattle.swreq_written.specs.Words.{WordsView, declared}
+use Rattle.swreq_lowering.specs.declared.ids.FuncId.{FuncId}
+use Rattle.swreq_lowering.specs.Requirements.{PlacedRequirement, in_protocol, in_struct, in_function, in_nested}
+use Rattle.swreq_lowering.specs.Signatures.{functions_of, func_id, in_order, own_depth, params_of}
+use Rattle.swreq_lowering.specs.Words.{WordsView, declared}
 use Rattle.swreq_world.specs.Worlds.{SignatureOver}
 
 -- the struct around a signature, where the signatures stand in this order

@@ -1,10 +1,10 @@
 -- The world of a skeleton.
 use Rattle.std.specs.Prelude.{◌≡◌, ℕ, List, map}
 use Rattle.swreq_decl.specs.declared.skeleton.Skeleton.{Skeleton}
-use Rattle.swreq_ranks.specs.Texts.{IsLexiconOf}
-use Rattle.swreq_written.specs.Queries.{query_of}
-use Rattle.swreq_written.specs.Signatures.{in_order}
-use Rattle.swreq_written.specs.Words.{WordsView}
+use Rattle.swreq_lexicon.specs.Texts.{IsLexiconOf}
+use Rattle.swreq_lowering.specs.Queries.{query_of}
+use Rattle.swreq_lowering.specs.Signatures.{in_order}
+use Rattle.swreq_lowering.specs.Words.{WordsView}
 use Rattle.swreq_world.specs.Worlds.{TextWorld}
 use Rattle.swreq_world.specs.Text.{requirements_named, signatures}
 

@@ -4,8 +4,8 @@ ghost use Rattle.swreq_decl.specs.Skeletons.{StandsFor};
 ghost use Rattle.swreq_names.specs.Names.{HasDeclared, Resolve, Refuses};
 ghost use Rattle.swreq_names.specs.declared.refusal.NameErr.{NameErr};
 ghost use Rattle.swreq_names.specs.declared.refusal.NameErr.TheVariants.{Memory};
-ghost use Rattle.swreq_ranks.specs.Texts.{IsLexiconOf};
-ghost use Rattle.swreq_written.specs.Short.{HasShortLists};
+ghost use Rattle.swreq_lexicon.specs.Texts.{IsLexiconOf};
+ghost use Rattle.swreq_lowering.specs.Short.{HasShortLists};
 ghost use Rattle.swreq_world.specs.ByTable.{world_by, IsOverTable};
 ghost use Rattle.swreq_world.specs.WorldOf.{IsWorldOf};
 
@@ -15,9 +15,9 @@ use std::alloc::{AllocError, Global};
 use swreq_decl::Skeleton;
 use swreq_names::{NameErr, Names, resolve_names};
 use swreq_param::ParamTable;
-use swreq_ranks::Lexicon;
-use swreq_written::laws::lists_are_short;
-use swreq_written::words_of;
+use swreq_lexicon::Lexicon;
+use swreq_lowering::laws::lists_are_short;
+use swreq_lowering::words_of;
 
 /// The world of a skeleton with this lexicon.
 fn assemble(

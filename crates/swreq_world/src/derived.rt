@@ -6,7 +6,7 @@ use crate::facts::FunctionFacts;
 use crate::world::World;
 use swreq_derive::{Facts, Params, Requirement};
 use swreq_param::{AssocId, NameId, ProtoId};
-use swreq_written::FuncId;
+use swreq_lowering::FuncId;
 
 impl<'a> FunctionFacts<'a> {
     /// The list of a signature.

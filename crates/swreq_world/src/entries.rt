@@ -3,11 +3,11 @@ ghost use Rattle.std.specs.Prelude.{◌≡◌, ◌<◌, ◌^◌, length, slice_g
 ghost use Rattle.swreq_param.specs.Tables.{Extends};
 ghost use Rattle.swreq_world.specs.Entries.{IsEntryOf, entry_meant, FillsEntries};
 ghost use Rattle.swreq_world.specs.Text.{function_name, list_of, name_of, of_function, of_nested_in, of_struct, outer_of, signature_in, struct_name};
-ghost use Rattle.swreq_written.specs.Adding.{Lists};
-ghost use Rattle.swreq_written.specs.Requirements.{in_nested};
-ghost use Rattle.swreq_written.specs.Short.{HasShortLists};
-ghost use Rattle.swreq_written.specs.Signatures.{functions_of};
-ghost use Rattle.swreq_written.specs.Words.{words_by};
+ghost use Rattle.swreq_lowering.specs.Adding.{Lists};
+ghost use Rattle.swreq_lowering.specs.Requirements.{in_nested};
+ghost use Rattle.swreq_lowering.specs.Short.{HasShortLists};
+ghost use Rattle.swreq_lowering.specs.Signatures.{functions_of};
+ghost use Rattle.swreq_lowering.specs.Words.{words_by};
 
 use crate::entry::Entry;
 use crate::listed::Listed;
@@ -17,7 +17,7 @@ use swreq_decl::{FunctionDecl, StructDecl};
 use swreq_names::{Signature, word};
 use swreq_param::ParamTable;
 use swreq_text::Seq;
-use swreq_written::{
+use swreq_lowering::{
     FuncId, Words, Written, of_function, of_nested, of_struct, own_depth, params_of,
 };
 

@@ -1,10 +1,10 @@
 // A signature of a world, as a list from which one derives.
 ghost use Rattle.std.specs.Prelude.{◌<◌, length};
 ghost use Rattle.swreq_derive.specs.Facts.{AreOneToOne};
-ghost use Rattle.swreq_ranks.specs.Lexicons.{associated_types};
+ghost use Rattle.swreq_lexicon.specs.Lexicons.{associated_types};
 
 use crate::world::World;
-use swreq_written::FuncId;
+use swreq_lowering::FuncId;
 
 /// The list of a signature of a world, over the protocols of the world.
 #[derive(Clone, Copy)]

@@ -18,5 +18,5 @@ mod queries;
 mod world;
 
 pub use facts::FunctionFacts;
-pub use swreq_written::{FuncId, Query, Written};
+pub use swreq_lowering::{FuncId, Query, Written};
 pub use world::World;

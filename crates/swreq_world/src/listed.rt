@@ -5,7 +5,7 @@ use std::alloc::{AllocError, Global};
 use std::marker::Model;
 use swreq_derive::Requirement;
 use swreq_text::Seq;
-use swreq_written::Written;
+use swreq_lowering::Written;
 
 /// Written requirements, with the places of their sides and without.
 #[derive(Drop)]
@@ -16,7 +16,7 @@ pub struct Listed {
 
 impl Model for Listed {
     ghost use Rattle.std.specs.Prelude.{◌≡◌, List, map};
-    ghost use Rattle.swreq_written.specs.declared.ids.Written.{Written};
+    ghost use Rattle.swreq_lowering.specs.declared.ids.Written.{Written};
 
     ghost Value = { List Written };
 

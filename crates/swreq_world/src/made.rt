@@ -2,7 +2,7 @@
 use crate::entry::Entry;
 use crate::listed::Listed;
 use crate::order::Order;
-use swreq_written::Query;
+use swreq_lowering::Query;
 
 /// The signatures in written order, the requirements of the protocols by rank, the signatures with their lists, and the queries.
 #[derive(Drop)]

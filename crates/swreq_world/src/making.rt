@@ -2,8 +2,8 @@
 ghost use Rattle.std.specs.Prelude.{IfOk};
 ghost use Rattle.swreq_names.specs.Names.{HasDeclared};
 ghost use Rattle.swreq_world.specs.Made.{AreListsOf};
-ghost use Rattle.swreq_written.specs.Short.{HasShortLists};
-ghost use Rattle.swreq_written.specs.Words.{words_by};
+ghost use Rattle.swreq_lowering.specs.Short.{HasShortLists};
+ghost use Rattle.swreq_lowering.specs.Words.{words_by};
 
 use crate::entries::entries;
 use crate::made::Lists;
@@ -12,7 +12,7 @@ use crate::protocols::requirements;
 use crate::queries::queries;
 use std::alloc::{AllocError, Global};
 use swreq_param::ParamTable;
-use swreq_written::Words;
+use swreq_lowering::Words;
 
 /// The lists of the world of a text.
 pub fn lists_of(

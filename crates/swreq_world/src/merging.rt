@@ -2,7 +2,7 @@
 ghost use Rattle.std.specs.Prelude.{◌≡◌, ◌+◌, ◌++◌, ◌<◌, ◌≤◌, ◌-◌, length, drop, IfOk, OnOk};
 ghost use Rattle.std.specs.List.{prefix_len};
 ghost use Rattle.swreq_decl.specs.Signatures.{stands_before};
-ghost use Rattle.swreq_written.specs.Signatures.{functions_from, in_order, nested_from, with_nested};
+ghost use Rattle.swreq_lowering.specs.Signatures.{functions_from, in_order, nested_from, with_nested};
 
 use std::alloc::{AllocError, Global};
 use swreq_decl::{FunctionDecl, Skeleton, StructDecl};

@@ -2,7 +2,7 @@
 ghost use Rattle.std.specs.Prelude.{◌≡◌, ◌≤◌, length, unwrap_or, slice_index_or, None, IfOk};
 ghost use Rattle.swreq_names.specs.declared.signature.Signature.TheVariants.{Struct, Function};
 ghost use Rattle.swreq_world.specs.Places.{IsSmall};
-ghost use Rattle.swreq_written.specs.Signatures.{func_id, in_order, place_in};
+ghost use Rattle.swreq_lowering.specs.Signatures.{func_id, in_order, place_in};
 
 use crate::merging::in_order;
 use crate::places::{Places, places_of};
@@ -10,7 +10,7 @@ use std::alloc::{AllocError, Global};
 use std::marker::Model;
 use swreq_decl::Skeleton;
 use swreq_names::Signature;
-use swreq_written::FuncId;
+use swreq_lowering::FuncId;
 
 /// At most 1,048,576 signatures in written order.
 #[derive(Drop)]

@@ -2,7 +2,7 @@
 ghost use Rattle.std.specs.Prelude.{◌≡◌, ℕ, cond, nat_eq, None, Some, slice_index_or, IfOk, OnOk};
 ghost use Rattle.swreq_names.specs.declared.signature.Signature.TheVariants.{Struct, Function};
 ghost use Rattle.swreq_world.specs.Places.{ArePlaces};
-ghost use Rattle.swreq_written.specs.Signatures.{is_signature};
+ghost use Rattle.swreq_lowering.specs.Signatures.{is_signature};
 
 use std::alloc::{AllocError, Global};
 use swreq_names::Signature;

@@ -3,14 +3,14 @@ ghost use Rattle.std.specs.Prelude.{◌≡◌, ◌<◌, length, map, slice_get, 
 ghost use Rattle.swreq_param.specs.Tables.{Extends};
 ghost use Rattle.swreq_world.specs.Filling.{FillsLists};
 ghost use Rattle.swreq_world.specs.Text.{of_protocol, of_place, requirements_named};
-ghost use Rattle.swreq_written.specs.Adding.{Lists};
-ghost use Rattle.swreq_written.specs.ByTable.{AreOf, placed};
-ghost use Rattle.swreq_written.specs.Words.{words_by};
+ghost use Rattle.swreq_lowering.specs.Adding.{Lists};
+ghost use Rattle.swreq_lowering.specs.ByTable.{AreOf, placed};
+ghost use Rattle.swreq_lowering.specs.Words.{words_by};
 
 use crate::listed::Listed;
 use std::alloc::{AllocError, Global};
 use swreq_param::{ParamTable, ProtoId};
-use swreq_written::{Words, Written, of_protocol};
+use swreq_lowering::{Words, Written, of_protocol};
 
 fn of_place(
     alloc: Global,

@@ -2,16 +2,16 @@
 ghost use Rattle.std.specs.Prelude.{◌≡◌, map, IfOk};
 ghost use Rattle.swreq_names.specs.Names.{HasDeclared};
 ghost use Rattle.swreq_world.specs.Filling.{FillsQueries};
-ghost use Rattle.swreq_written.specs.Adding.{Asks};
-ghost use Rattle.swreq_written.specs.Queries.{query_of};
-ghost use Rattle.swreq_written.specs.Short.{HasShortLists};
-ghost use Rattle.swreq_written.specs.Words.{words_by};
+ghost use Rattle.swreq_lowering.specs.Adding.{Asks};
+ghost use Rattle.swreq_lowering.specs.Queries.{query_of};
+ghost use Rattle.swreq_lowering.specs.Short.{HasShortLists};
+ghost use Rattle.swreq_lowering.specs.Words.{words_by};
 
 use crate::order::Order;
 use std::alloc::{AllocError, Global};
 use swreq_decl::QueryDecl;
 use swreq_param::ParamTable;
-use swreq_written::{Query, Words, asked_signature, query};
+use swreq_lowering::{Query, Words, asked_signature, query};
 
 /// A query.
 fn query_of(

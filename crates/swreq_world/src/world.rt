@@ -2,8 +2,8 @@
 ghost use Rattle.std.specs.Prelude.{◌≡◌, ◌↔◌, ◌<◌, ◌≤◌, ℕ, IsTrue, [], Some, None, length, map, slice_get, slice_index_or, Contains, MatchOption};
 ghost use Rattle.std.specs.Option.{option_map};
 ghost use Rattle.swreq_derive.specs.Facts.{AreOneToOne};
-ghost use Rattle.swreq_ranks.specs.Lexicons.{associated_types, pair};
-ghost use Rattle.swreq_ranks.specs.Views.{inherits, depth, HasMember};
+ghost use Rattle.swreq_lexicon.specs.Lexicons.{associated_types, pair};
+ghost use Rattle.swreq_lexicon.specs.Views.{inherits, depth, HasMember};
 ghost use Rattle.swreq_world.specs.Entries.{entry_view};
 ghost use Rattle.swreq_world.specs.Lookups.{func_named, is_struct, outer_name, param_of_signature};
 ghost use Rattle.swreq_world.specs.Ready.{IsReady};
@@ -17,9 +17,9 @@ use std::marker::Model;
 use swreq_derive::{Params, Requirement};
 use swreq_names::{Param, Signature};
 use swreq_param::{AssocId, NameId, ParamId, ProtoId};
-use swreq_ranks::{Lexicon, ProtocolName};
+use swreq_lexicon::{Lexicon, ProtocolName};
 use swreq_text::Seq;
-use swreq_written::{FuncId, Query, Written};
+use swreq_lowering::{FuncId, Query, Written};
 
 /// The protocols, names, signatures and queries of a text, with the requirements that are written in it.
 ///

@@ -7,10 +7,10 @@ use Rattle.swreq_derive.proofs.Members.{each_member}
 use Rattle.swreq_word.specs.declared.symbols.Symbol.TheVariants.{Proto}
 use Rattle.swreq_word.specs.Relations.Chain.{done, more}
 use Rattle.swreq_word.proofs.Chains.{at_once}
-use Rattle.swreq_reading.specs.Equations.Equation.{of_protocol}
-use Rattle.swreq_reading.specs.Equations.Link.{back, forth, there}
-use Rattle.swreq_reading.specs.Symbols.{Word}
-use Rattle.swreq_reading.specs.Worked.{first_param}
+use Rattle.swreq_correspondence.specs.Equations.Equation.{of_protocol}
+use Rattle.swreq_correspondence.specs.Equations.Link.{back, forth, there}
+use Rattle.swreq_correspondence.specs.Symbols.{Word}
+use Rattle.swreq_correspondence.specs.Worked.{first_param}
 use Rattle.swreq_canonical.specs.Worked.{one, Base, Derived, inherited, inherited_g}
 use Rattle.swreq_candidates.specs.Evidence.{HasPlainTypes, RestEquation}
 use Rattle.swreq_candidates.specs.Worked.{inherited_symbols}

@@ -11,12 +11,12 @@ use Rattle.swreq_derive.proofs.Members.{only_member}
 use Rattle.swreq_word.specs.declared.symbols.Symbol.TheVariants.{Proto}
 use Rattle.swreq_word.proofs.Chains.{at_once}
 use Rattle.swreq_word.proofs.Comparing.{by_length}
-use Rattle.swreq_reading.specs.Equations.{AreCongruent, UsableEquation}
-use Rattle.swreq_reading.specs.Equations.Equation.{of_source}
-use Rattle.swreq_reading.specs.Equations.Link.{forth}
-use Rattle.swreq_reading.specs.Readings.{HasName}
-use Rattle.swreq_reading.specs.Worked.{first_param, endless_symbols}
-use Rattle.swreq_reading.proofs.Orders.{none_less}
+use Rattle.swreq_correspondence.specs.Equations.{AreCongruent, UsableEquation}
+use Rattle.swreq_correspondence.specs.Equations.Equation.{of_source}
+use Rattle.swreq_correspondence.specs.Equations.Link.{forth}
+use Rattle.swreq_correspondence.specs.Readings.{HasName}
+use Rattle.swreq_correspondence.specs.Worked.{first_param, endless_symbols}
+use Rattle.swreq_correspondence.proofs.Orders.{none_less}
 use Rattle.swreq_candidates.specs.Blocks.{AreMembersNamed}
 use Rattle.swreq_candidates.specs.Blocks.Cut.{alone, at_end, on, opened}
 use Rattle.swreq_candidates.proofs.Ends.{factors_by_ends, param_least, proto_least}

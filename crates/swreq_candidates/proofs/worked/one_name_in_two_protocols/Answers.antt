@@ -9,10 +9,10 @@ use Rattle.swreq_derive.specs.Derivation.TermStatement.{Requires}
 use Rattle.swreq_derive.specs.Worked.{bound, of_one, τ_0_0, P, A, A_of_P, shared, shared_f}
 use Rattle.swreq_word.specs.declared.symbols.Symbol.{Symbol}
 use Rattle.swreq_word.specs.declared.symbols.Symbol.TheVariants.{Proto, Member, Layout}
-use Rattle.swreq_reading.specs.Symbols.{Word}
-use Rattle.swreq_reading.specs.Types.{IsFirstFor, IsTypeOf}
-use Rattle.swreq_reading.specs.Worked.{first_param, shared_symbols}
-use Rattle.swreq_reading.proofs.OneType.{one_first, one_type}
+use Rattle.swreq_correspondence.specs.Symbols.{Word}
+use Rattle.swreq_correspondence.specs.Types.{IsFirstFor, IsTypeOf}
+use Rattle.swreq_correspondence.specs.Worked.{first_param, shared_symbols}
+use Rattle.swreq_correspondence.proofs.OneType.{one_first, one_type}
 use Rattle.swreq_candidates.specs.Candidates.{IsNamed, IsReadOff, SpeaksOf}
 use Rattle.swreq_candidates.proofs.ReadOff.{same_push}
 use Rattle.swreq_candidates.proofs.worked.one_name_in_two_protocols.Goals as goal

@@ -11,11 +11,11 @@ use Rattle.swreq_derive.specs.Worked.{◌·◌, bound, τ_0_0, τ_0_1, P, Q, A, 
 use Rattle.swreq_derive.proofs.Members.{each_member, first_member, only_member}
 use Rattle.swreq_word.specs.declared.symbols.Symbol.TheVariants.{Proto, Member, Name}
 use Rattle.swreq_word.specs.Relations.Chain.{done, more}
-use Rattle.swreq_reading.specs.Equations.{Linking}
-use Rattle.swreq_reading.specs.Equations.Equation.{member, of_protocol}
-use Rattle.swreq_reading.specs.Equations.Link.{back, forth, there}
-use Rattle.swreq_reading.specs.Symbols.{Word}
-use Rattle.swreq_reading.specs.Worked.{first_param, second_param}
+use Rattle.swreq_correspondence.specs.Equations.{Linking}
+use Rattle.swreq_correspondence.specs.Equations.Equation.{member, of_protocol}
+use Rattle.swreq_correspondence.specs.Equations.Link.{back, forth, there}
+use Rattle.swreq_correspondence.specs.Symbols.{Word}
+use Rattle.swreq_correspondence.specs.Worked.{first_param, second_param}
 use Rattle.swreq_rounds.specs.Presents.{ProtocolEquation}
 use Rattle.swreq_canonical.specs.Worked.{two}
 use Rattle.swreq_candidates.specs.Evidence.{HasPlainTypes, RestEquation}

@@ -3,7 +3,7 @@ use Rattle.std.proofs.lemmas.Result.{on_ok_weaker}
 use Rattle.swreq_derive.specs.Facts.{requirement_of}
 use Rattle.swreq_word.specs.Least.{IsMinimal}
 use Rattle.swreq_canonical.specs.CanonicalOrder.{IsStrictlySorted}
-use Rattle.swreq_shown.specs.Vanishing.{IsLeastBy, Links}
+use Rattle.swreq_symbols.specs.Vanishing.{IsLeastBy, Links}
 use Rattle.swreq_valid.specs.Plans.{listed}
 use Rattle.swreq_minimal.specs.Typed.{Finds, SaysBy}
 use Rattle.swreq_minimal.proofs.Collecting.{nothing_more, one_more, one_more_sorted}

@@ -3,7 +3,7 @@ use Rattle.std.proofs.lemmas.Result.{IfOk-weaker}
 use Rattle.swreq_derive.specs.declared.known.Params.{Params}
 use Rattle.swreq_rule.specs.declared.rules.Rule.{Rule}
 use Rattle.swreq_complete.specs.Reduced.{IsReducedSystem}
-use Rattle.swreq_shown.specs.Vanishing.{Links}
+use Rattle.swreq_symbols.specs.Vanishing.{Links}
 use Rattle.swreq_valid.specs.Plans.{listed}
 use Rattle.swreq_world.specs.ByTable.{world_by}
 use Rattle.swreq_minimal.specs.Sorted.{IsSaidList}

@@ -2,7 +2,7 @@ use Rattle.std.proofs.Common.{◌≡◌, ◌↔◌, ◌⊎◌, Contains, sym, su
 use Rattle.std.proofs.lemmas.Result.{on_ok_weaker}
 use Rattle.swreq_derive.specs.Facts.{requirement_of}
 use Rattle.swreq_canonical.specs.CanonicalOrder.{IsStrictlySorted}
-use Rattle.swreq_shown.specs.Known.{IsRequirementIn}
+use Rattle.swreq_symbols.specs.Known.{IsRequirementIn}
 use Rattle.swreq_valid.specs.Plans.{AreKnown, listed}
 use Rattle.swreq_minimal.specs.Sorted.{BelongsAt}
 use Rattle.swreq_minimal.proofs.Inserting.{inserted_each, inserted_members, inserted_sorted, there_members, within}

@@ -3,7 +3,7 @@ use Rattle.std.specs.Prelude.{⊤}
 use Rattle.std.proofs.lemmas.Result.{on_ok_weaker}
 use Rattle.swreq_derive.specs.Facts.{requirement_of}
 use Rattle.swreq_rule.specs.declared.rules.Rule.{Rule}
-use Rattle.swreq_shown.specs.Meaning.{symbols_of}
+use Rattle.swreq_symbols.specs.Meaning.{symbols_of}
 use Rattle.swreq_minimal.specs.Evident.{IsOfEquation}
 use Rattle.swreq_minimal.proofs.evidence.add_rule.Goals as goal
 

@@ -3,7 +3,7 @@ use Rattle.std.specs.Prelude.{⊤}
 use Rattle.std.proofs.lemmas.Result.{IfOk-weaker}
 use Rattle.swreq_derive.specs.Facts.{generic_params, requirement_of}
 use Rattle.swreq_rule.specs.declared.rules.Rule.{Rule}
-use Rattle.swreq_shown.specs.Meaning.{symbols_of}
+use Rattle.swreq_symbols.specs.Meaning.{symbols_of}
 use Rattle.swreq_valid.specs.Plans.{listed}
 use Rattle.swreq_valid.proofs.Listing.{list_in_text}
 use Rattle.swreq_world.specs.ByTable.{world_by}

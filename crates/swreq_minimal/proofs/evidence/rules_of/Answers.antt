@@ -2,7 +2,7 @@ use Rattle.std.proofs.Common.{◌∙◌, [], get_or, subst, sym}
 use Rattle.std.proofs.lemmas.List.Elements.{Contains-get_or}
 use Rattle.swreq_candidates.specs.Evidence.{AreRulesOfRest}
 use Rattle.swreq_derive.specs.Facts.{requirement_of}
-use Rattle.swreq_shown.specs.Meaning.{facts_of, symbols_of}
+use Rattle.swreq_symbols.specs.Meaning.{facts_of, symbols_of}
 use Rattle.swreq_valid.specs.Plans.{listed}
 use Rattle.swreq_valid.specs.Rounds.{last_rules}
 use Rattle.swreq_world.specs.ByTable.{world_by}

@@ -3,9 +3,9 @@ use Rattle.std.specs.Bool.{Decides}
 use Rattle.std.proofs.lemmas.Result.{IfOk-weaker}
 use Rattle.swreq_derive.specs.Facts.{requirement_of}
 use Rattle.swreq_derive.specs.Derivation.Source.{Written}
-use Rattle.swreq_reading.specs.Symbols.{Word, right_side}
-use Rattle.swreq_shown.specs.Meaning.{symbols_of}
-use Rattle.swreq_shown.specs.Vanishing.{Links}
+use Rattle.swreq_correspondence.specs.Symbols.{Word, right_side}
+use Rattle.swreq_symbols.specs.Meaning.{symbols_of}
+use Rattle.swreq_symbols.specs.Vanishing.{Links}
 use Rattle.swreq_valid.specs.Rounds.{last_rules}
 use Rattle.swreq_world.specs.ByTable.{world_by}
 use Rattle.swreq_minimal.proofs.ByEquation.{held, not_held}

@@ -1,7 +1,7 @@
 use Rattle.std.proofs.Common.{get_or}
 use Rattle.std.proofs.lemmas.List.Elements.{Contains-get_or}
 use Rattle.swreq_derive.specs.Facts.{generic_params}
-use Rattle.swreq_shown.specs.Meaning.{facts_of}
+use Rattle.swreq_symbols.specs.Meaning.{facts_of}
 use Rattle.swreq_world.specs.ByTable.{world_by}
 use Rattle.swreq_minimal.proofs.Inserting.{any}
 use Rattle.swreq_minimal.proofs.PlainTypes.{all_plain, none_plain, plain_next}

@@ -1,4 +1,4 @@
-use Rattle.swreq_shown.proofs.Declared.{from_rank, there}
+use Rattle.swreq_symbols.proofs.Declared.{from_rank, there}
 use Rattle.swreq_minimal.proofs.plain.gives_assoc.Goals as goal
 
 pub holds_conformance-requires-clause-p : goal.holds_conformance-requires-clause-p

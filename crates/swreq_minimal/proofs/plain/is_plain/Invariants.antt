@@ -1,8 +1,8 @@
 use Rattle.swreq_param.specs.Tables.{term_at}
 use Rattle.swreq_derive.specs.Facts.{generic_params}
 use Rattle.swreq_candidates.specs.Evidence.{IsPlainIn}
-use Rattle.swreq_shown.specs.Known.{IsTypeIn}
-use Rattle.swreq_shown.specs.Meaning.{facts_of}
+use Rattle.swreq_symbols.specs.Known.{IsTypeIn}
+use Rattle.swreq_symbols.specs.Meaning.{facts_of}
 use Rattle.swreq_valid.specs.Plans.{listed}
 use Rattle.swreq_world.specs.ByTable.{world_by}
 use Rattle.swreq_minimal.proofs.plain.is_plain.Given as goal

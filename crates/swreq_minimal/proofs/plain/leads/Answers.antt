@@ -2,7 +2,7 @@ use Rattle.std.proofs.Common.{◌≡◌, subst}
 use Rattle.swreq_param.specs.declared.ids.ProtoId.{ProtoId}
 use Rattle.swreq_derive.specs.Inheritance.{LeadsTo}
 use Rattle.swreq_derive.specs.Inheritance.LeadsTo.{here}
-use Rattle.swreq_shown.specs.Meaning.{facts_of}
+use Rattle.swreq_symbols.specs.Meaning.{facts_of}
 use Rattle.swreq_world.specs.ByTable.{world_by}
 use Rattle.swreq_minimal.proofs.plain.leads.Goals as goal
 

@@ -2,7 +2,7 @@ use Rattle.std.proofs.Common.{◌≡◌, ◌<◌, ◌+◌, ◌-◌, sym, subst, 
 use Rattle.std.specs.Prelude.{remove}
 use Rattle.std.proofs.lemmas.List.{length-map}
 use Rattle.swreq_derive.specs.Facts.{generic_params, requirement_of}
-use Rattle.swreq_shown.specs.Meaning.{facts_of}
+use Rattle.swreq_symbols.specs.Meaning.{facts_of}
 use Rattle.swreq_world.specs.ByTable.{world_by}
 use Rattle.swreq_valid.specs.Machines.{list_of}
 use Rattle.swreq_valid.specs.Plans.{listed}

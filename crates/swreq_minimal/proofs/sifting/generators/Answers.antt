@@ -5,7 +5,7 @@ use Rattle.swreq_derive.specs.Facts.{generic_params}
 use Rattle.swreq_derive.proofs.Members.{no_member}
 use Rattle.swreq_canonical.specs.Generators.{Takes}
 use Rattle.swreq_canonical.specs.Generators.Takes.{ended}
-use Rattle.swreq_shown.specs.Meaning.{facts_of}
+use Rattle.swreq_symbols.specs.Meaning.{facts_of}
 use Rattle.swreq_world.specs.ByTable.{world_by}
 use Rattle.swreq_valid.specs.Machines.{list_of}
 use Rattle.swreq_valid.specs.Plans.{listed}

@@ -1,7 +1,7 @@
 use Rattle.std.proofs.Common.{[], IfSome, take}
 use Rattle.swreq_derive.specs.Facts.{generic_params}
 use Rattle.swreq_canonical.specs.Generators.{Takes}
-use Rattle.swreq_shown.specs.Meaning.{facts_of}
+use Rattle.swreq_symbols.specs.Meaning.{facts_of}
 use Rattle.swreq_world.specs.ByTable.{world_by}
 use Rattle.swreq_valid.specs.Machines.{list_of}
 use Rattle.swreq_valid.specs.Plans.{AreKnown, listed}

@@ -5,7 +5,7 @@ use Rattle.swreq_derive.specs.Derivation.{Derivable}
 use Rattle.swreq_derive.specs.Derivation.Source.{Written}
 use Rattle.swreq_derive.specs.Derivation.TermStatement.{Requires}
 use Rattle.swreq_derive.specs.Facts.{generic_params, requirement_of}
-use Rattle.swreq_shown.specs.Meaning.{facts_of}
+use Rattle.swreq_symbols.specs.Meaning.{facts_of}
 use Rattle.swreq_world.specs.ByTable.{world_by}
 use Rattle.swreq_valid.specs.Machines.{list_of}
 use Rattle.swreq_valid.specs.Plans.{listed}

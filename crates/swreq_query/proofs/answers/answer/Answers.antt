@@ -2,8 +2,8 @@ use Rattle.std.proofs.Common.{subst, sym}
 use Rattle.std.proofs.lemmas.Result.{on_ok_weaker}
 use Rattle.swreq_valid.specs.Asked.{IsDerivable}
 use Rattle.swreq_world.specs.ByTable.{world_by}
-use Rattle.swreq_written.specs.ByTable.{query_by}
-use Rattle.swreq_written.specs.declared.ids.Query.TheVariants.{Conf, Layout, Same}
+use Rattle.swreq_lowering.specs.ByTable.{query_by}
+use Rattle.swreq_lowering.specs.declared.ids.Query.TheVariants.{Conf, Layout, Same}
 use Rattle.swreq_query.specs.Asked.{AppendsAnswer, answer_of}
 use Rattle.swreq_query.proofs.Appending.{known_appended}
 use Rattle.swreq_query.proofs.answers.answer.Goals as goal

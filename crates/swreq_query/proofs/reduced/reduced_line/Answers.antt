@@ -4,7 +4,7 @@ use Rattle.std.proofs.lemmas.Result.{on_ok_weaker}
 use Rattle.swreq_param.specs.Tables.{term_at}
 use Rattle.swreq_valid.specs.Asked.{IsDerivable}
 use Rattle.swreq_world.specs.ByTable.{world_by}
-use Rattle.swreq_written.specs.Queries.TermQuery.{AsksReduced}
+use Rattle.swreq_lowering.specs.Queries.TermQuery.{AsksReduced}
 use Rattle.swreq_query.specs.Answers.Answer.{Invalid}
 use Rattle.swreq_query.proofs.Appending.{line_appended, type_appended}
 use Rattle.swreq_query.proofs.reduced.reduced_line.Goals as goal

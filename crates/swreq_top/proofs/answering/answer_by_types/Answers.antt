@@ -2,7 +2,7 @@ use Rattle.std.proofs.Common.{subst, sym, true}
 use Rattle.swreq_output.specs.Signatures.{written_list}
 use Rattle.swreq_world.specs.ByTable.{world_by}
 use Rattle.swreq_world.specs.Worlds.{signature_at}
-use Rattle.swreq_written.specs.ByTable.{query_by}
+use Rattle.swreq_lowering.specs.ByTable.{query_by}
 use Rattle.swreq_top.specs.Outputs.{AnswersByTypes, signature_of}
 use Rattle.swreq_top.proofs.Lines.{machine_line}
 use Rattle.swreq_top.proofs.OfQueries.{query_in}

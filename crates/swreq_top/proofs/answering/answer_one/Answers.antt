@@ -1,8 +1,8 @@
 use Rattle.std.proofs.Common.{◌∙◌, ap, get_or, List, sym}
 use Rattle.std.proofs.lemmas.Option.{slice_get-get_or}
 use Rattle.std.proofs.lemmas.Result.{IfOk-weaker}
-use Rattle.swreq_written.specs.declared.ids.Query.{Query}
-use Rattle.swreq_written.specs.declared.ids.Query.TheVariants.{Signature}
+use Rattle.swreq_lowering.specs.declared.ids.Query.{Query}
+use Rattle.swreq_lowering.specs.declared.ids.Query.TheVariants.{Signature}
 use Rattle.swreq_top.specs.Wanted.{list_asked}
 use Rattle.swreq_top.proofs.Dealing.{next_listed}
 use Rattle.swreq_top.proofs.answering.answer_one.Goals as goal

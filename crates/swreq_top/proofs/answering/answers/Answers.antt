@@ -1,7 +1,7 @@
 use Rattle.std.proofs.Common.{arith, ap, length, true}
 use Rattle.std.proofs.lemmas.List.{length-map}
 use Rattle.swreq_world.specs.ByTable.{world_by}
-use Rattle.swreq_written.specs.ByTable.{query_by}
+use Rattle.swreq_lowering.specs.ByTable.{query_by}
 use Rattle.swreq_top.specs.Outputs.{IsLineOf}
 use Rattle.swreq_top.proofs.Dealing.{dealt_more, next_first}
 use Rattle.swreq_top.proofs.Lines.{lines_all, no_lines}

@@ -7,9 +7,9 @@ use Rattle.swreq_rule.specs.declared.rules.Rule.{Rule}
 use Rattle.swreq_valid.specs.Machines.{IsMachineOf}
 use Rattle.swreq_world.specs.ByTable.{world_by}
 use Rattle.swreq_world.specs.Worlds.{signature_at}
-use Rattle.swreq_written.specs.ByTable.{query_by}
-use Rattle.swreq_written.specs.declared.ids.FuncId.{FuncId}
-use Rattle.swreq_written.specs.declared.ids.Query.{Query}
+use Rattle.swreq_lowering.specs.ByTable.{query_by}
+use Rattle.swreq_lowering.specs.declared.ids.FuncId.{FuncId}
+use Rattle.swreq_lowering.specs.declared.ids.Query.{Query}
 use Rattle.swreq_top.specs.Lines.{AreLines}
 use Rattle.swreq_top.specs.Outputs.{IsLineOf}
 use Rattle.swreq_top.proofs.Asked.{group_asks, group_query, group_types, lines_of_group, no_lines_of_group, not_a_signature, types_line}

@@ -1,7 +1,7 @@
 use Rattle.std.proofs.Common.{take, true}
 use Rattle.swreq_world.specs.ByTable.{world_by}
-use Rattle.swreq_written.specs.ByTable.{query_by}
-use Rattle.swreq_written.specs.declared.ids.Query.{Query}
+use Rattle.swreq_lowering.specs.ByTable.{query_by}
+use Rattle.swreq_lowering.specs.declared.ids.Query.{Query}
 use Rattle.swreq_top.specs.Lines.{AreLines}
 use Rattle.swreq_top.specs.Outputs.{IsLineOf}
 use Rattle.swreq_top.proofs.answering.answers_of.Given as goal

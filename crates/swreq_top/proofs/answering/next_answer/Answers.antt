@@ -1,5 +1,5 @@
 use Rattle.std.proofs.Common.{◌∙◌, arith}
-use Rattle.swreq_written.specs.declared.ids.Query.TheVariants.{Signature}
+use Rattle.swreq_lowering.specs.declared.ids.Query.TheVariants.{Signature}
 use Rattle.swreq_top.proofs.Dealing.{dealt_line, dealt_within, next_moved, next_within}
 use Rattle.swreq_top.proofs.answering.next_answer.Goals as goal
 

@@ -1,5 +1,5 @@
 use Rattle.std.proofs.Common.{◌≡◌, List, length}
-use Rattle.swreq_shown.specs.Known.{IsTextOver}
+use Rattle.swreq_symbols.specs.Known.{IsTextOver}
 use Rattle.swreq_valid.specs.Rounds.{last_rules}
 use Rattle.swreq_watch.specs.declared.events.Event.{Event}
 use Rattle.swreq_watch.specs.Told.{GrewBy}

@@ -1,6 +1,6 @@
 use Rattle.std.proofs.Common.{arith, ◌++◌}
 use Rattle.swreq_rounds.specs.Given.{named_from}
-use Rattle.swreq_shown.specs.Meaning.{symbols_of}
+use Rattle.swreq_symbols.specs.Meaning.{symbols_of}
 use Rattle.swreq_valid.proofs.Naming.{named_all, named_more}
 use Rattle.swreq_valid.proofs.basic.add_names.Goals as goal
 

@@ -1,6 +1,6 @@
 use Rattle.std.proofs.Common.{◌++◌}
 use Rattle.swreq_rounds.specs.Given.{named_from}
-use Rattle.swreq_shown.specs.Meaning.{symbols_of}
+use Rattle.swreq_symbols.specs.Meaning.{symbols_of}
 use Rattle.swreq_valid.proofs.Naming.{AreNamedTo}
 use Rattle.swreq_valid.proofs.basic.add_names.Given as goal
 

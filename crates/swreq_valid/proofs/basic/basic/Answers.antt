@@ -1,6 +1,6 @@
 use Rattle.std.proofs.Common.{arith, refl, ◌∷◌}
 use Rattle.swreq_rounds.specs.Given.{basic_equations, basic_of, doubled, named_from}
-use Rattle.swreq_shown.specs.Meaning.{symbols_of}
+use Rattle.swreq_symbols.specs.Meaning.{symbols_of}
 use Rattle.swreq_valid.proofs.Listing.{parts_all}
 use Rattle.swreq_valid.proofs.OfProtocols.{part_at}
 use Rattle.swreq_valid.proofs.basic.basic.Goals as goal

@@ -1,6 +1,6 @@
 use Rattle.std.proofs.Common.{refl, sym, drop, ◌∷◌}
 use Rattle.swreq_rounds.specs.Given.{basic_equations, basic_of, doubled, named_from}
-use Rattle.swreq_shown.specs.Meaning.{symbols_of}
+use Rattle.swreq_symbols.specs.Meaning.{symbols_of}
 use Rattle.swreq_valid.proofs.OfProtocols.{part_at}
 use Rattle.swreq_valid.proofs.basic.first_basic.Goals as goal
 

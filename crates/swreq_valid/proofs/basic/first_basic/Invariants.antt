@@ -1,6 +1,6 @@
 use Rattle.std.proofs.Common.{◌≡◌, ◌++◌, drop}
 use Rattle.swreq_rounds.specs.Given.{basic_equations, basic_of}
-use Rattle.swreq_shown.specs.Meaning.{symbols_of}
+use Rattle.swreq_symbols.specs.Meaning.{symbols_of}
 use Rattle.swreq_valid.proofs.basic.first_basic.Given as goal
 
 abbrev pub invariant-loop-k : goal.invariant-loop-k

@@ -1,9 +1,9 @@
 use Rattle.std.proofs.Common.{refl, subst₂}
 use Rattle.swreq_derive.specs.Derivation.Source.{Written}
 use Rattle.swreq_derive.specs.Facts.{generic_params}
-use Rattle.swreq_shown.specs.Meaning.{facts_of, symbols_of}
+use Rattle.swreq_symbols.specs.Meaning.{facts_of, symbols_of}
 use Rattle.swreq_world.specs.ByTable.{world_by}
-use Rattle.swreq_written.specs.ByTable.{placed}
+use Rattle.swreq_lowering.specs.ByTable.{placed}
 use Rattle.swreq_valid.specs.Sides.{HoldsOfEach, IsShownSide, sides}
 use Rattle.swreq_valid.proofs.build.judge_machine.Goals as goal
 

@@ -1,6 +1,6 @@
 use Rattle.std.proofs.Common.{◌∙◌, arith, drop, sym, subst, take, take-append-drop}
 use Rattle.std.proofs.lemmas.Option.{get_or_from_slice_get}
-use Rattle.swreq_shown.specs.Vanishing.{IsLeastBy}
+use Rattle.swreq_symbols.specs.Vanishing.{IsLeastBy}
 use Rattle.swreq_valid.proofs.Listing.{past_drop}
 use Rattle.swreq_valid.proofs.Typed.{all_made, none_made, one_made, prefix_least}
 use Rattle.swreq_valid.proofs.reduced.read_steps.Goals as goal

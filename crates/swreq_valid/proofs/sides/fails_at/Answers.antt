@@ -1,7 +1,7 @@
 use Rattle.std.proofs.Common.{refl}
 use Rattle.swreq_param.specs.Tables.{term_at}
-use Rattle.swreq_shown.specs.Meaning.{facts_of, symbols_of}
-use Rattle.swreq_shown.specs.Vanishing.{Links}
+use Rattle.swreq_symbols.specs.Meaning.{facts_of, symbols_of}
+use Rattle.swreq_symbols.specs.Vanishing.{Links}
 use Rattle.swreq_world.specs.ByTable.{world_by}
 use Rattle.swreq_valid.proofs.Planning.{valid_from_list, valid_to_list}
 use Rattle.swreq_valid.proofs.sides.fails_at.Goals as goal

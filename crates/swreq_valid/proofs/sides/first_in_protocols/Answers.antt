@@ -1,6 +1,6 @@
 use Rattle.std.proofs.Common.{arith, refl, []}
 use Rattle.swreq_derive.specs.Derivation.Source.{SelfOf}
-use Rattle.swreq_shown.specs.Meaning.{facts_of, symbols_of}
+use Rattle.swreq_symbols.specs.Meaning.{facts_of, symbols_of}
 use Rattle.swreq_world.specs.ByTable.{world_by}
 use Rattle.swreq_world.specs.Worlds.{requirements_of}
 use Rattle.swreq_valid.specs.Sides.{IsShownSide, protocol_sides, sides, sides_in}

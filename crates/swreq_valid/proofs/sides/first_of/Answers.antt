@@ -1,9 +1,9 @@
 use Rattle.std.proofs.Common.{ap}
 use Rattle.swreq_param.specs.Tables.{term_at}
 use Rattle.swreq_derive.specs.Facts.{requirement_of}
-use Rattle.swreq_shown.specs.Meaning.{facts_of, symbols_of}
+use Rattle.swreq_symbols.specs.Meaning.{facts_of, symbols_of}
 use Rattle.swreq_world.specs.ByTable.{world_by}
-use Rattle.swreq_written.specs.ByTable.{placed_by}
+use Rattle.swreq_lowering.specs.ByTable.{placed_by}
 use Rattle.swreq_valid.specs.Plans.{within}
 use Rattle.swreq_valid.specs.Sides.{IsShownSide, sides_at, sides_of}
 use Rattle.swreq_valid.proofs.FirstSide.{of_first, of_one, of_second}

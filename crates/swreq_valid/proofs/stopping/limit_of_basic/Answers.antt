@@ -1,6 +1,6 @@
 use Rattle.std.proofs.Common.{subst, sym}
 use Rattle.swreq_rounds.specs.Given.{basic_equations}
-use Rattle.swreq_shown.specs.Meaning.{symbols_of}
+use Rattle.swreq_symbols.specs.Meaning.{symbols_of}
 use Rattle.swreq_valid.specs.Early.{IsFront}
 use Rattle.swreq_valid.proofs.Early.{fails_by_front}
 use Rattle.swreq_valid.proofs.stopping.limit_of_basic.Goals as goal

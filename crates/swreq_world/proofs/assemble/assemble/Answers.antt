@@ -1,7 +1,7 @@
 use Rattle.std.proofs.Common.{sym, subst}
 use Rattle.swreq_names.specs.Names.{HasDeclared}
-use Rattle.swreq_written.specs.Short.{HasShortLists}
-use Rattle.swreq_written.specs.Words.{WordsView, words_by}
+use Rattle.swreq_lowering.specs.Short.{HasShortLists}
+use Rattle.swreq_lowering.specs.Words.{WordsView, words_by}
 use Rattle.swreq_world.specs.ByTable.{world_by, IsOverTable}
 use Rattle.swreq_world.specs.WorldOf.{IsWorldOf}
 use Rattle.swreq_world.specs.Worlds.{IdWorld}

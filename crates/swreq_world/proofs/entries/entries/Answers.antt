@@ -1,4 +1,4 @@
-use Rattle.swreq_written.specs.Words.{words_by}
+use Rattle.swreq_lowering.specs.Words.{words_by}
 use Rattle.swreq_world.specs.Entries.{IsEntryOf, entry_meant}
 use Rattle.swreq_world.specs.Text.{signature_in}
 use Rattle.swreq_world.proofs.Filled.{fills_more, entry_of_stay, entry_stays}

@@ -1,5 +1,5 @@
 use Rattle.std.proofs.Common.{map, take}
-use Rattle.swreq_written.specs.Words.{words_by}
+use Rattle.swreq_lowering.specs.Words.{words_by}
 use Rattle.swreq_world.specs.Entries.{FillsEntries}
 use Rattle.swreq_world.specs.Text.{signature_in}
 use Rattle.swreq_world.proofs.entries.entries.Given as goal

@@ -1,5 +1,5 @@
 use Rattle.std.proofs.Common.{◌≡◌, ◌-◌, ◌≤◌, ◌++◌}
-use Rattle.swreq_written.specs.Signatures.{functions_from}
+use Rattle.swreq_lowering.specs.Signatures.{functions_from}
 use Rattle.swreq_world.proofs.merging.add_functions.Given as goal
 
 abbrev pub invariant-loop-at : goal.invariant-loop-at

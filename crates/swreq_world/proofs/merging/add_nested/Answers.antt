@@ -1,7 +1,7 @@
 use Rattle.std.proofs.Common.{◌≡◌, ◌+◌, ◌++◌, suc, ◌∷◌, [], List, sym, ap, ◌∙◌, arith, append_assoc}
 use Rattle.swreq_names.specs.declared.signature.Signature.{Signature}
 use Rattle.swreq_names.specs.declared.signature.Signature.TheVariants.{Nested}
-use Rattle.swreq_written.specs.Signatures.{nested_from}
+use Rattle.swreq_lowering.specs.Signatures.{nested_from}
 use Rattle.swreq_world.proofs.WrittenOrder.{nested_push}
 use Rattle.swreq_world.proofs.merging.add_nested.Goals as goal
 

@@ -1,5 +1,5 @@
 use Rattle.std.proofs.Common.{◌≡◌, ◌-◌, ◌≤◌, ◌++◌}
-use Rattle.swreq_written.specs.Signatures.{nested_from}
+use Rattle.swreq_lowering.specs.Signatures.{nested_from}
 use Rattle.swreq_world.proofs.merging.add_nested.Given as goal
 
 abbrev pub invariant-loop-function : goal.invariant-loop-function

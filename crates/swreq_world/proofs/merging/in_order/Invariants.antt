@@ -1,5 +1,5 @@
 use Rattle.std.proofs.Common.{◌≡◌, ◌-◌, ◌≤◌, ◌++◌, length, drop}
-use Rattle.swreq_written.specs.Signatures.{merged}
+use Rattle.swreq_lowering.specs.Signatures.{merged}
 use Rattle.swreq_world.proofs.merging.in_order.Given as goal
 
 abbrev pub invariant-loop-i : goal.invariant-loop-i

@@ -1,7 +1,7 @@
 use Rattle.std.proofs.Common.{◌≡◌, ℕ, ◌≤◌, None, get_or, length, drop}
 use Rattle.std.specs.List.{position_from}
 use Rattle.swreq_names.specs.declared.signature.Signature.TheVariants.{Struct, Function}
-use Rattle.swreq_written.specs.Signatures.{is_signature}
+use Rattle.swreq_lowering.specs.Signatures.{is_signature}
 use Rattle.swreq_world.proofs.places.places_of.Given as goal
 
 abbrev pub invariant-loop-at : goal.invariant-loop-at

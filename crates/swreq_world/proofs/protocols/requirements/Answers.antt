@@ -1,7 +1,7 @@
 use Rattle.std.proofs.Common.{[], sym, ap, ◌∙◌, arith}
-use Rattle.swreq_written.specs.ByTable.{AreOf, placed}
-use Rattle.swreq_written.specs.Words.{words_by}
-use Rattle.swreq_written.proofs.Growing.{are_of_stay, placed_stay}
+use Rattle.swreq_lowering.specs.ByTable.{AreOf, placed}
+use Rattle.swreq_lowering.specs.Words.{words_by}
+use Rattle.swreq_lowering.proofs.Growing.{are_of_stay, placed_stay}
 use Rattle.swreq_world.specs.Text.{requirements_named}
 use Rattle.swreq_world.proofs.Filled.{fills_more}
 use Rattle.swreq_world.proofs.Within.{got}

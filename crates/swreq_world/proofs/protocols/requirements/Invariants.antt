@@ -1,5 +1,5 @@
 use Rattle.std.proofs.Common.{◌≤◌, ◌-◌, length, map, take}
-use Rattle.swreq_written.specs.Words.{words_by}
+use Rattle.swreq_lowering.specs.Words.{words_by}
 use Rattle.swreq_world.specs.Filling.{FillsLists}
 use Rattle.swreq_world.specs.Text.{requirements_named}
 use Rattle.swreq_world.proofs.protocols.requirements.Given as goal

@@ -1,7 +1,7 @@
 use Rattle.std.proofs.Common.{ap, ◌∙◌}
-use Rattle.swreq_written.specs.ByTable.{query_by, HasQueryIdsOf}
-use Rattle.swreq_written.specs.Queries.{query_of}
-use Rattle.swreq_written.specs.Words.{words_by}
+use Rattle.swreq_lowering.specs.ByTable.{query_by, HasQueryIdsOf}
+use Rattle.swreq_lowering.specs.Queries.{query_of}
+use Rattle.swreq_lowering.specs.Words.{words_by}
 use Rattle.swreq_world.proofs.Filled.{fills_more, query_of_stay, query_stays}
 use Rattle.swreq_world.proofs.queries.queries.Goals as goal
 

@@ -1,6 +1,6 @@
 use Rattle.std.proofs.Common.{map, take}
-use Rattle.swreq_written.specs.Queries.{query_of}
-use Rattle.swreq_written.specs.Words.{words_by}
+use Rattle.swreq_lowering.specs.Queries.{query_of}
+use Rattle.swreq_lowering.specs.Words.{words_by}
 use Rattle.swreq_world.specs.Filling.{FillsQueries}
 use Rattle.swreq_world.proofs.queries.queries.Given as goal
 

@@ -1,6 +1,6 @@
 use Rattle.std.proofs.Common.{◌≤◌, [], length, get_or, sym, subst}
 use Rattle.swreq_names.specs.Spaces.{Spaces}
-use Rattle.swreq_written.specs.Words.{words_by}
+use Rattle.swreq_lowering.specs.Words.{words_by}
 use Rattle.swreq_world.specs.Places.{IsSmall}
 use Rattle.swreq_world.proofs.Within.{asked_small}
 use Rattle.swreq_world.proofs.queries.query_of.Goals as goal

@@ -1,9 +1,9 @@
 use Rattle.std.proofs.Common.{◌≡◌, ◌<◌, ◌∙◌, ◌+◌, ◌∷◌, ◌++◌, [], ap, arith, get_or, set, length, Contains, List, subst, sym, take, Vec}
 use Rattle.std.proofs.lemmas.List.Elements.{Contains-get_or}
 use Rattle.std.specs.declared.alloc.Global.{Global}
-use Rattle.swreq_written.specs.declared.ids.FuncId.{FuncId}
-use Rattle.swreq_written.specs.declared.ids.Query.{Query}
-use Rattle.swreq_written.specs.declared.ids.Query.TheVariants.{Signature}
+use Rattle.swreq_lowering.specs.declared.ids.FuncId.{FuncId}
+use Rattle.swreq_lowering.specs.declared.ids.Query.{Query}
+use Rattle.swreq_lowering.specs.declared.ids.Query.TheVariants.{Signature}
 use Rattle.swreq_top.specs.Wanted.{AreAsked, function_of}
 use Rattle.swreq_top.proofs.Asked.{asked_more, asked_same, first_queries}
 use Rattle.swreq_top.proofs.wanted.Asked.of.Goals as goal

@@ -1,9 +1,9 @@
 use Rattle.std.proofs.Common.{◌∙◌, Err}
 use Rattle.swreq_derive.specs.Derivation.Source.{Written as WrittenList}
 use Rattle.swreq_derive.specs.Facts.{generic_params}
-use Rattle.swreq_shown.specs.Meaning.{facts_of}
+use Rattle.swreq_symbols.specs.Meaning.{facts_of}
 use Rattle.swreq_world.specs.ByTable.{world_by}
-use Rattle.swreq_written.specs.ByTable.{placed}
+use Rattle.swreq_lowering.specs.ByTable.{placed}
 use Rattle.swreq_valid.specs.Built.{built_rules}
 use Rattle.swreq_valid.specs.Machines.{list_of}
 use Rattle.swreq_valid.specs.Plans.{bare, listed}

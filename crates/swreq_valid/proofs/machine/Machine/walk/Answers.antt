@@ -1,12 +1,12 @@
 use Rattle.std.proofs.Common.{subst, subst₂, ◌↔◌, IsTrue}
 use Rattle.std.specs.Bool.{OnTrue}
 use Rattle.swreq_param.specs.Tables.{term_at}
-use Rattle.swreq_reading.specs.Shown.{ShowsValid}
-use Rattle.swreq_reading.specs.Symbols.{word_of}
-use Rattle.swreq_shown.specs.Meaning.{facts_of, symbols_of}
-use Rattle.swreq_shown.specs.Overs.{source_of}
-use Rattle.swreq_shown.specs.declared.over.Over.TheVariants.{Signature}
-use Rattle.swreq_shown.specs.Vanishing.{IsLeastBy, Links}
+use Rattle.swreq_correspondence.specs.Shown.{ShowsValid}
+use Rattle.swreq_correspondence.specs.Symbols.{word_of}
+use Rattle.swreq_symbols.specs.Meaning.{facts_of, symbols_of}
+use Rattle.swreq_symbols.specs.Overs.{source_of}
+use Rattle.swreq_symbols.specs.declared.over.Over.TheVariants.{Signature}
+use Rattle.swreq_symbols.specs.Vanishing.{IsLeastBy, Links}
 use Rattle.swreq_world.specs.ByTable.{world_by}
 use Rattle.swreq_valid.specs.Asked.{word_in}
 use Rattle.swreq_valid.specs.Rounds.{last_rules}

@@ -1,6 +1,6 @@
 use Rattle.std.proofs.Common.{sym, subst, List, Ok}
 use Rattle.swreq_rounds.specs.Presents.{AreProtocolRules}
-use Rattle.swreq_shown.specs.Meaning.{symbols_of}
+use Rattle.swreq_symbols.specs.Meaning.{symbols_of}
 use Rattle.swreq_world.specs.ByTable.{world_by}
 use Rattle.swreq_valid.specs.Answers.{Answers, IsOnlyOutcome}
 use Rattle.swreq_valid.specs.Keeping.{kept_facts, kept_plan}

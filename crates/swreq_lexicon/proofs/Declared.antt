@@ -1,0 +1,79 @@
+-- The names that protocols declare.
+use Rattle.std.proofs.Common.{◌≡◌, ◌+◌, ◌<◌, ⊎_elim, List, [], ◌∷◌, ◌++◌, length, Some, Contains, refl, sym, ap, subst, ◌∙◌, arith, length-append}
+use Rattle.std.specs.List.{flat_map}
+use Rattle.std.proofs.lemmas.List.{length-map}
+use Rattle.std.proofs.lemmas.List.Concat.{flat_map-cons}
+use Rattle.std.proofs.lemmas.List.Elements.{Contains-append_left, Contains-append_right, Contains-append_cases}
+use Rattle.std.proofs.lemmas.Option.{slice_get-get_or}
+use Rattle.swreq_decl.specs.declared.skeleton.AssocDecl.{AssocDecl}
+use Rattle.swreq_decl.specs.declared.skeleton.ProtocolDecl.{ProtocolDecl}
+use Rattle.swreq_decl.specs.declared.skeleton.Skeleton.{Skeleton}
+use Rattle.swreq_names.specs.Spaces.{word}
+use Rattle.swreq_names.specs.Mentioned as names
+use Rattle.swreq_names.specs.Mentioned.{mentioned}
+use Rattle.swreq_names.proofs.Declaring.{no_element}
+use Rattle.swreq_lexicon.specs.declared.pair.ProtocolName.{ProtocolName}
+use Rattle.swreq_lexicon.specs.Lexicons.{pair, proto_by, name_by}
+use Rattle.swreq_lexicon.specs.Ranks.{Bytes, IsRanking, bytes_cmp, rank}
+use Rattle.swreq_lexicon.specs.Texts.{declared_by, declared_in}
+use Rattle.swreq_lexicon.proofs.Keyed.{key_of}
+use Rattle.swreq_lexicon.proofs.Positions.{rank_of_there}
+use Rattle.swreq_lexicon.proofs.Rising.{rising_from_sorted}
+use Rattle.swreq_lexicon.proofs.Passing.{one_of}
+
+module _ {A B : Type 0} (f : A → List B) where
+  -- an item of a piece, and the piece of an item
+  pub in_pieces : (xs : List A) (x : A) (y : B) → Contains xs x → Contains (f x) y → Contains (flat_map f xs) y
+  in_pieces [] x y c d = absurd (no_element x c)
+  in_pieces (z ∷ zs) x y c d =
+      subst (λ ys. Contains ys y) (sym (flat_map-cons f z zs))
+      (⊎_elim (λ e. Contains-append_left (f z) (flat_map f zs) y (subst (λ w. Contains (f w) y) (sym e) d))
+      (λ b. Contains-append_right (f z) (flat_map f zs) y (in_pieces zs x y b d)) (one_of z zs x c))
+
+  pub from_pieces : (xs : List A) (y : B) → Contains (flat_map f xs) y → (x : A) × Contains xs x × Contains (f x) y
+  from_pieces [] y c = absurd (no_element y c)
+  from_pieces (z ∷ zs) y c =
+      ⊎_elim (λ h. (z, (0, omega arith, refl), h)) (λ h. let s = from_pieces zs y h in (s.0, Contains-append_right (z ∷ []) zs s.0 s.1, s.2))
+      (Contains-append_cases (f z) (flat_map f zs) y (subst (λ ys. Contains ys y) (flat_map-cons f z zs) c))
+
+  pub same_sizes : {C : Type 0} (g : A → List C) → ((x : A) → length (f x) ≡ length (g x)) → (xs : List A) → length (flat_map f xs) ≡ length (flat_map g xs)
+  same_sizes g same [] = refl
+  same_sizes g same (z ∷ zs) =
+      ap length (flat_map-cons f z zs) ∙ length-append (f z) (flat_map f zs)
+      ∙ (λ i. same z i + same_sizes g same zs i)
+      ∙ sym (ap length (flat_map-cons g z zs) ∙ length-append (g z) (flat_map g zs))
+
+-- ---- names that have ranks
+
+module _ (text : Bytes) (s : Skeleton) (protocols ranking : List Bytes) where
+  abbrev any : ProtocolName → AssocDecl
+  any d = record { name = record { start = 0; end = 0 }; inherits = []; clause = [] }
+
+  abbrev declared_name : ProtocolDecl → AssocDecl → ProtocolName
+  declared_name p m = pair (proto_by protocols (word text p.name)) (name_by ranking (word text m.name))
+
+  mentions : (p : ProtocolDecl) (m : AssocDecl) → Contains s.protocols p → Contains p.members m → Contains (mentioned text s) (word text m.name)
+  mentions p m c d =
+      let w = word text m.name in
+      Contains-append_left (flat_map (names.in_protocol text) s.protocols)
+      (flat_map (names.in_struct text) s.structs ++ (flat_map (names.in_function text) s.functions ++ flat_map (names.in_query text) s.queries)) w
+      (in_pieces (names.in_protocol text) s.protocols p w c
+      (Contains-append_right (names.in_bounds text p.inherits) (names.in_clause text p.clause ++ flat_map (names.in_member text) p.members) w
+      (Contains-append_right (names.in_clause text p.clause) (flat_map (names.in_member text) p.members) w
+      (in_pieces (names.in_member text) p.members m w d
+      (Contains-append_left (w ∷ []) (names.in_bounds text m.inherits ++ names.in_clause text m.clause) w (0, omega arith, refl))))))
+
+  rank_within : IsRanking bytes_cmp (Contains (mentioned text s)) ranking → (w : Bytes) → Contains (mentioned text s) w → rank ranking w < length ranking
+  rank_within are w c =
+      let h = (are.same w).1 c in
+      let e = rank_of_there ranking w h.0 (rising_from_sorted bytes_cmp ranking are.sorted) (slice_get-get_or ranking h.0 w h.1 ∙ ap Some h.2) in
+      subst (λ r. r < length ranking) e h.1
+
+  pub named_within : IsRanking bytes_cmp (Contains (mentioned text s)) ranking → (d : ProtocolName) → Contains (declared_in text protocols ranking s.protocols) d → d.name.rank < length ranking
+  named_within are d c =
+      let p = from_pieces (declared_by text protocols ranking) s.protocols d c in
+      let m = key_of (declared_name p.0) any p.0.members d p.2 in
+      subst (λ (e : ProtocolName). e.name.rank < length ranking) m.2 (rank_within are (word text m.0.name) (mentions p.0 m.0 p.1 m.1))
+
+  pub declared_length : length (declared_in text protocols ranking s.protocols) ≡ length (flat_map (λ (p : ProtocolDecl). p.members) s.protocols)
+  declared_length = same_sizes (declared_by text protocols ranking) (λ (p : ProtocolDecl). p.members) (λ p. length-map p.members (declared_name p)) s.protocols

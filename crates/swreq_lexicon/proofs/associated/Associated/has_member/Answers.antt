@@ -1,0 +1,17 @@
+use Rattle.std.proofs.Common.{◌∙◌, ◌||◌, nat_eq, List, map, [], get_or, ap}
+use Rattle.std.specs.List.{list_any}
+use Rattle.swreq_param.specs.declared.ids.ProtoId.{ProtoId}
+use Rattle.swreq_lexicon.specs.Keys.{pair_of}
+use Rattle.swreq_lexicon.specs.Symbols.{has_member}
+use Rattle.swreq_lexicon.specs.Views.{inherits_by}
+use Rattle.swreq_lexicon.proofs.Declarers.{any_declarer}
+use Rattle.swreq_lexicon.proofs.associated.Associated.has_member.Goals as goal
+
+pub returns : goal.returns
+returns c =
+    let inherits = inherits_by c.args.protocols.now.places c.args.protocols.now.resolved.inherits in
+    let test = λ (q : ProtoId). nat_eq c.args.p.rank q.rank || inherits c.args.p q in
+    c.has_name.ensures
+    ∙ ap (λ (ls : List (List ProtoId)). list_any test (get_or ls c.args.a.rank [])) c.deref.ensures.value
+    ∙ any_declarer (map pair_of c.self.inside.ranked) c.self.inside.declarers.items c.self.invariant.0 test c.args.a
+    ∙ ap (λ ds. has_member inherits ds c.args.p c.args.a) c.self.view_is

@@ -1,0 +1,53 @@
+use Rattle.std.proofs.Common.{◌≡◌, ◌∙◌, ◌+◌, nat_eq, List, length, get_or, take, position, slice_get, Some, ap, sym, arith}
+use Rattle.swreq_param.specs.declared.ids.ProtoId.{ProtoId}
+use Rattle.swreq_lexicon.specs.Symbols.{has_member, having, symbols_below, SymbolsView}
+use Rattle.swreq_lexicon.specs.Views.{inherits_by}
+use Rattle.swreq_lexicon.proofs.SymbolRanks.{start_is, rank_found, rank_nowhere, rank_not_had, rank_past, rank_fits}
+use Rattle.swreq_lexicon.proofs.symbols.Symbols.find.Goals as goal
+use Rattle.swreq_lexicon.proofs.symbols.Symbols.find.Goals.{else-a-names-via-then-a-names+else-has_member, else-a-names-via-else-a-names}
+
+pub overflow_add-result : goal.overflow_add-result
+overflow_add-result c =
+    let has = has_member (inherits_by c.args.protocols.now.places c.args.protocols.now.resolved.inherits) c.args.associated.now in
+    let order = c.args.self.now.order in
+    let below = c.if-a-names.true in
+    let start : c.index.result.now ≡ length (symbols_below order has c.args.a.rank) =
+    c.index.ensures ∙ ap (λ (v : SymbolsView). get_or v.starts c.args.a.rank c.index.result.now) c.self.view_is
+    ∙ start_is order has c.args.names c.args.self.now.starts c.requires.starts c.args.a.rank c.index.result.now (omega (arith, below)) in
+    let placed : position (λ q. nat_eq c.args.p.rank q.rank) order ≡ Some c.in-Some.place =
+    ap (λ (ps : List ProtoId). position (λ q. nat_eq c.args.p.rank q.rank) ps) (sym (c.deref.ensures.value ∙ ap (λ (v : SymbolsView). v.order) c.self.view_is)) ∙ sym c.in-Some.ensures in
+    let before : c.count_before-before.result ≡ length (having (take c.in-Some.place order) has c.args.a) =
+    c.count_before-before.ensures
+    ∙ ap (λ (ps : List ProtoId). length (having (take c.in-Some.place ps) has c.args.a)) (c.deref-in-Some.ensures.value ∙ ap (λ (v : SymbolsView). v.order) c.self.view_is) in
+    let fits = rank_fits order has c.args.names c.args.p c.args.a c.in-Some.place c.index.result.now c.count_before-before.result placed below c.requires.names c.requires.few start before in
+    omega (arith, fits)
+
+pub returns-in-Some : goal.returns-in-Some
+returns-in-Some c =
+    let has = has_member (inherits_by c.args.protocols.now.places c.args.protocols.now.resolved.inherits) c.args.associated.now in
+    let order = c.args.self.now.order in
+    let below = c.if-a-names.true in
+    let start : c.index.result.now ≡ length (symbols_below order has c.args.a.rank) =
+    c.index.ensures ∙ ap (λ (v : SymbolsView). get_or v.starts c.args.a.rank c.index.result.now) c.self.view_is
+    ∙ start_is order has c.args.names c.args.self.now.starts c.requires.starts c.args.a.rank c.index.result.now (omega (arith, below)) in
+    let placed : position (λ q. nat_eq c.args.p.rank q.rank) order ≡ Some c.in-Some.place =
+    ap (λ (ps : List ProtoId). position (λ q. nat_eq c.args.p.rank q.rank) ps) (sym (c.deref.ensures.value ∙ ap (λ (v : SymbolsView). v.order) c.self.view_is)) ∙ sym c.in-Some.ensures in
+    let before : c.count_before-before.result ≡ length (having (take c.in-Some.place order) has c.args.a) =
+    c.count_before-before.ensures
+    ∙ ap (λ (ps : List ProtoId). length (having (take c.in-Some.place ps) has c.args.a)) (c.deref-in-Some.ensures.value ∙ ap (λ (v : SymbolsView). v.order) c.self.view_is) in
+    (λ i. slice_get (symbols_below order has c.args.names) (start i + before i))
+    ∙ rank_found order has c.args.names c.args.p c.args.a c.in-Some.place placed below (sym c.has_member.ensures ∙ c.if-has_member.true)
+
+pub returns-in-None : goal.returns-in-None
+returns-in-None c =
+    let has = has_member (inherits_by c.args.protocols.now.places c.args.protocols.now.resolved.inherits) c.args.associated.now in
+    rank_nowhere c.args.self.now.order has c.args.names c.args.p c.args.a
+    (ap (λ (ps : List ProtoId). position (λ q. nat_eq c.args.p.rank q.rank) ps) (sym (c.deref.ensures.value ∙ ap (λ (v : SymbolsView). v.order) c.self.view_is)) ∙ sym c.in-None.ensures)
+
+pub returns-else-a-names : goal.returns-else-a-names
+returns-else-a-names c s =
+    let has = has_member (inherits_by c.args.protocols.now.places c.args.protocols.now.resolved.inherits) c.args.associated.now in
+    elim c.else-a-names.branch [
+      | else-a-names-via-then-a-names+else-has_member w ↦ rank_not_had c.args.self.now.order has c.args.names c.args.p c.args.a (sym w.has_member.ensures ∙ w.if-has_member.false) s
+      | else-a-names-via-else-a-names w ↦ rank_past c.args.self.now.order has c.args.names c.args.p c.args.a w.if-a-names.false s
+    ]

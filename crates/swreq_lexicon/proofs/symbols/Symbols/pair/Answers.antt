@@ -1,0 +1,23 @@
+use Rattle.std.proofs.Common.{◌≡◌, ◌∙◌, ◌-◌, ◌≤◌, ℕ, List, length, get_or, slice_get, ap, sym, subst, arith}
+use Rattle.swreq_param.specs.declared.ids.ProtoId.{ProtoId}
+use Rattle.swreq_lexicon.specs.Associated.{name}
+use Rattle.swreq_lexicon.specs.Symbols.{has_member, having, symbols_below, SymbolsView}
+use Rattle.swreq_lexicon.specs.Views.{inherits_by}
+use Rattle.swreq_lexicon.proofs.SymbolRanks.{start_is, pair_at}
+use Rattle.swreq_lexicon.proofs.symbols.Symbols.pair.Goals as goal
+
+pub returns : goal.returns
+returns c =
+    let has = has_member (inherits_by c.args.protocols.now.places c.args.protocols.now.resolved.inherits) c.args.associated.now in
+    let a = c.last_from-rank.result in
+    let within = c.last_from-rank.ensures.within in
+    let start : c.index.result.now ≡ length (symbols_below c.args.self.now.order has a) =
+    c.index.ensures ∙ ap (λ (v : SymbolsView). get_or v.starts a c.index.result.now) c.self.view_is
+    ∙ start_is c.args.self.now.order has c.args.names c.args.self.now.starts c.requires.starts a c.index.result.now (omega (arith, within)) in
+    let from : length (symbols_below c.args.self.now.order has a) ≤ c.args.m =
+    subst (λ k. k ≤ c.args.m)
+    (ap (λ (xs : List ℕ). get_or xs a 0) c.deref.ensures.value ∙ ap (λ (v : SymbolsView). get_or v.starts a 0) c.self.view_is
+    ∙ start_is c.args.self.now.order has c.args.names c.args.self.now.starts c.requires.starts a 0 (omega (arith, within))) c.last_from-rank.ensures.from in
+    pair_at c.args.self.now.order has c.args.names a c.args.m c.index.result.now c.nth-proto.result within start (omega (arith, start, from))
+    (ap (λ (ps : List ProtoId). slice_get (having ps has (name a)) (c.args.m - c.index.result.now)) (sym (c.deref-2.ensures.value ∙ ap (λ (v : SymbolsView). v.order) c.self.view_is))
+    ∙ c.nth-proto.ensures)

@@ -1,0 +1,18 @@
+use Rattle.std.proofs.Common.{◌≡◌, ◌∙◌, ◌+◌, ℕ, length, take, slice_get, ap, sym, arith}
+use Rattle.swreq_param.specs.declared.ids.ProtoId.{ProtoId}
+use Rattle.swreq_lexicon.specs.Symbols.{has_member, having}
+use Rattle.swreq_lexicon.specs.Views.{inherits_by}
+use Rattle.swreq_lexicon.proofs.SymbolPlaces.{filter_place}
+use Rattle.swreq_lexicon.proofs.symbols.nth.Goals as goal
+
+reached : (left before place : ℕ) → left + before ≡ place → left ≡ 0 → place ≡ before
+reached left before place e z = omega arith
+
+pub returns-then-left-eq0 : goal.returns-then-left-eq0
+returns-then-left-eq0 c =
+    let has = has_member (inherits_by c.args.protocols.now.places c.args.protocols.now.resolved.inherits) c.args.associated.now in
+    let first : ProtoId = record { rank = 0 } in
+    let order = c.args.order.now in
+    let i = c.loop-q.q-index in
+    ap (slice_get (having order has c.args.a)) (reached c.loop-q.left (length (having (take i order) has c.args.a)) c.args.place c.loop-q.invariant c.if-left-eq0.true)
+    ∙ filter_place (λ q. has q c.args.a) order i first c.loop-q-test.true (sym c.has_member-here.ensures ∙ c.if-here.true)

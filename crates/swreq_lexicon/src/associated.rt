@@ -1,0 +1,235 @@
+// Associated types by rank.
+ghost use Rattle.std.specs.Prelude.{◌≡◌, ◌↔◌, ◌||◌, ◌<◌, ◌≤◌, ◌++◌, ◌∷◌, [], ℕ, nat_eq, List, length, map, slice_get, slice_set, position, slice_index_or, Some, MatchOption, IfOk, OnOk, Contains};
+ghost use Rattle.std.specs.List.{list_any};
+ghost use Rattle.std.specs.Option.{option_map};
+ghost use Rattle.swreq_lexicon.specs.Associated.{assoc_cmp};
+ghost use Rattle.swreq_lexicon.specs.Keys.{key, pair_of};
+ghost use Rattle.swreq_lexicon.specs.Lexicons.{is_pair, assoc_at};
+ghost use Rattle.std.specs.List.Sorted.{IsStrictlySortedBy};
+ghost use Rattle.swreq_lexicon.specs.Symbols.{has_member, AreDeclarers};
+ghost use Rattle.swreq_lexicon.specs.Views.{inherits_by};
+
+use crate::pair::ProtocolName;
+use crate::protocols::Protocols;
+use crate::ranked::Ranked;
+use std::alloc::{AllocError, Global};
+use std::marker::Model;
+use swreq_param::{AssocId, NameId, ProtoId};
+
+/// By what associated types are ranked: their name, whether their protocol inherits one that declares it, and their protocol.
+#[derive(Clone, Copy, PartialEq, Eq, PartialOrd, Ord)]
+pub struct AssocKey {
+    pub name: NameId,
+    pub inherited: bool,
+    pub proto: ProtoId,
+}
+
+impl AssocKey {
+    fn of(d: ProtocolName, inherited: bool) -> Self
+        ensures { result ≡ record { name = d.name; inherited = inherited; proto = d.proto } }
+    {
+        AssocKey {
+            name: d.name,
+            inherited,
+            proto: d.proto,
+        }
+    }
+}
+
+/// Protocols, which grow.
+#[derive(Drop)]
+pub struct ProtoList {
+    items: Vec<ProtoId>,
+}
+
+impl Model for ProtoList {
+    ghost use Rattle.std.specs.Prelude.{List};
+    ghost use Rattle.swreq_param.specs.declared.ids.ProtoId.{ProtoId};
+
+    ghost Value = { List ProtoId };
+
+    ghost view = { λ d. d.items.items };
+}
+
+impl ProtoList {
+    fn new(alloc: Global) -> Self
+        ensures { result ≡ [] }
+    {
+        ProtoList {
+            items: Vec::new(alloc),
+        }
+    }
+
+    fn push(&mut self, p: ProtoId) -> Result<(), AllocError>
+        ensures { OnOk result (self.new ≡ self.old ++ p ∷ []) }
+    {
+        self.items.push(p)?;
+        Ok(())
+    }
+
+    fn items(&self) -> &[ProtoId]
+        ensures { result.now ≡ self.now }
+    {
+        &self.items
+    }
+}
+
+/// At most 1,048,576 associated types by rank, and for each name the protocols that declare it.
+#[derive(Drop)]
+pub struct Associated {
+    ranked: Ranked<AssocKey>,
+    declarers: Vec<ProtoList>,
+}
+
+impl Model for Associated {
+    ghost use Rattle.std.specs.Prelude.{List, map, length, ◌≤◌};
+    ghost use Rattle.swreq_lexicon.specs.declared.pair.ProtocolName.{ProtocolName};
+    ghost use Rattle.swreq_lexicon.specs.Keys.{pair_of};
+    ghost use Rattle.swreq_lexicon.specs.Symbols.{AreDeclarers};
+
+    ghost Value = { List ProtocolName };
+
+    ghost view = { λ a. map pair_of a.ranked };
+
+    ghost invariant = { λ a. AreDeclarers (map pair_of a.ranked) a.declarers.items × (length a.ranked ≤ 1048576) };
+}
+
+impl Associated {
+    /// The associated types of these pairs, whose names have ranks below `names`.
+    pub fn of(
+        alloc: Global,
+        protocols: &Protocols,
+        names: usize,
+        pairs: Vec<ProtocolName>,
+    ) -> Result<Associated, AllocError>
+        requires few { length pairs.items ≤ 1048576 }
+        requires within { (d : ProtocolName) → Contains pairs.items d → d.name.rank < names }
+        ensures same { IfOk result (λ x. (d : ProtocolName) → Contains x d ↔ Contains pairs.items d) }
+        ensures sorted { IfOk result (λ x. IsStrictlySortedBy (assoc_cmp (inherits_by protocols.now.places protocols.now.resolved.inherits) x) x) }
+    {
+        let declarers = declarers_of(alloc, names, &pairs)?;
+        let ranked = Ranked::of(alloc, keys(alloc, protocols, &declarers, &pairs)?)?;
+        let _sorted = ranked.items();
+        Ok(Associated { ranked, declarers })
+    }
+
+    /// How many there are.
+    pub fn len(&self) -> u32
+        ensures { result ≡ length self.now }
+    {
+        self.ranked.items().len() as u32
+    }
+
+    /// The associated type of a protocol and a name that it declares.
+    pub fn find(&self, p: ProtoId, a: NameId) -> Option<AssocId>
+        ensures { result ≡ option_map assoc_at (position (is_pair p a) self.now) }
+    {
+        let _keys = self.ranked.items();
+        let d = ProtocolName { proto: p, name: a };
+        match self.ranked.find(&AssocKey::of(d, false)) {
+            Some(rank) => Some(AssocId { rank: rank as u32 }),
+            None => match self.ranked.find(&AssocKey::of(d, true)) {
+                Some(rank) => Some(AssocId { rank: rank as u32 }),
+                None => None,
+            },
+        }
+    }
+
+    /// The protocol and the name of an associated type.
+    pub fn pair(&self, a: AssocId) -> ProtocolName
+        requires { a.rank < length self.now }
+        ensures { slice_get self.now a.rank ≡ Some result }
+    {
+        let key = self.ranked.items()[a.rank as usize];
+        ProtocolName {
+            proto: key.proto,
+            name: key.name,
+        }
+    }
+
+    /// Whether the protocol, or one that it inherits, declares the name.
+    pub fn has_member(&self, protocols: &Protocols, p: ProtoId, a: NameId) -> bool
+        ensures { result ≡ has_member (inherits_by protocols.now.places protocols.now.resolved.inherits) self.now p a }
+    {
+        has_name(protocols, &self.declarers, p, a)
+    }
+}
+
+/// The protocols that declare a name.
+fn list_of(lists: &[ProtoList], a: NameId) -> &[ProtoId]
+    ensures { result.now ≡ slice_index_or lists.now a.rank [] }
+{
+    match lists.get(a.rank as usize) {
+        Some(list) => list.items(),
+        None => &[],
+    }
+}
+
+fn empty_lists(alloc: Global, count: usize) -> Result<Vec<ProtoList>, AllocError>
+    ensures len { IfOk result (λ lists. length lists.items ≡ count) }
+    ensures none { IfOk result (λ lists. (r : ℕ) → slice_index_or lists.items r [] ≡ []) }
+{
+    let mut lists = Vec::new(alloc);
+    for _ in 0..count {
+        lists.push(ProtoList::new(alloc))?;
+    }
+    Ok(lists)
+}
+
+fn add(lists: &mut Vec<ProtoList>, d: ProtocolName) -> Result<(), AllocError>
+    requires { d.name.rank < length lists.old.items }
+    ensures { OnOk result (lists.new.items ≡ slice_set lists.old.items d.name.rank (slice_index_or lists.old.items d.name.rank [] ++ d.proto ∷ [])) }
+{
+    lists[d.name.rank as usize].push(d.proto)?;
+    Ok(())
+}
+
+/// For each name, by rank, the protocols that declare it.
+fn declarers_of(
+    alloc: Global,
+    names: usize,
+    pairs: &[ProtocolName],
+) -> Result<Vec<ProtoList>, AllocError>
+    requires { (d : ProtocolName) → Contains pairs.now d → d.name.rank < names }
+    ensures { IfOk result (λ lists. AreDeclarers pairs.now lists.items) }
+{
+    let mut lists = empty_lists(alloc, names)?;
+    for d in pairs {
+        add(&mut lists, *d)?;
+    }
+    Ok(lists)
+}
+
+/// Whether some protocol that the protocol inherits declares the name.
+fn inherits_name(protocols: &Protocols, lists: &[ProtoList], p: ProtoId, a: NameId) -> bool
+    ensures { result ≡ list_any (inherits_by protocols.now.places protocols.now.resolved.inherits p) (slice_index_or lists.now a.rank []) }
+{
+    list_of(lists, a).iter().any(|q| protocols.inherits(p, *q))
+}
+
+/// Whether the protocol, or one that it inherits, is among those that declare the name.
+fn has_name(protocols: &Protocols, lists: &[ProtoList], p: ProtoId, a: NameId) -> bool
+    ensures { result ≡ list_any (λ q. nat_eq p.rank q.rank || inherits_by protocols.now.places protocols.now.resolved.inherits p q) (slice_index_or lists.now a.rank []) }
+{
+    list_of(lists, a)
+        .iter()
+        .any(|q| p == *q || protocols.inherits(p, *q))
+}
+
+/// By what the associated types of these pairs are ranked.
+fn keys(
+    alloc: Global,
+    protocols: &Protocols,
+    lists: &[ProtoList],
+    pairs: &[ProtocolName],
+) -> Result<Vec<AssocKey>, AllocError>
+    requires { AreDeclarers pairs.now lists.now }
+    ensures { IfOk result (λ keys. keys.items ≡ map (key (inherits_by protocols.now.places protocols.now.resolved.inherits) pairs.now) pairs.now) }
+{
+    let mut keys = Vec::new(alloc);
+    for d in pairs {
+        let inherited = inherits_name(protocols, lists, d.proto, d.name);
+        keys.push(AssocKey::of(*d, inherited))?;
+    }
+    Ok(keys)
+}

@@ -1,0 +1,51 @@
+//! What holds of the ranks of each text.
+
+ghost use Rattle.std.specs.Prelude.{◌≡◌, ◌↔◌, ◌<◌, ℕ, List, length, Contains, Some, slice_get};
+ghost use Rattle.std.specs.List.{IsDistinct};
+ghost use Rattle.std.specs.Str.{bytes_eq};
+ghost use Rattle.swreq_decl.specs.declared.skeleton.Skeleton.{Skeleton};
+ghost use Rattle.swreq_derive.specs.Derivation.{AssociatedType};
+ghost use Rattle.swreq_derive.specs.Facts.{AreOneToOne};
+ghost use Rattle.swreq_names.specs.Mentioned.{mentioned};
+ghost use Rattle.swreq_names.specs.Spaces.{place, spaces};
+ghost use Rattle.swreq_param.specs.declared.ids.ProtoId.{ProtoId};
+ghost use Rattle.swreq_lexicon.specs.declared.pair.ProtocolName.{ProtocolName};
+ghost use Rattle.swreq_lexicon.specs.Lexicons.{pair, proto_by, name_by, assoc_by, associated_types};
+ghost use Rattle.swreq_lexicon.specs.Ranks.{Bytes};
+ghost use Rattle.swreq_lexicon.specs.Texts.{IsLexiconOf, protocol_names, declared_in};
+ghost use Rattle.swreq_lexicon.specs.Views.{LexiconView, IsProtocol, place_of};
+
+/// Each name of a protocol, each name of an associated type or of a member, and each associated type has its rank.
+pub fn names_have_ranks(text: &[u8])
+    ensures protocols { (s : Skeleton) (x : LexiconView) → IsLexiconOf text.now s x → (name : Bytes) → Contains (protocol_names text.now s.protocols) name
+        → slice_get x.protocols (proto_by x.protocols name).rank ≡ Some name }
+    ensures names { (s : Skeleton) (x : LexiconView) → IsLexiconOf text.now s x → (name : Bytes) → Contains (mentioned text.now s) name
+        → slice_get x.names (name_by x.names name).rank ≡ Some name }
+    ensures associated { (s : Skeleton) (x : LexiconView) → IsLexiconOf text.now s x → (d : ProtocolName) → Contains (declared_in text.now x.protocols x.names s.protocols) d
+        → slice_get x.associated (assoc_by x.associated d.proto d.name).rank ≡ Some d }
+{}
+
+/// What stands in written order are protocols of the text, and each of them stands there at its place; where no name is declared
+/// twice, each of them once. A name that is declared as a protocol means the protocol at its first place.
+pub fn protocols_have_places(text: &[u8])
+    ensures protocols { (s : Skeleton) (x : LexiconView) → IsLexiconOf text.now s x → (k : ℕ) (p : ProtoId) → slice_get x.written_order k ≡ Some p → IsProtocol x p }
+    ensures places { (s : Skeleton) (x : LexiconView) → IsLexiconOf text.now s x → (p : ProtoId) → IsProtocol x p → slice_get x.written_order (place_of x p) ≡ Some p }
+    ensures once { (s : Skeleton) (x : LexiconView) → IsLexiconOf text.now s x → IsDistinct bytes_eq (protocol_names text.now s.protocols)
+        → length x.written_order ≡ length x.protocols }
+    ensures meant { (s : Skeleton) (x : LexiconView) → IsLexiconOf text.now s x → (name : Bytes) (k : ℕ) → place (spaces text.now s).protocols name ≡ Some k
+        → place_of x (proto_by x.protocols name) ≡ k }
+{}
+
+/// Each declared pair of a protocol and a name has one associated type, which is its rank, and no two pairs have the same.
+pub fn associated_types_are_one_to_one(text: &[u8])
+    ensures ranked { (ds : List ProtocolName) (d : AssociatedType) → Contains (associated_types ds) d ↔ (slice_get ds d.assoc.rank ≡ Some (pair d.proto d.name)) }
+    ensures one_to_one { (s : Skeleton) (x : LexiconView) → IsLexiconOf text.now s x → AreOneToOne (associated_types x.associated) }
+{}
+
+/// Of two associated types, and of two member symbols, the one with the lesser name has the lesser rank.
+pub fn ranks_go_by_name_first(text: &[u8])
+    ensures associated { (s : Skeleton) (x : LexiconView) → IsLexiconOf text.now s x → (i j : ℕ) (d e : ProtocolName)
+        → slice_get x.associated i ≡ Some d → slice_get x.associated j ≡ Some e → d.name.rank < e.name.rank → i < j }
+    ensures symbols { (s : Skeleton) (x : LexiconView) → IsLexiconOf text.now s x → (i j : ℕ) (d e : ProtocolName)
+        → slice_get x.symbols i ≡ Some d → slice_get x.symbols j ≡ Some e → d.name.rank < e.name.rank → i < j }
+{}

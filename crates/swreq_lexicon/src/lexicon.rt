@@ -1,0 +1,302 @@
+// The protocols, names, associated types and member symbols of a text, by rank.
+ghost use Rattle.std.specs.Prelude.{◌≡◌, ◌↔◌, ◌<◌, ◌≤◌, ◌++◌, ℕ, IsTrue, List, length, map, slice_get, Some, MatchOption, IfOk, OnOk, Contains};
+ghost use Rattle.swreq_names.specs.Mentioned.{mentioned};
+ghost use Rattle.swreq_names.specs.Names.{HasDeclared};
+ghost use Rattle.swreq_names.specs.Spaces.{word};
+ghost use Rattle.swreq_lexicon.specs.declared.pair.ProtocolName.{ProtocolName};
+ghost use Rattle.swreq_lexicon.specs.Lexicons.{pair, proto_by, name_by, assoc_by};
+ghost use Rattle.swreq_lexicon.specs.Ranks.{IsRanking, bytes_cmp};
+ghost use Rattle.swreq_lexicon.specs.Texts.{IsSmall, IsLexiconOf, declared_in};
+ghost use Rattle.swreq_lexicon.specs.Views.{inherits, depth, HasMember};
+
+use crate::associated::Associated;
+use crate::pair::ProtocolName;
+use crate::protocols::{Protocols, rank_or_first};
+use crate::symbols::Symbols;
+use std::alloc::{AllocError, Global};
+use std::marker::Model;
+use swreq_decl::{AssocDecl, ProtocolDecl, Skeleton};
+use swreq_names::{Names, Ranks, member_names, word};
+use swreq_param::{AssocId, NameId, ProtoId};
+
+/// What the words of a text stand for: its protocols, its names of associated types and of members, its associated types and
+/// its member symbols, each by rank.
+///
+/// A protocol is of the text where its rank is below `protocols`, a name where it is below `names`, an associated type where
+/// it is below `associated`, and a member symbol where it is below `members`. No call but `of` takes memory.
+#[derive(Drop)]
+pub struct Lexicon {
+    protocols: Protocols,
+    names: Ranks,
+    associated: Associated,
+    symbols: Symbols,
+}
+
+impl Model for Lexicon {
+    ghost use Rattle.std.specs.Prelude.{length, ◌≤◌};
+    ghost use Rattle.swreq_lexicon.specs.Symbols.{has_member, symbols_below, AreStarts};
+    ghost use Rattle.swreq_lexicon.specs.Views.{LexiconView, inherits_by};
+
+    ghost Value = { LexiconView };
+
+    ghost view = { λ x. record {
+      protocols = x.protocols.protocols;
+      places = x.protocols.places;
+      written_order = x.protocols.written_order;
+      names = x.names;
+      associated = x.associated;
+      symbols = symbols_below x.symbols.order (has_member (inherits_by x.protocols.places x.protocols.resolved.inherits) x.associated) (length x.names);
+      resolved = x.protocols.resolved;
+    } };
+
+    ghost invariant = { λ x. (length x.names ≤ 1048576) × (length x.symbols.order ≤ 1048576)
+        × AreStarts x.symbols.order (has_member (inherits_by x.protocols.places x.protocols.resolved.inherits) x.associated) (length x.names) x.symbols.starts };
+}
+
+impl Lexicon {
+    /// The lexicon of a text with this skeleton, whose names refer to what `resolved` says.
+    pub fn of(
+        alloc: Global,
+        text: &[u8],
+        s: &Skeleton,
+        resolved: Names,
+    ) -> Result<Lexicon, AllocError>
+        requires declared { HasDeclared text.now s.now resolved }
+        requires small { IsSmall text.now s.now }
+        ensures { IfOk result (IsLexiconOf text.now s.now) }
+    {
+        let ps = s.protocols.items();
+        let protocols = Protocols::of(alloc, text, ps, resolved)?;
+        let names = names_of(alloc, text, s)?;
+        let pairs = pairs_of(alloc, text, s, &protocols, &names)?;
+        let associated = Associated::of(alloc, &protocols, names.len(), pairs)?;
+        let symbols = Symbols::of(alloc, &protocols, &associated, names.len())?;
+        Ok(Lexicon {
+            protocols,
+            names,
+            associated,
+            symbols,
+        })
+    }
+
+    /// The number of protocols.
+    pub fn protocols(&self) -> u32
+        ensures { result ≡ length self.now.protocols }
+    {
+        self.protocols.len()
+    }
+
+    /// The number of names of associated types and of members.
+    pub fn names(&self) -> u32
+        ensures { result ≡ length self.now.names }
+    {
+        self.names.len() as u32
+    }
+
+    /// The number of associated types.
+    pub fn associated(&self) -> u32
+        ensures { result ≡ length self.now.associated }
+    {
+        self.associated.len()
+    }
+
+    /// The number of member symbols `[P:A]`.
+    pub fn members(&self) -> u64
+        ensures { result ≡ length self.now.symbols }
+    {
+        self.symbols.len(self.names.len())
+    }
+
+    /// What the names of the text refer to.
+    pub fn resolved(&self) -> &Names
+        ensures { result.now ≡ self.now.resolved }
+    {
+        self.protocols.resolved()
+    }
+
+    /// The name of a protocol.
+    pub fn proto_name(&self, p: ProtoId) -> &[u8]
+        requires { p.rank < length self.now.protocols }
+        ensures { slice_get self.now.protocols p.rank ≡ Some result.now }
+    {
+        self.protocols.name(p)
+    }
+
+    /// The bytes of a name.
+    pub fn name(&self, a: NameId) -> &[u8]
+        requires { a.rank < length self.now.names }
+        ensures { slice_get self.now.names a.rank ≡ Some result.now }
+    {
+        self.names.name(a.rank as usize)
+    }
+
+    /// The k-th protocol in written order, from 0.
+    pub fn proto_at(&self, k: u32) -> ProtoId
+        requires { k < length self.now.protocols }
+        ensures { slice_get self.now.written_order k ≡ Some result }
+    {
+        self.protocols.at(k)
+    }
+
+    /// The protocol and the name of an associated type.
+    pub fn assoc(&self, d: AssocId) -> ProtocolName
+        requires { d.rank < length self.now.associated }
+        ensures { slice_get self.now.associated d.rank ≡ Some result }
+    {
+        self.associated.pair(d)
+    }
+
+    /// The protocol with this name, or None exactly where there is none.
+    pub fn find_proto(&self, name: &[u8]) -> Option<ProtoId>
+        ensures { MatchOption result (Contains self.now.protocols name.now → ⊥) (λ p. slice_get self.now.protocols p.rank ≡ Some name.now) }
+    {
+        self.protocols.find(name)
+    }
+
+    /// The name with these bytes, or None exactly where there is none.
+    pub fn find_name(&self, name: &[u8]) -> Option<NameId>
+        ensures { MatchOption result (Contains self.now.names name.now → ⊥) (λ a. slice_get self.now.names a.rank ≡ Some name.now) }
+    {
+        match self.names.find(name) {
+            Some(rank) => Some(NameId { rank: rank as u32 }),
+            None => None,
+        }
+    }
+
+    /// The protocol with this name, or the one of rank 0 where there is none.
+    pub fn proto_id(&self, name: &[u8]) -> ProtoId
+        ensures { result ≡ proto_by self.now.protocols name.now }
+    {
+        self.protocols.id(name)
+    }
+
+    /// The name with these bytes, or the one of rank 0 where there is none.
+    pub fn name_id(&self, name: &[u8]) -> NameId
+        ensures { result ≡ name_by self.now.names name.now }
+    {
+        NameId {
+            rank: rank_or_first(&self.names, name),
+        }
+    }
+
+    /// The associated type of a name that a protocol declares, or the one of rank 0 where it declares none.
+    pub fn assoc_id(&self, p: ProtoId, a: NameId) -> AssocId
+        ensures { result ≡ assoc_by self.now.associated p a }
+    {
+        match self.associated.find(p, a) {
+            Some(d) => d,
+            None => AssocId { rank: 0 },
+        }
+    }
+
+    /// Whether the one protocol inherits the other.
+    pub fn inherits(&self, p: ProtoId, q: ProtoId) -> bool
+        ensures { result ≡ inherits self.now p q }
+    {
+        self.protocols.inherits(p, q)
+    }
+
+    /// How many protocols it inherits.
+    pub fn depth(&self, p: ProtoId) -> u32
+        ensures { result ≡ depth self.now p }
+    {
+        self.protocols.depth(p)
+    }
+
+    /// The associated type of a name that a protocol declares, or None exactly where it declares none.
+    pub fn declares(&self, p: ProtoId, a: NameId) -> Option<AssocId>
+        ensures { MatchOption result (Contains self.now.associated (pair p a) → ⊥) (λ d. slice_get self.now.associated d.rank ≡ Some (pair p a)) }
+    {
+        self.associated.find(p, a)
+    }
+
+    /// Whether a protocol has the member name.
+    pub fn has_member(&self, p: ProtoId, a: NameId) -> bool
+        ensures { IsTrue result ↔ HasMember self.now p a }
+    {
+        self.associated.has_member(&self.protocols, p, a)
+    }
+
+    /// The rank of the member symbol `[P:A]`, or None exactly where there is none.
+    pub fn member_rank(&self, p: ProtoId, a: NameId) -> Option<u64>
+        ensures { MatchOption result (Contains self.now.symbols (pair p a) → ⊥) (λ m. slice_get self.now.symbols m ≡ Some (pair p a)) }
+    {
+        self.symbols
+            .find(&self.protocols, &self.associated, self.names.len(), p, a)
+    }
+
+    /// The protocol and the name of a member symbol.
+    pub fn member_at(&self, m: u64) -> ProtocolName
+        requires { m < length self.now.symbols }
+        ensures { slice_get self.now.symbols m ≡ Some result }
+    {
+        self.symbols
+            .pair(&self.protocols, &self.associated, self.names.len(), m)
+    }
+}
+
+/// The names of associated types and of members, by rank.
+pub fn names_of(alloc: Global, text: &[u8], s: &Skeleton) -> Result<Ranks, AllocError>
+    ensures { IfOk result (IsRanking bytes_cmp (Contains (mentioned text.now s.now))) }
+{
+    let names = member_names(alloc, text, s)?;
+    let _count = names.len();
+    Ok(names)
+}
+
+/// Adds the names that a protocol declares.
+fn add_declared(
+    text: &[u8],
+    names: &Ranks,
+    proto: ProtoId,
+    members: &[AssocDecl],
+    pairs: &mut Vec<ProtocolName>,
+) -> Result<(), AllocError>
+    requires { length names.now ≤ 1048576 }
+    ensures { OnOk result (pairs.new.items ≡ pairs.old.items ++ map (λ m. pair proto (name_by names.now (word text.now m.name))) members.now) }
+{
+    for m in members {
+        let rank = rank_or_first(names, word(text, m.name));
+        let name = NameId { rank };
+        pairs.push(ProtocolName { proto, name })?;
+    }
+    Ok(())
+}
+
+/// The names that the protocols declare.
+fn declared_in(
+    alloc: Global,
+    text: &[u8],
+    protocols: &Protocols,
+    names: &Ranks,
+    ps: &[ProtocolDecl],
+) -> Result<Vec<ProtocolName>, AllocError>
+    requires { length names.now ≤ 1048576 }
+    ensures { IfOk result (λ pairs. pairs.items ≡ declared_in text.now protocols.now.protocols names.now ps.now) }
+{
+    let mut pairs = Vec::new(alloc);
+    for p in ps {
+        let proto = protocols.id(word(text, p.name));
+        add_declared(text, names, proto, p.members.items(), &mut pairs)?;
+    }
+    Ok(pairs)
+}
+
+/// The same of a text, whose names have ranks.
+fn pairs_of(
+    alloc: Global,
+    text: &[u8],
+    s: &Skeleton,
+    protocols: &Protocols,
+    names: &Ranks,
+) -> Result<Vec<ProtocolName>, AllocError>
+    requires small { IsSmall text.now s.now }
+    requires names { IsRanking bytes_cmp (Contains (mentioned text.now s.now)) names.now }
+    requires few { length names.now ≤ 1048576 }
+    ensures is { IfOk result (λ pairs. pairs.items ≡ declared_in text.now protocols.now.protocols names.now s.now.protocols) }
+    ensures few { IfOk result (λ pairs. length pairs.items ≤ 1048576) }
+    ensures within { IfOk result (λ pairs. (d : ProtocolName) → Contains pairs.items d → d.name.rank < length names.now) }
+{
+    let pairs = declared_in(alloc, text, protocols, names, s.protocols.items())?;
+    Ok(pairs)
+}

@@ -1,0 +1,237 @@
+// The protocols of a text by rank.
+ghost use Rattle.std.specs.Prelude.{◌≡◌, ◌<◌, ◌≤◌, ◌+◌, ◌++◌, ◌∷◌, [], ◌↔◌, ℕ, List, length, map, cond, slice_get, slice_index, slice_index_or, Some, MatchOption, IfOk, Contains};
+ghost use Rattle.std.specs.List.{position_from};
+ghost use Rattle.std.specs.Str.{bytes_eq};
+ghost use Rattle.swreq_names.specs.Spaces.{word};
+ghost use Rattle.swreq_lexicon.specs.Associated.{depth};
+ghost use Rattle.swreq_lexicon.specs.Lexicons.{proto_by};
+ghost use Rattle.swreq_lexicon.specs.Ranks.{Bytes, IsRanking, bytes_cmp, rank};
+ghost use Rattle.swreq_lexicon.specs.Texts.{protocol_names};
+ghost use Rattle.swreq_lexicon.specs.Views.{place_by, inherits_by};
+
+use std::alloc::{AllocError, Global};
+use std::marker::Model;
+use swreq_decl::ProtocolDecl;
+use swreq_names::{Names, Ranks, word};
+use swreq_param::ProtoId;
+use swreq_text::Seq;
+
+/// The protocols of a text by rank, and which of them inherits which.
+#[derive(Drop)]
+pub struct Protocols {
+    ranks: Ranks,
+    /// Of each protocol, by rank, the first place of its name in written order.
+    places: Vec<usize>,
+    written_order: Vec<ProtoId>,
+    resolved: Names,
+}
+
+impl Model for Protocols {
+    ghost use Rattle.std.specs.Prelude.{◌≤◌, length};
+    ghost use Rattle.swreq_lexicon.specs.Views.{ProtocolsView};
+
+    ghost Value = { ProtocolsView };
+
+    ghost view = { λ p. record {
+      protocols = p.ranks;
+      places = p.places.items;
+      written_order = p.written_order.items;
+      resolved = p.resolved;
+    } };
+
+    ghost invariant = { λ p. (length p.ranks ≤ 1048576) × (length p.ranks ≤ length p.written_order.items) };
+}
+
+impl Protocols {
+    /// The protocols of these names, in their written order.
+    pub fn of(
+        alloc: Global,
+        text: &[u8],
+        protocols: &[ProtocolDecl],
+        resolved: Names,
+    ) -> Result<Protocols, AllocError>
+        requires { length protocols.now ≤ 1048576 }
+        ensures ranking { IfOk result (λ x. IsRanking bytes_cmp (Contains (protocol_names text.now protocols.now)) x.protocols) }
+        ensures places { IfOk result (λ x. (p : ProtoId) (name : Bytes) → slice_get x.protocols p.rank ≡ Some name
+            → position_from (bytes_eq name) 0 (protocol_names text.now protocols.now) ≡ Some (place_by x.places p)) }
+        ensures written { IfOk result (λ x. x.written_order ≡ map (λ p. proto_by x.protocols (word text.now p.name)) protocols.now) }
+        ensures resolved { IfOk result (λ x. x.resolved ≡ resolved) }
+    {
+        let ranks = ranks_of(alloc, text, protocols)?;
+        let places = places(alloc, text, protocols, &ranks)?;
+        let written_order = written_order(alloc, text, protocols, &ranks)?;
+        Ok(Protocols {
+            ranks,
+            places,
+            written_order,
+            resolved,
+        })
+    }
+
+    /// How many there are.
+    pub fn len(&self) -> u32
+        ensures is { result ≡ length self.now.protocols }
+        ensures small { result ≤ 1048576 }
+    {
+        self.ranks.len() as u32
+    }
+
+    /// The name of a protocol.
+    pub fn name(&self, p: ProtoId) -> &[u8]
+        requires { p.rank < length self.now.protocols }
+        ensures { slice_get self.now.protocols p.rank ≡ Some result.now }
+    {
+        self.ranks.name(p.rank as usize)
+    }
+
+    /// The protocol with this name.
+    pub fn find(&self, name: &[u8]) -> Option<ProtoId>
+        ensures { MatchOption result (Contains self.now.protocols name.now → ⊥) (λ p. slice_get self.now.protocols p.rank ≡ Some name.now) }
+    {
+        match self.ranks.find(name) {
+            Some(rank) => Some(ProtoId { rank: rank as u32 }),
+            None => None,
+        }
+    }
+
+    /// The protocol with this name, or the first one where there is none.
+    pub fn id(&self, name: &[u8]) -> ProtoId
+        ensures { result ≡ proto_by self.now.protocols name.now }
+    {
+        ProtoId {
+            rank: rank_or_first(&self.ranks, name),
+        }
+    }
+
+    /// A protocol by its place in written order.
+    pub fn at(&self, k: u32) -> ProtoId
+        requires { k < length self.now.protocols }
+        ensures { slice_get self.now.written_order k ≡ Some result }
+    {
+        self.written_order[k as usize]
+    }
+
+    fn place(&self, p: ProtoId) -> usize
+        ensures { result ≡ place_by self.now.places p }
+    {
+        match self.places.get(p.rank as usize) {
+            Some(place) => *place,
+            None => 0,
+        }
+    }
+
+    /// Whether the one protocol inherits the other.
+    pub fn inherits(&self, p: ProtoId, q: ProtoId) -> bool
+        ensures { result ≡ inherits_by self.now.places self.now.resolved.inherits p q }
+    {
+        self.resolved.inherits(self.place(p), self.place(q))
+    }
+
+    /// How many protocols it inherits.
+    #[tactic(auto, using(crate::proofs::Counting::count_yes, crate::proofs::Counting::count_no))]
+    pub fn depth(&self, p: ProtoId) -> u32
+        ensures { result ≡ depth (inherits_by self.now.places self.now.resolved.inherits) (length self.now.protocols) p }
+    {
+        let mut count = 0;
+        for rank in 0..self.len() {
+            if self.inherits(p, ProtoId { rank }) {
+                count += 1;
+            }
+        }
+        count
+    }
+
+    /// What the names of the text refer to.
+    pub fn resolved(&self) -> &Names
+        ensures { result.now ≡ self.now.resolved }
+    {
+        &self.resolved
+    }
+}
+
+/// The rank of a name, or 0 where it has none.
+pub fn rank_or_first(ranks: &Ranks, name: &[u8]) -> u32
+    requires { length ranks.now ≤ 1048576 }
+    ensures { result ≡ rank ranks.now name.now }
+{
+    let _count = ranks.len();
+    match ranks.find(name) {
+        Some(rank) => rank as u32,
+        None => 0,
+    }
+}
+
+/// The names of the protocols, in written order.
+fn names(alloc: Global, text: &[u8], protocols: &[ProtocolDecl]) -> Result<Vec<Seq<u8>>, AllocError>
+    ensures { IfOk result (λ names. names.items ≡ protocol_names text.now protocols.now) }
+{
+    let mut names = Vec::new(alloc);
+    for p in protocols {
+        names.push(Seq::new(word(text, p.name).to_vec(alloc)?))?;
+    }
+    Ok(names)
+}
+
+/// The names of the protocols by rank.
+fn ranks_of(alloc: Global, text: &[u8], protocols: &[ProtocolDecl]) -> Result<Ranks, AllocError>
+    ensures ranking { IfOk result (IsRanking bytes_cmp (Contains (protocol_names text.now protocols.now))) }
+    ensures few { IfOk result (λ ranks. length ranks ≤ length protocols.now) }
+{
+    let ranks = Ranks::of(alloc, names(alloc, text, protocols)?)?;
+    let _count = ranks.len();
+    Ok(ranks)
+}
+
+/// Notes the place of a protocol with this name.
+fn note(place: usize, name: &[u8], ranks: &Ranks, places: &mut Vec<usize>)
+    requires { length places.old.items ≡ length ranks.now }
+    ensures len { length places.new.items ≡ length places.old.items }
+    ensures noted { (r : ℕ) (q : Bytes) → slice_get ranks.now r ≡ Some q
+        → slice_index places.new.items r ≡ cond (bytes_eq q name.now) place (slice_index places.old.items r) }
+{
+    let _count = ranks.len();
+    match ranks.find(name) {
+        Some(rank) => places[rank] = place,
+        None => {}
+    }
+}
+
+/// Of each protocol, by rank, the first place of its name in written order.
+fn places(
+    alloc: Global,
+    text: &[u8],
+    protocols: &[ProtocolDecl],
+    ranks: &Ranks,
+) -> Result<Vec<usize>, AllocError>
+    requires { (q : Bytes) → Contains ranks.now q → Contains (protocol_names text.now protocols.now) q }
+    ensures { IfOk result (λ places. (r : ℕ) (q : Bytes) → slice_get ranks.now r ≡ Some q
+        → position_from (bytes_eq q) 0 (protocol_names text.now protocols.now) ≡ Some (slice_index places.items r)) }
+{
+    let mut places = vec![in alloc; 0; ranks.len()]?;
+    let mut i = protocols.len();
+    while i > 0 {
+        i -= 1;
+        let p = &protocols[i];
+        note(i, word(text, p.name), ranks, &mut places);
+    }
+    Ok(places)
+}
+
+/// The protocols in written order.
+fn written_order(
+    alloc: Global,
+    text: &[u8],
+    protocols: &[ProtocolDecl],
+    ranks: &Ranks,
+) -> Result<Vec<ProtoId>, AllocError>
+    requires { length ranks.now ≤ 1048576 }
+    ensures { IfOk result (λ order. order.items ≡ map (λ p. proto_by ranks.now (word text.now p.name)) protocols.now) }
+{
+    let mut order = Vec::new(alloc);
+    for p in protocols {
+        order.push(ProtoId {
+            rank: rank_or_first(ranks, word(text, p.name)),
+        })?;
+    }
+    Ok(order)
+}

@@ -1,0 +1,48 @@
+-- What the queries of a text ask.
+use Rattle.std.specs.Prelude.{cond, List, Option, Some, None}
+use Rattle.swreq_param.specs.declared.ids.ProtoId.{ProtoId}
+use Rattle.swreq_param.specs.Terms.{Term}
+use Rattle.swreq_decl.specs.declared.skeleton.Span.{Span}
+use Rattle.swreq_decl.specs.declared.skeleton.Ask.{Ask}
+use Rattle.swreq_decl.specs.declared.skeleton.Ask.TheVariants as asks
+use Rattle.swreq_decl.specs.declared.skeleton.QueryDecl.{QueryDecl}
+use Rattle.swreq_names.specs.declared.signature.Signature.{Signature}
+use Rattle.swreq_names.specs.declared.signature.Signature.TheVariants.{Function}
+use Rattle.swreq_names.specs.Spaces.{word, signature_of, nested_of}
+use Rattle.swreq_lowering.specs.declared.ids.FuncId.{FuncId}
+use Rattle.swreq_lowering.specs.declared.scope.Scope.TheVariants as scopes
+use Rattle.swreq_lowering.specs.Words.{WordsView, declared, proto_of}
+use Rattle.swreq_lowering.specs.Types.{type_in}
+use Rattle.swreq_lowering.specs.Signatures.{func_id}
+
+-- a query on a signature: its minimised signature, the reduced type of T, whether [T : P], [T : AnyObject] or [T == U]
+pub data TermQuery : Type 0 where
+  AsksSignature : (f : FuncId) → TermQuery
+  AsksReduced : (f : FuncId) (t : Term) → TermQuery
+  AsksConforms : (f : FuncId) (t : Term) (p : ProtoId) → TermQuery
+  AsksAnyObject : (f : FuncId) (t : Term) → TermQuery
+  AsksEquals : (f : FuncId) (t u : Term) → TermQuery
+
+-- the signature that is asked; where the names of a text resolve, there is one
+abbrev pub asked_signature : Option Signature → Signature
+asked_signature None = Function 0
+asked_signature (Some g) = g
+
+module _ (w : WordsView) where
+  -- what is asked of the signature g, which has this place
+  abbrev pub asked_of : Signature → FuncId → Ask → TermQuery
+  asked_of g f asks.Signature = AsksSignature f
+  asked_of g f (asks.Reduced t) = AsksReduced f (type_in w (scopes.Signature g) t)
+  asked_of g f (asks.Is t e) = cond e.layout (AsksAnyObject f (type_in w (scopes.Signature g) t)) (AsksConforms f (type_in w (scopes.Signature g) t) (proto_of w e.span))
+  asked_of g f (asks.Same t u) = AsksEquals f (type_in w (scopes.Signature g) t) (type_in w (scopes.Signature g) u)
+
+  -- the struct or function at the top of this name, or the function of this struct
+  abbrev pub signature_named : Option Span → Span → Option Signature
+  signature_named None f = signature_of (declared w) (word w.text f)
+  signature_named (Some s) f = nested_of (declared w) (word w.text s) (word w.text f)
+
+  -- a query, where the signatures stand in this order
+  abbrev pub query_of : List Signature → QueryDecl → TermQuery
+  query_of order q =
+      let g : Signature = asked_signature (signature_named q.outer q.function) in
+      asked_of g (func_id order g) q.ask

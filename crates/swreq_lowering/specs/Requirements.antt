@@ -1,0 +1,119 @@
+-- The requirements that are written in protocols and signatures, in the order of their places, with the places of their sides.
+--
+--     protocol P: Q             [Self : Q], at the name of P
+--     protocol P: AnyObject     [Self : AnyObject], at the name of P
+--     associatedtype A: Q       [Self.A : Q], at the name A
+--     <T: Q>                    [T : Q], at the name T
+--     T: P & Q                  [T : P], then [T : Q], at the first word of T
+--     T: AnyObject              [T : AnyObject], at the first word of T
+--     T: P<U, V>                [T : P], then [T.A == U] and [T.B == V], where A and B are the primary names of P; the place of the left side of an
+--                               equality is that of the name P, and the place of its right side is that of the argument
+--     T == U                    [T == U], at the first words of T and of U
+--
+-- What stands in the table on the left of `:` stands also before the arguments of an inheritance entry.
+use Rattle.std.specs.Prelude.{ℕ, ◌+◌, cond, List, [], ◌∷◌, ◌++◌}
+use Rattle.std.specs.List.{flat_map}
+use Rattle.swreq_param.specs.Terms.{Term, self}
+use Rattle.swreq_param.specs.Terms.Term.{Generic}
+use Rattle.swreq_derive.specs.Derivation.{TermRequirement}
+use Rattle.swreq_derive.specs.Derivation.TermRequirement.{Conforms, IsAnyObject, Equals}
+use Rattle.swreq_decl.specs.declared.skeleton.Span.{Span}
+use Rattle.swreq_decl.specs.declared.skeleton.Entity.{Entity}
+use Rattle.swreq_decl.specs.declared.skeleton.TypeDecl.{TypeDecl}
+use Rattle.swreq_decl.specs.declared.skeleton.ReqDecl.{ReqDecl}
+use Rattle.swreq_decl.specs.declared.skeleton.ReqDecl.TheVariants as requirements
+use Rattle.swreq_decl.specs.declared.skeleton.AssocDecl.{AssocDecl}
+use Rattle.swreq_decl.specs.declared.skeleton.ParamDecl.{ParamDecl}
+use Rattle.swreq_decl.specs.declared.skeleton.ProtocolDecl.{ProtocolDecl}
+use Rattle.swreq_decl.specs.declared.skeleton.FunctionDecl.{FunctionDecl}
+use Rattle.swreq_decl.specs.declared.skeleton.StructDecl.{StructDecl}
+use Rattle.swreq_names.specs.declared.signature.Signature.{Signature}
+use Rattle.swreq_names.specs.declared.signature.Signature.TheVariants.{Struct, Function, Nested}
+use Rattle.swreq_names.specs.declared.signature.Param.TheVariants.{Own}
+use Rattle.swreq_lowering.specs.declared.scope.Scope.{Scope}
+use Rattle.swreq_lowering.specs.declared.scope.Scope.TheVariants as scopes
+use Rattle.swreq_lowering.specs.Signatures.{own_depth}
+use Rattle.swreq_lowering.specs.Words.{WordsView, proto_of, primaries_named}
+use Rattle.swreq_lowering.specs.Types.{member_named, param_id, type_in}
+
+-- a requirement with the offsets of its sides in the text; a conformance or a layout has one side
+pub record PlacedRequirement : Type 0 where
+  pub requirement : TermRequirement
+  pub left_at : ℕ
+  pub right_at : ℕ
+
+abbrev pub of_one_side : TermRequirement → ℕ → PlacedRequirement
+of_one_side r at = record { requirement = r; left_at = at; right_at = at }
+
+abbrev pub equality : Term → ℕ → Term → ℕ → PlacedRequirement
+equality t at u place = record { requirement = Equals t u; left_at = at; right_at = place }
+
+module _ (w : WordsView) where
+  -- `T: P` or `T: AnyObject`
+  abbrev pub bound_of : Term → Entity → TermRequirement
+  bound_of t e = cond e.layout (IsAnyObject t) (Conforms t (proto_of w e.span))
+
+  module _ (scope : Scope) where
+    -- the equality of an argument with a primary associated type of T, which is bound at an offset
+    abbrev pub argument : Term → ℕ → Span → TypeDecl → PlacedRequirement
+    argument t at a u = equality (member_named w t a) at (type_in w scope u) u.head.start
+
+    -- those of these primary names and these arguments
+    abbrev pub arguments : Term → ℕ → List Span → List TypeDecl → List PlacedRequirement
+    arguments t at [] us = []
+    arguments t at (a ∷ names) [] = []
+    arguments t at (a ∷ names) (u ∷ us) = argument t at a u ∷ arguments t at names us
+
+    -- what one bound of T requires, where T stands at this offset
+    abbrev pub in_bound : Term → ℕ → Entity → List PlacedRequirement
+    in_bound t at e = of_one_side (bound_of t e) at ∷ arguments t e.span.start (primaries_named w e.span) e.args
+
+    abbrev pub in_bounds : Term → ℕ → List Entity → List PlacedRequirement
+    in_bounds t at bounds = flat_map (in_bound t at) bounds
+
+    abbrev pub in_requirement : ReqDecl → List PlacedRequirement
+    in_requirement (requirements.Bound t bounds) = in_bounds (type_in w scope t) t.head.start bounds
+    in_requirement (requirements.Same t u) = equality (type_in w scope t) t.head.start (type_in w scope u) u.head.start ∷ []
+
+    abbrev pub in_clause : List ReqDecl → List PlacedRequirement
+    in_clause clause = flat_map in_requirement clause
+
+  -- ---- protocols
+
+  abbrev pub in_member : AssocDecl → List PlacedRequirement
+  in_member m = in_bounds scopes.Protocol (member_named w self m.name) m.name.start m.inherits ++ in_clause scopes.Protocol m.clause
+
+  abbrev pub in_members : List AssocDecl → List PlacedRequirement
+  in_members ms = flat_map in_member ms
+
+  -- the requirements of a protocol
+  abbrev pub in_protocol : ProtocolDecl → List PlacedRequirement
+  in_protocol p = in_bounds scopes.Protocol self p.name.start p.inherits ++ (in_clause scopes.Protocol p.clause ++ in_members p.members)
+
+  -- ---- signatures
+
+  module _ (g : Signature) where
+    -- the bounds of the k-th generic parameter of its own
+    abbrev pub in_param : ℕ → ParamDecl → List PlacedRequirement
+    in_param k p = in_bounds (scopes.Signature g) (Generic (param_id (own_depth w.skeleton g) (Own k))) p.name.start p.bounds
+
+    -- the bounds of its generic parameters, from the k-th on
+    abbrev pub in_params : ℕ → List ParamDecl → List PlacedRequirement
+    in_params k [] = []
+    in_params k (p ∷ ps) = in_param k p ++ in_params (k + 1) ps
+
+    -- what is written in it
+    abbrev pub in_signature : List ParamDecl → List ReqDecl → List PlacedRequirement
+    in_signature params clause = in_params 0 params ++ in_clause (scopes.Signature g) clause
+
+  -- the list of the i-th struct
+  abbrev pub in_struct : ℕ → StructDecl → List PlacedRequirement
+  in_struct i s = in_signature (Struct i) s.params s.clause
+
+  -- the list of the i-th function at the top
+  abbrev pub in_function : ℕ → FunctionDecl → List PlacedRequirement
+  in_function i f = in_signature (Function i) f.params f.clause
+
+  -- the list of the j-th function of the i-th struct: the struct's list, followed by its own requirements
+  abbrev pub in_nested : ℕ → StructDecl → ℕ → FunctionDecl → List PlacedRequirement
+  in_nested i s j f = in_struct i s ++ in_signature (Nested i j) f.params f.clause

@@ -1,0 +1,20 @@
+-- The lists of a skeleton are no longer than its text.
+use Rattle.std.specs.Prelude.{ℕ, ◌≤◌, List, [], All, length, slice_index_or}
+use Rattle.swreq_decl.specs.declared.skeleton.Skeleton.{Skeleton}
+use Rattle.swreq_names.specs.declared.signature.Signature.{Signature}
+use Rattle.swreq_names.specs.Spaces.{spaces}
+use Rattle.swreq_lexicon.specs.Texts.{IsSmall}
+use Rattle.swreq_lowering.specs.Signatures.{in_order, outer_params, own_params}
+use Rattle.swreq_lowering.specs.Small.{HasFewParams}
+
+-- A text of at most 1,048,576 bytes has no more protocols, associated types, names, signatures and generic parameters than that.
+pub record HasShortLists (text : List ℕ) (s : Skeleton) : Type 0 where
+  pub lexicon : IsSmall text s
+  pub declared : HasFewParams (spaces text s)
+  pub functions_of : (i : ℕ) → length (slice_index_or (spaces text s).nested i []) ≤ 1048576
+  pub signatures : length (in_order s) ≤ 1048576
+  pub outer : (g : Signature) → length (outer_params s g) ≤ 1048576
+  pub own : (g : Signature) → length (own_params s g) ≤ 1048576
+  pub structs : All (λ t. length t.params ≤ 1048576) s.structs
+  pub functions : All (λ f. length f.params ≤ 1048576) s.functions
+  pub nested : All (λ t. All (λ f. length f.params ≤ 1048576) t.functions) s.structs

@@ -1,0 +1,79 @@
+// The requirements of protocols.
+ghost use Rattle.std.specs.Prelude.{OnOk, IfOk};
+ghost use Rattle.swreq_lowering.specs.Adding.{Adds, Lists};
+ghost use Rattle.swreq_lowering.specs.Requirements.{in_member, in_members, in_protocol};
+ghost use Rattle.swreq_lowering.specs.Words.{words_by};
+
+use crate::ids::Written;
+use crate::lookups::name_of;
+use crate::requirements::{add_bounds, add_clause};
+use crate::scope::Scope;
+use crate::spelling::SELF;
+use crate::words::Words;
+use std::alloc::{AllocError, Global};
+use swreq_decl::{AssocDecl, ProtocolDecl};
+use swreq_param::{ParamTable, Step};
+
+/// An associated type.
+fn add_member(
+    table: &mut ParamTable,
+    words: &Words<'_>,
+    m: &AssocDecl,
+    into: &mut Vec<Written>,
+) -> Result<(), AllocError>
+    ensures { OnOk result (Adds table.old table.new into.old.items into.new.items (in_member (words_by words.now) m.now)) }
+{
+    let scope = Scope::Protocol;
+    let base = table.param(SELF)?;
+    let subject = table.member(base, Step::Name(name_of(words, m.name)))?;
+    add_bounds(
+        table,
+        words,
+        scope,
+        subject,
+        m.name.start,
+        m.inherits.items(),
+        into,
+    )?;
+    add_clause(table, words, scope, m.clause.items(), into)
+}
+
+fn add_members(
+    table: &mut ParamTable,
+    words: &Words<'_>,
+    members: &[AssocDecl],
+    into: &mut Vec<Written>,
+) -> Result<(), AllocError>
+    ensures { OnOk result (Adds table.old table.new into.old.items into.new.items (in_members (words_by words.now) members.now)) }
+{
+    for m in members {
+        add_member(table, words, m, into)?;
+    }
+    Ok(())
+}
+
+/// The requirements of a protocol, in the order of their places.
+pub fn of_protocol(
+    alloc: Global,
+    table: &mut ParamTable,
+    words: &Words<'_>,
+    p: &ProtocolDecl,
+) -> Result<Vec<Written>, AllocError>
+    ensures { IfOk result (λ v. Lists table.old table.new (in_protocol (words_by words.now) p.now) v.items) }
+{
+    let scope = Scope::Protocol;
+    let mut into = Vec::new(alloc);
+    let base = table.param(SELF)?;
+    add_bounds(
+        table,
+        words,
+        scope,
+        base,
+        p.name.start,
+        p.inherits.items(),
+        &mut into,
+    )?;
+    add_clause(table, words, scope, p.clause.items(), &mut into)?;
+    add_members(table, words, p.members.items(), &mut into)?;
+    Ok(into)
+}

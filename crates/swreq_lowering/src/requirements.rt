@@ -1,0 +1,210 @@
+// The requirements that bounds and where clauses write.
+ghost use Rattle.std.specs.Prelude.{◌≡◌, [], ◌∷◌, List, OnOk};
+ghost use Rattle.swreq_param.specs.Terms.{Term};
+ghost use Rattle.swreq_param.specs.Tables.{IsOf, term_at};
+ghost use Rattle.swreq_derive.specs.Facts.{requirement_of};
+ghost use Rattle.swreq_lowering.specs.Adding.{Adds};
+ghost use Rattle.swreq_lowering.specs.ByTable.{HasIdsOf};
+ghost use Rattle.swreq_lowering.specs.Requirements.{argument, arguments, bound_of, in_bound, in_bounds, equality, in_clause, in_requirement};
+ghost use Rattle.swreq_lowering.specs.Types.{type_in};
+ghost use Rattle.swreq_lowering.specs.Words.{words_by};
+
+use crate::ids::Written;
+use crate::lookups::{name_of, primaries_named, proto_of};
+use crate::scope::Scope;
+use crate::spelling::spell;
+use crate::words::Words;
+use std::alloc::AllocError;
+use swreq_decl::{Entity, ReqDecl, Span, TypeDecl};
+use swreq_derive::Requirement;
+use swreq_param::{ParamTable, Step, TermId};
+
+/// What a bound requires of a type parameter, but for its arguments.
+fn bound_of(words: &Words<'_>, subject: TermId, e: &Entity) -> Requirement
+    ensures means { (terms : List Term) → requirement_of terms result ≡ bound_of (words_by words.now) (term_at terms subject) e.now }
+    ensures of { (terms : List Term) → IsOf terms subject → HasIdsOf terms result }
+{
+    if e.layout {
+        Requirement::Layout { subject }
+    } else {
+        Requirement::Conf {
+            subject,
+            proto: proto_of(words, e.span),
+        }
+    }
+}
+
+/// The equality of an argument with the primary associated type of this name, at the offset of the bound.
+fn add_argument(
+    table: &mut ParamTable,
+    words: &Words<'_>,
+    scope: Scope,
+    subject: TermId,
+    at: u32,
+    name: Span,
+    given: &TypeDecl,
+    into: &mut Vec<Written>,
+) -> Result<(), AllocError>
+    requires { IsOf table.old subject }
+    ensures { OnOk result (Adds table.old table.new into.old.items into.new.items
+        (argument (words_by words.now) scope (term_at table.old subject) at name given.now ∷ [])) }
+{
+    let left = table.member(subject, Step::Name(name_of(words, name)))?;
+    let right = spell(table, words, scope, given)?;
+    into.push(Written {
+        requirement: Requirement::Same { left, right },
+        left_at: at,
+        right_at: given.head.start,
+    })?;
+    Ok(())
+}
+
+/// The equalities of arguments with the primary associated types of these names, at the offset of the bound.
+fn add_arguments(
+    table: &mut ParamTable,
+    words: &Words<'_>,
+    scope: Scope,
+    subject: TermId,
+    at: u32,
+    names: &[Span],
+    given: &[TypeDecl],
+    into: &mut Vec<Written>,
+) -> Result<(), AllocError>
+    requires { IsOf table.old subject }
+    ensures { OnOk result (Adds table.old table.new into.old.items into.new.items
+        (arguments (words_by words.now) scope (term_at table.old subject) at names.now given.now)) }
+{
+    let mut k = 0;
+    while k < names.len() && k < given.len() {
+        let argument = &given[k];
+        add_argument(table, words, scope, subject, at, names[k], argument, into)?;
+        k += 1;
+    }
+    Ok(())
+}
+
+/// What one bound requires of a type parameter that is written at an offset.
+fn add_bound(
+    table: &mut ParamTable,
+    words: &Words<'_>,
+    scope: Scope,
+    subject: TermId,
+    at: u32,
+    e: &Entity,
+    into: &mut Vec<Written>,
+) -> Result<(), AllocError>
+    requires { IsOf table.old subject }
+    ensures { OnOk result (Adds table.old table.new into.old.items into.new.items
+        (in_bound (words_by words.now) scope (term_at table.old subject) at e.now)) }
+{
+    into.push(Written {
+        requirement: bound_of(words, subject, e),
+        left_at: at,
+        right_at: at,
+    })?;
+    let names = primaries_named(words, e.span);
+    add_arguments(
+        table,
+        words,
+        scope,
+        subject,
+        e.span.start,
+        names,
+        e.args.items(),
+        into,
+    )
+}
+
+/// What bounds require of a type parameter that is written at an offset.
+pub fn add_bounds(
+    table: &mut ParamTable,
+    words: &Words<'_>,
+    scope: Scope,
+    subject: TermId,
+    at: u32,
+    bounds: &[Entity],
+    into: &mut Vec<Written>,
+) -> Result<(), AllocError>
+    requires { IsOf table.old subject }
+    ensures { OnOk result (Adds table.old table.new into.old.items into.new.items
+        (in_bounds (words_by words.now) scope (term_at table.old subject) at bounds.now)) }
+{
+    for e in bounds {
+        add_bound(table, words, scope, subject, at, e, into)?;
+    }
+    Ok(())
+}
+
+/// `T == U`.
+fn add_same(
+    table: &mut ParamTable,
+    words: &Words<'_>,
+    scope: Scope,
+    left: &TypeDecl,
+    right: &TypeDecl,
+    into: &mut Vec<Written>,
+) -> Result<(), AllocError>
+    ensures { OnOk result (Adds table.old table.new into.old.items into.new.items
+        (equality (type_in (words_by words.now) scope left.now) left.now.head.start (type_in (words_by words.now) scope right.now) right.now.head.start ∷ [])) }
+{
+    let t = spell(table, words, scope, left)?;
+    let u = spell(table, words, scope, right)?;
+    into.push(Written {
+        requirement: Requirement::Same { left: t, right: u },
+        left_at: left.head.start,
+        right_at: right.head.start,
+    })?;
+    Ok(())
+}
+
+/// `T: P & Q`.
+fn add_subject(
+    table: &mut ParamTable,
+    words: &Words<'_>,
+    scope: Scope,
+    subject: &TypeDecl,
+    bounds: &[Entity],
+    into: &mut Vec<Written>,
+) -> Result<(), AllocError>
+    ensures { OnOk result (Adds table.old table.new into.old.items into.new.items
+        (in_bounds (words_by words.now) scope (type_in (words_by words.now) scope subject.now) subject.now.head.start bounds.now)) }
+{
+    let t = spell(table, words, scope, subject)?;
+    add_bounds(table, words, scope, t, subject.head.start, bounds, into)
+}
+
+/// A written requirement.
+fn add_requirement(
+    table: &mut ParamTable,
+    words: &Words<'_>,
+    scope: Scope,
+    r: &ReqDecl,
+    into: &mut Vec<Written>,
+) -> Result<(), AllocError>
+    ensures { OnOk result (Adds table.old table.new into.old.items into.new.items
+        (in_requirement (words_by words.now) scope r.now)) }
+{
+    match r {
+        ReqDecl::Bound { subject, bounds } => {
+            add_subject(table, words, scope, subject, bounds.items(), into)
+        }
+        ReqDecl::Same { left, right } => add_same(table, words, scope, left, right, into),
+    }
+}
+
+/// A where clause.
+pub fn add_clause(
+    table: &mut ParamTable,
+    words: &Words<'_>,
+    scope: Scope,
+    clause: &[ReqDecl],
+    into: &mut Vec<Written>,
+) -> Result<(), AllocError>
+    ensures { OnOk result (Adds table.old table.new into.old.items into.new.items
+        (in_clause (words_by words.now) scope clause.now)) }
+{
+    for r in clause {
+        add_requirement(table, words, scope, r, into)?;
+    }
+    Ok(())
+}

@@ -1,0 +1,155 @@
+// The lists of signatures.
+ghost use Rattle.std.specs.Prelude.{◌≡◌, ◌++◌, ◌<◌, ◌^◌, length, OnOk, IfOk};
+ghost use Rattle.swreq_param.specs.Terms.{Term};
+ghost use Rattle.swreq_decl.specs.declared.skeleton.StructDecl.{StructDecl};
+ghost use Rattle.swreq_lowering.specs.Adding.{Adds, Lists};
+ghost use Rattle.swreq_lowering.specs.ByTable.{AreOf, placed};
+ghost use Rattle.swreq_lowering.specs.Requirements.{in_function, in_nested, in_param, in_params, in_signature, in_struct};
+ghost use Rattle.swreq_lowering.specs.Words.{words_by};
+
+use crate::ids::Written;
+use crate::params::own_depth;
+use crate::requirements::{add_bounds, add_clause};
+use crate::scope::Scope;
+use crate::words::Words;
+use std::alloc::{AllocError, Global};
+use swreq_decl::{FunctionDecl, ParamDecl, ReqDecl, StructDecl};
+use swreq_names::Signature;
+use swreq_param::{ParamId, ParamTable};
+
+/// The bounds of a signature's own generic parameter at an index.
+fn add_param(
+    table: &mut ParamTable,
+    words: &Words<'_>,
+    signature: Signature,
+    index: u32,
+    p: &ParamDecl,
+    into: &mut Vec<Written>,
+) -> Result<(), AllocError>
+    ensures { OnOk result (Adds table.old table.new into.old.items into.new.items (in_param (words_by words.now) signature index p.now)) }
+{
+    let depth = own_depth(words.skeleton, signature);
+    let subject = table.param(ParamId { depth, index })?;
+    let scope = Scope::Signature(signature);
+    add_bounds(
+        table,
+        words,
+        scope,
+        subject,
+        p.name.start,
+        p.bounds.items(),
+        into,
+    )
+}
+
+fn add_params(
+    table: &mut ParamTable,
+    words: &Words<'_>,
+    signature: Signature,
+    params: &[ParamDecl],
+    into: &mut Vec<Written>,
+) -> Result<(), AllocError>
+    requires { length params.now < 2 ^ 32 }
+    ensures { OnOk result (Adds table.old table.new into.old.items into.new.items (in_params (words_by words.now) signature 0 params.now)) }
+{
+    let mut i = 0;
+    while i < params.len() {
+        let p = &params[i];
+        add_param(table, words, signature, i as u32, p, into)?;
+        i += 1;
+    }
+    Ok(())
+}
+
+/// What is written in a signature.
+fn add_signature(
+    table: &mut ParamTable,
+    words: &Words<'_>,
+    signature: Signature,
+    params: &[ParamDecl],
+    clause: &[ReqDecl],
+    into: &mut Vec<Written>,
+) -> Result<(), AllocError>
+    requires { length params.now < 2 ^ 32 }
+    ensures { OnOk result (Adds table.old table.new into.old.items into.new.items (in_signature (words_by words.now) signature params.now clause.now)) }
+{
+    add_params(table, words, signature, params, into)?;
+    add_clause(table, words, Scope::Signature(signature), clause, into)
+}
+
+/// The list of the struct at a place, in the order of the places of its requirements.
+pub fn of_struct(
+    alloc: Global,
+    table: &mut ParamTable,
+    words: &Words<'_>,
+    place: usize,
+    s: &StructDecl,
+) -> Result<Vec<Written>, AllocError>
+    requires { length s.now.params < 2 ^ 32 }
+    ensures { IfOk result (λ v. Lists table.old table.new (in_struct (words_by words.now) place s.now) v.items) }
+{
+    let mut into = Vec::new(alloc);
+    let signature = Signature::Struct(place);
+    add_signature(
+        table,
+        words,
+        signature,
+        s.params.items(),
+        s.clause.items(),
+        &mut into,
+    )?;
+    Ok(into)
+}
+
+/// The list of the function at a place at the top, in the order of the places of its requirements.
+pub fn of_function(
+    alloc: Global,
+    table: &mut ParamTable,
+    words: &Words<'_>,
+    place: usize,
+    f: &FunctionDecl,
+) -> Result<Vec<Written>, AllocError>
+    requires { length f.now.params < 2 ^ 32 }
+    ensures { IfOk result (λ v. Lists table.old table.new (in_function (words_by words.now) place f.now) v.items) }
+{
+    let mut into = Vec::new(alloc);
+    let signature = Signature::Function(place);
+    add_signature(
+        table,
+        words,
+        signature,
+        f.params.items(),
+        f.clause.items(),
+        &mut into,
+    )?;
+    Ok(into)
+}
+
+/// The list of the function at a place of the struct `outer`, whose list is `of_struct`: the struct's list, followed by the
+/// function's own requirements.
+pub fn of_nested(
+    alloc: Global,
+    table: &mut ParamTable,
+    words: &Words<'_>,
+    outer: usize,
+    of_struct: &[Written],
+    function: usize,
+    f: &FunctionDecl,
+) -> Result<Vec<Written>, AllocError>
+    requires small { length f.now.params < 2 ^ 32 }
+    requires of { AreOf table.old of_struct.now }
+    ensures { (s : StructDecl) → placed table.old of_struct.now ≡ in_struct (words_by words.now) outer s
+        → IfOk result (λ v. Lists table.old table.new (in_nested (words_by words.now) outer s function f.now) v.items) }
+{
+    let mut list = Vec::from_slice(alloc, of_struct)?;
+    let signature = Signature::Nested { outer, function };
+    add_signature(
+        table,
+        words,
+        signature,
+        f.params.items(),
+        f.clause.items(),
+        &mut list,
+    )?;
+    Ok(list)
+}

@@ -1,0 +1,48 @@
+-- What is known of the world of a text.
+use Rattle.std.proofs.Common.{◌≡◌, ◌<◌, refl, sym, subst, ℕ, List, Contains, Result, Ok, Err, IfOk, IsOk, length, map}
+use Rattle.std.proofs.lemmas.List.{get_or-map, length-map}
+use Rattle.std.proofs.lemmas.List.Elements.{All-contains, All-get_or}
+use Rattle.std.specs.List.{All}
+use Rattle.swreq_decl.specs.declared.skeleton.Skeleton.{Skeleton}
+use Rattle.swreq_decl.specs.Skeletons.{StandsFor}
+use Rattle.swreq_names.specs.Names.{Resolve}
+use Rattle.swreq_param.specs.Terms.{Term}
+use Rattle.swreq_rounds.proofs.Members.{contains_map}
+use Rattle.swreq_lowering.specs.declared.ids.FuncId.{FuncId}
+use Rattle.swreq_lowering.specs.declared.ids.Written.{Written}
+use Rattle.swreq_lowering.specs.ByTable.{AreOf, HasIdsOf, placed, placed_by}
+use Rattle.swreq_world.specs.ByTable.{IsOverTable, signature_by, world_by}
+use Rattle.swreq_world.specs.Closed.{HasOwn, IsClosed, IsOfSignature}
+use Rattle.swreq_world.specs.WorldOf.{IsWorldOf}
+use Rattle.swreq_world.specs.Worlds.{IdWorld, SignatureOver, TextWorld, no_signature, signature_at}
+use Rattle.swreq_symbols.specs.Known.{IsTextOver}
+use Rattle.swreq_valid.specs.Plans.{AreWritten}
+use Rattle.swreq_minimal.specs.Inheritance.{IsInheritanceWritten}
+
+-- it is over the table, and closed
+pub text_over : {E : Type 0} (text : List ℕ) (s : Skeleton) (terms : List Term) (r : Result IdWorld E) → StandsFor text s
+    → ((z : Skeleton) (w : TextWorld) → StandsFor text z → IsWorldOf text z w → Resolve text z → IsClosed w)
+    → IfOk r (λ w. IsWorldOf text s (world_by terms w)) → IfOk r (IsOverTable terms) → (IsOk r → Resolve text s) → IfOk r (IsTextOver terms)
+text_over text s terms (Ok w) stands law is over ok = record { table = over; closed = law s (world_by terms w) stands is (ok refl) }
+text_over text s terms (Err e) stands law is over ok = tt
+
+-- inheritance is written in it
+pub inheritance_over : {E : Type 0} (text : List ℕ) (s : Skeleton) (terms : List Term) (r : Result IdWorld E)
+    → ((t : List ℕ) (z : Skeleton) (w : TextWorld) → IsWorldOf t z w → Resolve t z → IsInheritanceWritten w)
+    → IfOk r (λ w. IsWorldOf text s (world_by terms w)) → (IsOk r → Resolve text s) → IfOk r (λ w. IsInheritanceWritten (world_by terms w))
+inheritance_over text s terms (Ok w) law is ok = law text s (world_by terms w) is (ok refl)
+inheritance_over text s terms (Err e) law is ok = tt
+
+-- the list of a signature is of the table and of the text
+pub own_written : (w : IdWorld) (terms : List Term) → IsTextOver terms w → (f : FuncId) → f.place < length w.signatures
+    → AreWritten terms w.lexicon (signature_at w f).requirements
+own_written w terms text f l r c =
+    let own : List Written = (signature_at w f).requirements in
+    let within : f.place < length (map (signature_by terms) w.signatures) = subst (λ n. f.place < n) (sym (length-map w.signatures (signature_by terms))) l in
+    let closed = All-get_or (HasOwn w.lexicon) (map (signature_by terms) w.signatures) f.place no_signature within text.closed.signatures in
+    let known : HasOwn w.lexicon (signature_by terms (signature_at w f)) =
+    subst (HasOwn w.lexicon) (get_or-map (signature_by terms) w.signatures f.place no_signature no_signature l) closed in (
+      All-contains (λ (q : Written). HasIdsOf terms q.requirement) own r
+          (All-get_or (λ (g : SignatureOver Written). AreOf terms g.requirements) w.signatures f.place no_signature l text.table.signatures) c,
+      (All-contains (IsOfSignature w.lexicon (signature_at w f).params) (placed terms own) (placed_by terms r) known (contains_map (placed_by terms) own r c)).0,
+    )

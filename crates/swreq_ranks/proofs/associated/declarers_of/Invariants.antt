@@ -1,9 +1,0 @@
-use Rattle.std.proofs.Common.{◌≡◌, length, take}
-use Rattle.swreq_ranks.specs.Symbols.{AreDeclarers}
-use Rattle.swreq_ranks.proofs.associated.declarers_of.Given as goal
-
-abbrev pub invariant-loop-d : goal.invariant-loop-d
-invariant-loop-d l = record {
-  len : length l.lists.items ≡ l.names;
-  declared : AreDeclarers (take l.d-index l.pairs) l.lists.items;
-}

@@ -1,7 +1,0 @@
-use Rattle.std.proofs.Common.{◌≡◌, ◌+◌, length, take}
-use Rattle.swreq_ranks.specs.Symbols.{has_member, having}
-use Rattle.swreq_ranks.specs.Views.{inherits_by}
-use Rattle.swreq_ranks.proofs.symbols.nth.Given as goal
-
-abbrev pub invariant-loop-q : goal.invariant-loop-q
-invariant-loop-q l = l.left + length (having (take l.q-index l.order) (has_member (inherits_by l.protocols.places l.protocols.resolved.inherits) l.associated) l.a) ≡ l.place

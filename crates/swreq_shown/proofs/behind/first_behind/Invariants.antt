@@ -1,9 +1,0 @@
-use Rattle.std.proofs.Common.{◌≤◌, vec_capacity}
-use Rattle.swreq_shown.proofs.Giving.{NoneGiven}
-use Rattle.swreq_shown.proofs.behind.first_behind.Given as goal
-
-abbrev pub invariant-loop-rank : goal.invariant-loop-rank
-invariant-loop-rank l = record {
-  none : NoneGiven l.world.lexicon l.rules l.word l.a l.rank;
-  room : vec_capacity l.initial.test ≤ vec_capacity l.test;
-}

@@ -1,5 +1,0 @@
-use Rattle.swreq_shown.proofs.Symbols.{list_law}
-use Rattle.swreq_shown.proofs.laws.lists_are_in_text.Goals as goal
-
-pub returns : goal.returns
-returns c = list_law

@@ -1,7 +1,0 @@
-use Rattle.swreq_shown.proofs.Giving.{assoc_answer}
-use Rattle.swreq_shown.proofs.walk.has_assoc.Goals as goal
-
-pub returns-clause-answer : goal.returns-clause-answer
-returns-clause-answer c =
-    assoc_answer c.args.world.now.lexicon c.args.rules.now c.args.word.now c.args.d c.assoc-declared.result c.vanishes.result c.assoc-declared.ensures
-    c.vanishes.ensures.answer

@@ -1,0 +1,42 @@
+-- What rules show of a type parameter, asked of a word that they link to its word.
+use Rattle.std.specs.Prelude.{◌≤◌, List, Contains}
+use Rattle.swreq_param.specs.declared.ids.AssocId.{AssocId}
+use Rattle.swreq_param.specs.declared.ids.NameId.{NameId}
+use Rattle.swreq_param.specs.declared.ids.ProtoId.{ProtoId}
+use Rattle.swreq_param.specs.declared.ids.Step.{Step}
+use Rattle.swreq_param.specs.declared.ids.Step.TheVariants.{Bound, Name}
+use Rattle.swreq_word.specs.declared.symbols.Symbol.TheVariants.{Proto}
+use Rattle.swreq_word.specs.Least.{IsLeast}
+use Rattle.swreq_word.specs.Relations.{Linked}
+use Rattle.swreq_rule.specs.declared.rules.Rule.{Rule}
+use Rattle.swreq_rule.specs.Steps.{Step as RuleStep}
+use Rattle.swreq_lexicon.specs.Lexicons.{associated_types}
+use Rattle.swreq_lexicon.specs.Views.{LexiconView}
+use Rattle.swreq_correspondence.specs.Symbols.{Word}
+use Rattle.swreq_map.specs.Properties.{Vanishes}
+
+-- steps by the rules link the words
+abbrev pub Links : List Rule → Word → Word → Type 0
+Links rules = Linked (RuleStep rules)
+
+-- The word is the least of those that the rules link to it.
+abbrev pub IsLeastBy : List Rule → Word → Type 0
+IsLeastBy rules = IsLeast (Links rules)
+
+-- P declares A in the text, as the associated type d.
+abbrev pub IsDeclared : LexiconView → ProtoId → NameId → AssocId → Type 0
+IsDeclared x p a d = Contains (associated_types x.associated) (record { proto = p; name = a; assoc = d })
+
+-- d is an associated type A of a protocol whose symbol vanishes behind the word.
+abbrev pub IsGiven : LexiconView → List Rule → Word → NameId → AssocId → Type 0
+IsGiven x rules w a d = (p : ProtoId) × IsDeclared x p a d × Vanishes rules w (Proto p.rank)
+
+-- It is the first such associated type.
+pub record IsFirstBehind (x : LexiconView) (rules : List Rule) (w : Word) (a : NameId) (d : AssocId) : Type 0 where
+  pub given : IsGiven x rules w a d
+  pub first : (e : AssocId) → IsGiven x rules w a e → d.rank ≤ e.rank
+
+-- Behind the word an associated type with the name is given, or that associated type.
+abbrev pub HasStep : LexiconView → List Rule → Word → Step → Type 0
+HasStep x rules w (Name a) = (d : AssocId) × IsGiven x rules w a d
+HasStep x rules w (Bound d) = (a : NameId) × IsGiven x rules w a d

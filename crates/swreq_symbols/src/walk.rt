@@ -1,0 +1,204 @@
+//! Whether rules show that a type parameter is valid, and its least word, without memory.
+ghost use Rattle.std.specs.Prelude.{◌≡◌, ◌↔◌, ◌+◌, ◌≤◌, ◌<◌, [], ◌∷◌, ◌++◌, length, vec_len, vec_capacity, IsTrue};
+ghost use Rattle.std.specs.Bool.{OnTrue};
+ghost use Rattle.swreq_param.specs.declared.ids.Step.TheVariants.{Bound, Name};
+ghost use Rattle.swreq_param.specs.Tables.{IsOf, term_at};
+ghost use Rattle.swreq_param.specs.Terms.{member_count};
+ghost use Rattle.swreq_derive.specs.Derivation.{HasParam};
+ghost use Rattle.swreq_correspondence.specs.Shown.{ShowsValid};
+ghost use Rattle.swreq_correspondence.specs.Symbols.{start, word_of};
+ghost use Rattle.swreq_world.specs.ByTable.{world_by};
+ghost use Rattle.swreq_world.specs.Closed.{AreIds, IsStepOf};
+ghost use Rattle.swreq_symbols.specs.Fronts.{without};
+ghost use Rattle.swreq_symbols.specs.Known.{IsTextOver, IsTypeIn};
+ghost use Rattle.swreq_symbols.specs.Meaning.{facts_of, symbols_of};
+ghost use Rattle.swreq_symbols.specs.Overs.{source_of};
+ghost use Rattle.swreq_symbols.specs.Vanishing.{HasStep, IsLeastBy, Links};
+
+use crate::behind::first_behind;
+use crate::over::Over;
+use crate::words::{start_of, symbol_of};
+use swreq_complete::CompleteRules;
+use swreq_map::{append, vanishes};
+use swreq_param::{AssocId, NameId, ParamId, ParamTable, Step, TermId};
+use swreq_word::Symbol;
+use swreq_world::World;
+
+/// Puts the symbol last, where there is room for it.
+fn put(v: &mut Vec<Symbol>, x: Symbol)
+    requires { vec_len v.old < vec_capacity v.old }
+    ensures items { v.new.items ≡ v.old.items ++ x ∷ [] }
+    ensures room { vec_capacity v.old ≤ vec_capacity v.new }
+{
+    if let Err(_) = v.push(x) {}
+}
+
+/// Whether some associated type has this name, and its protocol vanishes behind the word.
+fn has_name(
+    world: &World,
+    rules: &CompleteRules,
+    word: &[Symbol],
+    a: NameId,
+    test: &mut Vec<Symbol>,
+) -> bool
+    requires least { IsLeastBy rules.now word.now }
+    requires fits { length word.now + 1 ≤ vec_capacity test.old }
+    ensures answer { IsTrue result ↔ HasStep world.now.lexicon rules.now word.now (Name a) }
+    ensures room { vec_capacity test.old ≤ vec_capacity test.new }
+{
+    match first_behind(world, rules, word, a, test) {
+        Some(_) => true,
+        None => false,
+    }
+}
+
+/// Whether the protocol of the associated type vanishes behind the word.
+fn has_assoc(
+    world: &World,
+    rules: &CompleteRules,
+    word: &[Symbol],
+    d: AssocId,
+    test: &mut Vec<Symbol>,
+) -> bool
+    requires ids { AreIds world.now.lexicon }
+    requires assoc { d.rank < length world.now.lexicon.associated }
+    requires least { IsLeastBy rules.now word.now }
+    requires fits { length word.now + 1 ≤ vec_capacity test.old }
+    ensures answer { IsTrue result ↔ HasStep world.now.lexicon rules.now word.now (Bound d) }
+    ensures room { vec_capacity test.old ≤ vec_capacity test.new }
+{
+    let declared = world.assoc(d);
+    vanishes(rules, word, Symbol::Proto(declared.proto.rank), test)
+}
+
+/// Whether the step can follow the word.
+fn has_step(
+    world: &World,
+    rules: &CompleteRules,
+    word: &[Symbol],
+    step: Step,
+    test: &mut Vec<Symbol>,
+) -> bool
+    requires ids { AreIds world.now.lexicon }
+    requires step { IsStepOf world.now.lexicon step }
+    requires least { IsLeastBy rules.now word.now }
+    requires fits { length word.now + 1 ≤ vec_capacity test.old }
+    ensures answer { IsTrue result ↔ HasStep world.now.lexicon rules.now word.now step }
+    ensures room { vec_capacity test.old ≤ vec_capacity test.new }
+{
+    match step {
+        Step::Bound(d) => has_assoc(world, rules, word, d, test),
+        Step::Name(a) => has_name(world, rules, word, a, test),
+    }
+}
+
+/// Whether a generic parameter is valid. The word becomes its least word.
+fn begins(rules: &CompleteRules, over: Over, g: ParamId, word: &mut Vec<Symbol>) -> bool
+    requires fits { 1 ≤ vec_capacity word.old }
+    ensures answer { IsTrue result ↔ HasParam (source_of over) g }
+    ensures least { IsLeastBy rules.now word.new.items }
+    ensures linked { Links rules.now (start (source_of over) g ∷ []) word.new.items }
+    ensures short { vec_len word.new ≤ 1 }
+    ensures room { vec_capacity word.old ≤ vec_capacity word.new }
+{
+    word.clear();
+    put(word, start_of(over.owner(), g));
+    rules.reduce(word);
+    over.has(g)
+}
+
+/// The type parameter without its last members, so many.
+fn without(table: &ParamTable, t: TermId, count: usize) -> TermId
+    requires t { IsOf table.now t }
+    requires count { count ≤ member_count (term_at table.now t) }
+    ensures there { IsOf table.now result }
+    ensures front { term_at table.now result ≡ without count (term_at table.now t) }
+{
+    let mut at = t;
+    for _ in 0..count {
+        match table.split(at) {
+            Some((base, _)) => at = base,
+            None => unreachable!(),
+        }
+    }
+    at
+}
+
+/// Whether the rules show that a member is valid whose base they show valid, with this least word. Where they do, the word becomes that
+/// of the member.
+fn add_member(
+    world: &World,
+    table: &ParamTable,
+    rules: &CompleteRules,
+    over: Over,
+    t: TermId,
+    word: &mut Vec<Symbol>,
+    test: &mut Vec<Symbol>,
+) -> bool
+    requires text { IsTextOver table.now world.now }
+    requires t { IsTypeIn table.now world.now.lexicon t }
+    requires member { 0 < member_count (term_at table.now t) }
+    requires base { ShowsValid (symbols_of world.now.lexicon) (facts_of (world_by table.now world.now))
+        (source_of over) (Links rules.now) (without 1 (term_at table.now t)) }
+    requires linked { Links rules.now (word_of (symbols_of world.now.lexicon) (source_of over)
+        (without 1 (term_at table.now t))) word.old.items }
+    requires least { IsLeastBy rules.now word.old.items }
+    requires fits { vec_len word.old + 1 ≤ vec_capacity word.old }
+    requires fits_test { vec_len word.old + 1 ≤ vec_capacity test.old }
+    ensures valid { IsTrue result ↔ ShowsValid (symbols_of world.now.lexicon) (facts_of (world_by table.now world.now))
+        (source_of over) (Links rules.now) (term_at table.now t) }
+    ensures least { OnTrue result (IsLeastBy rules.now word.new.items) }
+    ensures linked { OnTrue result (Links rules.now (word_of (symbols_of world.now.lexicon) (source_of over)
+        (term_at table.now t)) word.new.items) }
+    ensures short { OnTrue result (vec_len word.new ≤ vec_len word.old + 1) }
+    ensures room { vec_capacity word.old ≤ vec_capacity word.new }
+    ensures room_test { vec_capacity test.old ≤ vec_capacity test.new }
+{
+    match table.split(t) {
+        None => unreachable!(),
+        Some((_, step)) => {
+            if !has_step(world, rules, word, step, test) {
+                return false;
+            }
+            append(rules, word, symbol_of(world, step));
+            true
+        }
+    }
+}
+
+/// Whether the rules show that a type parameter is valid. Where they do, `word` becomes its least word. Both lists of symbols have
+/// room for the word of the type parameter and a symbol more, and keep it.
+pub fn least_word(
+    world: &World,
+    table: &ParamTable,
+    rules: &CompleteRules,
+    over: Over,
+    t: TermId,
+    word: &mut Vec<Symbol>,
+    test: &mut Vec<Symbol>,
+) -> bool
+    requires text { IsTextOver table.now world.now }
+    requires t { IsTypeIn table.now world.now.lexicon t }
+    requires fits { member_count (term_at table.now t) + 2 ≤ vec_capacity word.old }
+    requires fits_test { member_count (term_at table.now t) + 2 ≤ vec_capacity test.old }
+    ensures valid { IsTrue result ↔ ShowsValid (symbols_of world.now.lexicon) (facts_of (world_by table.now world.now))
+        (source_of over) (Links rules.now) (term_at table.now t) }
+    ensures least { OnTrue result (IsLeastBy rules.now word.new.items) }
+    ensures linked { OnTrue result (Links rules.now (word_of (symbols_of world.now.lexicon) (source_of over)
+        (term_at table.now t)) word.new.items) }
+    ensures short { OnTrue result (vec_len word.new ≤ member_count (term_at table.now t) + 1) }
+    ensures room { vec_capacity word.old ≤ vec_capacity word.new }
+    ensures room_test { vec_capacity test.old ≤ vec_capacity test.new }
+{
+    if !begins(rules, over, table.head(t), word) {
+        return false;
+    }
+    let members = table.members(t);
+    for count in 0..members {
+        let member = without(table, t, members - 1 - count);
+        if !add_member(world, table, rules, over, member, word, test) {
+            return false;
+        }
+    }
+    true
+}

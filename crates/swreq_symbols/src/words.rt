@@ -1,0 +1,129 @@
+//! The words of type parameters, and the equations of requirements.
+ghost use Rattle.std.specs.Prelude.{◌≡◌, ◌<◌, length, IfOk};
+ghost use Rattle.swreq_param.specs.declared.ids.Step.TheVariants.{Bound};
+ghost use Rattle.swreq_param.specs.Tables.{term_at};
+ghost use Rattle.swreq_derive.specs.Facts.{requirement_of};
+ghost use Rattle.swreq_correspondence.specs.Symbols.{left_side, right_side, spell, start, symbol};
+ghost use Rattle.swreq_world.specs.Closed.{AreIds, IsStepOf};
+ghost use Rattle.swreq_symbols.specs.Known.{IsRequirementIn, IsTextOver, IsTypeIn};
+ghost use Rattle.swreq_symbols.specs.Meaning.{symbols_of};
+ghost use Rattle.swreq_symbols.specs.Overs.{ending, source_by};
+
+use std::alloc::{AllocError, Global};
+use swreq_derive::Requirement;
+use swreq_param::{AssocId, ParamId, ParamTable, ProtoId, Step, TermId};
+use swreq_word::{Symbol, Word};
+use swreq_world::World;
+
+/// The symbol of an associated type.
+fn symbol_of_assoc(world: &World, d: AssocId) -> Symbol
+    requires ids { AreIds world.now.lexicon }
+    requires assoc { d.rank < length world.now.lexicon.associated }
+    ensures { result ≡ symbol (symbols_of world.now.lexicon) (Bound d) }
+{
+    let declared = world.assoc(d);
+    match world.member_rank(declared.proto, declared.name) {
+        Some(rank) => Symbol::Member(rank),
+        None => unreachable!(),
+    }
+}
+
+/// The symbol of a step.
+pub(crate) fn symbol_of(world: &World, step: Step) -> Symbol
+    requires ids { AreIds world.now.lexicon }
+    requires step { IsStepOf world.now.lexicon step }
+    ensures { result ≡ symbol (symbols_of world.now.lexicon) step }
+{
+    match step {
+        Step::Bound(d) => symbol_of_assoc(world, d),
+        Step::Name(a) => Symbol::Name(a.rank),
+    }
+}
+
+/// The symbol with which the words of type parameters with this generic parameter begin.
+pub(crate) fn start_of(owner: Option<ProtoId>, g: ParamId) -> Symbol
+    ensures { result ≡ start (source_by owner) g }
+{
+    match owner {
+        Some(p) => Symbol::Proto(p.rank),
+        None => Symbol::Param(g.depth, g.index),
+    }
+}
+
+/// The one symbol, or none.
+fn ended(alloc: Global, end: Option<Symbol>) -> Result<Vec<Symbol>, AllocError>
+    ensures { IfOk result (λ v. v.items ≡ ending end) }
+{
+    let mut symbols = Vec::new(alloc);
+    match end {
+        None => Ok(symbols),
+        Some(x) => {
+            symbols.push(x)?;
+            Ok(symbols)
+        }
+    }
+}
+
+/// The word of a type parameter, and then this symbol.
+fn spelled(
+    alloc: Global,
+    world: &World,
+    table: &ParamTable,
+    owner: Option<ProtoId>,
+    t: TermId,
+    end: Option<Symbol>,
+) -> Result<Word, AllocError>
+    requires ids { AreIds world.now.lexicon }
+    requires t { IsTypeIn table.now world.now.lexicon t }
+    ensures { IfOk result (λ w. w ≡ spell (symbols_of world.now.lexicon) (source_by owner) (term_at table.now t) (ending end)) }
+{
+    let mut symbols = ended(alloc, end)?;
+    let mut at = t;
+    'members: while let Some((base, step)) = table.split(at) {
+        symbols.push(symbol_of(world, step))?;
+        at = base;
+    }
+    symbols.push(start_of(owner, table.head(t)))?;
+    symbols.reverse();
+    Ok(Word::new(symbols))
+}
+
+/// The two sides of the equation of a requirement: of a requirement of this protocol, or where there is none of a requirement in the
+/// list of a signature.
+pub fn equation(
+    alloc: Global,
+    world: &World,
+    table: &ParamTable,
+    owner: Option<ProtoId>,
+    r: &Requirement,
+) -> Result<(Word, Word), AllocError>
+    requires text { IsTextOver table.now world.now }
+    requires r { IsRequirementIn table.now world.now.lexicon r.now }
+    ensures left { IfOk result (λ e. e.0 ≡ left_side (symbols_of world.now.lexicon) (source_by owner) (requirement_of table.now r.now)) }
+    ensures right { IfOk result (λ e. e.1 ≡ right_side (symbols_of world.now.lexicon) (source_by owner) (requirement_of table.now r.now)) }
+{
+    match *r {
+        Requirement::Conf { subject, proto } => {
+            let left = spelled(
+                alloc,
+                world,
+                table,
+                owner,
+                subject,
+                Some(Symbol::Proto(proto.rank)),
+            )?;
+            let right = spelled(alloc, world, table, owner, subject, None)?;
+            Ok((left, right))
+        }
+        Requirement::Layout { subject } => {
+            let left = spelled(alloc, world, table, owner, subject, Some(Symbol::Layout))?;
+            let right = spelled(alloc, world, table, owner, subject, None)?;
+            Ok((left, right))
+        }
+        Requirement::Same { left, right } => {
+            let left = spelled(alloc, world, table, owner, left, None)?;
+            let right = spelled(alloc, world, table, owner, right, None)?;
+            Ok((left, right))
+        }
+    }
+}

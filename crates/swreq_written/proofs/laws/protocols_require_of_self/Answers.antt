@@ -1,5 +1,0 @@
-use Rattle.swreq_written.proofs.Over.{protocol_over}
-use Rattle.swreq_written.proofs.laws.protocols_require_of_self.Goals as goal
-
-pub returns : goal.returns
-returns c = protocol_over

@@ -1,8 +1,0 @@
-use Rattle.std.proofs.Common.{take}
-use Rattle.swreq_written.specs.Adding.{Adds}
-use Rattle.swreq_written.specs.Requirements.{in_clause}
-use Rattle.swreq_written.specs.Words.{words_by}
-use Rattle.swreq_written.proofs.requirements.add_clause.Given as goal
-
-abbrev pub invariant-loop-r : goal.invariant-loop-r
-invariant-loop-r l = Adds l.fn.table l.table l.fn.into.items l.into.items (in_clause (words_by l.words) l.fn.scope (take l.r-index l.clause))
