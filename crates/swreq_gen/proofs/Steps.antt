@@ -5,7 +5,7 @@ use Rattle.std.proofs.lemmas.List.FromFn.{map-range_with_len_more}
 use Rattle.std.proofs.lemmas.Grind.{flat_map-append}
 use Rattle.std.specs.List.{range_with_len, flat_map}
 use Rattle.std.specs.Fmt.{decimal}
-use Rattle.swreq_bytes.specs.Joined.{joined, followed}
+use Rattle.swreq_text.specs.Joined.{joined, followed}
 use Rattle.swreq_gen.specs.Generated.{each_line, chain, member, dot}
 
 map_same : (xs : List ℕ) → map (λ x. x) xs ≡ xs

@@ -2,7 +2,7 @@
 use Rattle.std.specs.Prelude.{ℕ, List, ◌++◌, ◌+◌, [], ◌==◌, nat_lt, map, codes, if◌then◌else◌}
 use Rattle.std.specs.List.{range_with_len, flat_map}
 use Rattle.std.specs.Fmt.{decimal}
-use Rattle.swreq_bytes.specs.Joined.{joined}
+use Rattle.swreq_text.specs.Joined.{joined}
 
 -- the number of the protocol that the k-th of n leads to: the next one, and the first after the last
 abbrev pub next_of : ℕ → ℕ → ℕ

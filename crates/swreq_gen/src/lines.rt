@@ -5,7 +5,7 @@ ghost use Rattle.std.specs.Fmt.{decimal};
 ghost use Rattle.swreq_gen.specs.Generated.{next_of, chain, dot, protocol_line, function_line, same_line, chain_line, member_line, query_lines, last_line};
 
 use std::alloc::AllocError;
-use swreq_bytes::{append_bytes, append_number};
+use swreq_text::{append_bytes, append_number};
 
 // The number of the protocol that the k-th of n leads to.
 fn next_of(n: u32, k: u32) -> u32

@@ -1,3 +1,5 @@
 pub mod Others
 pub mod RoundTrip
 pub mod Without
+mod PairSteps
+mod Through

@@ -1,3 +1,4 @@
 pub mod Evidence
 pub mod Search
 pub mod Laws
+pub mod Loops

@@ -6,7 +6,7 @@ use std::alloc::Global;
 use std::process::Abort;
 use std::test::Fail;
 use swreq_decl::{Skeleton, parse};
-use swreq_names::resolve_names;
+use swreq_resolve::resolve_names;
 use swreq_param::{NameId, ProtoId};
 use swreq_lexicon::Lexicon;
 use swreq_lowering::laws::lists_are_short;

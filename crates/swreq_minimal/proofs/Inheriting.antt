@@ -16,7 +16,7 @@ use Rattle.swreq_derive.specs.Derivation.TermRequirement.{Conforms, IsAnyObject}
 use Rattle.swreq_derive.proofs.Members.{no_member, only_member}
 use Rattle.swreq_names.specs.Inheritance as inheritance
 use Rattle.swreq_names.specs.Inheritance.{direct, is_bare, named_by}
-use Rattle.swreq_names.specs.Refusals.{self_bytes}
+use Rattle.swreq_names.specs.Spaces.{self_bytes}
 use Rattle.swreq_names.specs.Spaces.{Spaces, protocol_of, word}
 use Rattle.swreq_names.proofs.Booleans.{and_first, and_second}
 use Rattle.swreq_lexicon.proofs.Declared.{from_pieces, in_pieces}

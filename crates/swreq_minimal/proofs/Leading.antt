@@ -11,11 +11,11 @@ use Rattle.swreq_derive.specs.Derivation.{TermFacts}
 use Rattle.swreq_derive.specs.Derivation.TermRequirement.{Conforms}
 use Rattle.swreq_derive.specs.Inheritance.{LeadsTo}
 use Rattle.swreq_derive.specs.Inheritance.LeadsTo.{further, here}
-use Rattle.swreq_names.specs.declared.refusal.Fault.TheVariants.{Duplicate}
-use Rattle.swreq_names.specs.First.{when}
+use Rattle.swreq_resolve.specs.declared.refusal.Fault.TheVariants.{Duplicate}
+use Rattle.swreq_resolve.specs.First.{when}
 use Rattle.swreq_names.specs.Inheritance.{direct, inheritance}
-use Rattle.swreq_names.specs.Names.{HasNames}
-use Rattle.swreq_names.specs.Refusals.{duplicate_of, duplicates, of_space, of_spaces}
+use Rattle.swreq_resolve.specs.Resolving.{HasNames}
+use Rattle.swreq_resolve.specs.Refusals.{duplicate_of, duplicates, of_space, of_spaces}
 use Rattle.swreq_names.specs.Spaces.{Spaces, declaration, is_declared_before, offset_of, place, protocol_of, spaces, word}
 use Rattle.swreq_param.specs.declared.ids.ProtoId.{ProtoId}
 use Rattle.swreq_param.specs.Terms.{self}

@@ -25,7 +25,7 @@ use std::cmp::Ordering;
 use swreq_derive::{Params, Requirement};
 use swreq_homotopy::laws::evidence_links;
 use swreq_homotopy::redundant;
-use swreq_loops::loop_of_pair;
+use swreq_homotopy::loop_of_pair;
 use swreq_pair::{Pair, pairs_up_to};
 use swreq_param::ParamTable;
 use swreq_path::Loop;

@@ -1,7 +1,7 @@
 //! What holds of the world of each text.
 ghost use Rattle.std.specs.Prelude.{List, ℕ};
 ghost use Rattle.swreq_decl.specs.declared.skeleton.Skeleton.{Skeleton};
-ghost use Rattle.swreq_names.specs.Names.{Resolve};
+ghost use Rattle.swreq_resolve.specs.Resolving.{Resolve};
 ghost use Rattle.swreq_world.specs.WorldOf.{IsWorldOf};
 ghost use Rattle.swreq_world.specs.Worlds.{TextWorld};
 ghost use Rattle.swreq_minimal.specs.Inheritance.{IsInheritanceWritten};

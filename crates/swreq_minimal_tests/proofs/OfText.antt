@@ -5,7 +5,7 @@ use Rattle.std.proofs.lemmas.List.Elements.{All-contains, All-get_or}
 use Rattle.std.specs.List.{All}
 use Rattle.swreq_decl.specs.declared.skeleton.Skeleton.{Skeleton}
 use Rattle.swreq_decl.specs.Skeletons.{StandsFor}
-use Rattle.swreq_names.specs.Names.{Resolve}
+use Rattle.swreq_resolve.specs.Resolving.{Resolve}
 use Rattle.swreq_param.specs.Terms.{Term}
 use Rattle.swreq_rounds.proofs.Members.{contains_map}
 use Rattle.swreq_lowering.specs.declared.ids.FuncId.{FuncId}

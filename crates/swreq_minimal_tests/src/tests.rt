@@ -18,7 +18,7 @@ use swreq_decl::{Skeleton, parse};
 use swreq_derive::{Params, Requirement};
 use swreq_minimal::laws::inheritance_is_written;
 use swreq_minimal::minimise;
-use swreq_names::NameErr;
+use swreq_resolve::NameErr;
 use swreq_param::ParamTable;
 use swreq_print::signature_text;
 use swreq_valid::{Machine, Protocols};

@@ -4,8 +4,8 @@ pub mod Made
 pub mod Firsts
 pub mod Pieces
 pub mod Declaring
-pub mod Walks
 pub mod Beginnings
 pub mod Heirs
-pub mod Order
-pub mod Answers
+mod Bytes
+mod Walk
+mod Whole

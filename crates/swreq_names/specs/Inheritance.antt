@@ -11,7 +11,7 @@ use Rattle.swreq_decl.specs.declared.skeleton.StepDecl.{StepDecl}
 use Rattle.swreq_decl.specs.declared.skeleton.ProtocolDecl.{ProtocolDecl}
 use Rattle.swreq_decl.specs.declared.skeleton.Skeleton.{Skeleton}
 use Rattle.swreq_names.specs.Spaces.{word, protocol_of, Spaces, spaces}
-use Rattle.swreq_names.specs.Refusals.{self_bytes}
+use Rattle.swreq_names.specs.Spaces.{self_bytes}
 
 abbrev pub is_bare : List StepDecl → Bool
 is_bare [] = true
@@ -48,21 +48,3 @@ Inherits text s = Leads (inheritance text s)
 -- The table tells which protocol inherits which.
 abbrev pub Tells : List ℕ → Skeleton → (ℕ → ℕ → Bool) → Type 0
 Tells text s inherits = (i j : ℕ) → IsTrue (inherits i j) ↔ Inherits text s i j
-
--- No place below this one leads to itself.
-abbrev pub HasNoLoop : Rows → ℕ → Type 0
-HasNoLoop rows count = (i : ℕ) → i < count → leads rows i i ≡ false
-
--- the first of the places below this one that leads to itself
-pub record IsFirstLoop (rows : Rows) (count i : ℕ) : Type 0 where
-  pub within : i < count
-  pub itself : leads rows i i ≡ true
-  pub first : (j : ℕ) → j < i → leads rows j j ≡ false
-
--- The first protocol that leads to itself has its name here.
-pub record IsLoopAt (rows : Rows) (s : Skeleton) (at : ℕ) : Type 0 where
-  pub place : ℕ
-  pub protocol : ProtocolDecl
-  pub stands : slice_get s.protocols place ≡ Some protocol
-  pub loop : IsFirstLoop rows (length s.protocols) place
-  pub is : at ≡ protocol.name.start

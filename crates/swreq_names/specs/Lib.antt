@@ -1,10 +1,7 @@
 pub mod Spaces
 pub mod Rising
 pub mod Directories
-pub mod First
-pub mod Refusals
-pub mod Errors
 pub mod Inheritance
-pub mod Scopes
 pub mod Names
 pub mod Mentioned
+pub mod WordBytes

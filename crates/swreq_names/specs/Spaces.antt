@@ -58,6 +58,10 @@ spaces text s = record {
 
 -- ---- references
 
+-- the bytes of `Self`
+abbrev pub self_bytes : List ℕ
+self_bytes = 83 ∷ 101 ∷ 108 ∷ 102 ∷ []
+
 -- Names are compared by their bytes. A name refers to the first declaration of it; this is its place in a list, from 0.
 abbrev pub place : List Declaration → List ℕ → Option ℕ
 place ds name = position_from (bytes_eq name) 0 (map (λ d. d.name) ds)

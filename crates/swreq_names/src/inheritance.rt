@@ -3,7 +3,7 @@ ghost use Rattle.std.specs.Prelude.{◌≡◌, ◌++◌, map, length, IfOk, OnOk
 ghost use Rattle.std.specs.List.{flat_map};
 ghost use Rattle.std.specs.Option.{option_to_list};
 ghost use Rattle.swreq_closure.specs.Chains.{IsClosureOf};
-ghost use Rattle.swreq_names.specs.Inheritance.{named_by, in_bounds, in_requirement, in_clause, direct, HasNoLoop, IsFirstLoop};
+ghost use Rattle.swreq_names.specs.Inheritance.{named_by, in_bounds, in_requirement, in_clause, direct};
 
 use crate::declared::Declared;
 use crate::words::word;
@@ -141,16 +141,4 @@ pub fn closure_of(
 {
     let steps = all_direct(alloc, text, d, protocols)?;
     Closure::of(alloc, &steps)
-}
-
-/// The first of the places below `count` that leads to itself.
-pub fn first_loop(inherits: &Closure, count: usize) -> Option<usize>
-    ensures { MatchOption result (HasNoLoop inherits.now count) (IsFirstLoop inherits.now count) }
-{
-    for i in 0..count {
-        if inherits.leads(i, i) {
-            return Some(i);
-        }
-    }
-    None
 }

@@ -1,14 +1,27 @@
-//! What holds of the refusals of names.
+//! What holds of the names of each text, and of the bytes of each word.
 
-ghost use Rattle.std.specs.Prelude.{◌≡◌};
+ghost use Rattle.std.specs.Prelude.{List, ℕ, Contains, map};
+ghost use Rattle.swreq_lex.specs.declared.token.TokenKind.TheVariants.{Name};
+ghost use Rattle.swreq_lex.specs.Slices.{IsSpelled, IsSpelledWord};
 ghost use Rattle.swreq_decl.specs.declared.skeleton.Skeleton.{Skeleton};
-ghost use Rattle.swreq_names.specs.declared.refusal.NameErr.{NameErr};
-ghost use Rattle.swreq_names.specs.Names.{Refuses, Resolve};
+ghost use Rattle.swreq_decl.specs.Skeletons.{StandsFor};
+ghost use Rattle.swreq_names.specs.Mentioned.{mentioned};
+ghost use Rattle.swreq_names.specs.Spaces.{word};
+ghost use Rattle.swreq_names.specs.WordBytes.{HasWordBytes};
 
-use swreq_decl::Skeleton;
+use swreq_lex::laws::tokens_are_slices;
 
-/// A skeleton has names that resolve or one refusal, and not both.
-pub fn one_answer(text: &[u8], s: &Skeleton)
-    ensures never_both { (e : NameErr) → Resolve text.now s.now → ¬ (Refuses text.now s.now e) }
-    ensures one { (e f : NameErr) → Refuses text.now s.now e → Refuses text.now s.now f → e ≡ f }
+/// The names of protocols, and those of associated types and of members, are spelled as names: a word each, and no reserved one.
+pub fn names_are_words(text: &[u8])
+    ensures protocols { (s : Skeleton) → StandsFor text.now s
+        → (name : List ℕ) → Contains (map (λ p. word text.now p.name) s.protocols) name → IsSpelled Name name }
+    ensures members { (s : Skeleton) → StandsFor text.now s
+        → (name : List ℕ) → Contains (mentioned text.now s) name → IsSpelled Name name }
+{
+    tokens_are_slices(text);
+}
+
+/// The bytes of a word are letters, digits and `_`, and bytes of characters beyond ASCII.
+pub fn words_have_word_bytes()
+    ensures { (bytes : List ℕ) → IsSpelledWord bytes → HasWordBytes bytes }
 {}

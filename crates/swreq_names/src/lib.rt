@@ -1,24 +1,21 @@
-//! The names of a text: what each refers to, which protocol inherits which, and the first name that is refused.
+//! The names of a text: what each refers to, which protocol inherits which, and how names are spelled.
 #![tactic(auto)]
 
-mod check;
 mod declared;
 mod declarers;
 mod directory;
 mod inheritance;
-mod items;
 pub mod laws;
+mod lookups;
 mod mentioned;
-mod queries;
-mod refusal;
-mod resolve;
 mod signature;
 mod sorted;
 mod words;
 
+pub use declared::Declared;
+pub use directory::{Declaration, Directory};
+pub use lookups::{Names, has_member};
 pub use mentioned::member_names;
-pub use refusal::NameErr;
-pub use resolve::{Names, resolve_names};
 pub use signature::{Param, Signature};
 pub use sorted::Ranks;
 pub use words::word;

@@ -18,7 +18,7 @@ ghost use Rattle.swreq_output.specs.Minimising.{MinimisingFails, MinimisingTells
 ghost use Rattle.swreq_output.specs.Signatures.{IsMinimisedLine, written_list};
 
 use std::alloc::{AllocError, Global};
-use swreq_bytes::append_bytes;
+use swreq_text::append_bytes;
 use swreq_complete::{Failed, Limits};
 use swreq_derive::{Params, Requirement};
 use swreq_minimal::minimise;

@@ -10,7 +10,7 @@ ghost use Rattle.swreq_output.specs.Systems.{IsSystemText, rule_line, system_tex
 
 use crate::names::full_name;
 use std::alloc::{AllocError, Global};
-use swreq_bytes::{append_bytes, append_number};
+use swreq_text::{append_bytes, append_number};
 use swreq_param::ParamTable;
 use swreq_print::rule_text;
 use swreq_lexicon::Lexicon;

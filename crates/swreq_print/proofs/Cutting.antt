@@ -3,7 +3,7 @@ use Rattle.std.proofs.Common.{◌≡◌, ◌≢◌, ◌∙◌, ◌&&◌, ◌++�
 use Rattle.std.specs.List.{list_all, AllByRecursion}
 use Rattle.std.proofs.lemmas.List.{append_assoc}
 use Rattle.swreq_print.specs.Names.{Text}
-use Rattle.swreq_bytes.specs.Joined.{followed}
+use Rattle.swreq_text.specs.Joined.{followed}
 
 -- The text is at its end, or goes on with a byte that is not inside what stands before it.
 abbrev pub Stops : (ℕ → Bool) → Text → Type 0

@@ -28,7 +28,7 @@ use Rattle.swreq_lexicon.proofs.Declared.{from_pieces, named_within}
 use Rattle.swreq_lexicon.proofs.Passing.{one_of}
 use Rattle.swreq_lexicon.proofs.RankLaws.{assoc_total, rank_is}
 use Rattle.swreq_lexicon.proofs.Rising.{one_place, rising_from_sorted}
-use Rattle.swreq_spelled.specs.WordBytes.{HasWordBytes, in_word}
+use Rattle.swreq_names.specs.WordBytes.{HasWordBytes, in_word}
 use Rattle.swreq_print.specs.Names.{Text, name_text, pair_at, protocol_name}
 use Rattle.swreq_print.specs.Reading.{IsPair, IsProper, TellsApart, in_name}
 use Rattle.swreq_print.proofs.Cutting.{both}

@@ -1,7 +1,7 @@
 -- The requirements of a signature over the ids of a table.
 use Rattle.std.proofs.Common.{◌≡◌, ◌++◌, ◌<◌, [], ◌∷◌, List, length, map, codes, ap, refl, arith}
 use Rattle.swreq_param.specs.Terms.{Term}
-use Rattle.swreq_bytes.specs.Joined.{joined}
+use Rattle.swreq_text.specs.Joined.{joined}
 use Rattle.swreq_derive.specs.declared.requirements.Requirement.{Requirement}
 use Rattle.swreq_derive.specs.Facts.{requirement_of}
 use Rattle.swreq_lexicon.specs.Views.{LexiconView}

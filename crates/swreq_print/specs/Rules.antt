@@ -1,6 +1,6 @@
 -- The texts of rules, and of the trace of a completion.
 use Rattle.std.specs.Prelude.{ℕ, ◌+◌, List, [], ◌∷◌, ◌++◌, map, codes, decimal}
-use Rattle.swreq_bytes.specs.Joined.{joined}
+use Rattle.swreq_text.specs.Joined.{joined}
 use Rattle.swreq_lexicon.specs.declared.pair.ProtocolName.{ProtocolName}
 use Rattle.swreq_lexicon.specs.Views.{LexiconView}
 use Rattle.swreq_rule.specs.declared.rules.Birth.{Birth}

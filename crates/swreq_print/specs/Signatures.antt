@@ -1,6 +1,6 @@
 -- The texts of requirements and of signatures.
 use Rattle.std.specs.Prelude.{List, [], ◌∷◌, ◌++◌, map, codes}
-use Rattle.swreq_bytes.specs.Joined.{joined}
+use Rattle.swreq_text.specs.Joined.{joined}
 use Rattle.swreq_param.specs.declared.ids.ParamId.{ParamId}
 use Rattle.swreq_derive.specs.Derivation.{TermRequirement}
 use Rattle.swreq_derive.specs.Derivation.TermRequirement.{Conforms, IsAnyObject, Equals}

@@ -10,7 +10,7 @@ ghost use Rattle.swreq_lexicon.specs.Texts.{IsLexiconOf};
 ghost use Rattle.swreq_lexicon.specs.Views.{LexiconView};
 
 use swreq_param::ParamId;
-use swreq_spelled::laws::{names_are_words, words_have_word_bytes};
+use swreq_names::laws::{names_are_words, words_have_word_bytes};
 
 /// The text of a signature determines its generic parameters and its requirements: two signatures of one text that print alike are one.
 pub fn texts_tell_signatures_apart()

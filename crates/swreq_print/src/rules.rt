@@ -7,7 +7,7 @@ ghost use Rattle.swreq_print.specs.Rules.{birth_text, member_text, rule_text, sy
 use crate::names::{name_text, protocol_name, symbol_at};
 use crate::types::put_param;
 use std::alloc::{AllocError, Global};
-use swreq_bytes::{Print, append_bytes, append_number, put_joined};
+use swreq_text::{Print, append_bytes, append_number, put_joined};
 use swreq_param::{NameId, ParamId, ProtoId};
 use swreq_lexicon::{Lexicon, ProtocolName};
 use swreq_rule::{Birth, Rule};

@@ -10,7 +10,7 @@ ghost use Rattle.swreq_print.specs.Signatures.{requirement_in, requirement_text,
 use crate::names::protocol_name;
 use crate::types::{Scope, put_param, put_type};
 use std::alloc::{AllocError, Global};
-use swreq_bytes::{Print, append_bytes, put_joined};
+use swreq_text::{Print, append_bytes, put_joined};
 use swreq_derive::{Params, Requirement};
 use swreq_param::{ParamId, ParamTable};
 use swreq_lexicon::Lexicon;

@@ -7,7 +7,7 @@ ghost use Rattle.swreq_print.specs.Types.{bound_text, head_text, param_text, ste
 
 use crate::names::{name_text, pair_at, protocol_name};
 use std::alloc::{AllocError, Global};
-use swreq_bytes::{append_bytes, append_number};
+use swreq_text::{append_bytes, append_number};
 use swreq_param::{ParamId, ParamTable, Step, TermId, TypeParam};
 use swreq_lexicon::{Lexicon, ProtocolName};
 

@@ -11,7 +11,7 @@ use std::process::Abort;
 use std::test::Fail;
 use swreq_decl::{Kind, Skeleton, parse};
 use swreq_derive::{Params, Requirement};
-use swreq_names::resolve_names;
+use swreq_resolve::resolve_names;
 use swreq_param::{AssocId, NameId, ParamId, ParamTable, ProtoId, Step, TermId};
 use swreq_print::{
     RefusalKind, refusal_text, requirement_text, rule_text, self_text, signature_text, steps_text,

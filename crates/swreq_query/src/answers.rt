@@ -13,7 +13,7 @@ ghost use Rattle.swreq_query.specs.Asked.{AppendsAnswer, IsOfTypes, IsQueryIn, I
 use crate::reduced::reduced_line;
 use crate::verdict::{judge_equality, judge_property};
 use std::alloc::{AllocError, Global};
-use swreq_bytes::append_bytes;
+use swreq_text::append_bytes;
 use swreq_map::PropertyMap;
 use swreq_param::ParamTable;
 use swreq_valid::{Machine, Property, Scratch};

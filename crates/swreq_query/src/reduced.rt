@@ -15,7 +15,7 @@ ghost use Rattle.swreq_query.specs.Asked.{AppendsAnswer};
 
 use crate::verdict::Verdict;
 use std::alloc::{AllocError, Global};
-use swreq_bytes::append_bytes;
+use swreq_text::append_bytes;
 use swreq_param::{ParamId, ParamTable, Step, TermId};
 use swreq_print::steps_text;
 use swreq_lexicon::Lexicon;

@@ -2,3 +2,4 @@ pub mod Counted
 pub mod Faults
 pub mod Given
 pub mod Memory
+pub mod Joined

@@ -1,12 +1,20 @@
-//! The outside of the program: where bytes come from and where they go, each with a count of its faults.
+//! The outside of the program, and printed texts.
+//!
+//! Where bytes come from and where they go, each with a count of its faults; and lists of bytes that grow. A function named
+//! `append_..` leaves the list unchanged if memory runs out. One named `put_..` may leave a part of its text at the list's end: a
+//! caller that promises more lets it write into a fresh list, and appends that.
 #![tactic(auto)]
 
+mod append;
+mod joined;
 mod memory;
 mod seq;
 mod standard;
 mod streams;
 mod whole;
 
+pub use append::{append_bytes, append_number};
+pub use joined::{Print, put_joined};
 pub use memory::{CountSink, MemSink, MemSource, SureSource};
 pub use seq::Seq;
 pub use standard::{StdSink, StdSource};

@@ -12,9 +12,9 @@ use Rattle.swreq_decl.specs.Skeletons.{RefusedFor, StandsFor, skeleton_of}
 use Rattle.swreq_decl.specs.Source.{source}
 use Rattle.swreq_decl.proofs.Answering.{not_both, one_skeleton}
 use Rattle.swreq_derive.proofs.Members.{no_member}
-use Rattle.swreq_names.specs.declared.refusal.NameErr.{NameErr}
-use Rattle.swreq_names.specs.declared.refusal.NameErr.TheVariants as names
-use Rattle.swreq_names.specs.Names.{Refuses}
+use Rattle.swreq_resolve.specs.declared.refusal.NameErr.{NameErr}
+use Rattle.swreq_resolve.specs.declared.refusal.NameErr.TheVariants as names
+use Rattle.swreq_resolve.specs.Resolving.{Refuses}
 use Rattle.swreq_word.specs.declared.symbols.Symbol.{Symbol}
 use Rattle.swreq_rule.specs.declared.rules.Birth.{Birth}
 use Rattle.swreq_rule.specs.declared.rules.Birth.TheVariants.{Given, Pair}

@@ -12,10 +12,10 @@ use Rattle.swreq_decl.specs.declared.skeleton.Skeleton.{Skeleton}
 use Rattle.swreq_decl.specs.declared.refusal.ParseErr.{ParseErr}
 use Rattle.swreq_decl.specs.declared.refusal.ParseErr.TheVariants as grammar
 use Rattle.swreq_decl.specs.Skeletons.{StandsFor, RefusedFor, Exactly, refused}
-use Rattle.swreq_names.specs.declared.refusal.NameErr.{NameErr}
-use Rattle.swreq_names.specs.declared.refusal.NameErr.TheVariants as names
-use Rattle.swreq_names.specs.Names.{Refuses, Resolve}
-use Rattle.swreq_names.proofs.Answers.{not_refused, one_refusal as one_name}
+use Rattle.swreq_resolve.specs.declared.refusal.NameErr.{NameErr}
+use Rattle.swreq_resolve.specs.declared.refusal.NameErr.TheVariants as names
+use Rattle.swreq_resolve.specs.Resolving.{Refuses, Resolve}
+use Rattle.swreq_resolve.proofs.Answers.{not_refused, one_refusal as one_name}
 use Rattle.swreq_print.specs.declared.refusal.RefusalKind.{RefusalKind}
 use Rattle.swreq_print.specs.declared.refusal.RefusalKind.TheVariants as refusals
 use Rattle.swreq_print.specs.Names.{Text}

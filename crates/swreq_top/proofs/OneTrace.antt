@@ -1,7 +1,7 @@
 -- A trace is printed alike by lexicons with the same names.
 use Rattle.std.proofs.Common.{◌≡◌, refl, ap, ap₂, ℕ, ◌+◌, List, [], ◌∷◌, ◌++◌, map, slice_index_or}
 use Rattle.std.specs.Prelude.{codes, decimal}
-use Rattle.swreq_bytes.specs.Joined.{joined}
+use Rattle.swreq_text.specs.Joined.{joined}
 use Rattle.swreq_print.specs.Names.{Text, first_pair}
 use Rattle.swreq_print.specs.Rules.{birth_text, symbol_text, trace_from, trace_text}
 use Rattle.swreq_lexicon.specs.Views.{LexiconView}

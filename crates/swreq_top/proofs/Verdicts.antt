@@ -10,12 +10,12 @@ use Rattle.swreq_decl.specs.declared.skeleton.Skeleton.{Skeleton}
 use Rattle.swreq_decl.specs.declared.refusal.ParseErr.{ParseErr}
 use Rattle.swreq_decl.specs.declared.refusal.ParseErr.TheVariants as grammar
 use Rattle.swreq_decl.specs.Skeletons.{StandsFor, RefusedFor, Exactly}
-use Rattle.swreq_names.specs.Errors.{error_by}
-use Rattle.swreq_names.specs.declared.refusal.Fault.{Fault}
-use Rattle.swreq_names.specs.declared.refusal.Fault.TheVariants as faults
-use Rattle.swreq_names.specs.declared.refusal.NameErr.{NameErr}
-use Rattle.swreq_names.specs.declared.refusal.NameErr.TheVariants as names
-use Rattle.swreq_names.specs.Names.{Refuses}
+use Rattle.swreq_resolve.specs.Errors.{error_by}
+use Rattle.swreq_resolve.specs.declared.refusal.Fault.{Fault}
+use Rattle.swreq_resolve.specs.declared.refusal.Fault.TheVariants as faults
+use Rattle.swreq_resolve.specs.declared.refusal.NameErr.{NameErr}
+use Rattle.swreq_resolve.specs.declared.refusal.NameErr.TheVariants as names
+use Rattle.swreq_resolve.specs.Resolving.{Refuses}
 use Rattle.swreq_print.specs.declared.refusal.RefusalKind.{RefusalKind}
 use Rattle.swreq_print.specs.declared.refusal.RefusalKind.TheVariants as refusals
 use Rattle.swreq_complete.specs.declared.limit.Failed.{Failed}

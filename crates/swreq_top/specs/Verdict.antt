@@ -6,9 +6,9 @@ use Rattle.swreq_lex.specs.Refusals.{HasRefusal}
 use Rattle.swreq_decl.specs.declared.skeleton.Skeleton.{Skeleton}
 use Rattle.swreq_decl.specs.Skeletons.{StandsFor, RefusedFor}
 use Rattle.swreq_gen.specs.Generated.{generated}
-use Rattle.swreq_names.specs.declared.refusal.NameErr.{NameErr}
-use Rattle.swreq_names.specs.declared.refusal.NameErr.TheVariants as names
-use Rattle.swreq_names.specs.Names.{Refuses}
+use Rattle.swreq_resolve.specs.declared.refusal.NameErr.{NameErr}
+use Rattle.swreq_resolve.specs.declared.refusal.NameErr.TheVariants as names
+use Rattle.swreq_resolve.specs.Resolving.{Refuses}
 use Rattle.swreq_lexicon.specs.Views.{LexiconView}
 use Rattle.swreq_rule.specs.declared.rules.Rule.{Rule}
 use Rattle.swreq_watch.specs.declared.events.Event.{Event}

@@ -14,7 +14,7 @@ ghost use Rattle.swreq_top.specs.Wanted.{HasCount, wants_list};
 use crate::answering::answers;
 use crate::making::Made;
 use std::alloc::{AllocError, Global};
-use swreq_bytes::{append_bytes, append_number};
+use swreq_text::{append_bytes, append_number};
 use swreq_output::full_name;
 use swreq_param::ParamTable;
 use swreq_text::Seq;

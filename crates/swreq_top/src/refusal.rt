@@ -5,7 +5,7 @@ ghost use Rattle.swreq_top.specs.Reports.{lexical_refusal, limit_refusal, name_r
 use swreq_complete::{Limits, Which};
 use swreq_decl::ParseErr;
 use swreq_lex::LexErr;
-use swreq_names::NameErr;
+use swreq_resolve::NameErr;
 use swreq_print::RefusalKind;
 
 /// The refusal of a text that could not be read.

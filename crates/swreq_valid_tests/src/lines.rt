@@ -10,7 +10,7 @@ use std::alloc::Global;
 use std::test::Fail;
 use swreq_complete::Limits;
 use swreq_decl::{Skeleton, parse};
-use swreq_names::NameErr;
+use swreq_resolve::NameErr;
 use swreq_param::ParamTable;
 use swreq_world::World;
 use swreq_world::laws::worlds_are_closed;

@@ -4,7 +4,7 @@ use Rattle.std.proofs.lemmas.List.Elements.{All-nil, All-cons, All-head, All-tai
 use Rattle.std.proofs.lemmas.Option.{slice_get-map, slice_get_within, get_or_from_slice_get, unwrap_or-slice_get, same_Some}
 use Rattle.std.specs.List.{All, flat_map}
 use Rattle.std.specs.Option.{option_map}
-use Rattle.swreq_names.specs.Refusals.{by_place}
+use Rattle.swreq_resolve.specs.Refusals.{by_place}
 
 module _ {A : Type 0} (P : A → Type 0) where
   pub all_left : (xs ys : List A) → All P (xs ++ ys) → All P xs

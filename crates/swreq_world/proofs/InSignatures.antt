@@ -9,13 +9,13 @@ use Rattle.swreq_decl.specs.declared.skeleton.Span.{Span}
 use Rattle.swreq_decl.specs.declared.skeleton.StructDecl.{StructDecl}
 use Rattle.swreq_derive.specs.Derivation.{TermRequirement}
 use Rattle.swreq_derive.specs.Derivation.TermRequirement.{Conforms, IsAnyObject, Equals}
-use Rattle.swreq_names.specs.declared.refusal.Refusal.{Refusal}
+use Rattle.swreq_resolve.specs.declared.refusal.Refusal.{Refusal}
 use Rattle.swreq_names.specs.declared.signature.Param.TheVariants.{Own}
 use Rattle.swreq_names.specs.declared.signature.Signature.{Signature}
 use Rattle.swreq_names.specs.declared.signature.Signature.TheVariants.{Struct, Function, Nested}
 use Rattle.swreq_names.specs.Mentioned as names
-use Rattle.swreq_names.specs.Refusals.{begins_in_signature, duplicates, of_param, of_requirement, of_signature, by_place}
-use Rattle.swreq_names.specs.Refusals as refusals
+use Rattle.swreq_resolve.specs.Refusals.{begins_in_signature, duplicates, of_param, of_requirement, of_signature, by_place}
+use Rattle.swreq_resolve.specs.Refusals as refusals
 use Rattle.swreq_names.specs.Spaces.{Spaces, spaces, word, declaration, of_params, param_of}
 use Rattle.swreq_names.specs.Spaces as declarations
 use Rattle.swreq_param.specs.declared.ids.ParamId.{ParamId}

@@ -12,11 +12,11 @@ use Rattle.std.specs.Str.{bytes_eq}
 use Rattle.swreq_decl.specs.declared.skeleton.ProtocolDecl.{ProtocolDecl}
 use Rattle.swreq_decl.specs.declared.skeleton.Skeleton.{Skeleton}
 use Rattle.swreq_names.specs.declared.directory.Declaration.{Declaration}
-use Rattle.swreq_names.specs.declared.refusal.Fault.TheVariants.{Duplicate}
-use Rattle.swreq_names.specs.declared.refusal.Refusal.{Refusal}
-use Rattle.swreq_names.specs.First.{when}
-use Rattle.swreq_names.specs.Names.{HasNames}
-use Rattle.swreq_names.specs.Refusals.{duplicate_of, duplicates, of_space, of_spaces, of_protocol, of_signatures, of_query, by_place}
+use Rattle.swreq_resolve.specs.declared.refusal.Fault.TheVariants.{Duplicate}
+use Rattle.swreq_resolve.specs.declared.refusal.Refusal.{Refusal}
+use Rattle.swreq_resolve.specs.First.{when}
+use Rattle.swreq_resolve.specs.Resolving.{HasNames}
+use Rattle.swreq_resolve.specs.Refusals.{duplicate_of, duplicates, of_space, of_spaces, of_protocol, of_signatures, of_query, by_place}
 use Rattle.swreq_names.specs.Spaces.{word, declaration, declarations, place, offset_of, is_declared_before, spaces}
 use Rattle.swreq_lexicon.specs.Ranks.{Bytes}
 use Rattle.swreq_lexicon.specs.Texts.{protocol_names}

@@ -14,13 +14,13 @@ use Rattle.swreq_decl.specs.declared.skeleton.Skeleton.{Skeleton}
 use Rattle.swreq_decl.specs.declared.skeleton.Span.{Span}
 use Rattle.swreq_decl.specs.declared.skeleton.StructDecl.{StructDecl}
 use Rattle.swreq_names.specs.declared.directory.Declaration.{Declaration}
-use Rattle.swreq_names.specs.declared.refusal.Fault.{Fault}
-use Rattle.swreq_names.specs.declared.refusal.Fault.TheVariants.{NoSuchMember}
-use Rattle.swreq_names.specs.declared.refusal.Refusal.{Refusal}
-use Rattle.swreq_names.specs.First.{when}
+use Rattle.swreq_resolve.specs.declared.refusal.Fault.{Fault}
+use Rattle.swreq_resolve.specs.declared.refusal.Fault.TheVariants.{NoSuchMember}
+use Rattle.swreq_resolve.specs.declared.refusal.Refusal.{Refusal}
+use Rattle.swreq_resolve.specs.First.{when}
 use Rattle.swreq_names.specs.Mentioned as names
-use Rattle.swreq_names.specs.Names.{HasNames}
-use Rattle.swreq_names.specs.Refusals.{duplicates, of_spaces, of_protocol, of_primaries, primary_of, of_entity, of_requirement, of_members, begins_in_protocol, of_struct, of_function, of_query, refusals_in, by_place}
+use Rattle.swreq_resolve.specs.Resolving.{HasNames}
+use Rattle.swreq_resolve.specs.Refusals.{duplicates, of_spaces, of_protocol, of_primaries, primary_of, of_entity, of_requirement, of_members, begins_in_protocol, of_struct, of_function, of_query, refusals_in, by_place}
 use Rattle.swreq_names.specs.Spaces.{Spaces, spaces, word, declaration, declarations, place, offset_of, is_declared, is_declared_before, refers_to, protocol_of, declares, has_member, any_below}
 use Rattle.swreq_names.proofs.Booleans.{or_cases, and_second}
 use Rattle.swreq_lexicon.specs.declared.pair.ProtocolName.{ProtocolName}

@@ -1,9 +1,10 @@
 // The world of a skeleton whose names resolve.
 ghost use Rattle.std.specs.Prelude.{◌≡◌, ◌≤◌, ◌⊎◌, length, IfOk, IfErr, IsOk, Err};
 ghost use Rattle.swreq_decl.specs.Skeletons.{StandsFor};
-ghost use Rattle.swreq_names.specs.Names.{HasDeclared, Resolve, Refuses};
-ghost use Rattle.swreq_names.specs.declared.refusal.NameErr.{NameErr};
-ghost use Rattle.swreq_names.specs.declared.refusal.NameErr.TheVariants.{Memory};
+ghost use Rattle.swreq_names.specs.Names.{HasDeclared};
+ghost use Rattle.swreq_resolve.specs.Resolving.{Resolve, Refuses};
+ghost use Rattle.swreq_resolve.specs.declared.refusal.NameErr.{NameErr};
+ghost use Rattle.swreq_resolve.specs.declared.refusal.NameErr.TheVariants.{Memory};
 ghost use Rattle.swreq_lexicon.specs.Texts.{IsLexiconOf};
 ghost use Rattle.swreq_lowering.specs.Short.{HasShortLists};
 ghost use Rattle.swreq_world.specs.ByTable.{world_by, IsOverTable};

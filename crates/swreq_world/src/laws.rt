@@ -2,7 +2,7 @@
 ghost use Rattle.std.specs.Prelude.{All, List, ℕ};
 ghost use Rattle.swreq_decl.specs.declared.skeleton.Skeleton.{Skeleton};
 ghost use Rattle.swreq_decl.specs.Skeletons.{StandsFor};
-ghost use Rattle.swreq_names.specs.Names.{Resolve};
+ghost use Rattle.swreq_resolve.specs.Resolving.{Resolve};
 ghost use Rattle.swreq_lowering.specs.Heads.{IsOverSelf};
 ghost use Rattle.swreq_world.specs.Closed.{IsClosed};
 ghost use Rattle.swreq_world.specs.WorldOf.{IsWorldOf};

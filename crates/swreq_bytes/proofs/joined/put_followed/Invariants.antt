@@ -1,8 +1,0 @@
-use Rattle.std.proofs.Common.{◌≡◌, ◌++◌, map, drop}
-use Rattle.swreq_bytes.specs.Joined.{followed}
-use Rattle.swreq_bytes.proofs.joined.put_followed.Given as goal
-
-abbrev pub invariant-loop-item : goal.invariant-loop-item
-invariant-loop-item g l =
-    l.out.items ++ followed l.fn.separator (map (g.P.Print.text l.fn.printer) (drop l.item-index l.fn.items))
-    ≡ l.fn.out.items ++ followed l.fn.separator (map (g.P.Print.text l.fn.printer) l.fn.items)

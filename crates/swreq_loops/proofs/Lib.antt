@@ -1,2 +1,0 @@
-pub mod PairSteps
-pub mod Through

@@ -1,0 +1,8 @@
+use Rattle.swreq_resolve.proofs.Answers.{not_refused, one_refusal}
+use Rattle.swreq_resolve.proofs.laws.one_answer.Goals as goal
+
+pub returns-clause-never_both : goal.returns-clause-never_both
+returns-clause-never_both c = not_refused c.args.text.now c.args.s.now
+
+pub returns-clause-one : goal.returns-clause-one
+returns-clause-one c = one_refusal c.args.text.now c.args.s.now

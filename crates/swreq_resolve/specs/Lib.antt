@@ -1,0 +1,6 @@
+pub mod First
+pub mod Refusals
+pub mod Errors
+pub mod Scopes
+pub mod Cycles
+pub mod Resolving

@@ -1,0 +1,13 @@
+//! Whether the names of a text resolve, and the first that is refused.
+#![tactic(auto)]
+
+mod check;
+mod cycles;
+mod items;
+pub mod laws;
+mod queries;
+mod refusal;
+mod resolve;
+
+pub use refusal::NameErr;
+pub use resolve::resolve_names;

@@ -1,5 +1,0 @@
-use Rattle.swreq_spelled.proofs.Bytes.{word_bytes}
-use Rattle.swreq_spelled.proofs.laws.words_have_word_bytes.Goals as goal
-
-pub returns : goal.returns
-returns c = word_bytes

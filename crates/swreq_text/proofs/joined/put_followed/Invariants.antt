@@ -1,0 +1,8 @@
+use Rattle.std.proofs.Common.{◌≡◌, ◌++◌, map, drop}
+use Rattle.swreq_text.specs.Joined.{followed}
+use Rattle.swreq_text.proofs.joined.put_followed.Given as goal
+
+abbrev pub invariant-loop-item : goal.invariant-loop-item
+invariant-loop-item g l =
+    l.out.items ++ followed l.fn.separator (map (g.P.Print.text l.fn.printer) (drop l.item-index l.fn.items))
+    ≡ l.fn.out.items ++ followed l.fn.separator (map (g.P.Print.text l.fn.printer) l.fn.items)
