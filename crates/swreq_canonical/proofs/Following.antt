@@ -10,7 +10,7 @@ use Rattle.swreq_derive.specs.Derivation.TermRequirement.{Conforms, Equals, IsAn
 use Rattle.swreq_derive.specs.Derivation.TermStatement.{IsValid, Requires}
 use Rattle.swreq_derive.specs.Substitution.{substitute_into}
 use Rattle.swreq_derive.specs.WellFormed.{HasValidSides}
-use Rattle.swreq_derive.proofs.Members.{first_member, later_member, member_cases, no_member}
+use Rattle.swreq_orders.proofs.Members.{first_member, later_member, member_cases, no_member}
 use Rattle.swreq_derive.proofs.Monotone.{grows}
 use Rattle.swreq_derive.proofs.Substitution.{derives_members, derives_with}
 use Rattle.swreq_correspondence.proofs.Correspondence.{of_usable, substitute-generic, substitute_in-generic}

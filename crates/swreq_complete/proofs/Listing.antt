@@ -22,15 +22,10 @@ use Rattle.swreq_complete.specs.Limits.{KeepsAll}
 use Rattle.swreq_complete.specs.Settling.{DoneWithin, StoppedAt, HasCome, HasStopped}
 use Rattle.swreq_complete.proofs.Moments.{greater_before, not_itself, not_both}
 use Rattle.swreq_complete.proofs.Progress.{settle_one}
-use Rattle.swreq_word.proofs.Lists.{get_left}
+use Rattle.swreq_orders.proofs.Elements.{get_left, get_front}
 use Rattle.swreq_complete.proofs.PairOrder.{widen}
 use Rattle.swreq_complete.proofs.Telling.{Adds, place_adds, goes_on, stops, grown_none}
 use Rattle.swreq_complete.proofs.Closed.{reached}
-
-get_front : {X : Type 0} (xs ys : List X) (k : ℕ) (x : X) → k < length xs → slice_get (xs ++ ys) k ≡ Some x → slice_get xs k ≡ Some x
-get_front [] ys k x l e = absurd (omega (arith, l))
-get_front (y ∷ xs) ys zero x l e = e
-get_front (y ∷ xs) ys (suc k) x l e = get_front xs ys k x (omega (arith, l)) e
 
 rule_back : (first more : List Rule) (n : ℕ) (r : Rule) → n ≤ length first → RuleAt (first ++ more) n r → RuleAt first n r
 rule_back first more n r l a = (a.0, a.1, get_front first more a.0 r (let e = a.1 in omega (arith, e, l)) a.2)

@@ -14,14 +14,13 @@ use Rattle.swreq_word.proofs.WordsFounded as founded
 use Rattle.swreq_rule.specs.declared.rules.Rule.{Rule}
 use Rattle.swreq_rule.specs.Steps.{Step}
 use Rattle.swreq_rule.proofs.Downward.{step_down}
-use Rattle.swreq_rule.proofs.Search.{reduction_step, a_step}
+use Rattle.swreq_rule.proofs.Search.{reduction_step, a_step, all_steps}
 use Rattle.swreq_word.specs.Least.{IsLeast, EachFactor}
 use Rattle.swreq_complete.specs.Reduced.{IsReducedSystem, HasBirths}
 use Rattle.swreq_complete.specs.Complete.{IsFresh}
 use Rattle.swreq_complete.specs.Search.{Found}
 use Rattle.swreq_complete.proofs.Ended.{by_rule}
-use Rattle.swreq_rule.proofs.Search.{all_steps}
-use Rattle.swreq_word.proofs.Lists.{in_front}
+use Rattle.swreq_orders.proofs.Elements.{in_front}
 
 -- no two rules of a fresh list have one left side
 pub fresh_apart : (rules : List Rule) → IsFresh rules → (j k : ℕ) (r s : Rule) → j < k → slice_get rules j ≡ Some r → slice_get rules k ≡ Some s

@@ -15,7 +15,7 @@ use Rattle.swreq_word.proofs.Comparing.{trichotomy, less_trans, not_below_itself
 use Rattle.swreq_word.specs.OrderLaws.{word_exact, word_total}
 use Rattle.std.specs.Bool.{Decides}
 use Rattle.std.proofs.lemmas.Cmp.{tied_itself}
-use Rattle.swreq_word.proofs.Lists.{get_left, get_last, get_cases}
+use Rattle.swreq_orders.proofs.Elements.{get_left, get_last, get_cases}
 use Rattle.swreq_rule.specs.declared.rules.Rule.{Rule}
 use Rattle.swreq_rule.specs.Steps.{Step}
 use Rattle.swreq_rule.specs.Reduction.{Reduces}

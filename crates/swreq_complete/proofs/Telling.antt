@@ -20,7 +20,7 @@ use Rattle.swreq_complete.specs.Limits.{Keeps, KeepsAll, KeepsButLast, IsWithin}
 use Rattle.swreq_complete.specs.Moments.{Before, HasSides}
 use Rattle.swreq_complete.specs.Progress.{Settles, SettlesPlace, Progress}
 use Rattle.swreq_complete.specs.Settling.{Grown, DoneWithin, StoppedAt, HasCome, HasStopped}
-use Rattle.swreq_word.proofs.Lists.{get_cases, there_is}
+use Rattle.swreq_orders.proofs.Elements.{get_cases, there_is}
 use Rattle.swreq_complete.proofs.Closed.{reached}
 
 pub grown_none : (rules : List Rule) (told : Option (List Event)) → Grown rules rules told told

@@ -3,12 +3,11 @@ use Rattle.std.proofs.Common.{◌≡◌, ℕ, suc, ◌+◌, ◌<◌, ◌≤◌, 
 use Rattle.std.specs.declared.cmp.Ordering.TheVariants.{Less}
 use Rattle.std.specs.Cmp.Lexicographic.{slice_cmp}
 use Rattle.std.proofs.lemmas.Cmp.{nat_cmp_total, tied_itself}
-use Rattle.swreq_derive.specs.Derivation.{Declares, Derivable, Source, TermFacts, TermRequirement}
+use Rattle.swreq_derive.specs.Derivation.{Declares, Derivable, Source, TermFacts, TermRequirement, HasParam}
 use Rattle.swreq_derive.specs.Derivation.Derives.{assoc_bind, generic, reflex, symm, trans}
 use Rattle.swreq_derive.specs.Derivation.Source.{Written}
 use Rattle.swreq_derive.specs.Derivation.TermRequirement.{Conforms, Equals}
 use Rattle.swreq_derive.specs.Derivation.TermStatement.{IsValid, Requires}
-use Rattle.swreq_derive.specs.Derivation.{HasParam}
 use Rattle.swreq_derive.specs.Reduced.{IsReducedTypeOf}
 use Rattle.swreq_param.proofs.TotalOrder.{total}
 use Rattle.swreq_param.specs.Order.{AlikeBefore, ParamBefore, TermBefore}

@@ -19,6 +19,7 @@ use Rattle.swreq_derive.specs.Derivation.TermStatement.{IsValid, Requires}
 use Rattle.swreq_derive.specs.Facts.{requirement_of, statement_of, IdFacts, generic_params, IsRequirementOf, IsStatementOf, AreFactsOf}
 use Rattle.swreq_derive.specs.Instances.{HasNumber}
 use Rattle.swreq_derive.specs.Lines.{IsGiven}
+use Rattle.swreq_orders.proofs.Elements.{get_map, get_of_map}
 
 -- ---- equal type parameters have equal ids
 
@@ -69,21 +70,11 @@ same_shape terms (Holds (Same x y)) t u e = (x, y, refl, (cc), cc)
 
 -- ---- numbers in lists
 
-pub get_map : {A B : Type 0} (f : A → B) (xs : List A) (k : ℕ) (y : B) → slice_get (map f xs) k ≡ Some y → (x : A) × (slice_get xs k ≡ Some x) × (f x ≡ y)
-get_map f [] k y e = absurd cc
-get_map f (x ∷ xs) zero y e = (x, refl, cc)
-get_map f (x ∷ xs) (suc k) y e = get_map f xs k y e
-
-pub map_get : {A B : Type 0} (f : A → B) (xs : List A) (k : ℕ) (x : A) → slice_get xs k ≡ Some x → slice_get (map f xs) k ≡ Some (f x)
-map_get f [] k x e = absurd cc
-map_get f (y ∷ ys) zero x e = let i : y ≡ x = cc in ap (λ z. Some (f z)) i
-map_get f (y ∷ ys) (suc k) x e = map_get f ys k x e
-
 pub number_map : {A B : Type 0} (f : A → B) (n : ℕ) (xs : List A) (y : B) → HasNumber n (map f xs) y → (x : A) × HasNumber n xs x × (f x ≡ y)
-number_map f n xs y h = let k = get_map f xs (n - 1) y h.1 in (k.0, (h.0, k.1), k.2)
+number_map f n xs y h = let k = get_of_map f xs (n - 1) y h.1 in (k.0, (h.0, k.1), k.2)
 
 pub map_number : {A B : Type 0} (f : A → B) (n : ℕ) (xs : List A) (x : A) → HasNumber n xs x → HasNumber n (map f xs) (f x)
-map_number f n xs x h = (h.0, map_get f xs (n - 1) x h.1)
+map_number f n xs x h = (h.0, get_map f xs (n - 1) x h.1)
 
 pub contains_number : {A : Type 0} (n : ℕ) (xs : List A) (x : A) → HasNumber n xs x → Contains xs x
 contains_number n xs x h = (n - 1, slice_get_within xs (n - 1) x h.1, get_or_from_slice_get xs (n - 1) x x h.1)

@@ -7,7 +7,7 @@ use Rattle.swreq_derive.specs.Derivation.Source.{SelfOf}
 use Rattle.swreq_derive.specs.Derivation.Derives.{generic, conf, same, layout, assoc_name, assoc_decl, assoc_bind, assoc_conf, assoc_same, assoc_layout, reflex, symm, trans, same_conf, same_layout, same_name, same_decl}
 use Rattle.swreq_derive.specs.Kept.{Owned, owned_by, kept_facts, DeriveTheSame, Keeps}
 use Rattle.swreq_derive.specs.Kept.Keeps.{nothing, left_out, kept}
-use Rattle.swreq_derive.proofs.Members.{first_member, later_member, member_cases, no_member}
+use Rattle.swreq_orders.proofs.Members.{first_member, later_member, member_cases, no_member, added_cases, added_later, added_first}
 
 -- Derivability grows with the requirements of the protocols, with the guard or without it.
 pub grows_with_protocols : {ds : List AssociatedType} {less more : ProtoId → List TermRequirement} {guarded : Bool} {s : Source} {st : TermStatement}
@@ -33,18 +33,6 @@ grows_with_protocols (same_name e h d) g = same_name (grows_with_protocols e g) 
 grows_with_protocols (same_decl e h d) g = same_decl (grows_with_protocols e g) (grows_with_protocols h g) d
 
 -- ---- parts of a family
-
-added_cases : {X : Type 0} (b : Bool) (x : X) (xs : List X) (y : X) → Contains (if b then x ∷ xs else xs) y → ((b ≡ true) × (y ≡ x)) ⊎ Contains xs y
-added_cases true x xs y h = elim (member_cases x y xs h) [ inl e ↦ inl (refl, e) | inr k ↦ inr k ]
-added_cases false x xs y h = inr h
-
-added_later : {X : Type 0} (b : Bool) (x : X) (xs : List X) (y : X) → Contains xs y → Contains (if b then x ∷ xs else xs) y
-added_later true x xs y h = later_member x y xs h
-added_later false x xs y h = h
-
-added_first : {X : Type 0} (b : Bool) (x : X) (xs : List X) → b ≡ true → Contains (if b then x ∷ xs else xs) x
-added_first true x xs e = first_member x xs
-added_first false x xs e = absurd cc
 
 pub owned_member : (os : List Owned) (p : ProtoId) (r : TermRequirement) → Contains (owned_by os p) r → (o : Owned) × Contains os o × (nat_eq o.proto.rank p.rank ≡ true) × (r ≡ o.requirement)
 owned_member [] p r h = no_member r h

@@ -15,8 +15,9 @@ use Rattle.swreq_derive.specs.Facts.{requirement_of, statement_of, IdFacts, gene
 use Rattle.swreq_derive.specs.Instances.{statements_of, TermLine, HasNumber, IsInstance, AreStated, Follows, IsDerivation}
 use Rattle.swreq_derive.specs.Lines.{stated_by, line_of, IsGiven, IsNext, AreLinesOf, AreDerived, IsFirstNotDerived}
 use Rattle.swreq_derive.proofs.Guard.{unguarded}
-use Rattle.swreq_derive.proofs.Members.{Each}
-use Rattle.swreq_derive.proofs.InstanceLemmas.{contains_number, one_number, number_map, map_number, get_map, map_get}
+use Rattle.swreq_orders.proofs.Members.{Each}
+use Rattle.swreq_derive.proofs.InstanceLemmas.{contains_number, one_number, number_map, map_number}
+use Rattle.swreq_orders.proofs.Elements.{get_of_map, get_map}
 
 -- From derivable premises an instance gives what is derivable.
 pub instance_derives : (f : TermFacts) (gs : List ParamId) (ws : List TermRequirement) (rule : DerivRule) (from : List TermStatement) (gives : TermStatement)
@@ -80,7 +81,7 @@ module _ (f : TermFacts) (gs : List ParamId) (ws : List TermRequirement) where
       instance_derives f gs ws l.rule w.from l.statement w.instance (all_hold (take k (statements_of ls)) l.premises w.from w.stated
       (λ n st i.
       let j = get_take k (n - 1) (statements_of ls) st i.1 in
-      let x = get_map (λ (z : TermLine). z.statement) ls (n - 1) st j.1 in
+      let x = get_of_map (λ (z : TermLine). z.statement) ls (n - 1) st j.1 in
       subst (Derives f false (Written gs ws)) x.2 (below ls d b (n - 1) x.0 (omega (arith, j.0)) x.1)))
 
   pub lines_hold : (ls : List TermLine) → IsDerivation f gs ws ls → (k : ℕ) (l : TermLine) → slice_get ls k ≡ Some l → Derives f false (Written gs ws) l.statement
@@ -88,7 +89,7 @@ module _ (f : TermFacts) (gs : List ParamId) (ws : List TermRequirement) where
 
 pub lines_say : (terms : List Term) (m : IdFacts) (ls : List Line) → AreDerived terms m ls → (k : ℕ) (l : Line) → slice_get ls k ≡ Some l
     → Derives (term_facts terms m) false (term_source terms m) (statement_of terms l.statement)
-lines_say terms m ls d k l e = lines_hold (term_facts terms m) (generic_params m.params) (map (requirement_of terms) m.written) (map (line_of terms) ls) d k (line_of terms l) (map_get (line_of terms) ls k l e)
+lines_say terms m ls d k l e = lines_hold (term_facts terms m) (generic_params m.params) (map (requirement_of terms) m.written) (map (line_of terms) ls) d k (line_of terms l) (get_map (line_of terms) ls k l e)
 
 -- ---- the premises of a line
 
@@ -195,17 +196,17 @@ FollowBelow terms m ls n = (k : ℕ) (l : Line) → k < n → slice_get ls k ≡
 follows_below : (terms : List Term) (m : IdFacts) (ls : List Line) (n : ℕ) → FollowBelow terms m ls n → (k : ℕ) (l : TermLine) → k < n → slice_get (map (line_of terms) ls) k ≡ Some l
     → Follows (term_facts terms m) (generic_params m.params) (map (requirement_of terms) m.written) (take k (statements_of (map (line_of terms) ls))) l
 follows_below terms m ls n h k l i e =
-    let x = get_map (line_of terms) ls k l e in
+    let x = get_of_map (line_of terms) ls k l e in
     subst (λ z. Follows (term_facts terms m) (generic_params m.params) (map (requirement_of terms) m.written) (take k (statements_of (map (line_of terms) ls))) z) x.2
     ((next_at terms m ls k x.0).0 (h k x.0 i x.1))
 
 pub all_derived : (terms : List Term) (m : IdFacts) (ls : List Line) (n : ℕ) → length ls ≤ n → FollowBelow terms m ls n → AreDerived terms m ls
 all_derived terms m ls n b h k l e =
-    let x = get_map (line_of terms) ls k l e in
+    let x = get_of_map (line_of terms) ls k l e in
     follows_below terms m ls n h k l (let i = slice_get_within ls k x.0 x.1 in omega arith) e
 
 pub not_derived : (terms : List Term) (m : IdFacts) (ls : List Line) (k : ℕ) (l : Line) → slice_get ls k ≡ Some l → (IsNext terms m (stated_by (take k ls)) l → ⊥) → AreDerived terms m ls → ⊥
-not_derived terms m ls k l e bad d = bad ((next_at terms m ls k l).1 (d k (line_of terms l) (map_get (line_of terms) ls k l e)))
+not_derived terms m ls k l e bad d = bad ((next_at terms m ls k l).1 (d k (line_of terms l) (get_map (line_of terms) ls k l e)))
 
 pub first_bad : (terms : List Term) (m : IdFacts) (ls : List Line) (k : ℕ) (l : Line) → slice_get ls k ≡ Some l → (IsNext terms m (stated_by (take k ls)) l → ⊥)
     → FollowBelow terms m ls k → IsFirstNotDerived terms m ls (k + 1)
@@ -213,7 +214,7 @@ first_bad terms m ls k l e bad h =
     let n : k + 1 - 1 ≡ k = omega arith in
     record {
       line = line_of terms l;
-      number = (omega arith, subst (λ z. slice_get (map (line_of terms) ls) z ≡ Some (line_of terms l)) (sym n) (map_get (line_of terms) ls k l e));
+      number = (omega arith, subst (λ z. slice_get (map (line_of terms) ls) z ≡ Some (line_of terms l)) (sym n) (get_map (line_of terms) ls k l e));
       bad = λ x. bad ((next_at terms m ls k l).1 (subst (λ z. Follows (term_facts terms m) (generic_params m.params) (map (requirement_of terms) m.written) (take z (statements_of (map (line_of terms) ls))) (line_of terms l)) n x));
       before = λ j x i. follows_below terms m ls k h j x (omega (arith, i));
     }

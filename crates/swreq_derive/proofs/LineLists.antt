@@ -12,19 +12,9 @@ use Rattle.swreq_derive.specs.Derivation.Source.{Written}
 use Rattle.swreq_derive.specs.Derivation.Derives.{generic, conf, same, layout, assoc_name, assoc_decl, assoc_bind, assoc_conf, assoc_same, assoc_layout, reflex, symm, trans, same_conf, same_layout, same_name, same_decl}
 use Rattle.swreq_derive.specs.Instances.{TermLine, HasNumber, IsInstance, AreStated, Follows, IsDerivation, statements_of}
 use Rattle.swreq_derive.proofs.PathLemmas.{number_of}
+use Rattle.swreq_orders.proofs.Elements.{get_left, get_after}
 
 -- ---- numbers in longer lists
-
-pub get_left : {A : Type 0} (xs ys : List A) (k : ℕ) (x : A) → slice_get xs k ≡ Some x → slice_get (xs ++ ys) k ≡ Some x
-get_left [] ys k x e = absurd cc
-get_left (z ∷ xs) ys zero x e = e
-get_left (z ∷ xs) ys (suc k) x e = get_left xs ys k x e
-
-pub get_right : {A : Type 0} (xs ys : List A) (k : ℕ) → slice_get (xs ++ ys) (length xs + k) ≡ slice_get ys k
-get_right [] ys k = let e : 0 + k ≡ k = omega arith in ap (slice_get ys) e
-get_right (x ∷ xs) ys k =
-    let e : length (x ∷ xs) + k ≡ suc (length xs + k) = omega arith in
-    ap (slice_get (x ∷ (xs ++ ys))) e ∙ get_right xs ys k
 
 pub number_left : {A : Type 0} (xs ys : List A) (n : ℕ) (x : A) → HasNumber n xs x → HasNumber n (xs ++ ys) x
 number_left xs ys n x h = (h.0, get_left xs ys (n - 1) x h.1)
@@ -33,7 +23,7 @@ pub number_right : {A : Type 0} (xs ys : List A) (n : ℕ) (x : A) → HasNumber
 number_right xs ys n x h =
     let p : 0 < n = h.0 in
     let e : length xs + n - 1 ≡ length xs + (n - 1) = omega arith in
-    (omega arith, ap (slice_get (xs ++ ys)) e ∙ get_right xs ys (n - 1) ∙ h.1)
+    (omega arith, ap (slice_get (xs ++ ys)) e ∙ get_after xs ys (n - 1) ∙ h.1)
 
 pub number_last : {A : Type 0} (xs : List A) (x : A) → HasNumber (length xs + 1) (xs ++ x ∷ []) x
 number_last xs x = number_right xs (x ∷ []) 1 x (omega arith, refl)

@@ -6,7 +6,7 @@ use Rattle.std.proofs.lemmas.Bool.{ltb-true}
 use Rattle.std.proofs.lemmas.Str.{encodes-append, encodes-chars, encode_ascii, length-encode, len_utf8_bounds}
 use Rattle.std.proofs.Math.Seq.{take-append_seam}
 use Rattle.std.specs.Cmp.Lexicographic.{same_text, other_text}
-use Rattle.std.specs.List.{slice_range}
+use Rattle.std.specs.List.{slice_range, prefix_len, list_all}
 use Rattle.std.specs.Str.{chars, bytes_eq}
 use lib.Utf8.{encodes, encode}
 use Rattle.swreq_lex.specs.declared.token.Token.{Token}
@@ -22,7 +22,6 @@ use Rattle.swreq_lex.specs.Tokens.{IsGap, IsToken, Reads, done, after_byte_order
 use Rattle.swreq_lex.specs.Slices.{OnlyGaps, none, more, IsBetween, IsSpelledWord, IsSpelled, AreSlices, last, next}
 use Rattle.std.proofs.lemmas.List.Sums.{prefix_len_passes}
 use Rattle.std.proofs.lemmas.Bool.Decides.{nat_tests}
-use Rattle.std.specs.List.{prefix_len, list_all}
 use Rattle.std.specs.Char.{len_utf8}
 use Rattle.swreq_lex.proofs.MarkLemmas.{both, is_ascii_mark}
 use Rattle.swreq_lex.proofs.Loop.{byte_length_encodes}

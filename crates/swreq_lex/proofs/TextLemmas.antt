@@ -1,7 +1,6 @@
 -- What is answered for a text, from what is read of its characters.
-use Rattle.std.proofs.Common.{ap, sym, ◌≡◌, ℕ, ◌+◌, ◌≤◌, true, false, cond, List, [], ◌∷◌, length, Result, Ok, Err, refl, subst, ◌∙◌, arith}
+use Rattle.std.proofs.Common.{ap, sym, ◌≡◌, ℕ, ◌+◌, ◌≤◌, true, false, cond, List, [], ◌∷◌, length, Result, Ok, Err, refl, subst, ◌∙◌, arith, inl, inr}
 use Rattle.std.specs.Prelude.{◌⊎◌, MatchResult, IfOk, IfErr}
-use Rattle.std.proofs.Common.{inl, inr}
 use Rattle.std.specs.Global.{Vec}
 use Rattle.std.specs.Char.{len_utf8}
 use Rattle.std.specs.Str.{chars, IsUtf8, is_utf8}

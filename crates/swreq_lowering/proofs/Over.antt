@@ -13,8 +13,7 @@ use Rattle.swreq_decl.specs.declared.skeleton.ReqDecl.{ReqDecl}
 use Rattle.swreq_decl.specs.declared.skeleton.ReqDecl.TheVariants as requirements
 use Rattle.swreq_decl.specs.declared.skeleton.AssocDecl.{AssocDecl}
 use Rattle.swreq_decl.specs.declared.skeleton.ProtocolDecl.{ProtocolDecl}
-use Rattle.swreq_names.specs.Spaces.{word}
-use Rattle.swreq_names.specs.Spaces.{self_bytes}
+use Rattle.swreq_names.specs.Spaces.{word, self_bytes}
 use Rattle.swreq_lowering.specs.declared.scope.Scope.TheVariants.{Protocol}
 use Rattle.swreq_lowering.specs.Heads.{IsOverSelf}
 use Rattle.swreq_lowering.specs.Requirements.{PlacedRequirement, bound_of, of_one_side, arguments, in_bound, in_bounds, in_requirement, in_clause, in_member, in_members, in_protocol}

@@ -14,8 +14,7 @@ use Rattle.swreq_decl.specs.declared.skeleton.TypeDecl.{TypeDecl}
 use Rattle.swreq_names.specs.declared.signature.Signature.{Signature}
 use Rattle.swreq_names.specs.declared.signature.Param.{Param}
 use Rattle.swreq_names.specs.declared.signature.Param.TheVariants.{Outer, Own}
-use Rattle.swreq_names.specs.Spaces.{word, param_of}
-use Rattle.swreq_names.specs.Spaces.{self_bytes}
+use Rattle.swreq_names.specs.Spaces.{word, param_of, self_bytes}
 use Rattle.swreq_lexicon.specs.Lexicons.{assoc_by}
 use Rattle.swreq_lowering.specs.declared.scope.Scope.{Scope}
 use Rattle.swreq_lowering.specs.declared.scope.Scope.TheVariants as scopes

@@ -10,7 +10,7 @@ use Rattle.swreq_word.specs.declared.symbols.Symbol.{Symbol}
 use Rattle.swreq_word.specs.declared.symbols.Symbol.TheVariants.{Proto}
 use Rattle.swreq_word.specs.Least.{IsLeast}
 use Rattle.swreq_word.specs.Relations.{Linked}
-use Rattle.swreq_word.proofs.Lists.{take_one}
+use Rattle.swreq_orders.proofs.Elements.{take_one}
 use Rattle.swreq_rule.specs.declared.rules.Rule.{Rule}
 use Rattle.swreq_rule.specs.Steps.{Step}
 use Rattle.swreq_complete.specs.Complete.{IsComplete}

@@ -8,7 +8,7 @@ use Rattle.std.proofs.lemmas.Option.{slice_get_within, get_or_from_slice_get}
 use Rattle.swreq_word.specs.declared.symbols.Symbol.{Symbol}
 use Rattle.swreq_word.specs.declared.table.WordId.{WordId}
 use Rattle.swreq_word.specs.Interned.{StandsFor, AreDistinct, Interned}
-use Rattle.swreq_word.proofs.Lists.{get_left, get_last}
+use Rattle.swreq_orders.proofs.Elements.{get_left, get_last, set_here, set_kept}
 use Rattle.swreq_map.specs.Follows.{IsListed, KeepsListed, Follows}
 
 pub on_ok : {A E P Q : Type 0} (r : Result A E) → (P → Q) → OnOk r P → OnOk r Q
@@ -18,19 +18,6 @@ on_ok (Err e) f h = h
 pub keeps_more : (old lists new : List (Vec Symbol Global)) (list : Vec Symbol Global) → KeepsListed old lists → new ≡ lists ++ list ∷ [] → KeepsListed old new
 keeps_more old lists new list k e place s h =
     let g = k place s h in (g.0, subst (λ x. slice_get x place ≡ Some g.0) (sym e) (get_left lists (list ∷ []) place g.0 g.1), g.2)
-
-set_here : {X : Type 0} (xs : List X) (k : ℕ) (x : X) → k < length xs → slice_get (set xs k x) k ≡ Some x
-set_here [] k x l = absurd (omega (arith, l))
-set_here (y ∷ xs) zero x l = refl
-set_here (y ∷ xs) (suc k) x l = set_here xs k x (omega (arith, l))
-
-set_kept : {X : Type 0} (xs : List X) (k : ℕ) (x : X) (n : ℕ) (y : X) → slice_get xs n ≡ Some y
-    → (slice_get (set xs k x) n ≡ Some y) ⊎ ((n ≡ k) × (slice_get (set xs k x) n ≡ Some x))
-set_kept [] k x n y e = inl e
-set_kept (z ∷ xs) zero x zero y e = inr (refl, refl)
-set_kept (z ∷ xs) zero x (suc n) y e = inl e
-set_kept (z ∷ xs) (suc k) x zero y e = inl e
-set_kept (z ∷ xs) (suc k) x (suc n) y e = elim (set_kept xs k x n y e) [ inl h ↦ inl h | inr h ↦ inr (ap suc h.0, h.1) ]
 
 pub keeps_changed : (old new : List (Vec Symbol Global)) (place : ℕ) (before after : Vec Symbol Global) → slice_get old place ≡ Some before
     → new ≡ set old place after → ((s : Symbol) → Contains before.items s → Contains after.items s) → KeepsListed old new

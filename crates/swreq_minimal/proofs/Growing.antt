@@ -7,7 +7,7 @@ use Rattle.swreq_param.specs.Terms.{Term}
 use Rattle.swreq_derive.specs.declared.requirements.Requirement.{Requirement}
 use Rattle.swreq_derive.specs.declared.requirements.Requirement.TheVariants.{Conf, Layout, Same}
 use Rattle.swreq_derive.specs.Facts.{requirement_of}
-use Rattle.swreq_derive.proofs.Members.{first_member, later_member}
+use Rattle.swreq_orders.proofs.Members.{first_member, later_member}
 use Rattle.swreq_lowering.specs.declared.ids.Written.{Written}
 use Rattle.swreq_lowering.specs.ByTable.{AreOf, HasIdsOf, HasQueryIdsOf, placed, query_by}
 use Rattle.swreq_lowering.proofs.Growing.{are_of_stay, ids_stay, placed_stay}

@@ -13,11 +13,10 @@ use Rattle.swreq_decl.specs.declared.skeleton.ReqDecl.TheVariants.{Bound, Same}
 use Rattle.swreq_decl.specs.declared.skeleton.Span.{Span}
 use Rattle.swreq_decl.specs.declared.skeleton.StepDecl.{StepDecl}
 use Rattle.swreq_derive.specs.Derivation.TermRequirement.{Conforms, IsAnyObject}
-use Rattle.swreq_derive.proofs.Members.{no_member, only_member}
+use Rattle.swreq_orders.proofs.Members.{no_member, only_member}
 use Rattle.swreq_names.specs.Inheritance as inheritance
 use Rattle.swreq_names.specs.Inheritance.{direct, is_bare, named_by}
-use Rattle.swreq_names.specs.Spaces.{self_bytes}
-use Rattle.swreq_names.specs.Spaces.{Spaces, protocol_of, word}
+use Rattle.swreq_names.specs.Spaces.{self_bytes, Spaces, protocol_of, word}
 use Rattle.swreq_names.proofs.Booleans.{and_first, and_second}
 use Rattle.swreq_lexicon.proofs.Declared.{from_pieces, in_pieces}
 use Rattle.swreq_lowering.specs.declared.scope.Scope.TheVariants.{Protocol}

@@ -23,7 +23,7 @@ use Rattle.swreq_lexicon.specs.Lexicons.{proto_by}
 use Rattle.swreq_lexicon.specs.Ranks.{Bytes}
 use Rattle.swreq_lexicon.specs.Views.{IsProtocol, LexiconView, place_of}
 use Rattle.swreq_lexicon.proofs.RankLaws.{meant, written_at}
-use Rattle.swreq_rounds.proofs.Members.{contains_map}
+use Rattle.swreq_orders.proofs.Members.{contains_map}
 use Rattle.swreq_lowering.specs.Requirements.{PlacedRequirement, in_protocol}
 use Rattle.swreq_lowering.specs.Words.{WordsView, proto_of}
 use Rattle.swreq_world.specs.Text.{of_place, of_protocol, requirements_named}

@@ -6,8 +6,7 @@ use Rattle.std.proofs.lemmas.List.{get_or_default}
 use Rattle.std.proofs.lemmas.Str.{NoCharPasses-byte, length-encode, len_utf8_bounds}
 use lib.Utf8.{encode, encodes}
 use Rattle.std.specs.Char.{is_ascii_alphanumeric}
-use Rattle.std.specs.Str.{NonePass}
-use Rattle.std.specs.Str.{NoCharPasses}
+use Rattle.std.specs.Str.{NonePass, NoCharPasses}
 use Rattle.unicode_ident.specs.Ident.{is_xid_start, is_xid_continue}
 use Rattle.unicode_ident.proofs.IdentLemmas.{is_xid_continue-ascii, is_xid_start-is_xid_continue}
 use Rattle.swreq_lex.specs.Characters.{starts_word, continues_word}

@@ -12,8 +12,7 @@ use Rattle.swreq_decl.specs.declared.skeleton.ReqDecl.TheVariants as reqs
 use Rattle.swreq_decl.specs.declared.skeleton.AssocDecl.{AssocDecl}
 use Rattle.swreq_decl.specs.declared.skeleton.ProtocolDecl.{ProtocolDecl}
 use Rattle.swreq_names.specs.declared.directory.Declaration.{Declaration}
-use Rattle.swreq_names.specs.Spaces.{word, place, offset_of, is_declared_before, refers_to, protocol_of, Spaces}
-use Rattle.swreq_names.specs.Spaces.{self_bytes}
+use Rattle.swreq_names.specs.Spaces.{word, place, offset_of, is_declared_before, refers_to, protocol_of, Spaces, self_bytes}
 use Rattle.swreq_names.specs.Directories.{names_of}
 use Rattle.swreq_names.specs.Inheritance.{is_bare, named_by, in_bounds, in_requirement, in_clause, direct}
 

@@ -10,8 +10,7 @@ use Rattle.swreq_decl.specs.declared.skeleton.ReqDecl.TheVariants as requirement
 use Rattle.swreq_decl.specs.declared.skeleton.StepDecl.{StepDecl}
 use Rattle.swreq_decl.specs.declared.skeleton.ProtocolDecl.{ProtocolDecl}
 use Rattle.swreq_decl.specs.declared.skeleton.Skeleton.{Skeleton}
-use Rattle.swreq_names.specs.Spaces.{word, protocol_of, Spaces, spaces}
-use Rattle.swreq_names.specs.Spaces.{self_bytes}
+use Rattle.swreq_names.specs.Spaces.{word, protocol_of, Spaces, spaces, self_bytes}
 
 abbrev pub is_bare : List StepDecl → Bool
 is_bare [] = true

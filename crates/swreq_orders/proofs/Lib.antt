@@ -1,1 +1,4 @@
 pub mod Induction
+pub mod Elements
+pub mod Members
+pub mod Numbers

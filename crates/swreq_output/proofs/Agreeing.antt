@@ -8,7 +8,7 @@ use Rattle.swreq_derive.specs.Derivation.Source.{Written}
 use Rattle.swreq_derive.specs.Derivation.TermRequirement.{Conforms, IsAnyObject, Equals}
 use Rattle.swreq_derive.specs.Derivation.TermStatement.{Requires}
 use Rattle.swreq_derive.specs.Equivalence.{AreEquivalent}
-use Rattle.swreq_derive.proofs.Members.{first_member, later_member, member_cases, no_member}
+use Rattle.swreq_orders.proofs.Members.{first_member, later_member, member_cases, no_member}
 use Rattle.swreq_correspondence.specs.Symbols.{Symbols}
 use Rattle.swreq_canonical.specs.Canonical.{HasReducedTypes, IsCanonical, principal}
 use Rattle.swreq_canonical.specs.CanonicalOrder.{RequirementBefore}

@@ -17,7 +17,7 @@ use Rattle.swreq_derive.specs.Derivation.Derives.{generic, conf, same, layout, a
 use Rattle.swreq_derive.specs.Derivation.Source.{Written}
 use Rattle.swreq_derive.specs.Derivation.TermRequirement.{Conforms, IsAnyObject, Equals}
 use Rattle.swreq_derive.specs.Derivation.TermStatement.{IsValid, Requires}
-use Rattle.swreq_derive.proofs.Members.{first_member, later_member, no_member}
+use Rattle.swreq_orders.proofs.Members.{first_member, later_member, no_member, each_by_recursion}
 use Rattle.swreq_lexicon.specs.Lexicons.{pair}
 use Rattle.swreq_lexicon.specs.Views.{LexiconView, IsName}
 use Rattle.swreq_lowering.specs.Heads.{IsOver}
@@ -111,6 +111,3 @@ module _ (w : TextWorld) (is : IsClosed w) where
         let n = declared_assoc p a d c in ((i.0.0, (i.0.1, n)), (i.1.0, (i.1.1, n)))
 
 -- all members, one after the other
-pub each_by_recursion : {A : Type 0} (P : A → Type 0) (xs : List A) → ((x : A) → Contains xs x → P x) → AllByRecursion P xs
-each_by_recursion P [] h = tt
-each_by_recursion P (x ∷ xs) h = (h x (first_member x xs), each_by_recursion P xs (λ y c. h y (later_member x y xs c)))

@@ -32,6 +32,7 @@ use Rattle.swreq_names.specs.WordBytes.{HasWordBytes, in_word}
 use Rattle.swreq_print.specs.Names.{Text, name_text, pair_at, protocol_name}
 use Rattle.swreq_print.specs.Reading.{IsPair, IsProper, TellsApart, in_name}
 use Rattle.swreq_print.proofs.Cutting.{both}
+use Rattle.swreq_orders.proofs.Members.{contains_map}
 
 -- ---- bytes
 
@@ -70,9 +71,6 @@ one_rank cmp total xs sorted i j d l m e =
     one_place cmp total xs rising i j (get_or xs i d) (slice_get-get_or xs i d l) (slice_get-get_or xs j d m ∙ ap Some (sym e))
 
 -- ---- the lexicon of a text
-
-contains_map : {A B : Type 0} (f : A → B) (xs : List A) (x : A) → Contains xs x → Contains (map f xs) (f x)
-contains_map f xs x (k, l, e) = (k, subst (λ n. k < n) (sym (length-map xs f)) l, get_or-map f xs k x (f x) l ∙ ap f e)
 
 -- What holds of each item under a map holds of all that the mapped list has.
 of_mapped : {A B : Type 0} (f : A → B) (P : B → Type 0) → ((a : A) → P (f a)) → (xs : List A) (y : B) → Contains (map f xs) y → P y

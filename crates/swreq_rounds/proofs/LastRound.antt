@@ -5,7 +5,7 @@ use Rattle.swreq_param.specs.declared.ids.ParamId.{ParamId}
 use Rattle.swreq_param.specs.declared.ids.ProtoId.{ProtoId}
 use Rattle.swreq_derive.specs.Derivation.{TermRequirement, TermFacts, Source}
 use Rattle.swreq_derive.specs.Derivation.Source.{Written, SelfOf}
-use Rattle.swreq_derive.proofs.Members.{no_member}
+use Rattle.swreq_orders.proofs.Members.{no_member, contains_map, contains_of_map}
 use Rattle.swreq_word.specs.Relations.{Linked}
 use Rattle.swreq_rule.specs.declared.rules.Rule.{Rule}
 use Rattle.swreq_rule.specs.Steps.{Step}
@@ -22,7 +22,7 @@ use Rattle.swreq_rounds.specs.Rounds.{Ends, LeavesUsable, IsRound, IsLastRound}
 use Rattle.swreq_rounds.specs.Rounds.IsRound.{first, next}
 use Rattle.swreq_rounds.specs.Given.{basic_equations, of_self, protocols_plan, of_list, list_plan}
 use Rattle.swreq_rounds.specs.Presents.{Presents, ProtocolEquation, AreProtocolRules, AreListRules}
-use Rattle.swreq_rounds.proofs.Members.{contains_map, contains_of_map, selected, selects, basic_is, has_doubled, has_named, items_are, has_item}
+use Rattle.swreq_rounds.proofs.Members.{selected, selects, basic_is, has_doubled, has_named, items_are, has_item}
 use Rattle.swreq_rounds.proofs.Presented.{ended_presents, presents_to, none_presents}
 
 -- what is shown by rules that present equations is what is shown by the equations

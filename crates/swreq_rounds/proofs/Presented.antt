@@ -6,8 +6,7 @@ use Rattle.std.proofs.lemmas.List.Elements.{Contains-append_cases, Contains-appe
 use Rattle.std.proofs.lemmas.Option.{slice_get_within, get_or_from_slice_get, slice_get_read}
 use Rattle.swreq_word.specs.Relations.{Linked}
 use Rattle.swreq_word.specs.Relations.Chain.{done, more}
-use Rattle.swreq_word.specs.Relations.Linked.{here}
-use Rattle.swreq_word.specs.Relations.Linked.{forth as on_forth, back as on_back}
+use Rattle.swreq_word.specs.Relations.Linked.{here, forth as on_forth, back as on_back}
 use Rattle.swreq_word.specs.Replacement.{Replaced}
 use Rattle.swreq_word.proofs.Chains.{joined, at_once, linked_on, linked_back, linked_by}
 use Rattle.swreq_rule.specs.declared.rules.Rule.{Rule}
@@ -16,7 +15,7 @@ use Rattle.swreq_rule.proofs.Context.{Step-before, Step-after}
 use Rattle.swreq_complete.specs.Reached.{BeginsWith, IsEnded}
 use Rattle.swreq_complete.specs.Laws.{all_equations}
 use Rattle.swreq_complete.proofs.Ended.{by_rule}
-use Rattle.swreq_word.proofs.Lists.{in_whole, get_of_map}
+use Rattle.swreq_orders.proofs.Elements.{in_whole, get_of_map, get_contains, contains_get}
 use Rattle.swreq_complete.proofs.Soundness.{sound, complete}
 use Rattle.swreq_correspondence.specs.Symbols.{Word}
 use Rattle.swreq_correspondence.specs.Equations.{Link, Linking}
@@ -24,14 +23,6 @@ use Rattle.swreq_correspondence.specs.Equations.Link.{forth, back, there}
 use Rattle.swreq_correspondence.proofs.Chained.{turn_all}
 use Rattle.swreq_correspondence.proofs.Shown.{linking_to}
 use Rattle.swreq_rounds.specs.Presents.{Presents}
-
--- ---- elements
-
-pub get_contains : {X : Type 0} (xs : List X) (k : ℕ) (x : X) → slice_get xs k ≡ Some x → Contains xs x
-get_contains xs k x e = (k, slice_get_within xs k x e, get_or_from_slice_get xs k x x e)
-
-pub contains_get : {X : Type 0} (xs : List X) (x : X) → Contains xs x → (k : ℕ) × (slice_get xs k ≡ Some x)
-contains_get xs x (k, l, e) = (k, slice_get_read xs (length xs) k x refl l (sym e))
 
 -- ---- steps and links in a longer word
 

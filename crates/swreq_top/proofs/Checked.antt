@@ -7,13 +7,12 @@ use Rattle.swreq_derive.specs.Derivation.{Source, TermFacts, TermRequirement}
 use Rattle.swreq_derive.specs.Derivation.Source.{SelfOf}
 use Rattle.swreq_derive.specs.Derivation.TermRequirement.{Conforms, IsAnyObject, Equals}
 use Rattle.swreq_derive.specs.WellFormed.{AreProtocolsWellFormed, HasValidSides, IsListWellFormed, IsWellFormed}
-use Rattle.swreq_derive.proofs.Members.{first_member, later_member, member_cases, no_member}
+use Rattle.swreq_orders.proofs.Members.{first_member, later_member, member_cases, no_member, contains_of_map}
 use Rattle.swreq_param.specs.declared.ids.ProtoId.{ProtoId}
 use Rattle.swreq_rule.specs.declared.rules.Rule.{Rule}
 use Rattle.swreq_complete.specs.Limits.{IsWithin}
 use Rattle.swreq_rounds.specs.Plan.{Plan, given}
 use Rattle.swreq_rounds.specs.Rounds.{ComesTo, IsOutcome}
-use Rattle.swreq_rounds.proofs.Members.{contains_of_map}
 use Rattle.swreq_watch.specs.declared.events.Event.{Event}
 use Rattle.swreq_lowering.specs.Requirements.{PlacedRequirement}
 use Rattle.swreq_world.specs.Closed.{IsClosed}

@@ -11,7 +11,7 @@ use Rattle.swreq_decl.specs.declared.skeleton.Skeleton.{Skeleton}
 use Rattle.swreq_decl.specs.Skeletons.{RefusedFor, StandsFor, skeleton_of}
 use Rattle.swreq_decl.specs.Source.{source}
 use Rattle.swreq_decl.proofs.Answering.{not_both, one_skeleton}
-use Rattle.swreq_derive.proofs.Members.{no_member}
+use Rattle.swreq_orders.proofs.Members.{no_member}
 use Rattle.swreq_resolve.specs.declared.refusal.NameErr.{NameErr}
 use Rattle.swreq_resolve.specs.declared.refusal.NameErr.TheVariants as names
 use Rattle.swreq_resolve.specs.Resolving.{Refuses}

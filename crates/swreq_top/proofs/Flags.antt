@@ -6,7 +6,7 @@ use Rattle.std.proofs.lemmas.List.{get_or-set_other, get_or-set_same, length-map
 use Rattle.std.proofs.lemmas.List.Elements.{All-contains, Contains-get_or}
 use Rattle.std.proofs.lemmas.List.Folds.{list_any-append}
 use Rattle.swreq_param.specs.Terms.{Term}
-use Rattle.swreq_rounds.proofs.Members.{contains_map}
+use Rattle.swreq_orders.proofs.Members.{contains_map}
 use Rattle.swreq_words.specs.declared.command.Command.{Command}
 use Rattle.swreq_words.specs.declared.command.Command.TheVariants as command
 use Rattle.swreq_lowering.specs.declared.ids.FuncId.{FuncId}

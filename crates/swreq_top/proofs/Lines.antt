@@ -11,9 +11,8 @@ use Rattle.swreq_derive.specs.Facts.{generic_params}
 use Rattle.swreq_derive.specs.WellFormed.{IsWellFormed}
 use Rattle.swreq_derive.specs.declared.known.Params.{Params}
 use Rattle.swreq_derive.proofs.Guard.{from_function}
-use Rattle.swreq_derive.proofs.Members.{first_member, later_member}
+use Rattle.swreq_orders.proofs.Members.{first_member, later_member, contains_map}
 use Rattle.swreq_print.specs.Names.{Text}
-use Rattle.swreq_rounds.proofs.Members.{contains_map}
 use Rattle.swreq_words.specs.declared.command.Command.{Command}
 use Rattle.swreq_words.specs.declared.command.Command.TheVariants as command
 use Rattle.swreq_lowering.specs.Queries.{TermQuery}

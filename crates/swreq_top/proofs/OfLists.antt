@@ -6,7 +6,7 @@ use Rattle.swreq_complete.specs.declared.limit.Limits.{Limits}
 use Rattle.swreq_derive.specs.Derivation.{TermRequirement}
 use Rattle.swreq_derive.specs.declared.known.Params.{Params}
 use Rattle.swreq_param.specs.Terms.{Term}
-use Rattle.swreq_rounds.proofs.Members.{contains_map}
+use Rattle.swreq_orders.proofs.Members.{contains_map}
 use Rattle.swreq_rule.specs.declared.rules.Rule.{Rule}
 use Rattle.swreq_watch.specs.declared.events.Event.{Event}
 use Rattle.swreq_lowering.specs.ByTable.{AreOf, HasIdsOf, placed, placed_by}

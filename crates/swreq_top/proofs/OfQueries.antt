@@ -5,7 +5,7 @@ use Rattle.std.proofs.lemmas.List.Elements.{All-contains}
 use Rattle.std.proofs.lemmas.Option.{slice_get_read}
 use Rattle.swreq_param.specs.Terms.{Term}
 use Rattle.swreq_print.specs.Names.{Text}
-use Rattle.swreq_rounds.proofs.Members.{contains_map}
+use Rattle.swreq_orders.proofs.Members.{contains_map}
 use Rattle.swreq_lowering.specs.declared.ids.FuncId.{FuncId}
 use Rattle.swreq_lowering.specs.declared.ids.Query.{Query}
 use Rattle.swreq_lowering.specs.declared.ids.Query.TheVariants.{Signature}

@@ -7,7 +7,7 @@ use Rattle.std.proofs.lemmas.Cmp.{back_total, nat_cmp_total, nat_list_cmp_total,
 use Rattle.std.proofs.lemmas.Option.{same_Some, slice_get-get_or}
 use Rattle.swreq_decl.specs.declared.skeleton.Skeleton.{Skeleton}
 use Rattle.swreq_decl.specs.declared.skeleton.ProtocolDecl.{ProtocolDecl}
-use Rattle.swreq_derive.proofs.Members.{first_member, later_member, member_cases, no_member}
+use Rattle.swreq_orders.proofs.Members.{first_member, later_member, member_cases, no_member}
 use Rattle.swreq_names.proofs.Booleans.{and_both, and_first, and_second, or_cases, or_left, or_right, same_bool}
 use Rattle.swreq_names.specs.Inheritance.{Inherits}
 use Rattle.swreq_names.specs.Mentioned.{mentioned}

@@ -18,7 +18,7 @@ use Rattle.swreq_trie.specs.declared.trie.Entry.{Entry}
 use Rattle.swreq_trie.specs.Marks.{Holds}
 use Rattle.swreq_trie.specs.Places.{IsPlace, ArePlaces}
 use Rattle.swreq_trie.specs.Keys.{Gains, AreTheirPlaces, ArePlacesBelow, place_of, key_of, key_cmp}
-use Rattle.swreq_word.proofs.Lists.{get_cases}
+use Rattle.swreq_orders.proofs.Elements.{get_cases}
 use Rattle.swreq_trie.proofs.Marks.{holds_last, holds_more}
 
 key_total : IsTotalOrder key_cmp

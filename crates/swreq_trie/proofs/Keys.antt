@@ -12,7 +12,7 @@ use Rattle.swreq_word.proofs.Comparing.{symbol_decides}
 use Rattle.swreq_trie.specs.declared.edges.Edge.{Edge}
 use Rattle.swreq_trie.specs.contracts.edges.EdgePartialEq.TheImpl as edge-impl
 use Rattle.swreq_trie.specs.Paths.{IsChild, NoChild, IsForked, IsGrown}
-use Rattle.swreq_word.proofs.Lists.{get_left, get_last}
+use Rattle.swreq_orders.proofs.Elements.{get_left, get_last}
 
 or_false : (a b : Bool) → a || b ≡ false → (a ≡ false) × (b ≡ false)
 or_false true b h = absurd (true≢false h)

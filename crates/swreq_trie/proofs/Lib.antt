@@ -1,4 +1,3 @@
-pub mod Changed
 pub mod Keys
 pub mod Marks
 pub mod Paths

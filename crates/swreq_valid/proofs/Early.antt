@@ -5,7 +5,7 @@ use Rattle.std.proofs.lemmas.List.{append-nil}
 use Rattle.std.specs.List.{list_all, slice_get}
 use Rattle.std.proofs.lemmas.Option.{slice_get_within}
 use Rattle.swreq_word.specs.declared.symbols.Symbol.{Symbol}
-use Rattle.swreq_word.proofs.Lists.{in_whole}
+use Rattle.swreq_orders.proofs.Elements.{in_whole, get_left, get_front}
 use Rattle.swreq_word.specs.OrderLaws.{nat_less}
 use Rattle.swreq_rule.specs.declared.rules.Birth.{Birth}
 use Rattle.swreq_rule.specs.declared.rules.Birth.TheVariants.{Given, Pair}
@@ -32,16 +32,6 @@ Equations = List (List Symbol × List Symbol)
 
 -- ---- lists
 
-in_more : {A : Type 0} (xs ys : List A) (k : ℕ) (x : A) → slice_get xs k ≡ Some x → slice_get (xs ++ ys) k ≡ Some x
-in_more [] ys k x e = cc
-in_more (y ∷ xs) ys zero x e = e
-in_more (y ∷ xs) ys (suc k) x e = in_more xs ys k x e
-
-in_less : {A : Type 0} (xs ys : List A) (k : ℕ) (x : A) → k < length xs → slice_get (xs ++ ys) k ≡ Some x → slice_get xs k ≡ Some x
-in_less [] ys k x l e = absurd (omega (arith, l))
-in_less (y ∷ xs) ys zero x l e = e
-in_less (y ∷ xs) ys (suc k) x l e = in_less xs ys k x (omega (arith, l)) e
-
 all_at : {A : Type 0} (p : A → Bool) (xs : List A) → list_all p xs ≡ true → (k : ℕ) (x : A) → slice_get xs k ≡ Some x → p x ≡ true
 all_at p [] h k x e = absurd cc
 all_at p (y ∷ xs) h zero x e = let is : y ≡ x = cc in ap p (sym is) ∙ (and_parts (p y) (list_all p xs) h).0
@@ -55,14 +45,14 @@ AreGiven trace = (k : ℕ) (rule : Rule) → slice_get trace k ≡ Some rule →
 
 module _ (base : ℕ) (front more : Equations) (trace : List Rule) where
   sides_more : (m : Birth) (left right : List Symbol) → HasSides base front trace m left right → HasSides base (front ++ more) trace m left right
-  sides_more (Given n) left right (k, e, s) = (k, e, in_more front more k (left, right) s)
+  sides_more (Given n) left right (k, e, s) = (k, e, get_left front more k (left, right) s)
   sides_more (Pair i j at) left right h = h
 
   -- a moment before one of the front is of the front
   sides_before : (b m : Birth) (bl br left right : List Symbol) → IsTrue (is_of_equation b) → HasSides base front trace b bl br → Before m b
       → HasSides base (front ++ more) trace m left right → HasSides base front trace m left right
   sides_before (Given b) (Given n) bl br left right t (i, e, s) earlier (k, f, q) =
-      (k, f, in_less front more k (left, right) (let l = nat_less n b earlier in let w = slice_get_within front i (bl, br) s in omega (arith, l, w, e, f)) q)
+      (k, f, get_front front more k (left, right) (let l = nat_less n b earlier in let w = slice_get_within front i (bl, br) s in omega (arith, l, w, e, f)) q)
   sides_before (Given b) (Pair i j at) bl br left right t h earlier q = absurd cc
   sides_before (Pair i j at) m bl br left right t h earlier q = absurd cc
 

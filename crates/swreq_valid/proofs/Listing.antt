@@ -13,7 +13,7 @@ use Rattle.swreq_complete.specs.declared.limit.Limits.{Limits}
 use Rattle.swreq_correspondence.specs.Symbols.{IsInText}
 use Rattle.swreq_rounds.specs.Given.{of_list}
 use Rattle.swreq_rounds.proofs.LastRound.{list_law}
-use Rattle.swreq_rounds.proofs.Members.{contains_of_map}
+use Rattle.swreq_orders.proofs.Members.{contains_of_map}
 use Rattle.swreq_lexicon.specs.Views.{LexiconView}
 use Rattle.swreq_world.specs.ByTable.{world_by}
 use Rattle.swreq_world.specs.Closed.{AreIds, IsClosed, IsRequirementOf}

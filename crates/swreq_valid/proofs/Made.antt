@@ -11,7 +11,7 @@ use Rattle.swreq_watch.specs.declared.events.Event.{Event}
 use Rattle.swreq_complete.specs.declared.limit.Failed.{Failed}
 use Rattle.swreq_complete.specs.declared.limit.Limits.{Limits}
 use Rattle.swreq_rounds.specs.Presents.{AreProtocolRules}
-use Rattle.swreq_rounds.proofs.Members.{contains_of_map}
+use Rattle.swreq_orders.proofs.Members.{contains_of_map}
 use Rattle.swreq_lexicon.specs.Views.{LexiconView}
 use Rattle.swreq_lowering.specs.declared.ids.Written.{Written}
 use Rattle.swreq_lowering.specs.ByTable.{placed}

@@ -5,7 +5,7 @@ use Rattle.std.proofs.lemmas.Bool.{cases_eq}
 use Rattle.std.proofs.lemmas.List.{append-nil, map-append}
 use Rattle.std.proofs.lemmas.List.Elements.{Contains-append_cases}
 use Rattle.std.proofs.lemmas.Option.{get_or_from_slice_get, slice_get-get_or, slice_get_within}
-use Rattle.swreq_word.proofs.Lists.{take_one}
+use Rattle.swreq_orders.proofs.Elements.{take_one}
 use Rattle.swreq_param.specs.declared.ids.ProtoId.{ProtoId}
 use Rattle.swreq_param.specs.Terms.{Term}
 use Rattle.swreq_derive.specs.declared.requirements.Requirement.{Requirement}
@@ -14,7 +14,7 @@ use Rattle.swreq_derive.specs.Derivation.Source.{SelfOf}
 use Rattle.swreq_derive.specs.Derivation.TermRequirement.{Conforms, IsAnyObject, Equals}
 use Rattle.swreq_derive.specs.Facts.{requirement_of}
 use Rattle.swreq_derive.specs.WellFormed.{HasValidSides}
-use Rattle.swreq_derive.proofs.Members.{first_member, later_member, member_cases, no_member}
+use Rattle.swreq_orders.proofs.Members.{first_member, later_member, member_cases, no_member, contains_of_map}
 use Rattle.swreq_rule.specs.declared.rules.Rule.{Rule}
 use Rattle.swreq_watch.specs.declared.events.Event.{Event}
 use Rattle.swreq_complete.specs.declared.limit.Failed.{Failed}
@@ -24,7 +24,6 @@ use Rattle.swreq_correspondence.specs.Symbols.{AreOfText, AreSymbolsOf, IsOfText
 use Rattle.swreq_rounds.specs.Given.{basic_equations, items_of as items_from, of_self}
 use Rattle.swreq_rounds.specs.Presents.{AreProtocolRules}
 use Rattle.swreq_rounds.proofs.LastRound.{protocols_law}
-use Rattle.swreq_rounds.proofs.Members.{contains_of_map}
 use Rattle.swreq_symbols.specs.Known.{IsRequirementIn, IsTextOver}
 use Rattle.swreq_symbols.specs.Meaning.{facts_of, symbols_of}
 use Rattle.swreq_symbols.specs.Vanishing.{Links}

@@ -12,7 +12,7 @@ use Rattle.swreq_param.specs.Terms.{Term}
 use Rattle.swreq_derive.specs.Derivation.{TermFacts, TermRequirement}
 use Rattle.swreq_derive.specs.Derivation.Source.{SelfOf}
 use Rattle.swreq_derive.specs.Facts.{requirement_of}
-use Rattle.swreq_derive.proofs.Members.{no_member}
+use Rattle.swreq_orders.proofs.Members.{no_member, contains_map, contains_of_map}
 use Rattle.swreq_rule.specs.declared.rules.Rule.{Rule}
 use Rattle.swreq_watch.specs.declared.events.Event.{Event}
 use Rattle.swreq_complete.specs.declared.limit.Failed.{Failed}
@@ -20,7 +20,6 @@ use Rattle.swreq_complete.specs.declared.limit.Limits.{Limits}
 use Rattle.swreq_correspondence.specs.Symbols.{MemberName, Word}
 use Rattle.swreq_rounds.specs.Given.{basic_equations, items_of as items_from, named, named_from, of_self}
 use Rattle.swreq_rounds.proofs.LastRound.{protocols_law}
-use Rattle.swreq_rounds.proofs.Members.{contains_map, contains_of_map}
 use Rattle.swreq_lexicon.specs.declared.pair.ProtocolName.{ProtocolName}
 use Rattle.swreq_lexicon.specs.Views.{IsProtocol, LexiconView}
 use Rattle.swreq_lowering.specs.declared.ids.Written.{Written}

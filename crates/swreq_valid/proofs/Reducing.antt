@@ -25,12 +25,11 @@ use Rattle.swreq_correspondence.proofs.Correspondence.{conforming_words}
 use Rattle.swreq_correspondence.proofs.Orders.{Stands, front, some_type, type_is_reduced}
 use Rattle.swreq_symbols.specs.Meaning.{facts_of, symbols_of}
 use Rattle.swreq_map.specs.Properties.{Vanishes}
-use Rattle.swreq_symbols.specs.Vanishing.{IsLeastBy, Links}
+use Rattle.swreq_symbols.specs.Vanishing.{IsLeastBy, Links, IsFirstBehind}
 use Rattle.swreq_symbols.proofs.Symbols.{ranks_law, symbols_law, text_law}
 use Rattle.swreq_world.specs.Closed.{IsClosed}
 use Rattle.swreq_world.specs.Worlds.{TextWorld}
 use Rattle.swreq_valid.specs.Asked.{IsLeastOf, IsReducedIn}
-use Rattle.swreq_symbols.specs.Vanishing.{IsFirstBehind}
 use Rattle.swreq_valid.specs.LeastTypes.{BeginsBy}
 use Rattle.swreq_valid.specs.Machines.{IsMachineOf, MachineView}
 use Rattle.swreq_valid.specs.Rounds.{last_rules}

@@ -16,8 +16,7 @@ use Rattle.swreq_rule.proofs.Context.{Linked-after}
 use Rattle.swreq_lexicon.specs.Views.{LexiconView}
 use Rattle.swreq_correspondence.specs.Symbols.{IsRank, Symbols, Word, name_of}
 use Rattle.swreq_symbols.specs.Meaning.{symbols_of}
-use Rattle.swreq_symbols.specs.Vanishing.{IsLeastBy}
-use Rattle.swreq_symbols.specs.Vanishing.{IsFirstBehind}
+use Rattle.swreq_symbols.specs.Vanishing.{IsLeastBy, IsFirstBehind}
 use Rattle.swreq_valid.specs.LeastTypes.{BeginsBy}
 use Rattle.swreq_valid.proofs.OfProtocols.{drop_at}
 

@@ -8,7 +8,7 @@ use Rattle.swreq_derive.specs.Derivation.Source.{SelfOf, Written}
 use Rattle.swreq_derive.specs.Derivation.TermRequirement.{Conforms, IsAnyObject, Equals}
 use Rattle.swreq_derive.specs.Derivation.TermStatement.{IsValid}
 use Rattle.swreq_derive.specs.Facts.{generic_params}
-use Rattle.swreq_derive.proofs.Members.{later_member, first_member, member_cases, no_member, only_member}
+use Rattle.swreq_orders.proofs.Members.{later_member, first_member, member_cases, no_member, only_member}
 use Rattle.swreq_correspondence.specs.Shown.{ShowsValid}
 use Rattle.swreq_lowering.specs.Requirements.{PlacedRequirement}
 use Rattle.swreq_rule.specs.declared.rules.Rule.{Rule}

@@ -1,6 +1,5 @@
 //! The reduced type of a type parameter, without memory.
-ghost use Rattle.std.specs.Prelude.{◌≡◌, ◌↔◌, ◌+◌, ◌*◌, ◌≤◌, ◌<◌, ◌++◌, ◌∷◌};
-ghost use Rattle.std.specs.Prelude.{[], ℕ, IsTrue, List, length, vec_capacity, vec_len, MatchOption};
+ghost use Rattle.std.specs.Prelude.{◌≡◌, ◌↔◌, ◌+◌, ◌*◌, ◌≤◌, ◌<◌, ◌++◌, ◌∷◌, [], ℕ, IsTrue, List, length, vec_capacity, vec_len, MatchOption};
 ghost use Rattle.swreq_param.specs.declared.ids.AssocId.{AssocId};
 ghost use Rattle.swreq_param.specs.declared.ids.Step.TheVariants.{Bound};
 ghost use Rattle.swreq_param.specs.Tables.{term_at};

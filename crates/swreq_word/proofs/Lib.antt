@@ -4,7 +4,6 @@ pub mod SymbolsFounded
 pub mod WordsFounded
 pub mod Comparing
 pub mod Cuts
-pub mod Lists
 pub mod Tables
 pub mod Congruence
 pub mod LeastWords

@@ -36,9 +36,7 @@ use Rattle.swreq_world.proofs.OnceDeclared.{protocols_differ}
 use Rattle.swreq_world.proofs.ProtocolOffsets.{AreRising, name_start}
 use Rattle.swreq_world.proofs.Resolving.{protocol_is, resolved}
 use Rattle.swreq_world.proofs.Standing.{outer_within}
-
-found : {A : Type 0} (xs : List A) (x : A) → Contains xs x → (k : ℕ) × (slice_get xs k ≡ Some x)
-found xs x c = (c.0, slice_get-get_or xs c.0 x c.1 ∙ ap Some c.2)
+use Rattle.swreq_orders.proofs.Elements.{contains_get}
 
 module _ (text : Bytes) (s : Skeleton) (x : LexiconView) (is : IsLexiconOf text s x) where
   order_total : IsTotalOrder (order_cmp (inherits x) (length x.protocols))
@@ -51,16 +49,16 @@ module _ (text : Bytes) (s : Skeleton) (x : LexiconView) (is : IsLexiconOf text 
   declares_it : (d : ProtocolName) → Contains x.associated d → IsProtocol x d.proto
   declares_it d c =
       let p = from_pieces (declared_by text x.protocols x.names) s.protocols d ((is.associated.same d).0 c) in
-      let at = found s.protocols p.0 p.1 in
+      let at = contains_get s.protocols p.0 p.1 in
       let name = word text p.0.name in
-      let in_it = found (declared_by text x.protocols x.names p.0) d p.2 in
+      let in_it = contains_get (declared_by text x.protocols x.names p.0) d p.2 in
       let m = mapped_from (λ (m : AssocDecl). pair (proto_by x.protocols name) (name_by x.names (word text m.name))) p.0.members in_it.0 d in_it.1 in
       subst (λ (e : ProtocolName). IsProtocol x e.proto) m.2 (protocol_is text s x is at.0 p.0 at.1)
 
   ids : IsDistinct bytes_eq (protocol_names text s.protocols) → AreIds x
   ids distinct = record {
     written_order = λ p. (
-      λ c. let k = found x.written_order p c in written_protocol text s x is k.0 p k.1,
+      λ c. let k = contains_get x.written_order p c in written_protocol text s x is k.0 p k.1,
       λ h. there x.written_order (place_of x p) p (written_at text s x is p h),
     );
     each_once = written_once text s x is distinct;

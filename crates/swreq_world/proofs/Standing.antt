@@ -20,6 +20,7 @@ use Rattle.swreq_lowering.specs.declared.ids.FuncId.{FuncId}
 use Rattle.swreq_lowering.proofs.Referring.{from_below}
 use Rattle.swreq_world.specs.Text.{outer_of}
 use Rattle.swreq_world.proofs.WrittenOrder.{length_rest}
+use Rattle.swreq_orders.proofs.Elements.{get_either}
 
 -- The signature is of the text.
 abbrev pub IsIn : Skeleton → Signature → Type 0
@@ -112,14 +113,6 @@ length_nested : (i j n : ℕ) → length (nested_from i j n) ≡ n
 length_nested i j zero = refl
 length_nested i j (suc n) = ap suc (length_nested i (j + 1) n)
 
-in_either : {A : Type 0} (xs ys : List A) (p : ℕ) (x : A) → slice_get (xs ++ ys) p ≡ Some x → (slice_get xs p ≡ Some x) ⊎ ((q : ℕ) × (p ≡ length xs + q) × (slice_get ys q ≡ Some x))
-in_either [] ys p x e = let z : p ≡ 0 + p = omega arith in inr (p, z, e)
-in_either (y ∷ xs) ys zero x e = inl e
-in_either (y ∷ xs) ys (suc p) x e = ⊎_elim inl (λ h. inr (h.0, next h.0 h.1, h.2)) (in_either xs ys p x e)
-  where
-    next : (q : ℕ) → p ≡ length xs + q → suc p ≡ suc (length xs) + q
-    next q s = omega (arith, s)
-
 -- After the m-th struct, which stands at p, its functions stand.
 record IsFollowed (order : List Signature) (i : ℕ) (ss : List StructDecl) (m p : ℕ) : Type 0 where
   pub from : i ≤ m
@@ -171,7 +164,7 @@ module _ (i : ℕ) (s : StructDecl) (ss : List StructDecl) (before later : List 
 
   first_or_later : ((r : ℕ) → slice_get later r ≡ Some (Struct m) → IsFollowed later (i + 1) ss m r) → (slice_get before p ≡ Some (Struct m) → ⊥) → slice_get all p ≡ Some (Struct m)
       → IsFollowed all i (s ∷ ss) m p
-  first_or_later rest none e = ⊎_elim (λ h. absurd (none h)) (λ h. past h.0 h.1 (in_either own later h.0 (Struct m) h.2)) (in_either before (own ++ later) p (Struct m) e)
+  first_or_later rest none e = ⊎_elim (λ h. absurd (none h)) (λ h. past h.0 h.1 (get_either own later h.0 (Struct m) h.2)) (get_either before (own ++ later) p (Struct m) e)
     where
       past : (q : ℕ) → p ≡ length before + q → (slice_get own q ≡ Some (Struct m)) ⊎ ((r : ℕ) × (q ≡ length own + r) × (slice_get later r ≡ Some (Struct m))) → IsFollowed all i (s ∷ ss) m p
       past q a o = ⊎_elim (λ h. here q a h) (λ h. further q h.0 a h.1 (rest h.0 h.2)) o

@@ -8,10 +8,9 @@ use Rattle.swreq_word.specs.Least.{IsLeast}
 use Rattle.swreq_word.specs.Order.{WordLess}
 use Rattle.swreq_word.specs.Relations.Chain.{done, more}
 use Rattle.swreq_word.proofs.Comparing.{by_length}
-use Rattle.swreq_correspondence.specs.Equations.{UsableEquation}
+use Rattle.swreq_correspondence.specs.Equations.{UsableEquation, AreCongruent}
 use Rattle.swreq_correspondence.specs.Equations.Equation.{of_protocol, of_source}
 use Rattle.swreq_correspondence.specs.Equations.Link.{back, forth, there}
-use Rattle.swreq_correspondence.specs.Equations.{AreCongruent}
 use Rattle.swreq_correspondence.specs.Symbols.{Word}
 use Rattle.swreq_correspondence.specs.Worked.{first_param, second_param}
 use Rattle.swreq_correspondence.proofs.Orders.{none_less}

@@ -1,13 +1,12 @@
 use Rattle.std.proofs.Common.{◌≡◌, zero, suc, [], ◌∷◌, refl, ap, lit<, arith}
 use Rattle.swreq_param.specs.Terms.{self}
 use Rattle.swreq_derive.specs.Derivation.{AssociatedType, Derivable}
-use Rattle.swreq_derive.specs.Derivation.Derives.{generic, conf, assoc_conf}
+use Rattle.swreq_derive.specs.Derivation.Derives.{generic, conf, assoc_conf, assoc_name}
 use Rattle.swreq_derive.specs.Derivation.TermRequirement.{Conforms}
 use Rattle.swreq_derive.specs.Derivation.TermStatement.{IsValid, Requires}
-use Rattle.swreq_derive.specs.Derivation.Derives.{assoc_name}
 use Rattle.swreq_derive.specs.Derivation.Source.{SelfOf}
 use Rattle.swreq_derive.specs.Worked.{◌·◌, declared, of_one, param, τ_0_0, N, Missing, Next, Next_of_N, endless, endless_f}
-use Rattle.swreq_derive.proofs.Members.{only_member}
+use Rattle.swreq_orders.proofs.Members.{only_member}
 use Rattle.swreq_word.specs.declared.symbols.Symbol.TheVariants.{Proto}
 use Rattle.swreq_word.proofs.Chains.{at_once}
 use Rattle.swreq_word.proofs.Comparing.{by_length}

@@ -7,7 +7,7 @@ use Rattle.swreq_derive.specs.Reduced.{IsReduced, IsReducedTypeOf}
 use Rattle.swreq_derive.specs.Worked.{bound, declared, of_one, param, τ_0_0, P, Q, A, A_of_P, A_of_Q, shared, shared_f, shared_requirements}
 use Rattle.swreq_derive.proofs.Lengths.{HasNoSameType, reduced_first}
 use Rattle.swreq_derive.proofs.Listed.{none_listed}
-use Rattle.swreq_derive.proofs.Members.{each_member}
+use Rattle.swreq_orders.proofs.Members.{each_member}
 use Rattle.swreq_canonical.specs.Generators.{IsEarlier}
 use Rattle.swreq_canonical.proofs.FirstParam.{first_reduced}
 use Rattle.swreq_canonical.proofs.worked.one_name_in_two_protocols.Goals as goal

@@ -1,7 +1,17 @@
--- Elements of lists: of two lists one after the other, of a list with one more at its end, of the front of a list, and of a list with a
--- function applied to each.
-use Rattle.std.proofs.Common.{◌≡◌, ◌⊎◌, inl, inr, ℕ, zero, suc, ◌+◌, ◌<◌, List, [], ◌∷◌, ◌++◌, length, map, take, refl, ap, arith, Some}
+-- Elements of lists, by their places: of two lists one after the other, of a list with one more at its end or with one changed, of the
+-- front of a list, and of a list with a function applied to each.
+use Rattle.std.proofs.Common.{◌≡◌, ◌⊎◌, inl, inr, ℕ, zero, suc, ◌+◌, ◌<◌, List, [], ◌∷◌, ◌++◌, length, map, take, refl, sym, ap, ◌∙◌, arith, Some, Contains}
 use Rattle.std.specs.List.{slice_get}
+use Rattle.std.proofs.Math.ListN.{set}
+use Rattle.std.proofs.lemmas.Option.{slice_get_within, slice_get_read, get_or_from_slice_get}
+
+-- ---- an element, and where it stands
+
+pub get_contains : {A : Type 0} (xs : List A) (k : ℕ) (x : A) → slice_get xs k ≡ Some x → Contains xs x
+get_contains xs k x e = (k, slice_get_within xs k x e, get_or_from_slice_get xs k x x e)
+
+pub contains_get : {A : Type 0} (xs : List A) (x : A) → Contains xs x → (k : ℕ) × (slice_get xs k ≡ Some x)
+contains_get xs x (k, l, e) = (k, slice_get_read xs (length xs) k x refl l (sym e))
 
 pub there_is : {A : Type 0} (xs : List A) (k : ℕ) → k < length xs → (x : A) × (slice_get xs k ≡ Some x)
 there_is [] k l = absurd (omega (arith, l))
@@ -26,6 +36,17 @@ get_cases (z ∷ xs) y zero x e = inl e
 get_cases (z ∷ xs) y (suc k) x e = elim (get_cases xs y k x e) [ inl h ↦ inl h | inr h ↦ inr (ap suc h.0, h.1) ]
 
 -- an element of two lists, one after the other
+pub get_front : {A : Type 0} (xs ys : List A) (k : ℕ) (x : A) → k < length xs → slice_get (xs ++ ys) k ≡ Some x → slice_get xs k ≡ Some x
+get_front [] ys k x l e = absurd (omega (arith, l))
+get_front (y ∷ xs) ys zero x l e = e
+get_front (y ∷ xs) ys (suc k) x l e = get_front xs ys k x (omega (arith, l)) e
+
+pub get_after : {A : Type 0} (xs ys : List A) (k : ℕ) → slice_get (xs ++ ys) (length xs + k) ≡ slice_get ys k
+get_after [] ys k = let e : 0 + k ≡ k = omega arith in ap (slice_get ys) e
+get_after (x ∷ xs) ys k =
+    let e : length (x ∷ xs) + k ≡ suc (length xs + k) = omega arith in
+    ap (slice_get (x ∷ (xs ++ ys))) e ∙ get_after xs ys k
+
 pub get_right : {A : Type 0} (xs ys : List A) (k : ℕ) (x : A) → slice_get ys k ≡ Some x → (n : ℕ) × (slice_get (xs ++ ys) n ≡ Some x)
 get_right [] ys k x e = (k, e)
 get_right (y ∷ xs) ys k x e = let r = get_right xs ys k x e in (suc r.0, r.1)
@@ -65,3 +86,28 @@ pub get_of_map : {A B : Type 0} (f : A → B) (xs : List A) (k : ℕ) (y : B) �
 get_of_map f [] k y e = cc
 get_of_map f (x ∷ xs) zero y e = (x, refl, cc)
 get_of_map f (x ∷ xs) (suc k) y e = get_of_map f xs k y e
+
+-- ---- one element changed
+
+pub set_here : {A : Type 0} (xs : List A) (k : ℕ) (x : A) → k < length xs → slice_get (set xs k x) k ≡ Some x
+set_here [] k x l = absurd (omega (arith, l))
+set_here (y ∷ xs) zero x l = refl
+set_here (y ∷ xs) (suc k) x l = set_here xs k x (omega (arith, l))
+
+-- what stands elsewhere stays
+pub set_kept : {A : Type 0} (xs : List A) (k : ℕ) (x : A) (n : ℕ) (y : A) → slice_get xs n ≡ Some y
+    → (slice_get (set xs k x) n ≡ Some y) ⊎ ((n ≡ k) × (slice_get (set xs k x) n ≡ Some x))
+set_kept [] k x n y e = inl e
+set_kept (z ∷ xs) zero x zero y e = inr (refl, refl)
+set_kept (z ∷ xs) zero x (suc n) y e = inl e
+set_kept (z ∷ xs) (suc k) x zero y e = inl e
+set_kept (z ∷ xs) (suc k) x (suc n) y e = elim (set_kept xs k x n y e) [ inl h ↦ inl h | inr h ↦ inr (ap suc h.0, h.1) ]
+
+-- what stands somewhere stood there, or is new
+pub set_cases : {A : Type 0} (xs : List A) (k : ℕ) (x : A) (n : ℕ) (y : A) → slice_get (set xs k x) n ≡ Some y
+    → (slice_get xs n ≡ Some y) ⊎ ((n ≡ k) × (y ≡ x))
+set_cases [] k x n y e = inl e
+set_cases (z ∷ xs) zero x zero y e = inr (refl, cc)
+set_cases (z ∷ xs) zero x (suc n) y e = inl e
+set_cases (z ∷ xs) (suc k) x zero y e = inl e
+set_cases (z ∷ xs) (suc k) x (suc n) y e = elim (set_cases xs k x n y e) [ inl h ↦ inl h | inr h ↦ inr (ap suc h.0, h.1) ]
