@@ -1,5 +1,5 @@
 -- Numbers that are not equal.
-use Rattle.std.proofs.Common.{◌≡◌, ◌⊎◌, ℕ, ◌+◌, ◌<◌, ◌≤◌, arith}
+use Rattle.std.proofs.Common.{◌≡◌, ℕ, ◌+◌, ◌<◌, ◌≤◌, arith}
 
 pub below : (k m : ℕ) → k < m + 1 → (k ≡ m → ⊥) → k < m
 below k m h n = omega arith
