@@ -66,7 +66,8 @@ abbrev pub steps_of : Term → List Step
 steps_of (Generic p) = []
 steps_of (Member t s) = steps_of t ++ s ∷ []
 
-with_more : (t : Term) (xs : List Step) (s : Step) → with_steps t (xs ++ s ∷ []) ≡ Member (with_steps t xs) s
+-- one more step at the end
+pub with_more : (t : Term) (xs : List Step) (s : Step) → with_steps t (xs ++ s ∷ []) ≡ Member (with_steps t xs) s
 with_more t [] s = refl
 with_more t (x ∷ xs) s = with_more (Member t x) xs s
 

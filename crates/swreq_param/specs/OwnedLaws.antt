@@ -21,8 +21,7 @@ owned_equivalent = eq_by_cmp_equiv owned_total
 pub owned_partial : IsPartialOrder (eq_by_cmp owned_cmp) (as_partial_cmp owned_cmp)
 owned_partial = partial_order_from_agreeing_total owned_cmp owned_total (λ a b. refl) (λ a b. refl)
 
--- equal by the order means equal
-heads_same : (t : Term) (xs : List Step) → head (with_steps t xs) ≡ head t
+pub heads_same : (t : Term) (xs : List Step) → head (with_steps t xs) ≡ head t
 heads_same t [] = refl
 heads_same t (x ∷ xs) = heads_same (Member t x) xs
 
@@ -30,6 +29,7 @@ steps_same : (t : Term) (xs : List Step) → steps_of (with_steps t xs) ≡ step
 steps_same t [] = sym (append-nil (steps_of t))
 steps_same t (x ∷ xs) = steps_same (Member t x) xs ∙ append_assoc (steps_of t) (x ∷ []) xs
 
+-- equal by the order means equal
 pub same_as_term : (a b : TypeParam) → as_term a ≡ as_term b → a ≡ b
 same_as_term a b e =
     let h : a.head ≡ b.head = sym (heads_same (Generic a.head) a.steps) ∙ ap head e ∙ heads_same (Generic b.head) b.steps in
