@@ -8,7 +8,7 @@ mod words;
 
 pub use symbols::Symbol;
 pub use table::{WordId, WordTable};
-pub use words::{Word, compare};
+pub use words::{Word, are_same, compare};
 
 #[cfg(test)]
 mod tests;
