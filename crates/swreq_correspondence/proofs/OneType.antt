@@ -1,5 +1,5 @@
 -- A word has one type.
-use Rattle.std.proofs.Common.{◌≡◌, ℕ, ◌+◌, ◌≤◌, [], ◌∷◌, length, ap, ap₂, subst, sym, ◌∙◌, arith}
+use Rattle.std.proofs.Common.{◌≡◌, ◌+◌, ◌≤◌, [], ◌∷◌, length, ap, ap₂, subst, sym, ◌∙◌, arith}
 use Rattle.swreq_param.specs.Terms.{Term, member_count}
 use Rattle.swreq_param.specs.Terms.Term.{Generic, Member}
 use Rattle.swreq_param.specs.declared.ids.AssocId.{AssocId}
@@ -9,20 +9,12 @@ use Rattle.swreq_param.specs.declared.ids.Step.TheVariants.{Bound, Name}
 use Rattle.swreq_derive.specs.Derivation.{Source, TermFacts}
 use Rattle.swreq_word.specs.declared.symbols.Symbol.TheVariants.{Member as MemberSymbol, Param as ParamSymbol}
 use Rattle.swreq_orders.proofs.Elements.{same_heads, same_tails}
+use Rattle.swreq_word.proofs.SameSymbols.{same_members, same_params}
 use Rattle.swreq_correspondence.specs.Symbols.{Symbols, Word, name_of}
 use Rattle.swreq_correspondence.specs.Types.{BeginsAs, IsFirstFor, IsTypeOf}
 
 pub one_param : {g h : ParamId} → ParamSymbol g.depth g.index ≡ ParamSymbol h.depth h.index → g ≡ h
-one_param {g = g} {h = h} e = λ j. record { depth = depths e j; index = indices e j }
-  where
-    depths : ParamSymbol g.depth g.index ≡ ParamSymbol h.depth h.index → g.depth ≡ h.depth
-    depths e = cc
-
-    indices : ParamSymbol g.depth g.index ≡ ParamSymbol h.depth h.index → g.index ≡ h.index
-    indices e = cc
-
-pub one_rank : {k j : ℕ} → MemberSymbol k ≡ MemberSymbol j → k ≡ j
-one_rank e = cc
+one_param e = let (d, i) = same_params e in λ j. record { depth = d j; index = i j }
 
 pub one_assoc : {d e : AssocId} → d.rank ≡ e.rank → d ≡ e
 one_assoc e = λ j. record { rank = e j }
@@ -49,7 +41,7 @@ module _ (m : Symbols) (f : TermFacts) (s : Source) where
   both_typed (Member t (Bound d)) (Member z (Name a)) rest after u n h k = absurd k
   both_typed (Member t (Bound d)) (Member z (Bound e)) rest after u n (p, c, i, h) (q, c', i', k) =
       let r = both_typed t z (MemberSymbol p ∷ rest) (MemberSymbol q ∷ after) u (omega arith) h k in
-      let o : p ≡ q = one_rank (same_heads r.1) in
+      let o : p ≡ q = same_members (same_heads r.1) in
       let j : IsFirstFor f s t (name_of m p) e =
       subst (λ x. IsFirstFor f s t x e) (ap (name_of m) (sym o)) (subst (λ x. IsFirstFor f s x (name_of m q) e) (sym r.0) i') in
       (ap₂ Member r.0 (ap Bound (one_first t (name_of m p) d e i j)), same_tails r.1)
