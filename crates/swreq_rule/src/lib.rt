@@ -13,6 +13,3 @@ pub use list::RuleList;
 pub use overlap::{contains, overlaps};
 pub use reduction::{Redex, first_redex, take_step};
 pub use rules::{Birth, Place, Rule};
-
-#[cfg(test)]
-mod tests;

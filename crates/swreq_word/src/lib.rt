@@ -9,6 +9,3 @@ mod words;
 pub use symbols::Symbol;
 pub use table::{WordId, WordTable};
 pub use words::{Word, are_same, compare};
-
-#[cfg(test)]
-mod tests;
