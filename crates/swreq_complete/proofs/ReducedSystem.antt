@@ -1,7 +1,8 @@
 -- The reduced system of the congruence of some rules.
-use Rattle.std.proofs.Common.{◌≡◌, ℕ, ◌<◌, inl, inr, refl, sym, ◌∙◌, ap, subst, arith, List, [], ◌∷◌, append-nil, length, length-append, take, Some}
+use Rattle.std.proofs.Common.{◌≡◌, ℕ, ◌<◌, inl, inr, sym, ◌∙◌, ap, subst, arith, List, [], append-nil, length, length-append, take, Some}
 use Rattle.std.specs.List.{slice_get}
 use Rattle.std.proofs.lemmas.Bool.{cases_lt}
+use Rattle.std.proofs.lemmas.List.{nil_from_length}
 use Rattle.swreq_word.specs.declared.symbols.Symbol.{Symbol}
 use Rattle.swreq_word.specs.Order.{WordLess}
 use Rattle.swreq_word.specs.Relations.{Linked, IsLocallyConfluent, IsIrreducible}
@@ -51,15 +52,11 @@ module _ (rules : List Rule) (local : IsLocallyConfluent (Step rules)) where
             t.is_rule.0,
             t.rule,
             t.is_rule.2,
-            (let b : t.at.before ≡ [] = empty t.at.before (omega (arith, whole, l)) in let a : t.at.after ≡ [] = empty t.at.after (omega (arith, whole, l)) in
+            (let b : t.at.before ≡ [] = nil_from_length t.at.before (omega (arith, whole, l)) in let a : t.at.after ≡ [] = nil_from_length t.at.after (omega (arith, whole, l)) in
                 sym (t.at.source ∙ rw (b, a) (append-nil t.rule.left))),
           )
         ])
   ]
-    where
-      empty : {A : Type 0} (xs : List A) → length xs ≡ 0 → xs ≡ []
-      empty [] h = refl
-      empty (x ∷ xs) h = absurd (omega (arith, h))
 
   pub is_reduced : (found : List Rule) → Found rules found → IsReducedSystem (Linked (Step rules)) found
   is_reduced found f = record {

@@ -1,20 +1,16 @@
 -- Left sides, sorted, and the rules that are found by them.
-use Rattle.std.proofs.Common.{◌≡◌, ◌⊎◌, inl, inr, ℕ, suc, ◌+◌, ◌<◌, ◌≤◌, false, true, List, [], ◌∷◌, ◌++◌, length, get_or, refl, sym, ◌∙◌, ap, subst, arith, Some, Result, Ok, Err, OnOk, true≢false}
+use Rattle.std.proofs.Common.{◌≡◌, ◌⊎◌, inl, inr, ℕ, suc, ◌+◌, ◌<◌, ◌≤◌, false, List, [], ◌∷◌, ◌++◌, length, get_or, sym, ◌∙◌, ap, subst, arith, Some, true≢false}
 use Rattle.std.specs.Borrow.{Bor}
 use Rattle.std.specs.List.{slice_get, Contains}
 use Rattle.std.specs.List.Sorted as sorts
 use Rattle.std.specs.Ordering.{is_lt, nat_cmp, ordering_then}
-use Rattle.std.specs.declared.cmp.Ordering.TheVariants.{Less, Equal, Greater}
 use Rattle.std.proofs.lemmas.Bool.{cases_eq}
 use Rattle.std.proofs.lemmas.List.Sorted.{Contains-permutation, IsPermutation-sym}
 use Rattle.std.proofs.lemmas.Option.{slice_get_within, slice_get-get_or, get_or_from_slice_get}
 use Rattle.swreq_word.specs.declared.symbols.Symbol.{Symbol}
-use Rattle.swreq_word.specs.Order.{word_cmp, WordLess}
+use Rattle.swreq_word.specs.Order.{WordLess}
 use Rattle.swreq_word.specs.Relations.{IsIrreducible}
-use Rattle.swreq_word.proofs.Comparing.{trichotomy, less_trans, not_below_itself}
-use Rattle.swreq_word.specs.OrderLaws.{word_exact, word_total}
-use Rattle.std.specs.Bool.{Decides}
-use Rattle.std.proofs.lemmas.Cmp.{tied_itself}
+use Rattle.swreq_word.proofs.Comparing.{trichotomy, less_trans}
 use Rattle.swreq_orders.proofs.Elements.{get_left, get_last, get_cases}
 use Rattle.swreq_rule.specs.declared.rules.Rule.{Rule}
 use Rattle.swreq_rule.specs.Steps.{Step}
@@ -172,23 +168,3 @@ reduced_rule rules keys of n key e rule new f left right birth =
 pub key_within : (rules : List Rule) (keys : List Key) → AreKeys rules keys → (n : ℕ) (key : Key) → slice_get keys n ≡ Some key
     → key.1 < length rules
 key_within rules keys of n key e = let r = of.each n key e in slice_get_within rules key.1 r.0 r.1
-
--- what the comparison of two left sides tells
-pub equal_sides : (u v a b : List Symbol) → Equal ≡ word_cmp u v → u ≡ a → v ≡ b → Decides true (a ≡ b)
-equal_sides u v a b h e f = ((λ t. sym e ∙ word_exact u v (sym h) ∙ f), (λ t. refl))
-
-pub less_sides : (u v a b : List Symbol) → Less ≡ word_cmp u v → u ≡ a → v ≡ b → Decides false (a ≡ b)
-less_sides u v a b h e f = (
-  (λ t. absurd (true≢false (sym t))),
-  (λ s. absurd (not_below_itself v (subst (λ x. WordLess x v) (e ∙ s ∙ sym f) (sym h)))),
-)
-
-pub greater_sides : (u v a b : List Symbol) → Greater ≡ word_cmp u v → u ≡ a → v ≡ b → Decides false (a ≡ b)
-greater_sides u v a b h e f = (
-  (λ t. absurd (true≢false (sym t))),
-  (λ s. (let t = tied_itself word_total v in let g : word_cmp v v ≡ Greater = subst (λ x. word_cmp x v ≡ Greater) (e ∙ s ∙ sym f) (sym h) in cc)),
-)
-
-pub on_ok : {A E P Q : Type 0} (r : Result A E) → (P → Q) → OnOk r P → OnOk r Q
-on_ok (Ok x) f h = f h
-on_ok (Err e) f h = h

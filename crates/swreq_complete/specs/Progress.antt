@@ -10,7 +10,8 @@ use Rattle.swreq_rule.specs.declared.rules.Birth.TheVariants.{Given, Pair}
 use Rattle.swreq_rule.specs.Reduction.{Reduces}
 use Rattle.swreq_pair.specs.Pairs.{HasPair, IsPair}
 use Rattle.swreq_complete.specs.Moments.{HasSides, greater_number}
-use Rattle.swreq_complete.specs.Settled.{IsOriented, Settled}
+use Rattle.swreq_rule.specs.Oriented.{IsOriented}
+use Rattle.swreq_complete.specs.Settled.{Settled}
 use Rattle.swreq_complete.specs.Reached.{IsBorn}
 
 -- what settling a moment with these two sides does to the rules so far

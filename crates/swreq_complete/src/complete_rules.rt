@@ -2,6 +2,7 @@
 
 ghost use Rattle.std.specs.Prelude.{◌≡◌, ◌⊎◌, ◌≤◌, [], IfOk, vec_len, vec_capacity};
 ghost use Rattle.swreq_word.specs.Relations.{Linked};
+ghost use Rattle.swreq_rule.specs.Reduction.{NoneEarlier};
 ghost use Rattle.swreq_rule.specs.Steps.{Step};
 ghost use Rattle.swreq_complete.specs.declared.limit.Failed.TheVariants.{Limit, Memory};
 ghost use Rattle.swreq_complete.specs.Answers.{IsAnswer, IsOnlyAnswer};
@@ -16,7 +17,6 @@ use crate::completion::complete;
 use crate::indexed::Indexed;
 use crate::limit::{Failed, Limits, Stop, Which};
 use crate::reduced::find;
-use crate::settling::tell;
 use crate::task::Task;
 use std::alloc::{AllocError, Global};
 use std::marker::Model;
@@ -76,7 +76,19 @@ impl CompleteRules {
         ensures no_longer { vec_len w.new ≤ vec_len w.old }
         ensures room { vec_capacity w.new ≡ vec_capacity w.old }
     {
-        self.list.reduce(w);
+        self.reduce_from(w, 0);
+    }
+
+    /// Reduces the word, where no left side of a rule begins before `from`, to the least of all words congruent to it. The word never
+    /// grows, and keeps its capacity.
+    pub fn reduce_from(&self, w: &mut Vec<Symbol>, from: usize)
+        requires { NoneEarlier self.now w.old.items from }
+        ensures congruent { Linked (Step self.now) w.old.items w.new.items }
+        ensures least { IsLeast (Linked (Step self.now)) w.new.items }
+        ensures no_longer { vec_len w.new ≤ vec_len w.old }
+        ensures room { vec_capacity w.new ≡ vec_capacity w.old }
+    {
+        self.list.reduce_from(w, from);
     }
 
     /// The same rules once more.
@@ -104,9 +116,7 @@ fn into_seq(alloc: Global, list: RuleList) -> Result<Seq<Rule>, AllocError>
     let mut list = list;
     let mut rules: Vec<Rule> = Vec::with_capacity(alloc, list.rules().len())?;
     while let Some(rule) = list.pop() {
-        if let Err(_) = rules.push(rule) {
-            return Err(AllocError);
-        }
+        rules.push(rule)?;
     }
     rules.reverse();
     Ok(Seq::new(rules))
@@ -145,9 +155,7 @@ pub fn extend<W: Watch>(
     let mut list = base.list;
     let count = list.rules().len();
     let start = Event::Start { base: count as u32 };
-    if let Err(_) = tell(watch, &start) {
-        return Err(Failed::Memory);
-    }
+    watch.tell(&start)?;
     let task = Task {
         base: count,
         given,

@@ -31,13 +31,9 @@ fn settle_place<W: Watch>(
         (λ _. DoneWithin limits (λ t. SettlesPlace rules.old t place) rules.old rules.new (W.told watch.old) (W.told watch.new))
         (λ s. StoppedAt limits (λ t. SettlesPlace rules.old t place) rules.old rules.new (W.told watch.old) (W.told watch.new) s) }
 {
-    match write_sides(rules.rules(), place, &mut sides.left, &mut sides.right) {
-        Err(_) => Err(Stop::Memory),
-        Ok(()) => {
-            let birth = Birth::Pair(place.i, place.j, place.at);
-            settle_sides(rules, limits, watch, birth, sides)
-        }
-    }
+    write_sides(rules.rules(), place, &mut sides.left, &mut sides.right)?;
+    let birth = Birth::Pair(place.i, place.j, place.at);
+    settle_sides(rules, limits, watch, birth, sides)
 }
 
 // Finds all places of pairs with this greater number, in order.
@@ -47,13 +43,10 @@ fn find_places(rules: &Indexed, greater: u32, found: &mut Found) -> Result<(), S
 {
     let all = rules.rules();
     let rule = &all[greater as usize - 1];
-    match rules
+    rules
         .index()
-        .find_overlaps(rule.left.symbols(), greater, found)
-    {
-        Ok(()) => Ok(()),
-        Err(_) => Err(Stop::Memory),
-    }
+        .find_overlaps(rule.left.symbols(), greater, found)?;
+    Ok(())
 }
 
 // The place that stands there.

@@ -76,15 +76,16 @@ fn reduce_once(
     }
 }
 
-// Reduces the word by the rules.
-fn reduce_by(rules: &[Rule], trie: &Trie, w: &mut Vec<Symbol>)
-    requires { IsIndexOf trie.now rules.now }
+// Reduces the word by the rules, where no left side begins before `from`.
+fn reduce_by(rules: &[Rule], trie: &Trie, w: &mut Vec<Symbol>, from: usize)
+    requires index { IsIndexOf trie.now rules.now }
+    requires earlier { NoneEarlier rules.now w.old.items from }
     ensures reduced { Reduces rules.now w.old.items w.new.items }
     ensures no_longer { vec_len w.new ≤ vec_len w.old }
     ensures room { vec_capacity w.new ≡ vec_capacity w.old }
 {
     let longest = trie.longest();
-    let mut from = 0;
+    let mut from = from;
     'steps: while let Some(next) = reduce_once(rules, trie, w, from, longest) {
         from = next;
     }
@@ -183,6 +184,16 @@ impl Indexed {
         ensures no_longer { vec_len w.new ≤ vec_len w.old }
         ensures room { vec_capacity w.new ≡ vec_capacity w.old }
     {
-        reduce_by(self.list.rules(), &self.trie, w);
+        self.reduce_from(w, 0);
+    }
+
+    /// Reduces the word, where no left side begins before `from`. It never grows, and keeps its capacity.
+    pub fn reduce_from(&self, w: &mut Vec<Symbol>, from: usize)
+        requires { NoneEarlier self.now w.old.items from }
+        ensures reduced { Reduces self.now w.old.items w.new.items }
+        ensures no_longer { vec_len w.new ≤ vec_len w.old }
+        ensures room { vec_capacity w.new ≡ vec_capacity w.old }
+    {
+        reduce_by(self.list.rules(), &self.trie, w, from);
     }
 }

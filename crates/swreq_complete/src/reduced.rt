@@ -11,9 +11,8 @@ ghost use Rattle.swreq_complete.specs.Search.{AreKeys, AreKeysBelow, Found, Foun
 
 use crate::indexed::Indexed;
 use std::alloc::{AllocError, Global};
-use std::cmp::Ordering;
 use swreq_rule::Rule;
-use swreq_word::{Symbol, Word, compare};
+use swreq_word::{Symbol, Word, are_same};
 
 // A left side where it stands, with the place of its rule.
 type Key<'a> = (&'a Word, usize);
@@ -73,11 +72,7 @@ fn key_at<'k, 'a>(keys: &'k [Key<'a>], n: usize) -> &'k Key<'a>
 fn is_same(a: &Key, b: &Key) -> bool
     ensures { Decides result (a.now.0.now ≡ b.now.0.now) }
 {
-    match compare(a.0.symbols(), b.0.symbols()) {
-        Ordering::Less => false,
-        Ordering::Equal => true,
-        Ordering::Greater => false,
-    }
+    are_same(a.0.symbols(), b.0.symbols())
 }
 
 // Whether the left side differs from the one before it.
@@ -117,10 +112,8 @@ fn reduced(alloc: Global, rules: &Indexed, rule: &Rule) -> Result<Rule, AllocErr
 fn put(found: &mut Vec<Rule>, rule: Rule) -> Result<(), AllocError>
     ensures { OnOk result (found.new.items ≡ found.old.items ++ rule ∷ []) }
 {
-    match found.push(rule) {
-        Ok(()) => Ok(()),
-        Err(_) => Err(AllocError),
-    }
+    found.push(rule)?;
+    Ok(())
 }
 
 // Adds the rule of one key more, if its left side differs from the one before it.

@@ -1,13 +1,12 @@
 //! The moments of a completion, settled one by one: first the equations.
 
 ghost use Rattle.std.specs.Prelude.{◌≡◌, ◌-◌, ◌<◌, ◌^◌, ◌++◌, ◌∷◌, [], length, IfOk, OnOk, MatchResult, MatchOption};
-ghost use Rattle.swreq_word.specs.Order.{WordLess};
 ghost use Rattle.swreq_rule.specs.declared.rules.Birth.TheVariants.{Given};
 ghost use Rattle.swreq_rule.specs.declared.rules.Rule.{Rule};
+ghost use Rattle.swreq_rule.specs.Oriented.{IsOriented};
 ghost use Rattle.swreq_watch.specs.declared.events.Event.TheVariants.{Born};
 ghost use Rattle.swreq_watch.specs.Told.{GrewBy};
 ghost use Rattle.swreq_complete.specs.declared.limit.Stop.TheVariants.{Memory};
-ghost use Rattle.swreq_complete.specs.Settled.{IsOriented};
 ghost use Rattle.swreq_complete.specs.Limits.{AreInRange};
 ghost use Rattle.swreq_complete.specs.Progress.{GivenBelow, Settles};
 ghost use Rattle.swreq_complete.specs.Settling.{DoneWithin, HasCome, HasStopped, StoppedAt};
@@ -16,20 +15,9 @@ use crate::indexed::Indexed;
 use crate::limit::{Limits, Stop, passed};
 use crate::task::{Sides, Task};
 use std::alloc::AllocError;
-use std::cmp::Ordering;
-use swreq_rule::{Birth, Rule};
+use swreq_rule::{Birth, Rule, oriented};
 use swreq_watch::{Event, Watch};
-use swreq_word::{Symbol, Word, compare};
-
-// The rule with these sides and this birth.
-fn made(left: &Vec<Symbol>, right: &Vec<Symbol>, birth: Birth) -> Result<Rule, AllocError>
-    requires { WordLess right.now.items left.now.items }
-    ensures { IfOk result (λ rule. (rule.left ≡ left.now.items) × (rule.right ≡ right.now.items) × (rule.birth ≡ birth)) }
-{
-    let left = left.clone()?;
-    let right = right.clone()?;
-    Ok(Rule::new(Word::new(left), Word::new(right), birth))
-}
+use swreq_word::{Word, are_same};
 
 // The rule whose left side is the greater of the two sides, or none where they are equal.
 fn rule_of(sides: &Sides, birth: Birth) -> Result<Option<Rule>, AllocError>
@@ -37,17 +25,12 @@ fn rule_of(sides: &Sides, birth: Birth) -> Result<Option<Rule>, AllocError>
         (sides.now.left.items ≡ sides.now.right.items)
         (λ rule. (rule.birth ≡ birth) × IsOriented rule sides.now.left.items sides.now.right.items)) }
 {
-    match compare(&sides.left, &sides.right) {
-        Ordering::Equal => Ok(None),
-        Ordering::Less => {
-            let rule = made(&sides.right, &sides.left, birth)?;
-            Ok(Some(rule))
-        }
-        Ordering::Greater => {
-            let rule = made(&sides.left, &sides.right, birth)?;
-            Ok(Some(rule))
-        }
+    if are_same(&sides.left, &sides.right) {
+        return Ok(None);
     }
+    let left = sides.left.clone()?;
+    let right = sides.right.clone()?;
+    Ok(oriented(Word::new(left), Word::new(right), birth))
 }
 
 // Tells the event.
@@ -56,10 +39,8 @@ pub(crate) fn tell<W: Watch>(watch: &mut W, event: &Event) -> Result<(), Stop>
         (λ _. GrewBy (W.told watch.old) (W.told watch.new) (event.now ∷ []))
         (λ s. (s ≡ Memory) × (W.told watch.new ≡ W.told watch.old)) }
 {
-    match watch.tell(event) {
-        Ok(()) => Ok(()),
-        Err(_) => Err(Stop::Memory),
-    }
+    watch.tell(event)?;
+    Ok(())
 }
 
 // Puts the rule of the event last.
@@ -71,10 +52,10 @@ fn keep(rules: &mut Indexed, event: Event) -> Result<(), Stop>
 {
     match event {
         Event::Start { .. } => Ok(()),
-        Event::Born { rule } => match rules.push(rule) {
-            Ok(()) => Ok(()),
-            Err(_) => Err(Stop::Memory),
-        },
+        Event::Born { rule } => {
+            rules.push(rule)?;
+            Ok(())
+        }
     }
 }
 
@@ -115,10 +96,9 @@ pub(crate) fn settle_sides<W: Watch>(
 {
     rules.reduce(&mut sides.left);
     rules.reduce(&mut sides.right);
-    match rule_of(sides, birth) {
-        Err(_) => Err(Stop::Memory),
-        Ok(None) => Ok(()),
-        Ok(Some(rule)) => bear(rules, limits, watch, rule),
+    match rule_of(sides, birth)? {
+        None => Ok(()),
+        Some(rule) => bear(rules, limits, watch, rule),
     }
 }
 
@@ -136,10 +116,8 @@ fn settle_equation<W: Watch>(
         (λ _. DoneWithin limits (λ t. Settles rules.old t (Given number) equation.now.0 equation.now.1) rules.old rules.new (W.told watch.old) (W.told watch.new))
         (λ s. StoppedAt limits (λ t. Settles rules.old t (Given number) equation.now.0 equation.now.1) rules.old rules.new (W.told watch.old) (W.told watch.new) s) }
 {
-    match sides.set(equation.0.symbols(), equation.1.symbols()) {
-        Ok(()) => settle_sides(rules, limits, watch, Birth::Given(number), sides),
-        Err(_) => Err(Stop::Memory),
-    }
+    sides.set(equation.0.symbols(), equation.1.symbols())?;
+    settle_sides(rules, limits, watch, Birth::Given(number), sides)
 }
 
 // Settles the equations in order.

@@ -1,7 +1,6 @@
 -- The word of a pair, with the left sides of both its rules at their places.
-use Rattle.std.proofs.Common.{◌≡◌, ℕ, ◌-◌, ◌≤◌, inl, inr, refl, sym, ◌∙◌, ap, subst, arith, not, List, [], ◌∷◌, ◌++◌, append_assoc, append-nil, length, length-drop, drop, min}
-use Rattle.std.proofs.lemmas.Bool.{cases_lt}
-use Rattle.std.proofs.lemmas.List.{append_cancel_left}
+use Rattle.std.proofs.Common.{◌≡◌, ℕ, ◌-◌, ◌≤◌, inl, inr, refl, sym, ◌∙◌, ap, subst, arith, not, List, [], ◌++◌, append_assoc, append-nil, length, length-drop, drop}
+use Rattle.std.proofs.lemmas.List.{append_cancel_left, nil_from_length}
 use Rattle.swreq_word.specs.declared.symbols.Symbol.{Symbol}
 use Rattle.swreq_word.proofs.Cuts.{same_cut}
 use Rattle.swreq_rule.specs.declared.rules.Rule.{Rule}
@@ -40,10 +39,6 @@ side_is rules step number at rule w v side is p s =
     let after : step.after ≡ p.after = append_cancel_left l.rule.left step.after p.after (c.1 ∙ ap (λ x. x ++ p.after) (sym left)) in
     target ∙ ap (λ x. x ++ (l.rule.right ++ step.after)) c.0 ∙ ap (λ x. p.before ++ (l.rule.right ++ x)) after ∙ ap (λ (r : Rule). p.before ++ (r.right ++ p.after)) same ∙ sym p.target
 
-empty_by_length : {A : Type 0} (xs : List A) → length xs ≡ 0 → xs ≡ []
-empty_by_length [] h = refl
-empty_by_length (x ∷ xs) h = absurd (omega (arith, h))
-
 module _ (first second : Rule) (at : ℕ) (left right : List Symbol) where
   abbrev word : List Symbol
   word = first.left ++ drop (length first.left - at) second.left
@@ -67,7 +62,7 @@ module _ (first second : Rule) (at : ℕ) (left right : List Symbol) where
   of_containment p =
       let o = p.containment in
       let within = containment_within first.left second.left at o in
-      let none : drop (length first.left - at) second.left ≡ [] = empty_by_length _ (rw length-drop (omega (arith, within))) in
+      let none : drop (length first.left - at) second.left ≡ [] = nil_from_length _ (rw length-drop (omega (arith, within))) in
       let whole : word ≡ first.left = rw none (append-nil first.left) in (
         record { before = []; after = drop (length first.left - at) second.left; source = refl; target = p.left_is ∙ sym (rw none (append-nil first.right)); at_is = refl },
         record { before = o.before; after = o.after; source = whole ∙ o.first_is; target = p.right_is; at_is = o.at_is },
@@ -90,13 +85,4 @@ pub place_within : (rules : List Rule) (place : Place) (left right : List Symbol
 place_within rules place left right p = elim p.kind [
   | inl o ↦ (let h = overlap_within p.first.left p.second.left place.at o.overlap in let a = h.1 in omega (arith, a))
   | inr o ↦ (let h = containment_within p.first.left p.second.left place.at o.1.containment in omega (arith, h))
-]
-
--- what is behind so many symbols, where there may be fewer
-pub drop_min : {A : Type 0} (xs : List A) (n : ℕ) → drop (min n (length xs)) xs ≡ drop n xs
-drop_min xs n = elim (cases_lt (length xs) n) [
-  | inl l ↦ (
-      let e : min n (length xs) ≡ length xs = omega arith in
-      rw e (empty_by_length _ (rw length-drop (omega arith)) ∙ sym (empty_by_length _ (rw length-drop (omega (arith, l))))))
-  | inr l ↦ (let e : min n (length xs) ≡ n = omega (arith, l) in rw e refl)
 ]

@@ -1,7 +1,6 @@
 //! The loop that leads from the word of a pair through its one side and back through the other.
 
 ghost use Rattle.std.specs.Prelude.{◌≡◌, ◌-◌, ◌<◌, ◌^◌, List, length, ⊤, IfOk, MatchOption};
-ghost use Rattle.std.specs.Bool.{Decides};
 ghost use Rattle.swreq_word.specs.declared.symbols.Symbol.{Symbol};
 ghost use Rattle.swreq_pair.specs.Pairs.{HasPair};
 ghost use Rattle.swreq_pair.specs.PairWords.{IsPairWord};
@@ -13,7 +12,7 @@ use std::alloc::{AllocError, Global};
 use swreq_path::{Loop, Path, append_copies, compose, invert, path_of, step_at};
 use swreq_rule::{Place, Redex, Rule};
 use swreq_text::Seq;
-use swreq_word::{Symbol, Word};
+use swreq_word::{Symbol, Word, are_same};
 
 // The word of the pair.
 fn pair_word(alloc: Global, rules: &[Rule], place: Place) -> Result<Vec<Symbol>, AllocError>
@@ -56,13 +55,6 @@ fn path_through(
     })
 }
 
-// Whether the two words are equal.
-fn is_same(a: &Word, b: &Word) -> bool
-    ensures { Decides result (a.now ≡ b.now) }
-{
-    a == b
-}
-
 /// The loop of the pair of two rules at the place: from the word of the pair by the one rule through the one side to the word to which
 /// both sides reduce, and through the other side back. None where the two sides reduce to two words.
 pub fn loop_of_pair(alloc: Global, rules: &[Rule], place: Place) -> Result<Option<Loop>, AllocError>
@@ -86,7 +78,7 @@ pub fn loop_of_pair(alloc: Global, rules: &[Rule], place: Place) -> Result<Optio
     let back = path_through(alloc, rules, &word, second)?;
     let end = out.target(alloc, rules)?;
     let other_end = back.target(alloc, rules)?;
-    if !is_same(&end, &other_end) {
+    if !are_same(end.symbols(), other_end.symbols()) {
         return Ok(None);
     }
     let home = invert(alloc, rules, &back)?;

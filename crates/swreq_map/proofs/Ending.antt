@@ -1,7 +1,8 @@
 -- A symbol that vanishes behind an irreducible word ends a left side, and before it stands an ending of the word.
-use Rattle.std.proofs.Common.{◌≡◌, inl, inr, ℕ, suc, ◌+◌, ◌-◌, ◌≤◌, Bool, List, [], ◌∷◌, ◌++◌, append_assoc, append-nil, length, length-append, drop, refl, sym, ◌∙◌, ap, subst, arith, Some}
+use Rattle.std.proofs.Common.{◌≡◌, inl, inr, ℕ, suc, ◌-◌, ◌≤◌, Bool, List, [], ◌∷◌, ◌++◌, append_assoc, append-nil, length, length-append, drop, refl, sym, ◌∙◌, ap, subst, arith, Some}
 use Rattle.std.specs.List.{slice_get}
 use Rattle.std.specs.Bool.{Decides}
+use Rattle.std.proofs.lemmas.List.{nil_from_length}
 use Rattle.swreq_word.specs.declared.symbols.Symbol.{Symbol}
 use Rattle.swreq_word.specs.Relations.{Linked, IsIrreducible}
 use Rattle.swreq_word.proofs.Chains.{linked_on, linked_back}
@@ -49,14 +50,10 @@ module _ (rules : List Rule) where
         let some = greater_some rule.right rule.left rule.down in
         elim (cut u (s ∷ []) before rule.left e) [
           | left q f g ↦ (let size = simp length-append at (ap length g) in
-              let none : q ≡ [] = empty q (omega (arith, size, some)) in
+              let none : q ≡ [] = nil_from_length q (omega (arith, size, some)) in
               (length u, omega arith, sym (subst (λ x. s ∷ [] ≡ x ++ rule.left) none g) ∙ sym (ap (λ x. x ++ s ∷ []) (cut_rest u u [] (sym (append-nil u))))))
           | right y q f g ↦ (length before, (let size = simp length-append at (ap length f) in omega (arith, size)), g ∙ ap (λ x. x ++ s ∷ []) (sym (cut_rest u before (y ∷ q) f)))
         ]
-      where
-        empty : {A : Type 0} (xs : List A) → length xs ≡ 0 → xs ≡ []
-        empty [] h = refl
-        empty (x ∷ xs) h = absurd (omega (arith, h))
 
     -- one that ends before the word with one symbol more does
     not_before : (s : Symbol) (rule : Rule) (n : ℕ) → slice_get rules n ≡ Some rule → (before after : List Symbol) (x : Symbol)

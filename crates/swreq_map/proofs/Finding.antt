@@ -1,32 +1,23 @@
 -- The properties that are found, and that there are no others.
-use Rattle.std.proofs.Common.{◌≡◌, ◌↔◌, inl, inr, ℕ, zero, suc, ◌<◌, ◌≤◌, ◌==◌, List, [], ◌∷◌, ◌++◌, length, drop, take, sym, ◌∙◌, subst, arith, Some, Contains}
+use Rattle.std.proofs.Common.{◌≡◌, ◌↔◌, inl, inr, ℕ, suc, ◌<◌, ◌≤◌, ◌==◌, List, [], ◌∷◌, ◌++◌, length, drop, take, sym, ◌∙◌, subst, arith, Some, Contains}
 use Rattle.std.specs.List.{slice_get, dedup}
 use Rattle.std.specs.List.Sorted.{IsPermutation}
 use Rattle.std.proofs.lemmas.List.Elements.{Contains-append_left, Contains-append_right, Contains-append_cases}
 use Rattle.std.proofs.lemmas.List.Kept.{Contains-dedup_nat, Contains-from_dedup}
 use Rattle.std.proofs.lemmas.List.Sorted.{Contains-permutation, IsPermutation-sym}
-use Rattle.std.proofs.lemmas.Option.{slice_get_within, get_or_from_slice_get}
 use Rattle.swreq_word.specs.declared.symbols.Symbol.{Symbol}
 use Rattle.swreq_word.specs.declared.symbols.Symbol.TheVariants.{Proto}
 use Rattle.swreq_word.specs.Least.{IsLeast}
 use Rattle.swreq_word.specs.Relations.{Linked}
-use Rattle.swreq_orders.proofs.Elements.{take_one}
+use Rattle.swreq_word.proofs.SameSymbols.{same_protocols}
+use Rattle.swreq_orders.proofs.Elements.{get_contains, take_one}
+use Rattle.swreq_orders.proofs.Members.{only_member}
 use Rattle.swreq_rule.specs.declared.rules.Rule.{Rule}
 use Rattle.swreq_rule.specs.Steps.{Step}
 use Rattle.swreq_complete.specs.Complete.{IsComplete}
 use Rattle.swreq_map.specs.Follows.{AreConforming, Follows, IsMapOf, MapView}
 use Rattle.swreq_map.specs.Properties.{IsProperty, Vanishes}
 use Rattle.swreq_map.proofs.Ending.{ends_left_side}
-
-pub among : {A : Type 0} (xs : List A) (k : ℕ) (x : A) → slice_get xs k ≡ Some x → Contains xs x
-among xs k x e = (k, slice_get_within xs k x e, get_or_from_slice_get xs k x x e)
-
-only : {A : Type 0} (x y : A) → Contains (x ∷ []) y → y ≡ x
-only x y (zero, l, e) = sym e
-only x y (suc k, l, e) = absurd (omega (arith, l))
-
-protocols_same : (a b : ℕ) → Proto a ≡ Proto b → a ≡ b
-protocols_same a b e = cc
 
 -- ---- protocols that vanish behind the word
 
@@ -41,13 +32,13 @@ module _ (rules : List Rule) (protocols : ℕ) (u symbols : List Symbol) (k : �
   conforming_more p is below vanishes = subst (λ ys. AreConforming rules protocols u ys (found ++ p ∷ [])) (sym more) (λ q. (
     λ c. elim (Contains-append_cases found (p ∷ []) q c) [
       | inl i ↦ (let s = (so_far q).0 i in (Contains-append_left (take k symbols) (x ∷ []) (Proto q) s.0, s.1, s.2))
-      | inr i ↦ (let e = only p q i in
+      | inr i ↦ (let e = only_member p q i in
           subst (λ r. Contains (take k symbols ++ x ∷ []) (Proto r) × (r < protocols) × Vanishes rules u (Proto r)) (sym e)
           (Contains-append_right (take k symbols) (x ∷ []) (Proto p) (0, omega arith, is), below, vanishes))
     ],
     λ s. elim (Contains-append_cases (take k symbols) (x ∷ []) (Proto q) s.0) [
       | inl i ↦ Contains-append_left found (p ∷ []) q ((so_far q).1 (i, s.1, s.2))
-      | inr i ↦ Contains-append_right found (p ∷ []) q (0, omega arith, protocols_same p q (sym is ∙ sym (only x (Proto q) i)))
+      | inr i ↦ Contains-append_right found (p ∷ []) q (0, omega arith, same_protocols (sym is ∙ sym (only_member x (Proto q) i)))
     ],
   ))
 
@@ -58,7 +49,7 @@ module _ (rules : List Rule) (protocols : ℕ) (u symbols : List Symbol) (k : �
     λ c. (let s = (so_far q).0 c in (Contains-append_left (take k symbols) (x ∷ []) (Proto q) s.0, s.1, s.2)),
     λ s. elim (Contains-append_cases (take k symbols) (x ∷ []) (Proto q) s.0) [
       | inl i ↦ (so_far q).1 (i, s.1, s.2)
-      | inr i ↦ (let e : x ≡ Proto q = sym (only x (Proto q) i) in
+      | inr i ↦ (let e : x ≡ Proto q = sym (only_member x (Proto q) i) in
           absurd (none q e s.1 (subst (Vanishes rules u) (sym e) s.2)))
     ],
   ))
@@ -72,7 +63,7 @@ module _ (rules : List Rule) (complete : IsComplete rules) (m : MapView) (map : 
       → (at : ℕ) × (at ≤ length u) × Follows m.words m.lists (drop at u) x
   vanishing_follows x p v =
       let e = ends_left_side rules complete u least x v in
-      (e.2, e.4, map e.1 (drop e.2 u) x (among rules e.0 e.1 e.3) e.5 p)
+      (e.2, e.4, map e.1 (drop e.2 u) x (get_contains rules e.0 e.1 e.3) e.5 p)
 
   -- all protocols that vanish behind the word are among the symbols that follow its endings
   pub all_conforming : (symbols : List Symbol) (found : List ℕ)

@@ -1,5 +1,5 @@
 -- Symbols that are kept with words.
-use Rattle.std.proofs.Common.{◌≡◌, ◌⊎◌, inl, inr, ℕ, zero, suc, ◌-◌, ◌<◌, List, [], ◌∷◌, ◌++◌, length, get_or, take, length-append, refl, sym, ◌∙◌, ap, subst, arith, Some, Result, Ok, Err, OnOk, Vec, Contains}
+use Rattle.std.proofs.Common.{◌≡◌, inl, inr, ℕ, ◌-◌, ◌<◌, List, [], ◌∷◌, ◌++◌, length, get_or, take, length-append, sym, ◌∙◌, ap, subst, arith, Some, Vec, Contains}
 use Rattle.std.specs.List.{slice_get}
 use Rattle.std.specs.declared.alloc.Global.{Global}
 use Rattle.std.proofs.Math.ListN.{set}
@@ -10,10 +10,6 @@ use Rattle.swreq_word.specs.declared.table.WordId.{WordId}
 use Rattle.swreq_word.specs.Interned.{StandsFor, AreDistinct, Interned}
 use Rattle.swreq_orders.proofs.Elements.{get_left, get_last, set_here, set_kept}
 use Rattle.swreq_map.specs.Follows.{IsListed, KeepsListed, Follows}
-
-pub on_ok : {A E P Q : Type 0} (r : Result A E) → (P → Q) → OnOk r P → OnOk r Q
-on_ok (Ok x) f h = f h
-on_ok (Err e) f h = h
 
 pub keeps_more : (old lists new : List (Vec Symbol Global)) (list : Vec Symbol Global) → KeepsListed old lists → new ≡ lists ++ list ∷ [] → KeepsListed old new
 keeps_more old lists new list k e place s h =

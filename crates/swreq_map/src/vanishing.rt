@@ -8,13 +8,7 @@ ghost use Rattle.swreq_map.specs.Properties.{IsProperty, Vanishes};
 
 use crate::appending::append;
 use swreq_complete::CompleteRules;
-use swreq_word::Symbol;
-
-fn is_same(u: &[Symbol], v: &[Symbol]) -> bool
-    ensures { Decides result (u.now ≡ v.now) }
-{
-    u == v
-}
+use swreq_word::{Symbol, are_same};
 
 /// Writes the word, where there is room for it.
 fn write(room: &mut Vec<Symbol>, u: &[Symbol])
@@ -44,7 +38,7 @@ pub fn vanishes(rules: &CompleteRules, u: &[Symbol], x: Symbol, room: &mut Vec<S
     let _rules = rules.rules();
     write(room, u);
     append(rules, room, x);
-    is_same(room, u)
+    are_same(room, u)
 }
 
 /// Whether the symbol is a protocol below this number, or the layout.

@@ -1,5 +1,6 @@
 -- The sides of a pair are one step from its word.
-use Rattle.std.proofs.Common.{◌≡◌, ℕ, ◌-◌, inl, inr, refl, sym, ◌∙◌, ap, subst, arith, List, [], ◌∷◌, ◌++◌, append_assoc, append-nil, length, length-drop, drop}
+use Rattle.std.proofs.Common.{◌≡◌, ℕ, ◌-◌, inl, inr, refl, sym, ◌∙◌, ap, subst, arith, List, [], ◌++◌, append_assoc, append-nil, length, length-drop, drop}
+use Rattle.std.proofs.lemmas.List.{nil_from_length}
 use Rattle.swreq_word.specs.declared.symbols.Symbol.{Symbol}
 use Rattle.swreq_word.specs.Replacement.{Replaced}
 use Rattle.swreq_rule.specs.declared.rules.Rule.{Rule}
@@ -8,10 +9,6 @@ use Rattle.swreq_rule.proofs.Overlapping.{containment_within}
 use Rattle.swreq_pair.specs.Pairs.{OverlapPair, ContainmentPair}
 use Rattle.swreq_pair.specs.PairWords.{PairWordLaw}
 use Rattle.swreq_pair.proofs.Parts.{after_is}
-
-empty_by_length : {A : Type 0} (xs : List A) → length xs ≡ 0 → xs ≡ []
-empty_by_length [] h = refl
-empty_by_length (x ∷ xs) h = absurd (omega (arith, h))
 
 module _ (first second : Rule) (at : ℕ) (left right : List Symbol) where
   abbrev word : List Symbol
@@ -35,7 +32,7 @@ module _ (first second : Rule) (at : ℕ) (left right : List Symbol) where
   of_containment p =
       let o = p.containment in
       let within = containment_within first.left second.left at o in
-      let none : drop (length first.left - at) second.left ≡ [] = empty_by_length _ (rw length-drop (omega (arith, within))) in
+      let none : drop (length first.left - at) second.left ≡ [] = nil_from_length _ (rw length-drop (omega (arith, within))) in
       let whole : word ≡ first.left = rw none (append-nil first.left) in (
         record { before = []; after = drop (length first.left - at) second.left; source = refl; target = p.left_is ∙ sym (rw none (append-nil first.right)) },
         record { before = o.before; after = o.after; source = whole ∙ o.first_is; target = p.right_is },

@@ -1,5 +1,5 @@
 -- Steps of reduction, as steps of paths.
-use Rattle.std.proofs.Common.{◌≡◌, ℕ, ◌+◌, refl, sym, ◌∙◌, ap, subst, subst₂, arith, true, not, List, [], ◌∷◌, ◌++◌, append_assoc, length, length-append, take, drop}
+use Rattle.std.proofs.Common.{◌≡◌, ℕ, ◌+◌, ◌<◌, refl, sym, ◌∙◌, ap, subst, subst₂, arith, true, not, List, [], ◌∷◌, ◌++◌, append_assoc, length, length-append, take, drop}
 use Rattle.std.proofs.lemmas.List.{append_cancel_left}
 use Rattle.std.proofs.Math.Seq.{drop-append_seam, take-append_seam}
 use Rattle.swreq_word.specs.declared.symbols.Symbol.{Symbol}
@@ -10,11 +10,11 @@ use Rattle.swreq_rule.specs.declared.rules.Rule.{Rule}
 use Rattle.swreq_rule.specs.Steps.{RuleAt}
 use Rattle.swreq_rule.specs.Reduction.{FirstRedex, ReductionStep, Reduces}
 use Rattle.swreq_rule.proofs.Numbers.{one_rule}
-use Rattle.swreq_rule.proofs.Remaining.{one_way}
+use Rattle.swreq_rule.proofs.Remaining.{one_way, remaining, remaining_falls}
 use Rattle.swreq_path.specs.declared.steps.RewriteStep.{RewriteStep}
 use Rattle.swreq_path.specs.declared.paths.Path.{Path}
 use Rattle.swreq_path.specs.Paths.{replaced_side, StepLeads, StepsLead, HasTarget}
-use Rattle.swreq_path.specs.Reductions.{IsRedex, StepsAt, IsReductionStep, StepsReduce, IsReductionPath}
+use Rattle.swreq_path.specs.Reductions.{IsRedex, StepsAt, IsReductionStep, StepsReduce, IsReductionPath, AddsReductionStep}
 
 -- the step that the code makes at a redex
 pub step_is : (rules : List Rule) (w before after : List Symbol) (at number len : ℕ) (r : Rule) (redex : IsRedex rules w at number)
@@ -97,3 +97,12 @@ path_reduces rules path w v p = (
   subst (λ u. StepsLead rules path.steps u v) (sym p.start) (reduce_lead rules path.steps w v p.steps),
   record { steps = reduce_chain rules path.steps w v p.steps; irreducible = p.irreducible },
 )
+
+-- ---- one step of reduction more
+
+pub left_falls : (rules : List Rule) (old new : List RewriteStep) (u v : List Symbol) → AddsReductionStep rules old new u v → remaining rules v < remaining rules u
+left_falls rules old new u v (step, e, s) = remaining_falls rules u v (reduces_by rules step u v s)
+
+pub reduce_more : (rules : List Rule) (old new : List RewriteStep) (w u v : List Symbol) → StepsReduce rules old w u → AddsReductionStep rules old new u v
+    → StepsReduce rules new w v
+reduce_more rules old new w u v so_far (step, e, s) = subst (λ xs. StepsReduce rules xs w v) (sym e) (reduce_on rules old step w u v so_far s)

@@ -11,7 +11,8 @@ use Rattle.std.proofs.lemmas.Cmp.{on_total, then_total, nat_cmp_total, tied_itse
 use Rattle.std.proofs.lemmas.List.Sorted.{Contains-permutation, IsPermutation-sym}
 use Rattle.std.proofs.lemmas.Option.{slice_get_within, slice_get-get_or, get_or_from_slice_get}
 use Rattle.swreq_word.specs.declared.symbols.Symbol.{Symbol}
-use Rattle.swreq_word.specs.OrderLaws.{then_less, then_equal, nat_equal}
+use Rattle.swreq_orders.proofs.Orderings.{then_equal}
+use Rattle.swreq_word.specs.OrderLaws.{then_less, nat_equal}
 use Rattle.swreq_rule.specs.declared.rules.Place.{Place}
 use Rattle.swreq_rule.specs.Places.{place_cmp}
 use Rattle.swreq_trie.specs.declared.trie.Entry.{Entry}

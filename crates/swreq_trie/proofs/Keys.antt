@@ -3,6 +3,7 @@ use Rattle.std.proofs.Common.{◌≡◌, ℕ, zero, suc, ◌+◌, Bool, true, fa
 use Rattle.std.specs.Bool.{Decides}
 use Rattle.std.specs.List.{IsDistinct, AllByRecursion, list_any, position_or_len}
 use Rattle.std.proofs.Math.Numerals.{one-add}
+use Rattle.std.proofs.lemmas.Bool.{or_parts}
 use Rattle.std.proofs.lemmas.Bool.Decides.{Decides-and, Decides-eqb, Decides-like}
 use Rattle.std.proofs.lemmas.List.Quantifiers.{position-Some}
 use Rattle.std.proofs.lemmas.Option.{slice_get-get_or}
@@ -13,10 +14,6 @@ use Rattle.swreq_trie.specs.declared.edges.Edge.{Edge}
 use Rattle.swreq_trie.specs.contracts.edges.EdgePartialEq.TheImpl as edge-impl
 use Rattle.swreq_trie.specs.Paths.{IsChild, NoChild, IsForked, IsGrown}
 use Rattle.swreq_orders.proofs.Elements.{get_left, get_last}
-
-or_false : (a b : Bool) → a || b ≡ false → (a ≡ false) × (b ≡ false)
-or_false true b h = absurd (true≢false h)
-or_false false b h = (refl, h)
 
 module _ {K : Type 0} (eq : K → K → Bool) (is : (j k : K) → Decides (eq j k) (j ≡ k)) where
   -- the first key that passes the test is the one that was sought
@@ -32,13 +29,13 @@ module _ {K : Type 0} (eq : K → K → Bool) (is : (j k : K) → Decides (eq j 
   none_at x [] h i s = cc
   none_at x (k ∷ keys) h zero s =
       let e : x ≡ k = cc in
-      true≢false (sym ((is x k).1 e) ∙ (or_false (eq x k) (list_any (eq x) keys) h).0)
-  none_at x (k ∷ keys) h (suc i) s = none_at x keys (or_false (eq x k) (list_any (eq x) keys) h).1 i s
+      true≢false (sym ((is x k).1 e) ∙ (or_parts (eq x k) (list_any (eq x) keys) h).0)
+  none_at x (k ∷ keys) h (suc i) s = none_at x keys (or_parts (eq x k) (list_any (eq x) keys) h).1 i s
 
   first_of_none : (x : K) (keys : List K) → list_any (eq x) keys ≡ false → position_or_len (eq x) keys ≡ length keys
   first_of_none x [] h = refl
   first_of_none x (k ∷ keys) h =
-      let p = or_false (eq x k) (list_any (eq x) keys) h in
+      let p = or_parts (eq x k) (list_any (eq x) keys) h in
       ap (λ c. cond (not c) (1 + position_or_len (eq x) keys) 0) p.0 ∙ rw one-add (ap suc (first_of_none x keys p.1))
 
   first_of_some : (x : K) (keys : List K) → list_any (eq x) keys ≡ true → slice_get keys (position_or_len (eq x) keys) ≡ Some x

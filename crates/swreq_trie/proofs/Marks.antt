@@ -1,5 +1,5 @@
 -- What stands at nodes, as ends and spots are added.
-use Rattle.std.proofs.Common.{◌≡◌, ◌⊎◌, inl, inr, ℕ, ◌+◌, ◌<◌, get_or, take, List, [], ◌∷◌, ◌++◌, length, length-append, refl, sym, ◌∙◌, ap, subst, arith, Option, Some, None, Result, Ok, Err, OnOk, Vec}
+use Rattle.std.proofs.Common.{◌≡◌, ◌⊎◌, inl, inr, ℕ, ◌+◌, ◌<◌, get_or, take, List, [], ◌∷◌, ◌++◌, length, length-append, refl, sym, ◌∙◌, ap, subst, arith, Option, Some, None, Vec}
 use Rattle.std.specs.List.{slice_get}
 use Rattle.std.specs.declared.alloc.Global.{Global}
 use Rattle.std.proofs.Math.ListN.{set}
@@ -99,10 +99,6 @@ only_like New Other a b which f n s h = elim (f n s h) [ inl i ↦ inl i | inr i
 
 pub unmade : (old ends new : List (Option ℕ)) → SameEnds old ends → new ≡ ends → SameEnds old new
 unmade old ends new s e = subst (SameEnds old) (sym e) s
-
-pub on_ok : {A E P Q : Type 0} (r : Result A E) → (P → Q) → OnOk r P → OnOk r Q
-on_ok (Ok x) f h = f h
-on_ok (Err e) f h = h
 
 pub keeps_on : (a b c : List (Vec Spot Global)) → KeepsListed a b → KeepsListed b c → KeepsListed a c
 keeps_on a b c p q node spot h = q node spot (p node spot h)

@@ -44,9 +44,7 @@ impl Watch for Recorder {
 
     fn tell(&mut self, event: &Event) -> Result<(), AllocError> {
         let copy = event.clone()?;
-        match self.events.push(copy) {
-            Ok(()) => Ok(()),
-            Err(_) => Err(AllocError),
-        }
+        self.events.push(copy)?;
+        Ok(())
     }
 }

@@ -1,8 +1,9 @@
 use Rattle.std.proofs.Common.{◌<◌, refl, sym, subst, length}
+use Rattle.std.proofs.lemmas.Result.{on_ok_weaker}
 use Rattle.swreq_word.specs.Relations.{IsIrreducible}
 use Rattle.swreq_rule.specs.Steps.{Step}
 use Rattle.swreq_word.specs.Least.{EachFactor}
-use Rattle.swreq_complete.proofs.Sorting.{key_skipped, key_added, on_ok}
+use Rattle.swreq_complete.proofs.Sorting.{key_skipped, key_added}
 use Rattle.swreq_word.proofs.Comparing.{greater_some}
 use Rattle.swreq_complete.proofs.reduced.add_key.Goals as goal
 
@@ -19,7 +20,7 @@ returns-then-not-is_minimal c =
 pub returns : goal.returns
 returns c =
     let rules = c.args.rules.now in
-    on_ok c.push.result
+    on_ok_weaker c.push.result
     (key_added rules c.args.k c.args.keys.now.items c.push.new.keys.items c.rule_at-rule.result.now _ c.rule_at-rule.ensures
     refl (subst (λ x. EachFactor x (IsIrreducible (Step rules))) c.symbols.ensures (c.is_minimal.ensures.0 c.if-not-is_minimal.false))
     c.requires.so_far)

@@ -35,8 +35,8 @@ target-requires-2 c =
     let t = c.in_ok-back.ensures.through in
     (t.1, through_target c.args.rules.now c.in_ok-back.back c.args.place.at c.args.place.j c.deref-2.result.now t.0 t.1 c.in_ok-back.ensures.start t.2)
 
-pub returns-then-not-is_same-clause-of_pair : goal.returns-then-not-is_same-clause-of_pair
-returns-then-not-is_same-clause-of_pair c s =
+pub returns-then-not-are_same-clause-of_pair : goal.returns-then-not-are_same-clause-of_pair
+returns-then-not-are_same-clause-of_pair c s =
     let rules = c.args.rules.now in
     let place = c.args.place in
     let pair = c.requires.pair in
@@ -50,15 +50,15 @@ returns-then-not-is_same-clause-of_pair c s =
     let meet : t.1 ≡ u.1 = one_word rules place pair.0 pair.1 w pair.2 c.in_ok-word.ensures out.steps back.steps t.0 u.0 t.1 u.1 a b s in
     let end : c.in_ok-end.end ≡ t.1 = target_is rules out 0 place.i c.deref.result.now t.0 t.1 c.in_ok-end.end c.in_ok-out.ensures.start t.2 c.in_ok-end.ensures in
     let other : c.in_ok-other_end.other_end ≡ u.1 = target_is rules back place.at place.j c.deref-2.result.now u.0 u.1 c.in_ok-other_end.other_end c.in_ok-back.ensures.start u.2 c.in_ok-other_end.ensures in
-    let same = c.is_same.ensures.1 (end ∙ meet ∙ sym other) in
-    let differ = c.if-not-is_same.true in
+    let same = c.are_same.ensures.1 (c.symbols.ensures ∙ end ∙ meet ∙ sym other ∙ sym c.symbols-2.ensures) in
+    let differ = c.if-not-are_same.true in
     cc
 
 pub compose-requires-clause-first : goal.compose-requires-clause-first
 compose-requires-clause-first c =
     let rules = c.args.rules.now in
     let back = c.in_ok-back.back in
-    let meet : c.in_ok-end.end ≡ c.in_ok-other_end.other_end = c.is_same.ensures.0 c.if-not-is_same.false in
+    let meet : c.in_ok-end.end ≡ c.in_ok-other_end.other_end = (sym c.symbols.ensures ∙ c.are_same.ensures.0 c.if-not-are_same.false ∙ c.symbols-2.ensures) in
     let home : c.in_ok-other_end.other_end ≡ c.in_ok-home.home.start = one_end rules back.steps back.start c.in_ok-other_end.other_end c.in_ok-home.home.start c.in_ok-other_end.ensures c.in_ok-home.ensures.start in
     subst (λ v. HasTarget rules c.in_ok-out.out v) (meet ∙ home) c.in_ok-end.ensures
 
@@ -76,7 +76,7 @@ returns-clause-of_pair c =
     let b = subst (λ x. ReducesThrough rules back.steps place.at place.j x u.0 u.1) c.deref-2.ensures.value u.2 in
     let end : c.in_ok-end.end ≡ t.1 = target_is rules out 0 place.i c.deref.result.now t.0 t.1 c.in_ok-end.end c.in_ok-out.ensures.start t.2 c.in_ok-end.ensures in
     let other : c.in_ok-other_end.other_end ≡ u.1 = target_is rules back place.at place.j c.deref-2.result.now u.0 u.1 c.in_ok-other_end.other_end c.in_ok-back.ensures.start u.2 c.in_ok-other_end.ensures in
-    let meet : t.1 ≡ u.1 = sym end ∙ c.is_same.ensures.0 c.if-not-is_same.false ∙ other in
+    let meet : t.1 ≡ u.1 = sym end ∙ (sym c.symbols.ensures ∙ c.are_same.ensures.0 c.if-not-are_same.false ∙ c.symbols-2.ensures) ∙ other in
     loop_is rules place pair.0 pair.1 w pair.2 c.in_ok-word.ensures out.steps back.steps t.0 u.0 t.1 u.1 a b meet (record { path = c.in_ok-path.path })
     (c.in_ok-path.ensures.start ∙ c.in_ok-out.ensures.start ∙ c.deref.ensures.value)
     (c.in_ok-path.ensures.steps ∙ ap (λ xs. out.steps ++ xs) c.in_ok-home.ensures.steps)

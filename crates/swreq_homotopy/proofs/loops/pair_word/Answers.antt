@@ -1,7 +1,7 @@
 use Rattle.std.proofs.Common.{◌≡◌, ◌-◌, refl, ◌∙◌, ap, ◌++◌, length, take, drop, min}
 use Rattle.swreq_word.proofs.Cuts.{whole_rest}
 use Rattle.swreq_rule.proofs.Numbers.{rule_read, number_some, number_within}
-use Rattle.swreq_homotopy.proofs.PairSteps.{drop_min}
+use Rattle.std.proofs.lemmas.List.{drop_min}
 use Rattle.swreq_homotopy.proofs.loops.pair_word.Goals as goal
 
 pub returns : goal.returns
@@ -21,6 +21,6 @@ returns c =
       second_at = rule_read rules place.j second (number_some rules place.j p.second p.second_at) (number_within rules place.j p.second p.second_at) c.index-rules-place-2.is;
       word_is =
           c.in_ok-extend_from_slice.ensures.items ∙ ap (λ x. x ++ take (length other - c.min-inside.result) (drop c.min-inside.result other)) c.in_ok-word.ensures.items
-          ∙ ap (λ x. left ++ x) (whole_rest other c.min-inside.result ∙ ap (λ n. drop n other) inside ∙ drop_min other (length left - place.at))
+          ∙ ap (λ x. left ++ x) (whole_rest other c.min-inside.result ∙ ap (λ n. drop n other) inside ∙ drop_min (length left - place.at) other)
           ∙ rw (c.symbols-left.ensures, c.symbols-other.ensures) refl;
     }

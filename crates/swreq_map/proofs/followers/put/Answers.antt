@@ -1,11 +1,12 @@
 use Rattle.std.proofs.Common.{refl, length}
 use Rattle.std.proofs.lemmas.Option.{slice_get_read}
-use Rattle.swreq_map.proofs.Listing.{on_ok, keeps_changed, listed_changed}
+use Rattle.std.proofs.lemmas.Result.{on_ok_weaker}
+use Rattle.swreq_map.proofs.Listing.{keeps_changed, listed_changed}
 use Rattle.swreq_map.proofs.followers.put.Goals as goal
 
 pub returns-clause-added : goal.returns-clause-added
 returns-clause-added c =
-    on_ok c.push.result
+    on_ok_weaker c.push.result
     (listed_changed c.make_room.new.lists.items _ c.args.place c.push.new.list c.args.x c.in_ok-make_room.ensures.room refl)
     c.push.ensures.added
 

@@ -12,5 +12,5 @@ append-requires-clause-least c = subst (IsLeast (Linked (Step c.args.rules.now))
 pub returns-clause-answer : goal.returns-clause-answer
 returns-clause-answer c =
     vanishes_decided c.args.rules.now c.rules-rules.ensures.complete c.args.u.now c.requires.least c.args.x (c.write.new.room.items ++ c.args.x ∷ []) c.append.new.word.items
-    c.is_same.result (ap (λ w. w ++ c.args.x ∷ []) c.write.ensures.items) c.append.ensures.congruent c.append.ensures.least
-    (subst (λ x. Decides c.is_same.result (x ≡ c.args.u.now)) c.deref.ensures.value c.is_same.ensures)
+    c.are_same.result (ap (λ w. w ++ c.args.x ∷ []) c.write.ensures.items) c.append.ensures.congruent c.append.ensures.least
+    (subst (λ x. Decides c.are_same.result (x ≡ c.args.u.now)) c.deref.ensures.value c.are_same.ensures)

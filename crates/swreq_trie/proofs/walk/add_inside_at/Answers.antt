@@ -1,10 +1,11 @@
 use Rattle.std.proofs.Common.{◌≡◌, sym, subst}
+use Rattle.std.proofs.lemmas.Result.{on_ok_weaker}
 use Rattle.swreq_trie.specs.Paths.{IsChild}
-use Rattle.swreq_trie.proofs.Marks.{on_ok, only_like}
+use Rattle.swreq_trie.proofs.Marks.{only_like}
 use Rattle.swreq_trie.proofs.walk.add_inside_at.Goals as goal
 
 pub returns-clause-spot : goal.returns-clause-spot
-returns-clause-spot c = on_ok c.add_spot.result (λ h. (c.in_ok-node.node, c.in_ok-node.ensures.child, h)) c.add_spot.ensures.added
+returns-clause-spot c = on_ok_weaker c.add_spot.result (λ h. (c.in_ok-node.node, c.in_ok-node.ensures.child, h)) c.add_spot.ensures.added
 
 pub returns-clause-only : goal.returns-clause-only
 returns-clause-only c =

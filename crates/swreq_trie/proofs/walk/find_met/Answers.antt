@@ -1,5 +1,5 @@
 use Rattle.std.proofs.Common.{refl, arith}
-use Rattle.swreq_trie.proofs.Marks.{on_ok}
+use Rattle.std.proofs.lemmas.Result.{on_ok_weaker}
 use Rattle.swreq_trie.proofs.Ways.{none_met, one_further, met_more, met_all, met_whole}
 use Rattle.swreq_trie.proofs.walk.find_met.Goals as goal
 
@@ -22,7 +22,7 @@ loop-k-preserved c =
 
 pub returns : goal.returns
 returns c =
-    on_ok c.push.result
+    on_ok_weaker c.push.result
     (met_whole c.args.edges.now c.args.ends.now c.args.w.now c.loop-k.k c.loop-k.node (omega arith) c.loop-k.invariant.walked c.requires
     c.loop-k.nodes.items c.push.new.nodes.items _ c.loop-k.invariant.met (omega arith))
     c.push.ensures

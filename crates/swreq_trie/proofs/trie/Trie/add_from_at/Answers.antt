@@ -1,4 +1,5 @@
 use Rattle.std.proofs.Common.{ℕ, ◌-◌, take, drop, length, subst}
+use Rattle.std.proofs.lemmas.Result.{on_ok_weaker}
 use Rattle.swreq_word.proofs.Cuts.{whole_rest}
 use Rattle.swreq_trie.specs.declared.spots.Spot.{Spot}
 use Rattle.swreq_trie.specs.declared.walk.Met.{Met}
@@ -6,7 +7,6 @@ use Rattle.swreq_trie.specs.Marks.{Holds, IsListed}
 use Rattle.swreq_trie.specs.Walk.{AreMet}
 use Rattle.swreq_trie.specs.Places.{IsFrom}
 use Rattle.swreq_trie.specs.Keys.{Gains, IsFromKey, place_of}
-use Rattle.swreq_trie.proofs.Marks.{on_ok}
 use Rattle.swreq_trie.proofs.Collecting.{gains_like}
 use Rattle.swreq_trie.proofs.Listed.{from_listed, listed_from}
 use Rattle.swreq_trie.proofs.trie.Trie.add_from_at.Goals as goal
@@ -17,7 +17,7 @@ returns c =
     let old = c.args.keys.now.items in let new = c.add_from_nodes.new.keys.items in let nodes = c.find_met.new.nodes.items in
     let met : AreMet t.edges t.ends.items (drop at left) nodes = subst (λ w. AreMet t.edges t.ends.items w nodes) (whole_rest left at)
     (subst (λ e. AreMet t.edges e (take (length left - at) (drop at left)) nodes) c.deref.ensures.value c.in_ok-find_met.ensures) in
-    on_ok c.add_from_nodes.result
+    on_ok_weaker c.add_from_nodes.result
     (λ g. subst (λ stored. Gains (λ key. (k : ℕ) × IsFrom stored left number k at (place_of key)) old new) c.self.view_is
     (gains_like
     (λ key. (m : Met) × Holds nodes m × ((spot : Spot) × IsListed t.passing.items m.node spot × IsFromKey number at (length left) m.depth spot key))

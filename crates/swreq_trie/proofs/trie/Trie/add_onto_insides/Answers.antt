@@ -1,9 +1,9 @@
 use Rattle.std.proofs.Common.{ℕ, ◌<◌, sym, subst}
+use Rattle.std.proofs.lemmas.Result.{on_ok_weaker}
 use Rattle.swreq_trie.specs.declared.spots.Spot.{Spot}
 use Rattle.swreq_trie.specs.Marks.{Holds, IsListed}
 use Rattle.swreq_trie.specs.Places.{IsOnto}
 use Rattle.swreq_trie.specs.Keys.{Gains, IsInsideKey, place_of}
-use Rattle.swreq_trie.proofs.Marks.{on_ok}
 use Rattle.swreq_trie.proofs.Collecting.{gains_none, gains_like}
 use Rattle.swreq_trie.proofs.Listed.{no_insides, inside_listed, listed_inside}
 use Rattle.swreq_trie.proofs.trie.Trie.add_onto_insides.Goals as goal
@@ -21,7 +21,7 @@ returns-in-Some c =
     let t = c.self.inside in let left = c.args.left.now in let number = c.args.number in
     let old = c.args.keys.now.items in let new = c.add_insides.new.keys.items in let node = c.in-Some.node in
     let is = c.deref-in-Some.ensures.value in
-    on_ok c.add_insides.result
+    on_ok_weaker c.add_insides.result
     (λ g. subst (λ stored. Gains (λ key. (k : ℕ) × (at : ℕ) × (0 < at) × IsOnto stored left number k at (place_of key)) old new) c.self.view_is
     (gains_like (λ key. (spot : Spot) × Holds c.spots_of.result.now spot × IsInsideKey t.entries.items left number spot key)
     (λ key. (k : ℕ) × (at : ℕ) × (0 < at) × IsOnto t.entries.items left number k at (place_of key)) old new
