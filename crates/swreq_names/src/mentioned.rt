@@ -89,7 +89,6 @@ fn add_types(
     Ok(())
 }
 
-#[tactic(auto, using(crate::proofs::Pieces::pieces_more))]
 fn add_args(
     alloc: Global,
     text: &[u8],
@@ -115,7 +114,6 @@ fn add_entity(
     add_args(alloc, text, e.args.items(), into)
 }
 
-#[tactic(auto, using(crate::proofs::Pieces::pieces_more))]
 fn add_bounds(
     alloc: Global,
     text: &[u8],
@@ -161,7 +159,6 @@ fn add_requirement(
     }
 }
 
-#[tactic(auto, using(crate::proofs::Pieces::pieces_more))]
 fn add_clause(
     alloc: Global,
     text: &[u8],
@@ -190,7 +187,6 @@ fn add_member(
     Ok(())
 }
 
-#[tactic(auto, using(crate::proofs::Pieces::pieces_more))]
 fn add_members(
     alloc: Global,
     text: &[u8],
@@ -219,7 +215,6 @@ fn add_protocol(
     Ok(())
 }
 
-#[tactic(auto, using(crate::proofs::Pieces::pieces_more))]
 fn add_protocols(
     alloc: Global,
     text: &[u8],
@@ -245,7 +240,6 @@ fn add_param(
     add_bounds(alloc, text, g.bounds.items(), into)
 }
 
-#[tactic(auto, using(crate::proofs::Pieces::pieces_more))]
 fn add_params(
     alloc: Global,
     text: &[u8],
@@ -273,7 +267,6 @@ fn add_function(
     Ok(())
 }
 
-#[tactic(auto, using(crate::proofs::Pieces::pieces_more))]
 fn add_functions(
     alloc: Global,
     text: &[u8],
@@ -302,7 +295,6 @@ fn add_struct(
     Ok(())
 }
 
-#[tactic(auto, using(crate::proofs::Pieces::pieces_more))]
 fn add_structs(
     alloc: Global,
     text: &[u8],
@@ -354,7 +346,6 @@ fn add_query(
     add_ask(alloc, text, &q.ask, into)
 }
 
-#[tactic(auto, using(crate::proofs::Pieces::pieces_more))]
 fn add_queries(
     alloc: Global,
     text: &[u8],
