@@ -4,6 +4,8 @@ use Rattle.std.specs.Char.{is_ascii_digit}
 use Rattle.std.specs.Str.{bytes_eq}
 use Rattle.std.specs.Str.Parse.{digits_value}
 use Rattle.std.specs.List.{list_all, list_any, flat_map}
+use Rattle.std.proofs.lemmas.Bool.{and_parts, not-true}
+use Rattle.std.proofs.Math.Bool.{or-false}
 use Rattle.swreq_words.specs.declared.names.Follows.{Follows}
 use Rattle.swreq_words.specs.declared.names.Follows.TheVariants.{Nothing, Options, OptionsAndNumber}
 use Rattle.swreq_words.specs.declared.names.Limit.{Limit}
@@ -12,7 +14,6 @@ use Rattle.swreq_words.specs.declared.seen.Seen.{Seen}
 use Rattle.swreq_words.specs.Numbers.{are_few_digits, number_of, is_number}
 use Rattle.swreq_words.specs.Form.{Text, Part, apart, joined, trace, number, limit_name, greatest, greatest_count, option_word, words_of, may_follow, is_in_range, sets, is_each_once, is_set}
 use Rattle.swreq_words.specs.Reading.{after, other, meaning_of, if_new, with_limit, with_meaning, with_word, with_next, read_on}
-use Rattle.swreq_words.proofs.Booleans.{both, not_true, or_none}
 use Rattle.swreq_words.proofs.Digits.{few}
 use Rattle.swreq_words.proofs.Steps.{read_none, read_more}
 use Rattle.swreq_words.proofs.Told.{Holds}
@@ -26,7 +27,7 @@ few_if true n e = refl
 few_if false n e = absurd (true≢false (sym e))
 
 pub number_is_few : (most : ℕ) (t : Text) → is_number most t ≡ true → are_few_digits t ≡ true
-number_is_few most t e = few_if (are_few_digits t) (digits_value 10 t) (both (nat_le 1 (number_of t)) (nat_le (number_of t) most) e).0
+number_is_few most t e = few_if (are_few_digits t) (digits_value 10 t) (and_parts (nat_le 1 (number_of t)) (nat_le (number_of t) most) e).0
 
 digit_low : (d : ℕ) → is_ascii_digit d ≡ true → 48 ≤ d
 digit_low d e = search (arith, e)
@@ -36,7 +37,7 @@ no_dash d low = search (arith, low)
 
 first_digit : (t : Text) → are_few_digits t ≡ true → (d : ℕ) × (ds : Text) × (t ≡ d ∷ ds) × ((d == 45) ≡ false)
 first_digit [] e = absurd (omega (arith, (few [] e).0))
-first_digit (d ∷ ds) e = (d, ds, refl, no_dash d (digit_low d (both (is_ascii_digit d) (list_all is_ascii_digit ds) (few (d ∷ ds) e).2).0))
+first_digit (d ∷ ds) e = (d, ds, refl, no_dash d (digit_low d (and_parts (is_ascii_digit d) (list_all is_ascii_digit ds) (few (d ∷ ds) e).2).0))
 
 plain_digit : (d : ℕ) (ds : Text) → (d == 45) ≡ false → IsPlainWord (d ∷ ds)
 plain_digit d ds e = (ap (λ b. if b then Some ds else None) e, ap (λ b. b && bytes_eq ds (45 ∷ [])) e)
@@ -65,8 +66,8 @@ plain (number t) e = number_plain greatest_count t e
 pub are_of : (may : Follows) (parts : List Part) → list_all (may_follow may) parts ≡ true → list_all is_in_range parts ≡ true → AreOf may parts
 are_of may [] f r = tt
 are_of may (p ∷ ps) f r =
-    let f' = both (may_follow may p) (list_all (may_follow may) ps) f in
-    let r' = both (is_in_range p) (list_all is_in_range ps) r in
+    let f' = and_parts (may_follow may p) (list_all (may_follow may) ps) f in
+    let r' = and_parts (is_in_range p) (list_all is_in_range ps) r in
     ((f'.0, plain p r'.0), are_of may ps f'.1 r'.1)
 
 -- ---- one part
@@ -191,13 +192,13 @@ accepted may seen before [] h f r once = record {
   end = calm seen;
   reads = read_none may (calm seen);
   waits = refl;
-  counts = λ e. sym (or_none seen.number) ∙ e;
+  counts = λ e. sym (or-false seen.number) ∙ e;
 }
 accepted may seen before (p ∷ ps) h f r once =
-    let f' = both (may_follow may p) (list_all (may_follow may) ps) f in
-    let r' = both (is_in_range p) (list_all is_in_range ps) r in
-    let o' = both (not (list_any (λ k. bytes_eq k (sets p)) before)) (is_each_once (sets p ∷ before) ps) once in
-    let new : flag seen p ≡ false = flag_holds seen before p h ∙ not_true (list_any (λ k. bytes_eq k (sets p)) before) o'.0 in
+    let f' = and_parts (may_follow may p) (list_all (may_follow may) ps) f in
+    let r' = and_parts (is_in_range p) (list_all is_in_range ps) r in
+    let o' = and_parts (not (list_any (λ k. bytes_eq k (sets p)) before)) (is_each_once (sets p ∷ before) ps) once in
+    let new : flag seen p ≡ false = flag_holds seen before p h ∙ not-true (list_any (λ k. bytes_eq k (sets p)) before) o'.0 in
     let more = accepted may (put seen p) (sets p ∷ before) ps (put_holds seen before p h) f'.1 r'.1 o'.1 in
     record {
       end = more.end;

@@ -2,6 +2,7 @@
 use Rattle.std.proofs.Common.{◌≡◌, ◌∙◌, ◌≤◌, ℕ, true, List, [], ◌∷◌, Option, Some, None, arith, ap, refl, sym, subst, nat_le}
 use Rattle.std.specs.Prelude.{codes}
 use Rattle.std.specs.List.{list_all}
+use Rattle.std.proofs.lemmas.Bool.{and_parts}
 use Rattle.swreq_words.specs.Form.{Part, Says, command_of, greatest, greatest_count, is_in_range, limit_in, text_set}
 use Rattle.swreq_words.specs.Form.Part.{apart, joined, trace, number}
 use Rattle.swreq_words.specs.Numbers.{is_number, number_of}
@@ -12,7 +13,6 @@ use Rattle.swreq_words.specs.declared.names.CommandName.{CommandName}
 use Rattle.swreq_words.specs.declared.names.CommandName.TheVariants.{Answer, Signatures, Rules, Gen}
 use Rattle.swreq_words.specs.declared.names.Limit.{Limit}
 use Rattle.swreq_words.specs.declared.names.Limit.TheVariants.{MaxRules, MaxLength}
-use Rattle.swreq_words.proofs.Booleans.{both}
 use Rattle.swreq_words.proofs.Fronts.{some_same}
 
 -- The number is from 1 to the greatest one.
@@ -21,26 +21,26 @@ IsFrom1 most n = (1 ≤ n) × (n ≤ most)
 
 number_within : (most : ℕ) (text : List ℕ) → is_number most text ≡ true → IsFrom1 most (number_of text)
 number_within most text h =
-    let parts = both (nat_le 1 (number_of text)) (nat_le (number_of text) most) h in
+    let parts = and_parts (nat_le 1 (number_of text)) (nat_le (number_of text) most) h in
     (search (arith, parts.0), search (arith, parts.1))
 
 -- ---- limits
 
 limit_within : (limit : Limit) (parts : List Part) → list_all is_in_range parts ≡ true → IsFrom1 (greatest limit) (limit_in limit parts)
 limit_within MaxRules [] h = (omega arith, omega arith)
-limit_within MaxRules (apart MaxRules text ∷ parts) h = number_within 100000 text (both (is_number 100000 text) (list_all is_in_range parts) h).0
-limit_within MaxRules (joined MaxRules text ∷ parts) h = number_within 100000 text (both (is_number 100000 text) (list_all is_in_range parts) h).0
-limit_within MaxRules (apart MaxLength text ∷ parts) h = limit_within MaxRules parts (both (is_number 255 text) (list_all is_in_range parts) h).1
-limit_within MaxRules (joined MaxLength text ∷ parts) h = limit_within MaxRules parts (both (is_number 255 text) (list_all is_in_range parts) h).1
-limit_within MaxRules (trace ∷ parts) h = limit_within MaxRules parts (both true (list_all is_in_range parts) h).1
-limit_within MaxRules (number text ∷ parts) h = limit_within MaxRules parts (both (is_number greatest_count text) (list_all is_in_range parts) h).1
+limit_within MaxRules (apart MaxRules text ∷ parts) h = number_within 100000 text (and_parts (is_number 100000 text) (list_all is_in_range parts) h).0
+limit_within MaxRules (joined MaxRules text ∷ parts) h = number_within 100000 text (and_parts (is_number 100000 text) (list_all is_in_range parts) h).0
+limit_within MaxRules (apart MaxLength text ∷ parts) h = limit_within MaxRules parts (and_parts (is_number 255 text) (list_all is_in_range parts) h).1
+limit_within MaxRules (joined MaxLength text ∷ parts) h = limit_within MaxRules parts (and_parts (is_number 255 text) (list_all is_in_range parts) h).1
+limit_within MaxRules (trace ∷ parts) h = limit_within MaxRules parts (and_parts true (list_all is_in_range parts) h).1
+limit_within MaxRules (number text ∷ parts) h = limit_within MaxRules parts (and_parts (is_number greatest_count text) (list_all is_in_range parts) h).1
 limit_within MaxLength [] h = (omega arith, omega arith)
-limit_within MaxLength (apart MaxLength text ∷ parts) h = number_within 255 text (both (is_number 255 text) (list_all is_in_range parts) h).0
-limit_within MaxLength (joined MaxLength text ∷ parts) h = number_within 255 text (both (is_number 255 text) (list_all is_in_range parts) h).0
-limit_within MaxLength (apart MaxRules text ∷ parts) h = limit_within MaxLength parts (both (is_number 100000 text) (list_all is_in_range parts) h).1
-limit_within MaxLength (joined MaxRules text ∷ parts) h = limit_within MaxLength parts (both (is_number 100000 text) (list_all is_in_range parts) h).1
-limit_within MaxLength (trace ∷ parts) h = limit_within MaxLength parts (both true (list_all is_in_range parts) h).1
-limit_within MaxLength (number text ∷ parts) h = limit_within MaxLength parts (both (is_number greatest_count text) (list_all is_in_range parts) h).1
+limit_within MaxLength (apart MaxLength text ∷ parts) h = number_within 255 text (and_parts (is_number 255 text) (list_all is_in_range parts) h).0
+limit_within MaxLength (joined MaxLength text ∷ parts) h = number_within 255 text (and_parts (is_number 255 text) (list_all is_in_range parts) h).0
+limit_within MaxLength (apart MaxRules text ∷ parts) h = limit_within MaxLength parts (and_parts (is_number 100000 text) (list_all is_in_range parts) h).1
+limit_within MaxLength (joined MaxRules text ∷ parts) h = limit_within MaxLength parts (and_parts (is_number 100000 text) (list_all is_in_range parts) h).1
+limit_within MaxLength (trace ∷ parts) h = limit_within MaxLength parts (and_parts true (list_all is_in_range parts) h).1
+limit_within MaxLength (number text ∷ parts) h = limit_within MaxLength parts (and_parts (is_number greatest_count text) (list_all is_in_range parts) h).1
 
 -- the limits that words say are in their ranges
 pub limits_within : {words : List (List ℕ)} {line : CommandLine} → Says words line
@@ -57,12 +57,12 @@ count_within : (parts : List Part) → list_all is_in_range parts ≡ true → (
 count_within [] h text e = absurd (let clash : (let o : Option (List ℕ) = None in o) ≡ Some text = e in cc)
 count_within (number found ∷ parts) h text e =
     subst (λ (t : List ℕ). IsFrom1 greatest_count (number_of t)) (some_same found text e)
-    (number_within greatest_count found (both (is_number greatest_count found) (list_all is_in_range parts) h).0)
-count_within (trace ∷ parts) h text e = count_within parts (both true (list_all is_in_range parts) h).1 text e
-count_within (apart MaxRules other ∷ parts) h text e = count_within parts (both (is_number 100000 other) (list_all is_in_range parts) h).1 text e
-count_within (apart MaxLength other ∷ parts) h text e = count_within parts (both (is_number 255 other) (list_all is_in_range parts) h).1 text e
-count_within (joined MaxRules other ∷ parts) h text e = count_within parts (both (is_number 100000 other) (list_all is_in_range parts) h).1 text e
-count_within (joined MaxLength other ∷ parts) h text e = count_within parts (both (is_number 255 other) (list_all is_in_range parts) h).1 text e
+    (number_within greatest_count found (and_parts (is_number greatest_count found) (list_all is_in_range parts) h).0)
+count_within (trace ∷ parts) h text e = count_within parts (and_parts true (list_all is_in_range parts) h).1 text e
+count_within (apart MaxRules other ∷ parts) h text e = count_within parts (and_parts (is_number 100000 other) (list_all is_in_range parts) h).1 text e
+count_within (apart MaxLength other ∷ parts) h text e = count_within parts (and_parts (is_number 255 other) (list_all is_in_range parts) h).1 text e
+count_within (joined MaxRules other ∷ parts) h text e = count_within parts (and_parts (is_number 100000 other) (list_all is_in_range parts) h).1 text e
+count_within (joined MaxLength other ∷ parts) h text e = count_within parts (and_parts (is_number 255 other) (list_all is_in_range parts) h).1 text e
 
 gen_within : (name : CommandName) (found : Option (List ℕ)) (n : ℕ)
     → ((text : List ℕ) → found ≡ Some text → IsFrom1 greatest_count (number_of text)) → command_of name found ≡ Some (command.Gen n)

@@ -1,4 +1,3 @@
-pub mod Booleans
 pub mod Digits
 pub mod Fronts
 pub mod Steps

@@ -3,6 +3,7 @@ use Rattle.std.proofs.Common.{ap, ap₂, refl, sym, subst, codes, true, false, B
 use Rattle.std.specs.Str.{bytes_eq}
 use Rattle.std.specs.Option.{option_map_or, ok_or}
 use Rattle.std.specs.List.{list_all, flat_map}
+use Rattle.std.proofs.lemmas.Bool.{and_parts}
 use Rattle.clap.specs.Words.{takes, subcommand_of}
 use Rattle.swreq_words.specs.declared.command.Command.{Command}
 use Rattle.swreq_words.specs.declared.command.CommandLine.{CommandLine}
@@ -18,7 +19,6 @@ use Rattle.swreq_words.specs.Form.{Text, Part, Says, words_of, word_of, follows,
 use Rattle.swreq_words.specs.Reading.{name_of, takes_number, read_on, nothing_seen, is_done, are_parts, has_form}
 use Rattle.swreq_words.specs.Found.{limit_found, line_with, line_of, line_found}
 use Rattle.swreq_words.specs.Taken.{genreq}
-use Rattle.swreq_words.proofs.Booleans.{both}
 use Rattle.swreq_words.proofs.Fronts.{none_some, some_same, bytes_same}
 use Rattle.swreq_words.proofs.Told.{told}
 use Rattle.swreq_words.proofs.Accepts.{accepted, are_of}
@@ -68,7 +68,7 @@ number_there true some t e = e
 formed_after : (n : CommandName) (ws : List Text) (o : Option Seen) → read_on (follows n) nothing_seen ws ≡ o → option_map_or (is_done (follows n)) o false ≡ true → Formed (word_of n ∷ ws)
 formed_after n ws None e is = absurd (true≢false (sym is))
 formed_after n ws (Some after) e is =
-    let end = both (not (is_some after.waiting)) (not (takes_number (follows n)) || after.number) is in
+    let end = and_parts (not (is_some after.waiting)) (not (takes_number (follows n)) || after.number) is in
     let all = (told (follows n) ws nothing_seen after e (calm_of after.waiting end.0)).0 refl in
     record {
       name = n;

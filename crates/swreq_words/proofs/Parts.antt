@@ -3,6 +3,7 @@ use Rattle.std.proofs.Common.{ap, refl, sym, codes, true, false, Bool, map, fold
 use Rattle.std.specs.Str.{bytes_eq}
 use Rattle.std.specs.List.{flat_map}
 use Rattle.std.proofs.lemmas.List.{append_assoc, append-nil}
+use Rattle.std.proofs.lemmas.Bool.{and_from, or_parts}
 use Rattle.clap.specs.Words.{Row, Rule}
 use Rattle.clap.specs.Simple.{Shape}
 use Rattle.clap.specs.Values.{reading_of}
@@ -14,7 +15,6 @@ use Rattle.swreq_words.specs.declared.names.Follows.{Follows}
 use Rattle.swreq_words.specs.declared.names.Follows.TheVariants.{Nothing, Options, OptionsAndNumber}
 use Rattle.swreq_words.specs.Form.{Text, Part, apart, joined, trace, number, limit_name, option_word, words_of, sets}
 use Rattle.swreq_words.specs.Taken.{number_rule}
-use Rattle.swreq_words.proofs.Booleans.{both_are, neither}
 use Rattle.swreq_words.proofs.Walks.{shape, value_of, reading, row_of, between, IsOf, built_rules, rows_in, set_row, within, with_value, Settles, IsNew, walked_joined, walked_trace, walked_first, walked_second, walked_number, turn_joined, turn_trace, turn_first, turn_second, turn_number, rows_of_value, settles_value, settles_number, on_shape}
 
 -- ---- rows
@@ -22,13 +22,13 @@ use Rattle.swreq_words.proofs.Walks.{shape, value_of, reading, row_of, between, 
 without_none : (id : Text) (rows : List Row) → has_row id rows ≡ false → without id rows ≡ rows
 without_none id [] e = refl
 without_none id (r ∷ rs) e =
-    let p = neither (bytes_eq r.id id) (has_row id rs) e in
+    let p = or_parts (bytes_eq r.id id) (has_row id rs) e in
     rw p.0 (ap (λ xs. r ∷ xs) (without_none id rs p.1))
 
 pub added : (id : Text) (change : Row → List Row) (new : Row) (rows : List Row) → has_row id rows ≡ false → at_row id change (new ∷ []) rows ≡ rows ++ new ∷ []
 added id change new [] e = refl
 added id change new (r ∷ rs) e =
-    let p = neither (bytes_eq r.id id) (has_row id rs) e in
+    let p = or_parts (bytes_eq r.id id) (has_row id rs) e in
     rw p.0 (ap (λ xs. r ∷ xs) (added id change new rs p.1))
 
 set_row_adds : (p : Part) (rows : List Row) → has_row (sets p) rows ≡ false → set_row p rows ≡ rows ++ row_of p ∷ []
@@ -36,9 +36,9 @@ set_row_adds p rows e = ap (λ rs. with_values (sets p) (reading p) CommandLine 
     ∙ added (sets p) (more_values CommandLine (value_of p ∷ [])) (row_of p) rows e
 
 or_false : (id : Text) (rows : List Row) (r : Row) → has_row id (rows ++ r ∷ []) ≡ false → (has_row id rows ≡ false) × (bytes_eq r.id id ≡ false)
-or_false id [] r e = (refl, (neither (bytes_eq r.id id) false e).0)
+or_false id [] r e = (refl, (or_parts (bytes_eq r.id id) false e).0)
 or_false id (x ∷ xs) r e =
-    let p = neither (bytes_eq x.id id) (has_row id (xs ++ r ∷ [])) e in
+    let p = or_parts (bytes_eq x.id id) (has_row id (xs ++ r ∷ [])) e in
     let q = or_false id xs r p.1 in
     (rw (p.0, q.0) refl, q.1)
 
@@ -67,7 +67,7 @@ still_waits may h p part rows e w none = w (or_false (codes "number") (rows_in m
 passes_on : (s : Shape) (w next : Walk) (word : Text) (rest : List Text) → walked s.rules [] w word ≡ next → turn_passes s [] w word ≡ true
     → walk_passes s [] next rest ≡ true → walk_passes s [] w (word ∷ rest) ≡ true
 unfolding walk_passes
-passes_on s w next word rest e turn more = both_are _ _ turn (ap (λ (v : Walk). walk_passes s [] v rest) e ∙ more)
+passes_on s w next word rest e turn more = and_from _ _ turn (ap (λ (v : Walk). walk_passes s [] v rest) e ∙ more)
 
 goes : (may : Follows) (name : Text) (part : Part) (h : Held) (p : ℕ) → IsOf may part → IsNew may part h → Settles may h → Waits may h p → Goes may name part h p
 goes may name (joined l t) h p of new s w =

@@ -1,8 +1,9 @@
 -- Words that pass the test are the words of parts.
-use Rattle.std.proofs.Common.{ap, refl, sym, subst, codes, true, false, Bool, not, ◌&&◌, ◌||◌, if◌then◌else◌, option_and_then, true≢false, List, Option, Some, None, [], ◌∷◌, ◌++◌, ◌≡◌, ◌∙◌}
+use Rattle.std.proofs.Common.{ap, refl, sym, subst, codes, true, false, Bool, not, ◌&&◌, if◌then◌else◌, option_and_then, true≢false, List, Option, Some, None, [], ◌∷◌, ◌++◌, ◌≡◌, ◌∙◌}
 use Rattle.std.specs.Str.{bytes_eq}
 use Rattle.std.specs.List.{list_all, list_any, flat_map}
 use Rattle.std.proofs.lemmas.List.{append_assoc}
+use Rattle.std.proofs.lemmas.Bool.{and_parts, and_from, or_left, or_right}
 use Rattle.swreq_words.specs.declared.names.Follows.{Follows}
 use Rattle.swreq_words.specs.declared.names.Follows.TheVariants.{Nothing, Options, OptionsAndNumber}
 use Rattle.swreq_words.specs.declared.names.Limit.{Limit}
@@ -11,7 +12,6 @@ use Rattle.swreq_words.specs.declared.seen.Seen.{Seen}
 use Rattle.swreq_words.specs.Numbers.{is_number}
 use Rattle.swreq_words.specs.Form.{Text, Part, apart, joined, trace, number, limit_name, greatest, greatest_count, option_word, words_of, may_follow, is_in_range, sets, is_each_once, is_set}
 use Rattle.swreq_words.specs.Reading.{after, front_of, Meaning, opens, sets_limit, traces, other, set_or, meaning_of_one, meaning_of, if_new, with_limit, takes_number, with_number, with_meaning, with_word, with_next, read_on}
-use Rattle.swreq_words.proofs.Booleans.{both, both_are}
 use Rattle.swreq_words.proofs.Fronts.{none_some, some_same, bytes_same, after_is}
 
 -- ---- what was set before
@@ -37,27 +37,20 @@ pub record Reads (may : Follows) (seen after : Seen) (words : List Text) : Type 
   pub once : (before : List Text) → Holds seen before → is_each_once before parts ≡ true
   pub counts : after.number ≡ true → (seen.number ≡ true → ⊥) → is_set (codes "number") parts ≡ true
 
-set_first : (b rest : Bool) → b ≡ true → (b || rest) ≡ true
-set_first b rest e = rw e refl
-
-set_later : (b rest : Bool) → rest ≡ true → (b || rest) ≡ true
-set_later true rest e = refl
-set_later false rest e = e
-
 -- one part more
 tell : (may : Follows) (seen next after : Seen) (part : Part) (words : List Text) → may_follow may part ≡ true → is_in_range part ≡ true → Puts seen next part
     → Reads may next after words → Reads may seen after (words_of part ++ words)
 tell may seen next after part words follows ranges puts more = record {
   parts = part ∷ more.parts;
   spelled = ap (λ ws. words_of part ++ ws) more.spelled;
-  follow = both_are _ _ follows more.follow;
-  in_range = both_are _ _ ranges more.in_range;
-  once = λ before holds. both_are _ _ (ap not (puts.new before holds)) (more.once (sets part ∷ before) (puts.holds before holds));
+  follow = and_from _ _ follows more.follow;
+  in_range = and_from _ _ ranges more.in_range;
+  once = λ before holds. and_from _ _ (ap not (puts.new before holds)) (more.once (sets part ∷ before) (puts.holds before holds));
   counts = λ is was. counted (next.number) refl is was;
 } where
   counted : (b : Bool) → next.number ≡ b → after.number ≡ true → (seen.number ≡ true → ⊥) → is_set (codes "number") (part ∷ more.parts) ≡ true
-  counted true e is was = set_first _ _ (puts.counts e was)
-  counted false e is was = set_later _ _ (more.counts is (λ yes. true≢false (sym yes ∙ e)))
+  counted true e is was = or_left _ _ (puts.counts e was)
+  counted false e is was = or_right _ _ (more.counts is (λ yes. true≢false (sym yes ∙ e)))
 
 -- ---- one word
 
@@ -115,7 +108,7 @@ number_follows OptionsAndNumber text e = refl
 numbered : (may : Follows) (seen next : Seen) (text : Text) → with_number may seen text ≡ Some next → Numbered may seen next text
 numbered may seen next text e =
     let n = new_if seen.number (takes_number may && is_number greatest_count text) (record seen { number = true }) next e in
-    let may_be = both (takes_number may) (is_number greatest_count text) n.1 in
+    let may_be = and_parts (takes_number may) (is_number greatest_count text) n.1 in
     record {
       follows = number_follows may text may_be.0;
       ranges = may_be.1;

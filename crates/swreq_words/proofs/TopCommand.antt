@@ -4,6 +4,7 @@ use Rattle.std.specs.Str.{bytes_eq}
 use Rattle.std.specs.Option.{option_map_or}
 use Rattle.std.specs.List.{list_all, flat_map}
 use Rattle.std.proofs.lemmas.List.{append_assoc, append-nil}
+use Rattle.std.proofs.lemmas.Bool.{and_from}
 use Rattle.clap.specs.Words.{Row, Rule, is_simple, takes, built, subcommand_of}
 use Rattle.clap.specs.Simple.{Shape, names_of, label_of, entered, rows_at}
 use Rattle.clap.specs.Facts.{explicit_source}
@@ -19,7 +20,6 @@ use Rattle.swreq_words.specs.declared.names.Follows.{Follows}
 use Rattle.swreq_words.specs.declared.names.Follows.TheVariants.{Nothing, Options, OptionsAndNumber}
 use Rattle.swreq_words.specs.Form.{Text, Part, words_of, word_of, follows}
 use Rattle.swreq_words.specs.Taken.{genreq}
-use Rattle.swreq_words.proofs.Booleans.{both_are}
 use Rattle.swreq_words.proofs.Walks.{shape, row_of, between, built_rules, same_rules, rows_in, Settles}
 use Rattle.swreq_words.proofs.Parts.{added, AreOf, AreNew, gone, with_trace, no_trace, finished_as}
 
@@ -103,10 +103,10 @@ leaf_at may name ps of new has_number =
     let end : finished (built_rules may) all.held ≡ rows_of_parts may ps =
     finished_as may all.held ∙ ap (with_trace may) (all.rows ∙ ap (λ rs. rs ++ map row_of ps) (sym (nothing_yet may))) ∙ trace_added may (map row_of ps) in
     record {
-      passes = both_are _ _ all.passes
+      passes = and_from _ _ all.passes
           (ap₂ (λ c again. end_passes c again (shape may name) (run_by c words)) (same_rules may name) (same_again may name)
           ∙ ap (λ (w : Walk). end_passes (built_rules may) false (shape may name) w) all.moves
-          ∙ both_are _ _ all.settles (both_are _ _ (defaults_pass may)
+          ∙ and_from _ _ all.settles (and_from _ _ (defaults_pass may)
           (ap (λ rs. is_valid (shape may name) rs false) end
           ∙ valid_at may name (rows_of_parts may ps) (λ e. given_on (codes "number") (map row_of ps) (trace_row may (map row_of ps)) (has_number e)))));
       rows = ap (λ c. finished c (run_by c words).held) (same_rules may name) ∙ ap (λ (w : Walk). finished (built_rules may) w.held) all.moves ∙ end;
@@ -142,7 +142,7 @@ top_passes : (name : Text) (ws : List Text) → walked top_shape.rules top_names
     → turn_passes top_shape top_names (between nothing_held 1) name ≡ true
     → walk_passes top_shape top_names (walk_from nothing_held) (name ∷ ws) ≡ true
 unfolding walk_passes
-top_passes name ws step turn = both_are _ _ turn (ap (λ (w : Walk). walk_passes top_shape top_names w ws) step ∙ stays_passes name [] ws)
+top_passes name ws step turn = and_from _ _ turn (ap (λ (w : Walk). walk_passes top_shape top_names w ws) step ∙ stays_passes name [] ws)
 
 step_of : (n : CommandName) → walked top_shape.rules top_names (between nothing_held 1) (word_of n) ≡ met_at (word_of n) []
 unfolding clap_on_literals
@@ -185,11 +185,11 @@ taken n ps of new has_number =
     let end : walk top_shape.rules top_names nothing_held (name ∷ ws) ≡ met_at name ws =
     ap (λ (w : Walk). fold (walked top_shape.rules top_names) w ws) (step_of n) ∙ stays name [] ws in
     record {
-      takes_words = both_are _ _ simple
-          (both_are _ _
+      takes_words = and_from _ _ simple
+          (and_from _ _
           (ap (λ (w : Walk). entered_passes (built genreq) w.stopped) end
           ∙ ap (λ o. option_map_or (λ s. level_passes s [] nothing_held ws false) o true) (found_of n) ∙ leaf.passes)
-          (both_are _ _ (top_passes name ws (step_of n) (turn_of n))
+          (and_from _ _ (top_passes name ws (step_of n) (turn_of n))
           (ap (λ (w : Walk). settle_passes top_shape.rules top_shape.args_override_self w.held && (list_all default_passes top_shape.rules && is_valid top_shape (finished top_shape.rules w.held) (is_some (entered (built genreq) w.stopped)))) end
           ∙ ap (λ o. is_valid top_shape (finished top_shape.rules nothing_held) (is_some (option_map (λ s. rows_at s ws) o))) (found_of n))));
       finds = ap (λ (w : Walk). entered (built genreq) w.stopped) end ∙ ap (option_map (λ s. rows_at s ws)) (found_of n)

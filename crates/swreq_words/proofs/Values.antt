@@ -3,6 +3,7 @@ use Rattle.std.proofs.Common.{ap, refl, sym, codes, true, false, Bool, map, not,
 use Rattle.std.specs.Str.{bytes_eq}
 use Rattle.std.specs.Option.{option_map_or}
 use Rattle.std.specs.List.{list_any}
+use Rattle.std.proofs.lemmas.Bool.{and_parts, not-true}
 use Rattle.clap.specs.Words.{Row, first_of}
 use Rattle.clap.specs.Facts.{explicit_source}
 use Rattle.clap.specs.Walk.{has_row}
@@ -12,7 +13,6 @@ use Rattle.swreq_words.specs.declared.names.Follows.TheVariants.{Nothing, Option
 use Rattle.swreq_words.specs.declared.names.Limit.TheVariants.{MaxRules, MaxLength}
 use Rattle.swreq_words.specs.Form.{Text, Part, apart, joined, trace, number, sets, is_each_once, is_set, text_set, text_of}
 use Rattle.swreq_words.specs.Found.{is_true}
-use Rattle.swreq_words.proofs.Booleans.{both, not_true}
 use Rattle.swreq_words.proofs.Fronts.{none_some}
 use Rattle.swreq_words.proofs.Walks.{row_of}
 use Rattle.swreq_words.proofs.Parts.{AreNew, no_trace}
@@ -36,8 +36,8 @@ AreOfThese rows before = (id : Text) → has_row id rows ≡ list_any (λ other.
 pub are_new : (rows : List Row) (before : List Text) (parts : List Part) → AreOfThese rows before → is_each_once before parts ≡ true → AreNew rows parts
 are_new rows before [] same once = tt
 are_new rows before (p ∷ ps) same once =
-    let o = both (not (list_any (λ other. bytes_eq other (sets p)) before)) (is_each_once (sets p ∷ before) ps) once in (
-      same (sets p) ∙ not_true _ o.0,
+    let o = and_parts (not (list_any (λ other. bytes_eq other (sets p)) before)) (is_each_once (sets p ∷ before) ps) once in (
+      same (sets p) ∙ not-true _ o.0,
       are_new (rows ++ row_of p ∷ []) (sets p ∷ before) ps (λ id. row_last id rows (row_of p) ∙ ap (λ b. bytes_eq (sets p) id || b) (same id)) o.1,
     )
 
