@@ -1,8 +1,8 @@
 -- Parts between two separators, in one list, are lists between the one of parts between the other.
 use Rattle.std.proofs.Common.{◌≡◌, Bool, true, false, List, [], ◌∷◌, ◌++◌, refl, sym, ap, subst, ◌∙◌, append_assoc}
 use Rattle.std.specs.Prelude.{◌||◌, nat_eq}
+use Rattle.std.proofs.lemmas.Bool.{or_left, or_right}
 use Rattle.swreq_grammar.specs.Grammar.{has, mapped, terminal, Matches, Parts}
-use Rattle.swreq_grammar.proofs.Sets.{or_left, or_right}
 use Rattle.swreq_decl.specs.declared.terminal.Terminal.{Terminal}
 use Rattle.swreq_decl.specs.declared.terminal.Terminal.TheVariants.{Comma, Ampersand, Colon}
 use Rattle.swreq_decl.specs.Terminals.{number}

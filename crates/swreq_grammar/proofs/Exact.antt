@@ -2,11 +2,11 @@
 use Rattle.swreq_grammar.specs.declared.token.Token.{Token}
 use Rattle.std.proofs.Common.{◌≡◌, ℕ, zero, suc, ◌≤◌, ◌<◌, Bool, true, false, cond, List, [], ◌∷◌, ◌++◌, length, Ok, refl, ap, subst, ◌∙◌, append_assoc, arith, inl, inr}
 use Rattle.std.specs.Prelude.{◌&&◌, not}
-use Rattle.std.proofs.lemmas.Bool.{and_parts}
+use Rattle.std.proofs.lemmas.Bool.{and_parts, not-true}
 use Rattle.std.proofs.lemmas.List.{length-append}
 use Rattle.swreq_grammar.specs.Grammar.{Limit, unlimited, at_most, Grammar, terminal, empty, mapped, sequence, alternative, repetition, labelled, has, Within, Parts, Matches}
 use Rattle.swreq_grammar.specs.Reader.{begins, nullable, first_set, follow_last, disjoint, is_predictive, steps, read_parts, read}
-use Rattle.swreq_grammar.proofs.Sets.{not_true, not_in_disjoint, begins_split, nullable_of, first_of}
+use Rattle.swreq_grammar.proofs.Sets.{not_in_disjoint, begins_split, nullable_of, first_of}
 use Rattle.swreq_grammar.proofs.Reading.{parts_stops, parts_goes, text_some}
 
 module _ {T : Type 0} (number : T → ℕ) where
@@ -78,7 +78,7 @@ module _ {T : Type 0} (number : T → ℕ) where
       let s = and_parts (not (nullable g)) (disjoint number (first_set g) (first_set h)) q.1 in
       let c = begins_split number (follow_last g ++ follow_last h) (cond (nullable h) (first_set g) []) rest b in
       let d = begins_split number (follow_last g) (follow_last h) rest c.0 in
-      rw (front_begins g (not_true (nullable g) s.0) pre rest v m) (complete g r.0 pre v rest m d.0)
+      rw (front_begins g (not-true (nullable g) s.0) pre rest v m) (complete g r.0 pre v rest m d.0)
   complete (alternative g h) p pre v rest (inr m) b =
       let q = and_parts (is_predictive number g && is_predictive number h) (not (nullable g) && disjoint number (first_set g) (first_set h)) p in
       let r = and_parts (is_predictive number g) (is_predictive number h) q.0 in
@@ -90,7 +90,7 @@ module _ {T : Type 0} (number : T → ℕ) where
       let q = and_parts (is_predictive number g) (not (nullable g) && disjoint number (follow_last g) (first_set g)) p in
       let r = and_parts (not (nullable g)) (disjoint number (follow_last g) (first_set g)) q.1 in
       let c = begins_split number (follow_last g) (first_set g) rest b in
-      many_complete g limit (not_true (nullable g) r.0) r.1 (complete g q.0) v (steps limit (pre ++ rest)) pre rest m.0 c.0 c.1 (room_at limit (length v) (pre ++ rest) m.1)
+      many_complete g limit (not-true (nullable g) r.0) r.1 (complete g q.0) v (steps limit (pre ++ rest)) pre rest m.0 c.0 c.1 (room_at limit (length v) (pre ++ rest) m.1)
   complete (labelled label g) p pre v rest m b =
       let q = and_parts (is_predictive number g) (not (nullable g)) p in
-      rw (front_begins g (not_true (nullable g) q.1) pre rest v m) (complete g q.0 pre v rest m b)
+      rw (front_begins g (not-true (nullable g) q.1) pre rest v m) (complete g q.0 pre v rest m b)

@@ -2,11 +2,10 @@
 use Rattle.swreq_grammar.specs.declared.token.Token.{Token}
 use Rattle.std.proofs.Common.{◌≡◌, ℕ, zero, suc, Bool, true, false, cond, List, [], ◌∷◌, ◌++◌, length, Some, None, Ok, Err, refl, sym, ap, ◌∙◌, append_assoc, arith, inl, inr, ◌⊎◌}
 use Rattle.std.specs.Prelude.{◌&&◌, not}
-use Rattle.std.proofs.lemmas.Bool.{and_parts}
+use Rattle.std.proofs.lemmas.Bool.{and_parts, not-true}
 use Rattle.swreq_grammar.specs.Grammar.{Limit, unlimited, at_most, Grammar, terminal, empty, mapped, sequence, alternative, repetition, labelled, has, Within, Parts, Matches}
 use Rattle.swreq_grammar.specs.Reader.{Read, ◌>>=◌, begins, nullable, first_set, follow_last, disjoint, is_predictive, read_terminal, is_empty, steps, read_parts, read}
 use Rattle.swreq_grammar.specs.Refusal.{BeginsText, IsFull, HasLabel, begins_labelled, is_well_labelled}
-use Rattle.swreq_grammar.proofs.Sets.{not_true}
 use Rattle.swreq_grammar.proofs.Beginning.{begins_text, no_text_begins}
 use Rattle.swreq_grammar.proofs.Reading.{Shows, read_shows}
 
@@ -132,7 +131,7 @@ module _ {T : Type 0} (number : T → ℕ) where
   read_stands (repetition limit g) p q ts =
       let a = and_parts (is_predictive number g) (not (nullable g) && disjoint number (follow_last g) (first_set g)) p in
       let c = and_parts (is_well_labelled g) (not (begins_labelled g)) q in
-      let one = begins_text number g a.0 (not_true (begins_labelled g) c.1) in
+      let one = begins_text number g a.0 (not-true (begins_labelled g) c.1) in
       stands_also _ (Labels (repetition limit g)) (in_repetition g one limit ts) ts (read number (repetition limit g) ts)
       (parts_stand number (Matches number g) (Labels g) (read number g) (first_set g) (BeginsText number g) one limit (read_shows number g a.0) (read_stands g a.0 c.0) (steps limit ts) ts)
   read_stands (labelled label g) p q ts =

@@ -2,12 +2,12 @@
 use Rattle.swreq_grammar.specs.declared.token.Token.{Token}
 use Rattle.std.proofs.Common.{◌≡◌, ℕ, suc, ◌+◌, ◌-◌, ◌≤◌, true, false, cond, List, [], ◌∷◌, ◌++◌, length, Some, Err, refl, sym, ap, subst, ◌∙◌, append_assoc, arith, inl, inr, eq-eqb}
 use Rattle.std.specs.Prelude.{◌&&◌, not, nat_eq}
-use Rattle.std.proofs.lemmas.Bool.{and_parts}
+use Rattle.std.proofs.lemmas.Bool.{and_parts, or_left, or_right, not-true}
 use Rattle.std.proofs.lemmas.List.{length-append}
 use Rattle.swreq_grammar.specs.Grammar.{Limit, unlimited, at_most, Grammar, terminal, empty, mapped, sequence, alternative, repetition, labelled, has, Within, Parts, Matches}
 use Rattle.swreq_grammar.specs.Reader.{Fault, begins, nullable, first_set, follow_last, disjoint, is_empty, is_predictive, steps, read_parts, read}
 use Rattle.swreq_grammar.specs.Refusal.{HasLabel, begins_labelled, is_well_labelled}
-use Rattle.swreq_grammar.proofs.Sets.{or_left, or_right, not_true, not_in_disjoint, ends_front, nullable_of, first_of, first_step, first_parts, more_left, more_right}
+use Rattle.swreq_grammar.proofs.Sets.{not_in_disjoint, ends_front, nullable_of, first_of, first_step, first_parts, more_left, more_right}
 use Rattle.swreq_grammar.proofs.Beginning.{text_begins, begins_no_text}
 use Rattle.swreq_grammar.proofs.Reading.{text_some, parts_goes, parts_long}
 use Rattle.swreq_grammar.proofs.Exact.{apart_front, front_begins, longer, complete, Complete}
@@ -38,7 +38,7 @@ module _ {T L : Type 0} (number : T → ℕ) (label : L) (rest : List (Token T))
   label_first (repetition (at_most n wanted) g) p (inr (v ∷ vs, a, f, b)) =
       let q = and_parts (is_predictive number g) (not (nullable g) && disjoint number (follow_last g) (first_set g)) p in
       let r = and_parts (not (nullable g)) (disjoint number (follow_last g) (first_set g)) q.1 in
-      absurd (text_some number g (not_true (nullable g) r.0) v (subst (λ zs. Matches number g zs v) (ends_front number a.0 a.1 a.2).0 a.3))
+      absurd (text_some number g (not-true (nullable g) r.0) v (subst (λ zs. Matches number g zs v) (ends_front number a.0 a.1 a.2).0 a.3))
   label_first (labelled other g) p k = refl
 
   label_after : {A : Type 0} (g : Grammar T L A) → (u : Token T) (pre : List (Token T)) → HasLabel number label g (u ∷ pre) rest → has number (first_set g) u.terminal ≡ true
@@ -131,7 +131,7 @@ module _ {T L : Type 0} (number : T → ℕ) (label : L) (rest : List (Token T))
       let c = and_parts (is_well_labelled g && is_well_labelled h) (not (begins_labelled g) && not (begins_labelled h)) q in
       let d = and_parts (is_well_labelled g) (is_well_labelled h) c.0 in
       let e = and_parts (not (begins_labelled g)) (not (begins_labelled h)) c.1 in
-      rw (label_begins g b.0 (not_true (begins_labelled g) e.0) pre k) (label_read g b.0 d.0 pre k)
+      rw (label_begins g b.0 (not-true (begins_labelled g) e.0) pre k) (label_read g b.0 d.0 pre k)
   label_read (alternative g h) p q pre (inr k) =
       let a = and_parts (is_predictive number g && is_predictive number h) (not (nullable g) && disjoint number (first_set g) (first_set h)) p in
       let b = and_parts (is_predictive number g) (is_predictive number h) a.0 in
@@ -139,13 +139,13 @@ module _ {T L : Type 0} (number : T → ℕ) (label : L) (rest : List (Token T))
       let c = and_parts (is_well_labelled g && is_well_labelled h) (not (begins_labelled g) && not (begins_labelled h)) q in
       let d = and_parts (is_well_labelled g) (is_well_labelled h) c.0 in
       let e = and_parts (not (begins_labelled g)) (not (begins_labelled h)) c.1 in
-      rw (begins_disjoint (first_set g) (first_set h) (pre ++ rest) r.1 (label_begins h b.1 (not_true (begins_labelled h) e.1) pre k)) (label_read h b.1 d.1 pre k)
+      rw (begins_disjoint (first_set g) (first_set h) (pre ++ rest) r.1 (label_begins h b.1 (not-true (begins_labelled h) e.1) pre k)) (label_read h b.1 d.1 pre k)
   label_read (repetition limit g) p q pre (inl k) =
       let a = and_parts (is_predictive number g) (not (nullable g) && disjoint number (follow_last g) (first_set g)) p in
       let r = and_parts (not (nullable g)) (disjoint number (follow_last g) (first_set g)) a.1 in
       let c = and_parts (is_well_labelled g) (not (begins_labelled g)) q in
-      let some = not_true (nullable g) r.0 in
-      let b = label_begins g a.0 (not_true (begins_labelled g) c.1) k.1 k.5 in
+      let some = not-true (nullable g) r.0 in
+      let b = label_begins g a.0 (not-true (begins_labelled g) c.1) k.1 k.5 in
       let whole : pre ++ rest ≡ k.0 ++ (k.1 ++ rest) = ap (λ (zs : List (Token T)). zs ++ rest) k.3 ∙ append_assoc k.0 k.1 rest in
       let n = steps_on limit k.2 k.0 k.1 (parts_shorter g some k.2 k.0 k.4) (first_set g) b k.6 in
       let now : read_parts number (read number g) (first_set g) limit (suc n.0) (k.1 ++ rest) ≡ Err (rest, Some label) = parts_goes number (Matches number g) (read number g) (first_set g) limit (suc n.0) n.0 (k.1 ++ rest) refl b ∙ rw (label_read g a.0 c.0 k.1 k.5) refl in
@@ -154,7 +154,7 @@ module _ {T L : Type 0} (number : T → ℕ) (label : L) (rest : List (Token T))
   label_read (repetition (at_most l wanted) g) p q pre (inr k) =
       let a = and_parts (is_predictive number g) (not (nullable g) && disjoint number (follow_last g) (first_set g)) p in
       let r = and_parts (not (nullable g)) (disjoint number (follow_last g) (first_set g)) a.1 in
-      let some = not_true (nullable g) r.0 in
+      let some = not-true (nullable g) r.0 in
       let z : l ≡ length k.0 + 0 = omega (arith, k.2.0) in
       let more = text_begins number g rest k.3 in
       let now : read_parts number (read number g) (first_set g) (at_most l wanted) 0 rest ≡ Err (rest, Some label) = parts_long number (Matches number g) (read number g) (first_set g) l 0 wanted rest refl more ∙ rw k.2.1 refl in
@@ -162,9 +162,9 @@ module _ {T L : Type 0} (number : T → ℕ) (label : L) (rest : List (Token T))
   label_read (labelled other g) p q pre (inl k) =
       let a = and_parts (is_predictive number g) (not (nullable g)) p in
       let c = and_parts (is_well_labelled g) (not (begins_labelled g)) q in
-      let none = begins_no_text number g a.0 (not_true (begins_labelled g) c.1) rest k.2 in
+      let none = begins_no_text number g a.0 (not-true (begins_labelled g) c.1) rest k.2 in
       rw (k.0, none, k.1) refl
   label_read (labelled other g) p q pre (inr k) =
       let a = and_parts (is_predictive number g) (not (nullable g)) p in
       let c = and_parts (is_well_labelled g) (not (begins_labelled g)) q in
-      rw (label_begins g a.0 (not_true (begins_labelled g) c.1) pre k) (label_read g a.0 c.0 pre k)
+      rw (label_begins g a.0 (not-true (begins_labelled g) c.1) pre k) (label_read g a.0 c.0 pre k)

@@ -2,12 +2,12 @@
 use Rattle.swreq_grammar.specs.declared.token.Token.{Token}
 use Rattle.std.proofs.Common.{◌≡◌, ℕ, zero, suc, ◌≤◌, ◌<◌, Bool, true, false, cond, List, [], ◌∷◌, ◌++◌, length, Some, None, Ok, Err, refl, sym, ap, subst, ◌∙◌, append_assoc, arith, inl, inr}
 use Rattle.std.specs.Prelude.{◌&&◌, not}
-use Rattle.std.proofs.lemmas.Bool.{and_parts}
+use Rattle.std.proofs.lemmas.Bool.{and_parts, not-true}
 use Rattle.std.proofs.lemmas.List.{append-nil, length-append}
 use Rattle.swreq_grammar.specs.Grammar.{Limit, unlimited, at_most, Grammar, terminal, empty, mapped, sequence, alternative, repetition, labelled, has, Within, Parts, Matches}
 use Rattle.swreq_grammar.specs.Reader.{Read, ◌>>=◌, begins, nullable, first_set, follow_last, disjoint, is_predictive, read_terminal, steps, read_parts, read}
 use Rattle.swreq_grammar.specs.Refusal.{Viable}
-use Rattle.swreq_grammar.proofs.Sets.{not_true, nullable_of, text_of}
+use Rattle.swreq_grammar.proofs.Sets.{nullable_of, text_of}
 
 -- ---- what the reader finds, and what it looks at
 
@@ -265,7 +265,7 @@ module _ {T : Type 0} (number : T → ℕ) where
       let q = and_parts (is_predictive number g) (not (nullable g) && disjoint number (follow_last g) (first_set g)) p in
       let r = and_parts (not (nullable g)) (disjoint number (follow_last g) (first_set g)) q.1 in
       repetition_shows g limit ts (read number (repetition limit g) ts)
-      (parts_show (Matches number g) (read number g) (first_set g) limit (text_some g (not_true (nullable g) r.0)) (read_shows g q.0) (steps limit ts) ts (enough_at limit ts))
+      (parts_show (Matches number g) (read number g) (first_set g) limit (text_some g (not-true (nullable g) r.0)) (read_shows g q.0) (steps limit ts) ts (enough_at limit ts))
   read_shows (labelled label g) p ts =
       let q = and_parts (is_predictive number g) (not (nullable g)) p in
       labelled_shows label g ts (text_of number g q.0) (read_shows g q.0 ts) (begins number (first_set g) ts) refl

@@ -3,32 +3,10 @@ use Rattle.swreq_grammar.specs.declared.token.Token.{Token}
 use Rattle.std.proofs.Common.{◌≡◌, ℕ, Bool, true, false, cond, List, [], ◌∷◌, ◌++◌, refl, sym, subst, ◌∙◌, arith, inl, inr, ◌⊎◌, zero, suc, eq-eqb}
 use Rattle.std.proofs.lemmas.List.{append-nil}
 use Rattle.std.specs.Prelude.{◌&&◌, ◌||◌, not, nat_eq}
-use Rattle.std.proofs.lemmas.Bool.{and_parts, eqb-true}
+use Rattle.std.proofs.lemmas.Bool.{and_parts, or_cases, or_left, or_parts, or_right, not-true, eqb-true}
 use Rattle.swreq_grammar.specs.Grammar.{Limit, unlimited, at_most, Grammar, terminal, empty, mapped, sequence, alternative, repetition, labelled, has, Within, Parts, Matches}
 use Rattle.swreq_grammar.specs.Reader.{begins, nullable, first_set, follow_last, disjoint, is_predictive}
 use Rattle.swreq_grammar.specs.Refusal.{Viable, begins_labelled}
-
--- ---- small facts
-
-pub or_left : (a b : Bool) → a ≡ true → (a || b) ≡ true
-or_left true b e = refl
-or_left false b e = absurd cc
-
-pub or_right : (a b : Bool) → b ≡ true → (a || b) ≡ true
-or_right true b e = refl
-or_right false b e = e
-
-pub or_false : (a b : Bool) → (a || b) ≡ false → (a ≡ false) × (b ≡ false)
-or_false true b e = absurd cc
-or_false false b e = (refl, e)
-
-either_true : (a b : Bool) → (a || b) ≡ true → (a ≡ true) ⊎ (b ≡ true)
-either_true true b e = inl refl
-either_true false b e = inr e
-
-pub not_true : (a : Bool) → not a ≡ true → a ≡ false
-not_true true e = absurd cc
-not_true false e = refl
 
 module _ {T : Type 0} (number : T → ℕ) where
   pub has_append : (xs ys : List T) (t : T) → has number (xs ++ ys) t ≡ (has number xs t || has number ys t)
@@ -41,7 +19,7 @@ module _ {T : Type 0} (number : T → ℕ) where
   has_along (d ∷ ds) c t e = rw (e, has_along ds c t e) refl
 
   not_in_either : (cs ds : List T) (c t : T) (b : Bool) → nat_eq (number c) (number t) ≡ b → not (has number ds c) ≡ true → has number ds t ≡ true → has number cs t ≡ false → (b || has number cs t) ≡ false
-  not_in_either cs ds c t true e a h rest = absurd (let same = has_along ds c t (eqb-true (number c) (number t) e) in let none = not_true (has number ds c) a in cc)
+  not_in_either cs ds c t true e a h rest = absurd (let same = has_along ds c t (eqb-true (number c) (number t) e) in let none = not-true (has number ds c) a in cc)
   not_in_either cs ds c t false e a h rest = rest
 
   pub not_in_disjoint : (cs ds : List T) (t : T) → disjoint number cs ds ≡ true → has number ds t ≡ true → has number cs t ≡ false
@@ -52,7 +30,7 @@ module _ {T : Type 0} (number : T → ℕ) where
 
   pub begins_split : (xs ys : List T) (ts : List (Token T)) → begins number (xs ++ ys) ts ≡ false → (begins number xs ts ≡ false) × (begins number ys ts ≡ false)
   begins_split xs ys [] e = (refl, refl)
-  begins_split xs ys (t ∷ ts) e = or_false (has number xs t.terminal) (has number ys t.terminal) (sym (has_append xs ys t.terminal) ∙ e)
+  begins_split xs ys (t ∷ ts) e = or_parts (has number xs t.terminal) (has number ys t.terminal) (sym (has_append xs ys t.terminal) ∙ e)
 
   pub ends_front : (xs ys : List (Token T)) → [] ≡ xs ++ ys → (xs ≡ []) × (ys ≡ [])
   ends_front [] ys e = (refl, sym e)
@@ -137,7 +115,7 @@ module _ {T : Type 0} (number : T → ℕ) where
       let n = and_parts (nullable g) (nullable h) e in
       let a = empty_text g n.0 in let b = empty_text h n.1 in
       ((a.0, b.0), ([], [], refl, a.1, b.1))
-  empty_text {A = A} (alternative g h) e = go (either_true (nullable g) (nullable h) e) (empty_text g) (empty_text h)
+  empty_text {A = A} (alternative g h) e = go (or_cases (nullable g) (nullable h) e) (empty_text g) (empty_text h)
     where
       go : (nullable g ≡ true) ⊎ (nullable h ≡ true) → (nullable g ≡ true → (v : A) × Matches number g [] v) → (nullable h ≡ true → (v : A) × Matches number h [] v) → (v : A) × Matches number (alternative g h) [] v
       go (inl n) a b = let t = a n in (t.0, inl t.1)
@@ -151,7 +129,7 @@ module _ {T : Type 0} (number : T → ℕ) where
   Begun g t = has number (first_set g) t.terminal ≡ true → Viable number g (t ∷ [])
 
   first_in_sequence : {L A B : Type 0} (g : Grammar T L A) (h : Grammar T L B) (t : Token T) → Begun g t → (nullable g ≡ true → Begun h t) → Viable number h [] → Begun (sequence g h) t
-  first_in_sequence g h t a b w e = go (either_true (has number (first_set g) t.terminal) (has number (cond (nullable g) (first_set h) []) t.terminal) (sym (has_append (first_set g) (cond (nullable g) (first_set h) []) t.terminal) ∙ e))
+  first_in_sequence g h t a b w e = go (or_cases (has number (first_set g) t.terminal) (has number (cond (nullable g) (first_set h) []) t.terminal) (sym (has_append (first_set g) (cond (nullable g) (first_set h) []) t.terminal) ∙ e))
     where
       after_none : (n : Bool) → nullable g ≡ n → has number (cond n (first_set h) []) t.terminal ≡ true → Viable number (sequence g h) (t ∷ [])
       after_none true n k = let u = empty_text g n in let v = b n k in (v.0, (u.0, v.1), ([], t ∷ v.0, refl, u.1, v.2))
@@ -162,7 +140,7 @@ module _ {T : Type 0} (number : T → ℕ) where
       go (inr k) = after_none (nullable g) refl k
 
   first_in_alternative : {L A : Type 0} (g h : Grammar T L A) (t : Token T) → Begun g t → Begun h t → Begun (alternative g h) t
-  first_in_alternative g h t a b e = go (either_true (has number (first_set g) t.terminal) (has number (first_set h) t.terminal) (sym (has_append (first_set g) (first_set h) t.terminal) ∙ e))
+  first_in_alternative g h t a b e = go (or_cases (has number (first_set g) t.terminal) (has number (first_set h) t.terminal) (sym (has_append (first_set g) (first_set h) t.terminal) ∙ e))
     where
       go : (has number (first_set g) t.terminal ≡ true) ⊎ (has number (first_set h) t.terminal ≡ true) → Viable number (alternative g h) (t ∷ [])
       go (inl k) = let u = a k in (u.0, u.1, inl u.2)
@@ -170,8 +148,8 @@ module _ {T : Type 0} (number : T → ℕ) where
 
   room_for_one : {L A : Type 0} (limit : Limit L) (g : Grammar T L A) → begins_labelled (repetition limit g) ≡ false → Within limit 1 × (begins_labelled g ≡ false)
   room_for_one unlimited g e = (tt, e)
-  room_for_one (at_most zero label) g e = absurd (let f = or_false (begins_labelled g) true e in cc)
-  room_for_one (at_most (suc n) label) g e = (omega arith, (or_false (begins_labelled g) (nat_eq (suc n) 0) e).0)
+  room_for_one (at_most zero label) g e = absurd (let f = or_parts (begins_labelled g) true e in cc)
+  room_for_one (at_most (suc n) label) g e = (omega arith, (or_parts (begins_labelled g) (nat_eq (suc n) 0) e).0)
 
   pub first_begins : {L A : Type 0} (g : Grammar T L A) → is_predictive number g ≡ true → begins_labelled g ≡ false → (t : Token T) → Begun g t
   first_begins (terminal terminals) p q t h = ([], t, (refl, h))
@@ -180,12 +158,12 @@ module _ {T : Type 0} (number : T → ℕ) where
   first_begins (sequence g h) p q t k =
       let a = and_parts (is_predictive number g) (is_predictive number h && disjoint number (follow_last g) (first_set h)) p in
       let b = and_parts (is_predictive number h) (disjoint number (follow_last g) (first_set h)) a.1 in
-      let c = or_false (begins_labelled g) (nullable g && begins_labelled h) q in
+      let c = or_parts (begins_labelled g) (nullable g && begins_labelled h) q in
       first_in_sequence g h t (first_begins g a.0 c.0 t) (λ n. first_begins h b.0 (rw n at c.1) t) (text_of h b.0) k
   first_begins (alternative g h) p q t k =
       let a = and_parts (is_predictive number g && is_predictive number h) (not (nullable g) && disjoint number (first_set g) (first_set h)) p in
       let b = and_parts (is_predictive number g) (is_predictive number h) a.0 in
-      let c = or_false (begins_labelled g) (begins_labelled h) q in
+      let c = or_parts (begins_labelled g) (begins_labelled h) q in
       first_in_alternative g h t (first_begins g b.0 c.0 t) (first_begins h b.1 c.1 t) k
   first_begins (repetition limit g) p q t h =
       let a = and_parts (is_predictive number g) (not (nullable g) && disjoint number (follow_last g) (first_set g)) p in

@@ -1,9 +1,8 @@
 -- The scan for the end of a comment finds just the end of the comment.
 use Rattle.std.proofs.Common.{◌≡◌, ℕ, zero, suc, true, false, List, [], ◌∷◌, ◌++◌, Option, Some, None, refl, sym, ap, subst, ◌∙◌, append_assoc, nat_eq, arith}
-use Rattle.std.proofs.lemmas.Bool.{eqb-true}
+use Rattle.std.proofs.lemmas.Bool.{eqb-true, and_parts}
 use Rattle.swreq_lex.specs.Comments.{is_opening, is_closing, IsInside, closing, character, nested}
 use Rattle.swreq_lex.specs.Reader.{forgotten, past_comment}
-use Rattle.swreq_lex.proofs.MarkLemmas.{both}
 
 -- what is left after the end of a comment that stands inside this many more
 abbrev closed : ℕ → List ℕ → Option (List ℕ)
@@ -94,12 +93,12 @@ passed [] n b e = absurd (let k = at_end n b in cc)
 passed (c ∷ cs) {rest} n b e =
     elim (is_opening b c) as (λ o. is_opening b c ≡ o → Insides rest n (b ∷ c ∷ cs)) [
       | true ↦ λ o.
-          let parts = both (nat_eq b 47) (nat_eq c 42) o in
+          let parts = and_parts (nat_eq b 47) (nat_eq c 42) o in
           let inner = passed cs (suc n) 32 (sym (at_opening n b c cs o) ∙ e) in
           rw (eqb-true b 47 parts.0, eqb-true c 42 parts.1) (opened cs (forget_space cs inner))
       | false ↦ λ o. elim (is_closing b c) as (λ h. is_closing b c ≡ h → Insides rest n (b ∷ c ∷ cs)) [
         | true ↦ λ h.
-            let parts = both (nat_eq b 42) (nat_eq c 47) h in
+            let parts = and_parts (nat_eq b 42) (nat_eq c 47) h in
             rw (eqb-true b 42 parts.0, eqb-true c 47 parts.1) (after_closing n cs (sym (at_closing n b c cs o h) ∙ e) (λ m p. passed cs m 32 p))
         | false ↦ λ h. one_more b c cs o h (passed cs n c (sym (at_other n b c cs o h) ∙ e))
       ] refl

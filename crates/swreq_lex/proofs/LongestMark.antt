@@ -1,13 +1,13 @@
 -- The first mark of the table that a text begins with is the longest one, since none begins with one before it.
 use Rattle.std.proofs.Common.{◌≡◌, ℕ, zero, suc, ◌+◌, ◌≤◌, ◌<◌, ◌⊎◌, inl, inr, Bool, true, false, not, ◌&&◌, List, [], ◌∷◌, ◌++◌, length, drop, get_or, Some, refl, sym, ap, subst, ◌∙◌, arith, nat_eq, nat_lt, cond, slice_get, position, eq-eqb}
-use Rattle.std.proofs.lemmas.Bool.{eqb-true}
+use Rattle.std.proofs.lemmas.Bool.{eqb-true, and_parts}
 use Rattle.std.proofs.lemmas.List.Quantifiers.{position-Some}
 use Rattle.std.proofs.lemmas.Bool.Decides.{nat_tests}
-use Rattle.std.proofs.lemmas.Option.{slice_get-get_or}
+use Rattle.std.proofs.lemmas.Option.{slice_get-get_or, get_or_from_slice_get}
 use Rattle.std.specs.List.{starts_with, list_all, position_or_len}
 use Rattle.swreq_lex.specs.Marks.{IsMark, spellings}
 use Rattle.swreq_lex.specs.Reader.{mark_at}
-use Rattle.swreq_lex.proofs.MarkLemmas.{both, starts-split}
+use Rattle.swreq_lex.proofs.MarkLemmas.{starts-split}
 
 abbrev Begins : List ℕ → List ℕ → Type 0
 Begins cs mark = starts_with nat_eq cs mark ≡ true
@@ -22,8 +22,8 @@ shorter cs [] b h k l = refl
 shorter cs (x ∷ a) [] h k l = absurd (omega arith)
 shorter [] (x ∷ a) (y ∷ b) h k l = absurd (cc)
 shorter (c ∷ cs) (x ∷ a) (y ∷ b) h k l =
-    let p = both (nat_eq x c) (starts_with nat_eq cs a) h in
-    let q = both (nat_eq y c) (starts_with nat_eq cs b) k in
+    let p = and_parts (nat_eq x c) (starts_with nat_eq cs a) h in
+    let q = and_parts (nat_eq y c) (starts_with nat_eq cs b) k in
     rw (eq-eqb x y (eqb-true x c p.0 ∙ sym (eqb-true y c q.0))) (shorter cs a b p.1 q.1 (omega arith))
 
 -- ---- the table
@@ -44,21 +44,16 @@ none_begins : (marks : List (List ℕ)) (mark : List ℕ) → list_all (λ later
 none_begins [] mark h m other e b = absurd (cc)
 none_begins (later ∷ marks) mark h zero other e b =
     let same : later ≡ other = cc in
-    not_true (starts_with nat_eq later mark) (both (not (starts_with nat_eq later mark)) (list_all (λ k. not (starts_with nat_eq k mark)) marks) h).0 (rw same b)
-none_begins (later ∷ marks) mark h (suc m) other e b = none_begins marks mark (both (not (starts_with nat_eq later mark)) (list_all (λ k. not (starts_with nat_eq k mark)) marks) h).1 m other e b
+    not_true (starts_with nat_eq later mark) (and_parts (not (starts_with nat_eq later mark)) (list_all (λ k. not (starts_with nat_eq k mark)) marks) h).0 (rw same b)
+none_begins (later ∷ marks) mark h (suc m) other e b = none_begins marks mark (and_parts (not (starts_with nat_eq later mark)) (list_all (λ k. not (starts_with nat_eq k mark)) marks) h).1 m other e b
 
 apart : (marks : List (List ℕ)) → are_apart marks ≡ true → (k m : ℕ) (one other : List ℕ) → k < m → slice_get marks k ≡ Some one → slice_get marks m ≡ Some other → Begins other one → ⊥
 apart [] a k m one other l e f b = absurd (cc)
 apart (mark ∷ marks) a k zero one other l e f b = absurd (omega arith)
 apart (mark ∷ marks) a zero (suc m) one other l e f b =
     let same : mark ≡ one = cc in
-    none_begins marks mark (both (list_all (λ later. not (starts_with nat_eq later mark)) marks) (are_apart marks) a).0 m other f (rw same b)
-apart (mark ∷ marks) a (suc k) (suc m) one other l e f b = apart marks (both (list_all (λ later. not (starts_with nat_eq later mark)) marks) (are_apart marks) a).1 k m one other (omega arith) e f b
-
-got : (marks : List (List ℕ)) (m : ℕ) (other : List ℕ) → slice_get marks m ≡ Some other → (m < length marks) × (get_or marks m [] ≡ other)
-got [] m other e = absurd (cc)
-got (mark ∷ marks) zero other e = (omega arith, cc)
-got (mark ∷ marks) (suc m) other e = let g = got marks m other e in (omega (arith, g.0), g.1)
+    none_begins marks mark (and_parts (list_all (λ later. not (starts_with nat_eq later mark)) marks) (are_apart marks) a).0 m other f (rw same b)
+apart (mark ∷ marks) a (suc k) (suc m) one other l e f b = apart marks (and_parts (list_all (λ later. not (starts_with nat_eq later mark)) marks) (are_apart marks) a).1 k m one other (omega arith) e f b
 
 order : (k m : ℕ) → (k < m) ⊎ ((k ≡ m) ⊎ (m < k))
 order zero zero = inr (inl refl)
@@ -77,7 +72,7 @@ not_longer cs n piece e s m other f b = go (order m n)
     here = position-Some (λ (mark : List ℕ). starts_with nat_eq cs mark) spellings n [] e
 
     front : Begins cs piece
-    front = subst (λ (mark : List ℕ). Begins cs mark) (got spellings n piece s).1 here.1
+    front = subst (λ (mark : List ℕ). Begins cs mark) (get_or_from_slice_get spellings n piece [] s) here.1
 
     later : n < m → (length piece < length other) ⊎ (length other ≤ length piece) → (m ≡ n) ⊎ ((n < m) × (length other ≤ length piece))
     later l (inl k) = absurd (apart spellings spellings_are_apart n m piece other l s f (shorter cs piece other front b (omega arith)))
@@ -87,7 +82,7 @@ not_longer cs n piece e s m other f b = go (order m n)
     lengths a b = elim (order a b) as (λ o. (a < b) ⊎ (b ≤ a)) [ inl l ↦ inl l | inr o ↦ inr (elim o as (λ o. b ≤ a) [ inl e ↦ omega arith | inr l ↦ omega arith ]) ]
 
     go : (m < n) ⊎ ((m ≡ n) ⊎ (n < m)) → (m ≡ n) ⊎ ((n < m) × (length other ≤ length piece))
-    go (inl l) = absurd (let no = here.2 m l in let yes = subst (λ (mark : List ℕ). Begins cs mark) (sym (got spellings m other f).1) b in cc)
+    go (inl l) = absurd (let no = here.2 m l in let yes = subst (λ (mark : List ℕ). Begins cs mark) (sym (get_or_from_slice_get spellings m other [] f)) b in cc)
     go (inr (inl e)) = inl e
     go (inr (inr l)) = later l (lengths (length piece) (length other))
 
@@ -136,7 +131,7 @@ longest_is_first n piece rest mark = subst (λ m. mark_at (piece ++ rest) ≡ So
     at = slice_get-get_or spellings k [] here.0
 
     go : (n < k) ⊎ ((n ≡ k) ⊎ (k < n)) → n ≡ k
-    go (inl l) = absurd (let no = here.2 n l in let yes = subst (λ (m : List ℕ). Begins (piece ++ rest) m) (sym (got spellings n piece mark.spelled).1) (begins piece rest) in cc)
+    go (inl l) = absurd (let no = here.2 n l in let yes = subst (λ (m : List ℕ). Begins (piece ++ rest) m) (sym (get_or_from_slice_get spellings n piece [] mark.spelled)) (begins piece rest) in cc)
     go (inr (inl e)) = e
     go (inr (inr l)) = absurd (apart spellings spellings_are_apart k n (get_or spellings k []) piece l at mark.spelled
         (shorter (piece ++ rest) (get_or spellings k []) piece here.1 (begins piece rest) (mark.longest k (get_or spellings k []) (drop (length (get_or spellings k [])) (piece ++ rest)) at (starts-split (get_or spellings k []) (piece ++ rest) here.1))))

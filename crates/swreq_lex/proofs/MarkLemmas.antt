@@ -1,6 +1,6 @@
 -- Marks at the front of a text, by its bytes and by its characters.
 use Rattle.std.proofs.Common.{◌≡◌, ℕ, zero, suc, ◌≤◌, ◌<◌, Bool, true, false, ◌&&◌, List, [], ◌∷◌, ◌++◌, length, drop, get_or, Some, refl, sym, ap, subst, ◌∙◌, arith, nat_eq, nat_lt, position, Bor, unwrap_or, slice_get}
-use Rattle.std.proofs.lemmas.Bool.{ltb-true, eqb-true}
+use Rattle.std.proofs.lemmas.Bool.{ltb-true, eqb-true, and_parts}
 use Rattle.std.proofs.lemmas.Bool.Decides.{nat_tests}
 use Rattle.std.proofs.lemmas.Str.{encodes-chars, encode_ascii, IsCharBoundary-start, char_from_byte, IsUtf8-past_char, chars_past_char}
 use Rattle.std.proofs.lemmas.List.Quantifiers.{position-Some}
@@ -11,10 +11,6 @@ use Rattle.swreq_lex.specs.Reader.{texts, first_at, are_ascii}
 
 abbrev pub is_ascii_mark : List ℕ → Bool
 is_ascii_mark mark = list_all (λ c. nat_lt c 128) mark
-
-pub both : (a b : Bool) → (a && b) ≡ true → (a ≡ true) × (b ≡ true)
-both true b h = (refl, h)
-both false b h = absurd (cc)
 
 apart : (a b : ℕ) → a < 128 → 128 ≤ b → nat_eq a b ≡ false
 apart a b h k = grind (arith, nat_tests)
@@ -30,7 +26,7 @@ pub starts-bytes : (mark cs : List ℕ) → is_ascii_mark mark ≡ true → star
 starts-bytes [] cs h = refl
 starts-bytes (m ∷ ms) [] h = refl
 starts-bytes (m ∷ ms) (c ∷ cs) h =
-    let parts = both (nat_lt m 128) (is_ascii_mark ms) h in
+    let parts = and_parts (nat_lt m 128) (is_ascii_mark ms) h in
     let small : m < 128 = ltb-true m 128 parts.0 in
     elim (nat_lt c 128) as (λ t. nat_lt c 128 ≡ t → starts_with nat_eq (encode c ++ encodes cs) (m ∷ ms) ≡ (nat_eq m c && starts_with nat_eq cs ms)) [
       | true ↦ λ k. rw (encode_ascii c (ltb-true c 128 k)) (ap (λ b. nat_eq m c && b) (starts-bytes ms cs parts.1))
@@ -47,7 +43,7 @@ place_in p xs = position_or_len p xs
 places : (marks : List (Bor (List ℕ))) (cs : List ℕ) → are_ascii (texts marks) ≡ true → place_in (λ mark. starts_with nat_eq (encodes cs) mark.now) marks ≡ place_in (λ mark. starts_with nat_eq cs mark) (texts marks)
 places [] cs h = refl
 places (m ∷ ms) cs h =
-    let parts = both (is_ascii_mark m.now) (are_ascii (texts ms)) h in
+    let parts = and_parts (is_ascii_mark m.now) (are_ascii (texts ms)) h in
     rw (starts-bytes m.now cs parts.0, places ms cs parts.1) refl
 
 lengths : (marks : List (Bor (List ℕ))) → length (texts marks) ≡ length marks
@@ -70,15 +66,15 @@ text_at (m ∷ ms) (suc n) d h = text_at ms n d (omega arith)
 
 ascii_at : (marks : List (Bor (List ℕ))) (n : ℕ) (d : Bor (List ℕ)) → n < length marks → are_ascii (texts marks) ≡ true → is_ascii_mark (get_or marks n d).now ≡ true
 ascii_at [] n d k h = absurd (omega arith)
-ascii_at (m ∷ ms) zero d k h = (both (is_ascii_mark m.now) (are_ascii (texts ms)) h).0
-ascii_at (m ∷ ms) (suc n) d k h = ascii_at ms n d (omega arith) (both (is_ascii_mark m.now) (are_ascii (texts ms)) h).1
+ascii_at (m ∷ ms) zero d k h = (and_parts (is_ascii_mark m.now) (are_ascii (texts ms)) h).0
+ascii_at (m ∷ ms) (suc n) d k h = ascii_at ms n d (omega arith) (and_parts (is_ascii_mark m.now) (are_ascii (texts ms)) h).1
 
 -- what begins with a mark is the mark and the rest
 pub starts-split : (mark cs : List ℕ) → starts_with nat_eq cs mark ≡ true → cs ≡ mark ++ drop (length mark) cs
 starts-split [] cs h = refl
 starts-split (m ∷ ms) [] h = absurd (cc)
 starts-split (m ∷ ms) (c ∷ cs) h =
-    let parts = both (nat_eq m c) (starts_with nat_eq cs ms) h in
+    let parts = and_parts (nat_eq m c) (starts_with nat_eq cs ms) h in
     rw (← eqb-true m c parts.0) (ap (λ (ds : List ℕ). m ∷ ds) (starts-split ms cs parts.1))
 
 -- a text that begins with a mark may be cut after it
@@ -86,8 +82,8 @@ pub cut : (mark bs : List ℕ) → is_ascii_mark mark ≡ true → IsUtf8 bs →
 cut [] bs a u h = (IsCharBoundary-start bs u, refl)
 cut (m ∷ ms) [] a u h = absurd (cc)
 cut (m ∷ ms) (b ∷ bs) a u h =
-    let ascii = both (nat_lt m 128) (is_ascii_mark ms) a in
-    let parts = both (nat_eq m b) (starts_with nat_eq bs ms) h in
+    let ascii = and_parts (nat_lt m 128) (is_ascii_mark ms) a in
+    let parts = and_parts (nat_eq m b) (starts_with nat_eq bs ms) h in
     let same : b ≡ m = sym (eqb-true m b parts.0) in
     let e : b ∷ bs ≡ encode m ++ bs = rw (encode_ascii m (ltb-true m 128 ascii.0), same) refl in
     let later = cut ms bs ascii.1 (IsUtf8-past_char (b ∷ bs) bs m u e) parts.1 in

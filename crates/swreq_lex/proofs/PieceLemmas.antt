@@ -1,6 +1,8 @@
 -- What is found at the front of the characters is what stands there.
 use Rattle.std.proofs.Common.{◌≡◌, ℕ, zero, suc, ◌<◌, Bool, true, false, not, ◌||◌, ◌&&◌, ◌⊎◌, inl, inr, cond, List, [], ◌∷◌, ◌++◌, length, drop, get_or, Option, Some, None, refl, sym, ap, subst, ◌∙◌, arith, nat_eq, nat_lt, unwrap_or, slice_get, ◌≢◌}
-use Rattle.std.proofs.lemmas.Bool.{eqb-true, ltb-true}
+use Rattle.std.proofs.Math.Seq.{drop-append_seam}
+use Rattle.std.proofs.lemmas.Option.{slice_get-get_or}
+use Rattle.std.proofs.lemmas.Bool.{eqb-true, ltb-true, and_parts}
 use Rattle.std.proofs.lemmas.Bool.Decides.{nat_tests}
 use Rattle.std.proofs.lemmas.List.Elements.{All-cons, All-head, All-tail}
 use Rattle.std.proofs.lemmas.List.Quantifiers.{position-Some}
@@ -16,7 +18,7 @@ use Rattle.swreq_lex.specs.Tokens as pieces
 use Rattle.swreq_lex.specs.Tokens.{IsGap, IsToken}
 use Rattle.swreq_lex.specs.Refusals.{IsBadCharacter, IsOpenComment}
 use Rattle.swreq_lex.specs.Reader.{past, past_comment, Front, nothing, gap, word, mark, bad_character, open_comment, after_comment, after_slash, at_mark, forgotten, front, mark_at}
-use Rattle.swreq_lex.proofs.MarkLemmas.{both, starts-split}
+use Rattle.swreq_lex.proofs.MarkLemmas.{starts-split}
 use Rattle.swreq_lex.proofs.LongestMark.{longest_is_first, first_is_longest}
 use Rattle.swreq_lex.proofs.CommentLemmas.{passes, comment_passed}
 
@@ -74,8 +76,8 @@ each_begins_mark = refl
 
 pub test_at : (test : List ℕ → Bool) (xs : List (List ℕ)) (n : ℕ) (x : List ℕ) → slice_get xs n ≡ Some x → list_all test xs ≡ true → test x ≡ true
 test_at test [] n x e h = absurd (cc)
-test_at test (y ∷ ys) zero x e h = let same : y ≡ x = cc in rw (← same) (both (test y) (list_all test ys) h).0
-test_at test (y ∷ ys) (suc n) x e h = test_at test ys n x e (both (test y) (list_all test ys) h).1
+test_at test (y ∷ ys) zero x e h = let same : y ≡ x = cc in rw (← same) (and_parts (test y) (list_all test ys) h).0
+test_at test (y ∷ ys) (suc n) x e h = test_at test ys n x e (and_parts (test y) (list_all test ys) h).1
 
 when_not : (b : Bool) → not b ≡ true → b ≡ false
 when_not true h = absurd (cc)
@@ -88,23 +90,14 @@ record HeadOfMark (c : ℕ) : Type 0 where
 
 head_of_mark : (c : ℕ) (cs : List ℕ) → begins_mark (c ∷ cs) ≡ true → HeadOfMark c
 head_of_mark c cs h =
-    let first = both (nat_lt c 128) (not (is_white_space c) && (not (is_ascii_alphabetic c || nat_eq c 95) && not (nat_eq c 47))) h in
-    let second = both (not (is_white_space c)) (not (is_ascii_alphabetic c || nat_eq c 95) && not (nat_eq c 47)) first.1 in
-    let third = both (not (is_ascii_alphabetic c || nat_eq c 95)) (not (nat_eq c 47)) second.1 in
+    let first = and_parts (nat_lt c 128) (not (is_white_space c) && (not (is_ascii_alphabetic c || nat_eq c 95) && not (nat_eq c 47))) h in
+    let second = and_parts (not (is_white_space c)) (not (is_ascii_alphabetic c || nat_eq c 95) && not (nat_eq c 47)) first.1 in
+    let third = and_parts (not (is_ascii_alphabetic c || nat_eq c 95)) (not (nat_eq c 47)) second.1 in
     record {
       not_white = when_not (is_white_space c) second.0;
       not_word = rw (is_xid_start-ascii c (ltb-true c 128 first.0)) (when_not (is_ascii_alphabetic c || nat_eq c 95) third.0);
       not_slash = when_not (nat_eq c 47) third.1;
     }
-
-pub drop_front : (xs ys : List ℕ) → drop (length xs) (xs ++ ys) ≡ ys
-drop_front [] ys = refl
-drop_front (x ∷ xs) ys = drop_front xs ys
-
-pub place_at : (xs : List (List ℕ)) (n : ℕ) → n < length xs → slice_get xs n ≡ Some (get_or xs n [])
-place_at [] n h = absurd (omega arith)
-place_at (x ∷ xs) zero h = refl
-place_at (x ∷ xs) (suc n) h = place_at xs n (omega arith)
 
 -- ---- what stands at the front is found
 
@@ -152,7 +145,7 @@ front_of_mark n cs (c ∷ ds) rest e m =
     let h = head_of_mark c ds (test_at begins_mark spellings n (c ∷ ds) m.spelled each_begins_mark) in
     let found = front_other c (ds ++ rest) h.not_white h.not_word h.not_slash ∙ ap (λ (o : Option ℕ). at_mark o (c ∷ (ds ++ rest))) (longest_is_first n (c ∷ ds) rest m) in
     let spelled : unwrap_or (slice_get spellings n) [] ≡ c ∷ ds = ap (λ (o : Option (List ℕ)). unwrap_or o []) m.spelled in
-    rw e (found ∙ ap (λ (ds : List ℕ). mark n ds) (ap (λ (m : List ℕ). drop (length m) (c ∷ (ds ++ rest))) spelled ∙ drop_front (c ∷ ds) rest))
+    rw e (found ∙ ap (λ (ds : List ℕ). mark n ds) (ap (λ (m : List ℕ). drop (length m) (c ∷ (ds ++ rest))) spelled ∙ drop-append_seam (c ∷ ds) rest))
 
 pub mark_has_character : (n : ℕ) (piece rest : List ℕ) → IsMark n piece rest → 0 < length piece
 mark_has_character n [] rest m = absurd (let k = test_at begins_mark spellings n [] m.spelled each_begins_mark in cc)
@@ -192,7 +185,7 @@ shown_mark : (c : ℕ) (cs : List ℕ) (o : Option ℕ) → mark_at (c ∷ cs) �
 shown_mark c cs None e = λ h. cc
 shown_mark c cs (Some n) e =
     let p = position-Some (λ (m : List ℕ). starts_with nat_eq (c ∷ cs) m) spellings n [] e in
-    let spelled : slice_get spellings n ≡ Some (get_or spellings n []) = place_at spellings n p.0 in
+    let spelled : slice_get spellings n ≡ Some (get_or spellings n []) = slice_get-get_or spellings n [] p.0 in
     let split : c ∷ cs ≡ get_or spellings n [] ++ drop (length (get_or spellings n [])) (c ∷ cs) = starts-split (get_or spellings n []) (c ∷ cs) p.1 in
     let same : unwrap_or (slice_get spellings n) [] ≡ get_or spellings n [] = ap (λ (o : Option (List ℕ)). unwrap_or o []) spelled in
     subst (λ (m : List ℕ). Shown (c ∷ cs) (mark n (drop (length m) (c ∷ cs)))) (sym same)

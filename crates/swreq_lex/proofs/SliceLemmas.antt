@@ -1,10 +1,11 @@
 -- The tokens of a text are its slices.
-use Rattle.std.proofs.Common.{◌≡◌, ℕ, zero, suc, ◌+◌, ◌-◌, ◌≤◌, ◌<◌, ◌≢◌, Bool, true, false, not, cond, nat_lt, List, [], ◌∷◌, ◌++◌, length, drop, get_or, Option, Some, None, refl, sym, ap, subst, ◌∙◌, arith, position, slice_get, append_assoc}
+use Rattle.std.proofs.Common.{◌≡◌, ℕ, ◌+◌, ◌-◌, ◌≤◌, ◌<◌, ◌≢◌, Bool, true, false, not, cond, nat_lt, List, [], ◌∷◌, ◌++◌, length, drop, get_or, Option, Some, None, refl, sym, ap, subst, ◌∙◌, arith, position, slice_get, append_assoc}
+use Rattle.std.proofs.lemmas.Option.{slice_get-get_or, slice_get_within, get_or_from_slice_get}
 use Rattle.std.proofs.lemmas.List.{drop-drop}
 use Rattle.std.proofs.lemmas.List.Quantifiers.{position-Some}
-use Rattle.std.proofs.lemmas.Bool.{ltb-true}
+use Rattle.std.proofs.lemmas.Bool.{ltb-true, and_parts}
 use Rattle.std.proofs.lemmas.Str.{encodes-append, encodes-chars, encode_ascii, length-encode, len_utf8_bounds}
-use Rattle.std.proofs.Math.Seq.{take-append_seam}
+use Rattle.std.proofs.Math.Seq.{take-append_seam, drop-append_seam}
 use Rattle.std.specs.Cmp.Lexicographic.{same_text, other_text}
 use Rattle.std.specs.List.{slice_range, prefix_len, list_all}
 use Rattle.std.specs.Str.{chars, bytes_eq}
@@ -23,9 +24,9 @@ use Rattle.swreq_lex.specs.Slices.{OnlyGaps, none, more, IsBetween, IsSpelledWor
 use Rattle.std.proofs.lemmas.List.Sums.{prefix_len_passes}
 use Rattle.std.proofs.lemmas.Bool.Decides.{nat_tests}
 use Rattle.std.specs.Char.{len_utf8}
-use Rattle.swreq_lex.proofs.MarkLemmas.{both, is_ascii_mark}
+use Rattle.swreq_lex.proofs.MarkLemmas.{is_ascii_mark}
 use Rattle.swreq_lex.proofs.Loop.{byte_length_encodes}
-use Rattle.swreq_lex.proofs.PieceLemmas.{test_at, place_at, drop_front}
+use Rattle.swreq_lex.proofs.PieceLemmas.{test_at}
 use Rattle.swreq_lex.proofs.ReadLemmas.{byte_length-append, token_has_character}
 use Rattle.swreq_lex.proofs.TextLemmas.{begins}
 
@@ -53,7 +54,7 @@ past_piece text at cs piece rest p l =
     let count = byte_length_encodes piece in
     let parts : drop at text ≡ encodes piece ++ encodes rest = l.spelled ∙ (ap encodes p ∙ encodes-append piece rest) in
     record {
-      spelled = sym (drop-drop (byte_length piece) at text) ∙ rw (parts, count) (drop_front (encodes piece) (encodes rest));
+      spelled = sym (drop-drop (byte_length piece) at text) ∙ rw (parts, count) (drop-append_seam (encodes piece) (encodes rest));
       there = let k : byte_length cs ≡ byte_length piece + byte_length rest = rw p (byte_length-append piece rest) in omega (arith, l.there);
     }
 
@@ -65,15 +66,10 @@ slice_of text at cs piece rest p l =
 
 -- ---- how tokens are spelled
 
-place_of : (xs : List (List ℕ)) (n : ℕ) (x : List ℕ) → slice_get xs n ≡ Some x → (n < length xs) × (get_or xs n [] ≡ x)
-place_of [] n x e = absurd (cc)
-place_of (y ∷ ys) zero x e = (omega arith, cc)
-place_of (y ∷ ys) (suc n) x e = let later = place_of ys n x e in (omega (arith, later.0), later.1)
-
 among : (xs : List (List ℕ)) (bytes : List ℕ) (n : ℕ) → position (λ word. bytes_eq word bytes) xs ≡ Some n → slice_get xs n ≡ Some bytes
 among xs bytes n e =
     let p = position-Some (λ (word : List ℕ). bytes_eq word bytes) xs n [] e in
-    place_at xs n p.0 ∙ ap (λ (word : List ℕ). Some word) (same_text (get_or xs n []) bytes (sym p.1))
+    slice_get-get_or xs n [] p.0 ∙ ap (λ (word : List ℕ). Some word) (same_text (get_or xs n []) bytes (sym p.1))
 
 all_other : (count len : ℕ) → cond (nat_lt count len) (Some count) None ≡ None → len ≤ count
 all_other count len e = elim (nat_lt count len) as (λ b. nat_lt count len ≡ b → len ≤ count) [ true ↦ λ h. absurd (let k : cond (nat_lt count len) (Some count) None ≡ Some count = rw h refl in cc) | false ↦ λ h. grind (arith, nat_tests) ] refl
@@ -84,10 +80,10 @@ when_not false h = refl
 
 none_among : (xs : List (List ℕ)) (bytes : List ℕ) → position (λ word. bytes_eq word bytes) xs ≡ None → (n : ℕ) → slice_get xs n ≢ Some bytes
 none_among xs bytes e n h =
-    let at = place_of xs n bytes h in
+    let within : n < length xs = slice_get_within xs n bytes h in
     let below = all_other (prefix_len (λ (word : List ℕ). not (bytes_eq word bytes)) xs) (length xs) e in
-    let other = prefix_len_passes (λ (word : List ℕ). not (bytes_eq word bytes)) xs n [] (omega (arith, at.0)) in
-    other_text (get_or xs n []) bytes (when_not (bytes_eq (get_or xs n []) bytes) other) at.1
+    let other = prefix_len_passes (λ (word : List ℕ). not (bytes_eq word bytes)) xs n [] (omega (arith, within)) in
+    other_text (get_or xs n []) bytes (when_not (bytes_eq (get_or xs n []) bytes) other) (get_or_from_slice_get xs n bytes [] h)
 
 spelled_by : (bytes : List ℕ) → IsSpelledWord bytes → (o : Option ℕ) → position (λ word. bytes_eq word bytes) reserved ≡ o → IsSpelled (word_kind o bytes) bytes
 spelled_by bytes w (Some n) e = among reserved bytes n e
@@ -102,7 +98,7 @@ each_ascii = refl
 ascii_encodes : (cs : List ℕ) → is_ascii_mark cs ≡ true → encodes cs ≡ cs
 ascii_encodes [] h = refl
 ascii_encodes (c ∷ cs) h =
-    let parts = both (nat_lt c 128) (is_ascii_mark cs) h in
+    let parts = and_parts (nat_lt c 128) (is_ascii_mark cs) h in
     rw (encode_ascii c (ltb-true c 128 parts.0)) (ap (λ (ds : List ℕ). c ∷ ds) (ascii_encodes cs parts.1))
 
 is_spelled : (kind : TokenKind) (piece rest : List ℕ) → IsToken kind piece rest → IsSpelled kind (encodes piece)
@@ -169,7 +165,7 @@ ahead text (pieces.token {at = at} {cs = cs} {piece = piece} {rest = rest} {kind
 after_mark_left : (cs : List ℕ) → drop (first_offset cs) (encodes cs) ≡ encodes (after_byte_order_mark cs)
 after_mark_left [] = refl
 after_mark_left (c ∷ cs) = elim (is_byte_order_mark c) as (λ b. drop (cond b (len_utf8 c) 0) (encode c ++ encodes cs) ≡ encodes (cond b cs (c ∷ cs))) [
-  | true ↦ rw (sym (length-encode c)) (drop_front (encode c) (encodes cs))
+  | true ↦ rw (sym (length-encode c)) (drop-append_seam (encode c) (encodes cs))
   | false ↦ refl
 ]
 

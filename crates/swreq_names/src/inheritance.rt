@@ -67,7 +67,6 @@ fn add_requirement(
     }
 }
 
-#[tactic(auto, using(crate::proofs::Pieces::pieces_more))]
 fn add_clause(
     text: &[u8],
     d: &Declared,
@@ -82,7 +81,6 @@ fn add_clause(
     Ok(())
 }
 
-#[tactic(auto, using(crate::proofs::Pieces::pieces_more))]
 fn add_members(
     text: &[u8],
     d: &Declared,
