@@ -233,7 +233,7 @@ fn add_signature(
     alloc: Global,
     world: &World,
     page: &Page<'_>,
-    place: usize,
+    place: u32,
     out: &mut Vec<u8>,
 ) -> Result<(), AllocError> {
     let f = FuncId { place };
@@ -340,7 +340,7 @@ fn looked_up(rt: &impl Abort, world: &World) {
     assert!(rt; world.has_member(p, a) && !world.inherits(p, q) && world.depth(p) == 0);
     let d = AssocId { rank: 0 };
     assert!(rt; world.assoc(d).proto == p && world.assoc(d).name == a);
-    assert!(rt; world.proto_name(q) == b"Q" && world.name(a) == b"A");
+    assert!(rt; world.proto_name(q) == b"Q".as_slice() && world.name(a) == b"A".as_slice());
     let facts = FunctionFacts::of(world, g);
     assert!(rt; facts.written().len() == 1);
 }
