@@ -6,29 +6,14 @@ use std::process::Abort;
 use std::test::Fail;
 use swreq_derive::Facts;
 use swreq_param::{AssocId, NameId, ParamId, ParamTable, ProtoId};
-use swreq_samples::skeleton_of;
+use swreq_samples::{skeleton_of, with_collections};
 use swreq_world::{FuncId, FunctionFacts, Query, World};
 
 /// Texts, each with the lists of its protocols by rank, its signatures in written order with their lists, and its queries.
 const WORLDS: &[(&str, &str)] = &[
     (
         "\
-protocol IteratorProtocol { associatedtype Element }
-protocol Sequence {
-  associatedtype Iterator: IteratorProtocol
-  associatedtype Element where Iterator.Element == Element
-}
-protocol Equatable { }
-protocol Collection: Sequence {
-  associatedtype Index
-  associatedtype SubSequence: Collection where SubSequence.Element == Element, SubSequence.Index == Index, SubSequence.SubSequence == SubSequence
-  associatedtype Indices: Collection where Indices.Element == Index, Indices.Index == Index, Indices.SubSequence == Indices
-}
-protocol BidirectionalCollection: Collection {
-  associatedtype SubSequence: BidirectionalCollection
-  associatedtype Indices: BidirectionalCollection
-}
-func f<C: BidirectionalCollection & Sequence>() where C.Element: Equatable { }
+(collections)
 query f(C.SubSequence.Element : Equatable)
 query f()
 ",
@@ -300,6 +285,7 @@ fn world_of(
 #[test]
 fn texts_have_their_worlds(rt: HostRuntime) -> Result<(), Fail> {
     for (text, lines) in WORLDS {
+        let text = with_collections(rt.alloc(), text)?;
         let mut table = ParamTable::new(rt.alloc());
         let world = world_of(&rt, rt.alloc(), text.as_bytes(), &mut table)?;
         let found = lines_of(rt.alloc(), &world, &table)?;
