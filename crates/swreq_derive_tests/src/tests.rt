@@ -276,40 +276,41 @@ fn a_premise_that_is_no_earlier_line_is_bad(rt: HostRuntime) -> Result<(), Fail>
     Ok(())
 }
 
-// Protocols that are not the premise's, numbers of no requirement and of one of another kind, among
-// them a same-type requirement under CONF.
+/// Lines with protocols that are not the premise's, numbers of no requirement and of one of another kind, among them a same-type
+/// requirement under CONF.
+const WRONG: &[(usize, DerivRule)] = &[
+    (2, DerivRule::Conf { n: 0 }),
+    (2, DerivRule::Conf { n: 2 }),
+    (2, DerivRule::Conf { n: 4 }),
+    (3, DerivRule::Conf { n: 3 }),
+    (3, DerivRule::Same { n: 0 }),
+    (3, DerivRule::Same { n: 1 }),
+    (4, DerivRule::Layout { n: 0 }),
+    (4, DerivRule::Layout { n: 3 }),
+    (5, DerivRule::AssocName { p: Q, a: A }),
+    (6, DerivRule::AssocDecl { p: Q, a: A }),
+    (7, DerivRule::AssocBind { p: Q, a: A }),
+    (8, DerivRule::AssocConf { p: Q, n: 2 }),
+    (8, DerivRule::AssocConf { p: P, n: 0 }),
+    (8, DerivRule::AssocConf { p: P, n: 1 }),
+    (8, DerivRule::AssocConf { p: P, n: 3 }),
+    (9, DerivRule::AssocSame { p: Q, n: 3 }),
+    (9, DerivRule::AssocSame { p: P, n: 2 }),
+    (9, DerivRule::AssocSame { p: P, n: 4 }),
+    (10, DerivRule::AssocLayout { p: Q, n: 1 }),
+    (10, DerivRule::AssocLayout { p: P, n: 0 }),
+    (10, DerivRule::AssocLayout { p: P, n: 2 }),
+    (14, DerivRule::SameConf { p: Q }),
+    (16, DerivRule::SameName { p: Q, a: A }),
+    (17, DerivRule::SameDecl { p: Q, a: A }),
+];
+
 #[test]
 fn another_protocol_or_number_is_bad(rt: HostRuntime) -> Result<(), Fail> {
-    let wrong = [
-        (2, DerivRule::Conf { n: 0 }),
-        (2, DerivRule::Conf { n: 2 }),
-        (2, DerivRule::Conf { n: 4 }),
-        (3, DerivRule::Conf { n: 3 }),
-        (3, DerivRule::Same { n: 0 }),
-        (3, DerivRule::Same { n: 1 }),
-        (4, DerivRule::Layout { n: 0 }),
-        (4, DerivRule::Layout { n: 3 }),
-        (5, DerivRule::AssocName { p: Q, a: A }),
-        (6, DerivRule::AssocDecl { p: Q, a: A }),
-        (7, DerivRule::AssocBind { p: Q, a: A }),
-        (8, DerivRule::AssocConf { p: Q, n: 2 }),
-        (8, DerivRule::AssocConf { p: P, n: 0 }),
-        (8, DerivRule::AssocConf { p: P, n: 1 }),
-        (8, DerivRule::AssocConf { p: P, n: 3 }),
-        (9, DerivRule::AssocSame { p: Q, n: 3 }),
-        (9, DerivRule::AssocSame { p: P, n: 2 }),
-        (9, DerivRule::AssocSame { p: P, n: 4 }),
-        (10, DerivRule::AssocLayout { p: Q, n: 1 }),
-        (10, DerivRule::AssocLayout { p: P, n: 0 }),
-        (10, DerivRule::AssocLayout { p: P, n: 2 }),
-        (14, DerivRule::SameConf { p: Q }),
-        (16, DerivRule::SameName { p: Q, a: A }),
-        (17, DerivRule::SameDecl { p: Q, a: A }),
-    ];
-    for (n, other) in wrong {
+    for (n, other) in WRONG {
         assert_eq!(rt;
-            changed(rt.alloc(), n, other, premises(rt.alloc(), n)?)?,
-            n,
+            changed(rt.alloc(), *n, *other, premises(rt.alloc(), *n)?)?,
+            *n,
             "{other:?}"
         );
     }

@@ -11,6 +11,3 @@ pub mod worked;
 pub use ids::{AssocId, NameId, ParamId, ProtoId, Step, TermId};
 pub use owned::TypeParam;
 pub use table::ParamTable;
-
-#[cfg(test)]
-mod tests;

@@ -5,4 +5,4 @@ mod reading;
 mod texts;
 
 pub use reading::{lexicon_of, skeleton_of};
-pub use texts::COLLECTIONS;
+pub use texts::with_collections;

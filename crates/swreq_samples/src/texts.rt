@@ -1,7 +1,9 @@
 //! A text that tests of several crates read.
 
+use std::alloc::{AllocError, Global};
+
 /// The protocols of collections, and a function over them, without queries.
-pub const COLLECTIONS: &str = "\
+const COLLECTIONS: &str = "\
 protocol IteratorProtocol { associatedtype Element }
 protocol Sequence {
   associatedtype Iterator: IteratorProtocol
@@ -19,3 +21,16 @@ protocol BidirectionalCollection: Collection {
 }
 func f<C: BidirectionalCollection & Sequence>() where C.Element: Equatable { }
 ";
+
+/// The text, with the protocols of collections in place of a first line `(collections)`.
+pub fn with_collections(alloc: Global, text: &str) -> Result<String, AllocError> {
+    let mut whole = String::new(alloc);
+    match text.strip_prefix("(collections)\n") {
+        Some(rest) => {
+            whole.push_str(COLLECTIONS)?;
+            whole.push_str(rest)?;
+        }
+        None => whole.push_str(text)?,
+    }
+    Ok(whole)
+}

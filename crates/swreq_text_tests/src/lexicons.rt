@@ -2,7 +2,13 @@
 
 use std::test::Fail;
 use swreq_param::{NameId, ProtoId};
-use swreq_samples::{COLLECTIONS, lexicon_of};
+use swreq_samples::{lexicon_of, with_collections};
+
+const ASKED: &str = "\
+(collections)
+query f(C.SubSequence.Element : Equatable)
+query f(C.SubSequence.SubSequence.Iterator.Element)
+";
 
 /// The member symbols in their order, found by hand. By their bytes the names are Element, Index, Indices, Iterator and
 /// SubSequence. BidirectionalCollection inherits two protocols, Collection one, and the others none, so within a name they
@@ -25,7 +31,8 @@ const SYMBOLS: &[(&str, &str)] = &[
 
 #[test]
 fn member_symbols_go_by_name_and_then_by_inheritance(rt: HostRuntime) -> Result<(), Fail> {
-    let x = lexicon_of(rt.alloc(), COLLECTIONS.as_bytes())?;
+    let text = with_collections(rt.alloc(), ASKED)?;
+    let x = lexicon_of(rt.alloc(), text.as_bytes())?;
     assert!(rt; x.members() == 13);
     for (m, (proto, name)) in SYMBOLS.iter().enumerate() {
         let rank = m as u64;

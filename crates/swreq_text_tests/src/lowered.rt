@@ -4,7 +4,7 @@ ghost use Rattle.swreq_decl.specs.Skeletons.{StandsFor};
 ghost use Rattle.swreq_names.specs.Names.{HasDeclared};
 ghost use Rattle.swreq_lowering.specs.Short.{HasShortLists};
 
-use crate::shown::{Page, add_asked, add_lines};
+use crate::shown::{Page, add_asked, add_lines, asked};
 use std::alloc::Global;
 use std::process::Abort;
 use std::test::Fail;
@@ -179,13 +179,15 @@ fn add_query(
 ) -> Result<(), Fail> {
     let signature = asked_signature(words, q);
     let f = FuncId { place: 7 };
-    let asked = query(&mut sheet.table, words, signature, f, &q.ask)?;
+    let found = query(&mut sheet.table, words, signature, f, &q.ask)?;
     let page = Page {
         lexicon: words.lexicon,
         table: &sheet.table,
     };
-    sheet.out.extend_from_slice(b"7")?;
-    add_asked(alloc, &page, asked, b": ", &mut sheet.out)?;
+    let place = asked(found).place;
+    let head = format!(in alloc; "{place}")?;
+    sheet.out.extend_from_slice(head.as_bytes())?;
+    add_asked(alloc, &page, found, b": ", &mut sheet.out)?;
     Ok(sheet.out.push(b'\n')?)
 }
 

@@ -2,6 +2,7 @@
 use crate::running::{runs, undisturbed};
 use crate::texts::{ENDLESS, TEXTS};
 use std::test::Fail;
+use swreq_samples::with_collections;
 
 /// The words of a row, its text, its status and its output.
 fn row(written: &str) -> Option<(&str, &str, &str, &str)> {
@@ -15,13 +16,11 @@ fn row(written: &str) -> Option<(&str, &str, &str, &str)> {
 fn texts_are_answered_or_refused(rt: HostRuntime) -> Result<(), Fail> {
     for written in TEXTS.split("====\n") {
         match row(written) {
-            Some((words, text, status, output)) => runs(
-                &rt,
-                rt.alloc(),
-                undisturbed(words, text.as_bytes()),
-                status,
-                output.as_bytes(),
-            )?,
+            Some((words, text, status, output)) => {
+                let text = with_collections(rt.alloc(), text)?;
+                let setting = undisturbed(words, text.as_bytes());
+                runs(&rt, rt.alloc(), setting, status, output.as_bytes())?
+            }
             None => return Err("a row without words or a status".into()),
         }
     }

@@ -62,22 +62,7 @@ no
 yes
 ====
 $ answer
-protocol IteratorProtocol { associatedtype Element }
-protocol Sequence {
-  associatedtype Iterator: IteratorProtocol
-  associatedtype Element where Iterator.Element == Element
-}
-protocol Equatable { }
-protocol Collection: Sequence {
-  associatedtype Index
-  associatedtype SubSequence: Collection where SubSequence.Element == Element, SubSequence.Index == Index, SubSequence.SubSequence == SubSequence
-  associatedtype Indices: Collection where Indices.Element == Index, Indices.Index == Index, Indices.SubSequence == Indices
-}
-protocol BidirectionalCollection: Collection {
-  associatedtype SubSequence: BidirectionalCollection
-  associatedtype Indices: BidirectionalCollection
-}
-func f<C: BidirectionalCollection & Sequence>() where C.Element: Equatable { }
+(collections)
 query f(C.SubSequence.Element : Equatable)
 query f(C.SubSequence.SubSequence.Iterator.Element)
 query f(C.Indices.Indices : BidirectionalCollection)

@@ -13,6 +13,3 @@ mod seen;
 
 pub use command::{Command, CommandLine};
 pub use reading::{UsageErr, read};
-
-#[cfg(test)]
-mod tests;

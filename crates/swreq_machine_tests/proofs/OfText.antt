@@ -1,0 +1,62 @@
+-- What is known of the world of a text over a table, of the lists of its signatures, and of its queries.
+use Rattle.std.proofs.Common.{◌≡◌, ◌∙◌, refl, sym, ap, subst, ℕ, ◌<◌, List, length, map, Contains, Result, Ok, Err, IfOk, IsOk}
+use Rattle.std.proofs.lemmas.List.{get_or-map, length-map}
+use Rattle.std.proofs.lemmas.List.Elements.{All-contains, All-get_or}
+use Rattle.swreq_decl.specs.declared.skeleton.Skeleton.{Skeleton}
+use Rattle.swreq_decl.specs.Skeletons.{StandsFor}
+use Rattle.swreq_resolve.specs.Resolving.{Resolve}
+use Rattle.swreq_param.specs.Terms.{Term}
+use Rattle.swreq_orders.proofs.Members.{contains_map}
+use Rattle.swreq_lowering.specs.declared.ids.FuncId.{FuncId}
+use Rattle.swreq_lowering.specs.declared.ids.Query.{Query}
+use Rattle.swreq_lowering.specs.declared.ids.Written.{Written}
+use Rattle.swreq_lowering.specs.ByTable.{AreOf, HasIdsOf, HasQueryIdsOf, placed, placed_by, query_by}
+use Rattle.swreq_world.specs.ByTable.{IsOverTable, signature_by, world_by}
+use Rattle.swreq_world.specs.Closed.{HasOwn, IsClosed, IsOfSignature, IsQueryOf}
+use Rattle.swreq_world.specs.WorldOf.{IsWorldOf}
+use Rattle.swreq_world.specs.Worlds.{IdWorld, SignatureOver, TextWorld, no_signature, signature_at}
+use Rattle.swreq_symbols.specs.Known.{IsTextOver}
+use Rattle.swreq_valid.specs.Plans.{AreWritten}
+use Rattle.swreq_minimal.specs.Inheritance.{IsInheritanceWritten}
+
+-- the world of a text whose names resolve
+pub text_over : {E : Type 0} (text : List ℕ) (s : Skeleton) (terms : List Term) (r : Result IdWorld E) → StandsFor text s
+    → ((z : Skeleton) (w : TextWorld) → StandsFor text z → IsWorldOf text z w → Resolve text z → IsClosed w)
+    → IfOk r (λ w. IsWorldOf text s (world_by terms w)) → IfOk r (IsOverTable terms) → (IsOk r → Resolve text s) → IfOk r (IsTextOver terms)
+text_over text s terms (Ok w) stands law is over ok = record { table = over; closed = law s (world_by terms w) stands is (ok refl) }
+text_over text s terms (Err e) stands law is over ok = tt
+
+-- inheritance is written in it
+pub inheritance_over : {E : Type 0} (text : List ℕ) (s : Skeleton) (terms : List Term) (r : Result IdWorld E)
+    → ((t : List ℕ) (z : Skeleton) (w : TextWorld) → IsWorldOf t z w → Resolve t z → IsInheritanceWritten w)
+    → IfOk r (λ w. IsWorldOf text s (world_by terms w)) → (IsOk r → Resolve text s) → IfOk r (λ w. IsInheritanceWritten (world_by terms w))
+inheritance_over text s terms (Ok w) law is ok = law text s (world_by terms w) is (ok refl)
+inheritance_over text s terms (Err e) law is ok = tt
+
+module _ (w : IdWorld) (terms : List Term) (text : IsTextOver terms w) where
+  own_written : (f : FuncId) → f.place < length w.signatures → AreWritten terms w.lexicon (signature_at w f).requirements
+  own_written f l r c =
+      let own : List Written = (signature_at w f).requirements in
+      let within : f.place < length (map (signature_by terms) w.signatures) = subst (λ n. f.place < n) (sym (length-map w.signatures (signature_by terms))) l in
+      let closed = All-get_or (HasOwn w.lexicon) (map (signature_by terms) w.signatures) f.place no_signature within text.closed.signatures in
+      let known : HasOwn w.lexicon (signature_by terms (signature_at w f)) =
+      subst (HasOwn w.lexicon) (get_or-map (signature_by terms) w.signatures f.place no_signature no_signature l) closed in (
+        All-contains (λ (q : Written). HasIdsOf terms q.requirement) own r
+            (All-get_or (λ (g : SignatureOver Written). AreOf terms g.requirements) w.signatures f.place no_signature l text.table.signatures) c,
+        (All-contains (IsOfSignature w.lexicon (signature_at w f).params) (placed terms own) (placed_by terms r) known (contains_map (placed_by terms) own r c)).0,
+      )
+
+  -- the list of a signature is of the table and of the text
+  pub signature_written : (f : FuncId) → f.place < length w.signatures → (list : List Written) → list ≡ (signature_at w f).requirements
+      → AreWritten terms w.lexicon list
+  signature_written f l list e r c = own_written f l r (subst (λ z. Contains z r) e c)
+
+  -- the ids of a query are of the table
+  pub query_ids : (q : Query) → Contains w.queries q → HasQueryIdsOf terms q
+  query_ids q c = All-contains (HasQueryIdsOf terms) w.queries q text.table.queries c
+
+  -- what it asks is of the world
+  pub query_known : (q : Query) → Contains w.queries q → IsQueryOf (world_by terms w) (query_by terms q)
+  query_known q c =
+      All-contains (IsQueryOf (world_by terms w)) (map (query_by terms) w.queries) (query_by terms q) text.closed.queries
+      (contains_map (query_by terms) w.queries q c)

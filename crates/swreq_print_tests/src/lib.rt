@@ -1,5 +1,0 @@
-//! Printed texts of worked values.
-#![tactic(auto)]
-
-#[cfg(test)]
-mod tests;
