@@ -7,18 +7,13 @@ use Rattle.swreq_derive.specs.Derivation.Source.{Written}
 use Rattle.swreq_derive.specs.Derivation.TermStatement.{Requires}
 use Rattle.swreq_derive.specs.Equivalence.{AreEquivalent}
 use Rattle.swreq_orders.proofs.Members.{first_member, later_member, member_cases}
+use Rattle.swreq_orders.proofs.Elements.{same_heads, same_tails}
 use Rattle.swreq_correspondence.proofs.Correspondence.{of_usable}
 use Rattle.swreq_canonical.specs.CanonicalOrder.{IsStrictlySorted}
 use Rattle.swreq_canonical.specs.Generators.{AreDecided}
 use Rattle.swreq_canonical.specs.Minimised.{IsIndependent, Leaves}
 use Rattle.swreq_canonical.specs.Minimised.Leaves.{dropped, kept, nothing}
 use Rattle.swreq_canonical.proofs.Following.{derives_usable, weaken}
-
-heads : {x y : TermRequirement} {u v : List TermRequirement} → x ∷ u ≡ y ∷ v → x ≡ y
-heads e = cc
-
-tails : {x y : TermRequirement} {u v : List TermRequirement} → x ∷ u ≡ y ∷ v → u ≡ v
-tails e = cc
 
 -- a member with one more in the middle
 more_members : (front xs : List TermRequirement) (r q : TermRequirement) → Contains (front ++ xs) q → Contains ((front ++ (r ∷ [])) ++ xs) q
@@ -44,18 +39,29 @@ module _ (f : TermFacts) (ps : List ParamId) where
   left_sorted (dropped l d) s = left_sorted l s.1
   left_sorted (kept l n) s = ((λ q h. s.0 q (were_there l q h)), left_sorted l s.1)
 
+  -- a list derives the same without a member that the others derive
+  pub without_one : (before after : List TermRequirement) (r : TermRequirement) → D (before ++ after) (Requires r)
+      → AreEquivalent f ps (before ++ r ∷ after) (before ++ after)
+  without_one before after r d st = (
+    (λ e. derives_usable (λ q h u. elim (Contains-append_cases before (r ∷ after) q h) [
+      | inl x ↦ of_usable q (Contains-append_left before after q x) u
+      | inr x ↦ elim (member_cases r q after x) [
+        | inl y ↦ subst (λ z. D (before ++ after) (Requires z)) (sym y) d
+        | inr y ↦ of_usable q (Contains-append_right before after q y) u
+      ]
+    ]) e),
+    λ e. weaken (λ q h. elim (Contains-append_cases before after q h) [
+      | inl x ↦ Contains-append_left before (r ∷ after) q x
+      | inr x ↦ Contains-append_right before (r ∷ after) q (later_member r q after x)
+    ]) e,
+  )
+
   -- what is left, with what stands before it, derives what all derived
   left_derives : {front rest out : List TermRequirement} → Leaves f ps front rest out → (st : TermStatement) → D (front ++ rest) st → D (front ++ out) st
   left_derives nothing st e = e
   left_derives (dropped {front = front} {rest = rest} {out = out} {r = r} l d) st e =
-      derives_usable (λ q h u. elim (Contains-append_cases (front ++ (r ∷ [])) out q h) [
-        | inl x ↦ elim (Contains-push_cases front r q x) [
-          | inl y ↦ of_usable q (Contains-append_left front out q y) u
-          | inr y ↦ subst (λ z. D (front ++ out) (Requires z)) y d
-        ]
-        | inr x ↦ of_usable q (Contains-append_right front out q x) u
-      ])
-      (left_derives l st (subst (λ z. D z st) (sym (append_assoc front (r ∷ []) rest)) e))
+      (without_one front out r d st).0 (subst (λ z. D z st) (append_assoc front (r ∷ []) out)
+      (left_derives l st (subst (λ z. D z st) (sym (append_assoc front (r ∷ []) rest)) e)))
   left_derives (kept {front = front} {rest = rest} {out = out} {r = r} l n) st e =
       subst (λ z. D z st) (append_assoc front (r ∷ []) out)
       (left_derives l st (subst (λ z. D z st) (sym (append_assoc front (r ∷ []) rest)) e))
@@ -70,10 +76,10 @@ module _ (f : TermFacts) (ps : List ParamId) where
   left_independent nothing (x ∷ a) b r e d = cc
   left_independent (dropped {front = front} {r = x} l k) a b r e d = left_independent l a b r e (weaken (λ q h. more_members front (a ++ b) x q h) d)
   left_independent (kept {front = front} {r = x} l n) [] b r e d =
-      n (subst (λ z. D (front ++ z) (Requires x)) (sym (tails e)) (subst (λ z. D (front ++ b) (Requires z)) (sym (heads e)) d))
+      n (subst (λ z. D (front ++ z) (Requires x)) (sym (same_tails e)) (subst (λ z. D (front ++ b) (Requires z)) (sym (same_heads e)) d))
   left_independent (kept {front = front} {r = x} l n) (y ∷ a) b r e d =
-      left_independent l a b r (tails e) (subst (λ z. D z (Requires r)) (sym (append_assoc front (x ∷ []) (a ++ b)))
-      (subst (λ z. D (front ++ (z ∷ (a ++ b))) (Requires r)) (sym (heads e)) d))
+      left_independent l a b r (same_tails e) (subst (λ z. D z (Requires r)) (sym (append_assoc front (x ∷ []) (a ++ b)))
+      (subst (λ z. D (front ++ (z ∷ (a ++ b))) (Requires r)) (sym (same_heads e)) d))
 
   pub independent : {all out : List TermRequirement} → Leaves f ps [] all out → IsIndependent f ps out
   independent l a b r e d = left_independent l a b r e d

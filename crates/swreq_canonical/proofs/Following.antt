@@ -1,5 +1,5 @@
 -- What follows from requirements of a kind.
-use Rattle.std.proofs.Common.{◌≡◌, true, List, [], ◌∷◌, ◌++◌, Contains, ap, subst, sym, inl, inr}
+use Rattle.std.proofs.Common.{true, List, [], ◌∷◌, ◌++◌, Contains, subst, sym, inl, inr}
 use Rattle.std.proofs.lemmas.List.Elements.{Contains-append_left, Contains-append_right, Contains-append_cases, Contains-push, Contains-push_cases}
 use Rattle.swreq_param.specs.declared.ids.ParamId.{ParamId}
 use Rattle.swreq_param.specs.Terms.Term.{Generic}
@@ -8,17 +8,12 @@ use Rattle.swreq_derive.specs.Derivation.Derives.{generic}
 use Rattle.swreq_derive.specs.Derivation.Source.{Written}
 use Rattle.swreq_derive.specs.Derivation.TermRequirement.{Conforms, Equals, IsAnyObject}
 use Rattle.swreq_derive.specs.Derivation.TermStatement.{IsValid, Requires}
-use Rattle.swreq_derive.specs.Substitution.{substitute_into}
 use Rattle.swreq_derive.specs.WellFormed.{HasValidSides}
 use Rattle.swreq_orders.proofs.Members.{first_member, later_member, member_cases, no_member}
 use Rattle.swreq_derive.proofs.Monotone.{grows}
-use Rattle.swreq_derive.proofs.Substitution.{derives_members, derives_with}
-use Rattle.swreq_correspondence.proofs.Correspondence.{of_usable, substitute-generic, substitute_in-generic}
+use Rattle.swreq_derive.proofs.Substitution.{derives_members, derives_with, substitute_in-generic, substitute_into-generic}
+use Rattle.swreq_correspondence.proofs.Correspondence.{of_usable}
 use Rattle.swreq_canonical.specs.Generators.{Follows}
-
-substitute_into-generic : (st : TermStatement) → substitute_into Generic st ≡ st
-substitute_into-generic (IsValid t) = ap IsValid (substitute-generic t)
-substitute_into-generic (Requires r) = ap Requires (substitute_in-generic r)
 
 module _ {f : TermFacts} {ps : List ParamId} where
   -- a longer list derives more

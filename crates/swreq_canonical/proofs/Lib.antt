@@ -8,4 +8,3 @@ pub mod Covering
 pub mod Taking
 pub mod Dropping
 pub mod Agreement
-pub mod FirstParam

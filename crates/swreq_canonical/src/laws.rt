@@ -1,9 +1,10 @@
 //! Laws on canonical requirements, generators and minimised lists, over the definitions alone.
-ghost use Rattle.std.specs.Prelude.{◌≡◌, ◌↔◌, ◌⊎◌, List, [], Contains};
+ghost use Rattle.std.specs.Prelude.{◌≡◌, ◌↔◌, ◌⊎◌, List, [], ◌∷◌, ◌++◌, Contains};
 ghost use Rattle.swreq_param.specs.declared.ids.ParamId.{ParamId};
 ghost use Rattle.swreq_param.specs.Terms.{Term};
 ghost use Rattle.swreq_derive.specs.Derivation.{TermRequirement, TermStatement, TermFacts, Source, Derivable};
 ghost use Rattle.swreq_derive.specs.Derivation.TermRequirement.{Equals};
+ghost use Rattle.swreq_derive.specs.Derivation.TermStatement.{Requires};
 ghost use Rattle.swreq_derive.specs.Derivation.Source.{Written};
 ghost use Rattle.swreq_derive.specs.Equivalence.{AreEquivalent};
 ghost use Rattle.swreq_orders.specs.WellFounded.{IsWellFounded};
@@ -59,9 +60,12 @@ pub fn generators_are_taken()
         → (out : List TermRequirement) × Takes f params [] candidates out × IsGeneratorList f params list out }
 {}
 
-/// Dropping, from the last to the first, keeps what is derivable and the order, and leaves one list, of which no member is derivable
-/// from the others.
+/// A list derives the same without a member that is derivable from the others, wherever it stands: dropping keeps what is derivable, in any
+/// order. From the last to the first it also keeps the order, and leaves one list, of which no member is derivable from the others.
 pub fn dropping_keeps()
+    ensures in_any_order { (f : TermFacts) (params : List ParamId) (before after : List TermRequirement) (r : TermRequirement)
+        → Derivable f (Written params (before ++ after)) (Requires r)
+        → AreEquivalent f params (before ++ r ∷ after) (before ++ after) }
     ensures same { (f : TermFacts) (params : List ParamId) (all left : List TermRequirement)
         → Leaves f params [] all left → AreEquivalent f params all left }
     ensures independent { (f : TermFacts) (params : List ParamId) (all left : List TermRequirement)

@@ -13,6 +13,3 @@ mod task;
 
 pub use complete_rules::{CompleteRules, extend};
 pub use limit::{Failed, Limits, Which};
-
-#[cfg(test)]
-mod tests;

@@ -1,5 +1,5 @@
 -- Words of valid type parameters are congruent just where the type parameters are derivably equal.
-use Rattle.std.proofs.Common.{◌≡◌, List, [], ◌∷◌, ◌++◌, refl, ap, ap₂, subst, subst₂, sym, ◌↔◌}
+use Rattle.std.proofs.Common.{◌≡◌, List, [], ◌∷◌, ◌++◌, refl, ap, subst, subst₂, sym, ◌↔◌}
 use Rattle.swreq_param.specs.declared.ids.AssocId.{AssocId}
 use Rattle.swreq_param.specs.declared.ids.NameId.{NameId}
 use Rattle.swreq_param.specs.declared.ids.ParamId.{ParamId}
@@ -7,16 +7,16 @@ use Rattle.swreq_param.specs.declared.ids.ProtoId.{ProtoId}
 use Rattle.swreq_param.specs.declared.ids.Step.TheVariants.{Bound, Name}
 use Rattle.swreq_param.specs.Terms.{Term, self, head}
 use Rattle.swreq_param.specs.Terms.Term.{Generic, Member}
-use Rattle.swreq_derive.specs.Derivation.{TermRequirement, TermFacts, Source, Declares, Derivable, HasParam, HasRequirement, substitute, for_self}
+use Rattle.swreq_derive.specs.Derivation.{TermRequirement, TermFacts, Source, Declares, Derivable, HasParam, HasRequirement, for_self}
 use Rattle.swreq_derive.specs.Derivation.TermRequirement.{Conforms, IsAnyObject, Equals}
 use Rattle.swreq_derive.specs.Derivation.TermStatement.{IsValid, Requires}
 use Rattle.swreq_derive.specs.Derivation.Source.{Written, SelfOf}
 use Rattle.swreq_derive.specs.Derivation.Derives.{generic, conf, same, layout, assoc_name, assoc_decl, reflex, symm, trans, same_conf, same_layout}
 use Rattle.swreq_derive.specs.WellFormed.{HasValidSides}
-use Rattle.swreq_derive.specs.Substitution.{substitute_in}
 use Rattle.swreq_word.specs.declared.symbols.Symbol.{Symbol}
 use Rattle.swreq_word.specs.declared.symbols.Symbol.TheVariants.{Proto as ProtoSymbol, Member as MemberSymbol, Param as ParamSymbol, Name as NameSymbol, Layout as LayoutSymbol}
 use Rattle.swreq_word.specs.Relations.Chain.{done, more}
+use Rattle.swreq_derive.proofs.Substitution.{substitute-generic, substitute_in-generic}
 use Rattle.swreq_correspondence.specs.Symbols.{Word, Symbols, proto_of, AreSymbolsOf, AreOfText, IsInText, spell, left_side, right_side}
 use Rattle.swreq_correspondence.specs.Equations.{Equation, Link, UsableOf, UsableIn, AreCongruent}
 use Rattle.swreq_correspondence.specs.Equations.Equation.{twice, member, of_protocol, of_source}
@@ -26,15 +26,6 @@ use Rattle.swreq_correspondence.proofs.Spelling.{spell-append}
 use Rattle.swreq_correspondence.proofs.Chained.{turn_all, chained_usable}
 use Rattle.swreq_correspondence.proofs.Readings.{valid_name, valid_bound, valid_generic, valid_base, read_all_same, valid_reading, unbound, read_on-steps, rest_is_read, steps_are_read, sides_of}
 use Rattle.swreq_correspondence.proofs.Links.{drop_symbol, add_symbol, middle, middle_link, of_self, Leads, AreRead}
-
-pub substitute-generic : (u : Term) → substitute Generic u ≡ u
-substitute-generic (Generic g) = refl
-substitute-generic (Member u x) = ap (λ t. Member t x) (substitute-generic u)
-
-pub substitute_in-generic : (r : TermRequirement) → substitute_in Generic r ≡ r
-substitute_in-generic (Conforms t p) = ap (λ x. Conforms x p) (substitute-generic t)
-substitute_in-generic (IsAnyObject t) = ap IsAnyObject (substitute-generic t)
-substitute_in-generic (Equals t u) = ap₂ Equals (substitute-generic t) (substitute-generic u)
 
 module _ {f : TermFacts} {s : Source} where
   pub of_usable : (r : TermRequirement) → HasRequirement s r → HasValidSides f s r → Derivable f s (Requires r)

@@ -1,5 +1,6 @@
 pub mod Spelling
 pub mod Chained
+pub mod Context
 pub mod Readings
 pub mod Links
 pub mod Correspondence

@@ -1,5 +1,5 @@
 -- A word has one type.
-use Rattle.std.proofs.Common.{◌≡◌, ℕ, ◌+◌, ◌≤◌, [], ◌∷◌, length, ap, ap₂, subst, sym, ◌∙◌, arith}
+use Rattle.std.proofs.Common.{◌≡◌, ◌+◌, ◌≤◌, [], ◌∷◌, length, ap, ap₂, subst, sym, ◌∙◌, arith}
 use Rattle.swreq_param.specs.Terms.{Term, member_count}
 use Rattle.swreq_param.specs.Terms.Term.{Generic, Member}
 use Rattle.swreq_param.specs.declared.ids.AssocId.{AssocId}
@@ -7,30 +7,16 @@ use Rattle.swreq_param.specs.declared.ids.NameId.{NameId}
 use Rattle.swreq_param.specs.declared.ids.ParamId.{ParamId}
 use Rattle.swreq_param.specs.declared.ids.Step.TheVariants.{Bound, Name}
 use Rattle.swreq_derive.specs.Derivation.{Source, TermFacts}
-use Rattle.swreq_word.specs.declared.symbols.Symbol.{Symbol}
 use Rattle.swreq_word.specs.declared.symbols.Symbol.TheVariants.{Member as MemberSymbol, Param as ParamSymbol}
+use Rattle.swreq_orders.proofs.Elements.{same_heads, same_tails}
+use Rattle.swreq_word.proofs.SameSymbols.{same_members, same_params}
 use Rattle.swreq_correspondence.specs.Symbols.{Symbols, Word, name_of}
 use Rattle.swreq_correspondence.specs.Types.{BeginsAs, IsFirstFor, IsTypeOf}
 
-heads : {x y : Symbol} {u v : Word} → x ∷ u ≡ y ∷ v → x ≡ y
-heads e = cc
-
-tails : {x y : Symbol} {u v : Word} → x ∷ u ≡ y ∷ v → u ≡ v
-tails e = cc
-
 pub one_param : {g h : ParamId} → ParamSymbol g.depth g.index ≡ ParamSymbol h.depth h.index → g ≡ h
-one_param {g = g} {h = h} e = λ j. record { depth = depths e j; index = indices e j }
-  where
-    depths : ParamSymbol g.depth g.index ≡ ParamSymbol h.depth h.index → g.depth ≡ h.depth
-    depths e = cc
+one_param e = let (d, i) = same_params e in λ j. record { depth = d j; index = i j }
 
-    indices : ParamSymbol g.depth g.index ≡ ParamSymbol h.depth h.index → g.index ≡ h.index
-    indices e = cc
-
-one_rank : {k j : ℕ} → MemberSymbol k ≡ MemberSymbol j → k ≡ j
-one_rank e = cc
-
-one_assoc : {d e : AssocId} → d.rank ≡ e.rank → d ≡ e
+pub one_assoc : {d e : AssocId} → d.rank ≡ e.rank → d ≡ e
 one_assoc e = λ j. record { rank = e j }
 
 module _ (m : Symbols) (f : TermFacts) (s : Source) where
@@ -48,17 +34,17 @@ module _ (m : Symbols) (f : TermFacts) (s : Source) where
 
   both_typed : (t z : Term) (rest after u : Word) → member_count t ≡ member_count z → BeginsAs m f s t rest u → BeginsAs m f s z after u
       → (t ≡ z) × (rest ≡ after)
-  both_typed (Generic i) (Generic j) rest after u n h k = (ap Generic (one_param (heads (sym h ∙ k))), tails (sym h ∙ k))
+  both_typed (Generic i) (Generic j) rest after u n h k = (ap Generic (one_param (same_heads (sym h ∙ k))), same_tails (sym h ∙ k))
   both_typed (Generic i) (Member z y) rest after u n h k = absurd (omega arith)
   both_typed (Member t x) (Generic j) rest after u n h k = absurd (omega arith)
   both_typed (Member t (Name a)) (Member z y) rest after u n h k = absurd h
   both_typed (Member t (Bound d)) (Member z (Name a)) rest after u n h k = absurd k
   both_typed (Member t (Bound d)) (Member z (Bound e)) rest after u n (p, c, i, h) (q, c', i', k) =
       let r = both_typed t z (MemberSymbol p ∷ rest) (MemberSymbol q ∷ after) u (omega arith) h k in
-      let o : p ≡ q = one_rank (heads r.1) in
+      let o : p ≡ q = same_members (same_heads r.1) in
       let j : IsFirstFor f s t (name_of m p) e =
       subst (λ x. IsFirstFor f s t x e) (ap (name_of m) (sym o)) (subst (λ x. IsFirstFor f s x (name_of m q) e) (sym r.0) i') in
-      (ap₂ Member r.0 (ap Bound (one_first t (name_of m p) d e i j)), tails r.1)
+      (ap₂ Member r.0 (ap Bound (one_first t (name_of m p) d e i j)), same_tails r.1)
 
   pub one_type : (t z : Term) (u : Word) → IsTypeOf m f s u t → IsTypeOf m f s u z → t ≡ z
   one_type t z u h k =

@@ -24,8 +24,3 @@ pub use skeleton::{
     Ask, AssocDecl, Entity, FunctionDecl, ParamDecl, ProtocolDecl, QueryDecl, ReqDecl, Skeleton,
     Span, StepDecl, StructDecl, TypeDecl,
 };
-
-#[cfg(test)]
-mod skeleton_tests;
-#[cfg(test)]
-mod tests;

@@ -18,6 +18,7 @@ use Rattle.swreq_derive.proofs.Guard.{unguarded}
 use Rattle.swreq_orders.proofs.Members.{Each}
 use Rattle.swreq_derive.proofs.InstanceLemmas.{contains_number, one_number, number_map, map_number}
 use Rattle.swreq_orders.proofs.Elements.{get_of_map, get_map}
+use Rattle.swreq_orders.proofs.Numbers.{last_or_below}
 
 -- From derivable premises an instance gives what is derivable.
 pub instance_derives : (f : TermFacts) (gs : List ParamId) (ws : List TermRequirement) (rule : DerivRule) (from : List TermStatement) (gives : TermStatement)
@@ -218,12 +219,6 @@ first_bad terms m ls k l e bad h =
       bad = λ x. bad ((next_at terms m ls k l).1 (subst (λ z. Follows (term_facts terms m) (generic_params m.params) (map (requirement_of terms) m.written) (take z (statements_of (map (line_of terms) ls))) (line_of terms l)) n x));
       before = λ j x i. follows_below terms m ls k h j x (omega (arith, i));
     }
-
-last_or_below : (k n : ℕ) → k < suc n → (k ≡ n) ⊎ (k < n)
-last_or_below zero zero h = inl refl
-last_or_below zero (suc n) h = inr (omega arith)
-last_or_below (suc k) zero h = absurd (omega arith)
-last_or_below (suc k) (suc n) h = elim (last_or_below k n (omega arith)) [ inl e ↦ inl (ap suc e) | inr i ↦ inr (omega arith) ]
 
 -- One line more follows.
 pub follow_more : (terms : List Term) (m : IdFacts) (ls : List Line) (n : ℕ) (x : Line) → FollowBelow terms m ls n → slice_get ls n ≡ Some x → IsNext terms m (stated_by (take n ls)) x

@@ -1,6 +1,8 @@
 -- Each derivable conformance has a conformance path, and what a path leads to is derivable.
 use Rattle.std.proofs.Common.{◌≡◌, ℕ, zero, suc, ◌-◌, ◌<◌, ◌≤◌, ◌⊎◌, inl, inr, true, List, [], ◌∷◌, ◌++◌, length, Some, Contains, slice_get, refl, sym, ap, subst, ◌∙◌, arith}
+use Rattle.std.proofs.lemmas.Bool.{cases_order}
 use Rattle.std.proofs.lemmas.Option.{slice_get-get_or}
+use Rattle.swreq_orders.proofs.Elements.{same_heads, same_tails}
 use Rattle.swreq_param.specs.declared.ids.ParamId.{ParamId}
 use Rattle.swreq_param.specs.declared.ids.ProtoId.{ProtoId}
 use Rattle.swreq_param.specs.declared.ids.AssocId.{AssocId}
@@ -131,28 +133,16 @@ path_derives f gs ws first steps t p w usable h =
 
 -- ---- the path that is given is one
 
-which : (m n : ℕ) → (m < n) ⊎ ((m ≡ n) ⊎ (n < m))
-which zero zero = inr (inl refl)
-which zero (suc n) = inl (omega arith)
-which (suc m) zero = inr (inr (omega arith))
-which (suc m) (suc n) = elim (which m n) [
-  | inl h ↦ inl (omega arith)
-  | inr h ↦ inr (elim h [ inl e ↦ inl (ap suc e) | inr k ↦ inr (omega arith) ])
-]
-
 one_before : (xs ys : List ℕ) → length xs ≡ length ys → NumbersBefore xs ys ⊎ ((xs ≡ ys) ⊎ NumbersBefore ys xs)
 one_before [] [] h = inr (inl refl)
 one_before [] (y ∷ ys) h = absurd (omega arith)
 one_before (x ∷ xs) [] h = absurd (omega arith)
-one_before (x ∷ xs) (y ∷ ys) h = elim (which x y) [
-  | inl k ↦ inl (inl k)
-  | inr k ↦ elim k [
-    | inl e ↦ elim (one_before xs ys (omega arith)) [
-      | inl b ↦ inl (inr (e, b))
-      | inr b ↦ inr (elim b [ inl i ↦ inl (λ j. e j ∷ i j) | inr c ↦ inr (inr (sym e, c)) ])
-    ]
-    | inr b ↦ inr (inr (inl b))
+one_before (x ∷ xs) (y ∷ ys) h = elim (cases_order x y) [
+  | inl e ↦ elim (one_before xs ys (omega arith)) [
+    | inl b ↦ inl (inr (e, b))
+    | inr b ↦ inr (elim b [ inl i ↦ inl (λ j. e j ∷ i j) | inr c ↦ inr (inr (sym e, c)) ])
   ]
+  | inr k ↦ elim k [ inl b ↦ inl (inl b) | inr b ↦ inr (inr (inl b)) ]
 ]
 
 pub given_once : (f : TermFacts) (gs : List ParamId) (ws : List TermRequirement) (t : Term) (p : ProtoId) (first other : ℕ) (steps others : List ℕ)
@@ -163,14 +153,8 @@ given_once f gs ws t p first other steps others a b =
     let len : length (first ∷ steps) ≡ length (other ∷ others) = ap suc (at_most_both (length steps) (length others) short long) in
     elim (one_before (first ∷ steps) (other ∷ others) len) [
       | inl h ↦ absurd (b.least first steps a.path (omega arith) h)
-      | inr h ↦ elim h [ inl e ↦ (first_same e, rest_same e) | inr k ↦ absurd (a.least other others b.path (omega arith) k) ]
+      | inr h ↦ elim h [ inl e ↦ (same_heads e, same_tails e) | inr k ↦ absurd (a.least other others b.path (omega arith) k) ]
     ]
   where
     at_most_both : (m n : ℕ) → m ≤ n → n ≤ m → m ≡ n
     at_most_both m n h k = omega arith
-
-    first_same : {x y : ℕ} {xs ys : List ℕ} → x ∷ xs ≡ y ∷ ys → x ≡ y
-    first_same e = cc
-
-    rest_same : {x y : ℕ} {xs ys : List ℕ} → x ∷ xs ≡ y ∷ ys → xs ≡ ys
-    rest_same e = cc

@@ -1,9 +1,10 @@
 -- The rules that take something from a protocol, over the ids of a table of type parameters.
-use Rattle.std.proofs.Common.{◌≡◌, ℕ, ◌<◌, List, [], ◌∷◌, Contains, map, ap, subst, ◌∙◌, ◌↔◌}
+use Rattle.std.proofs.Common.{◌≡◌, ℕ, ◌<◌, List, [], ◌∷◌, Contains, map, refl, ap, subst, ◌∙◌, ◌↔◌}
 use Rattle.swreq_param.specs.declared.ids.AssocId.{AssocId}
 use Rattle.swreq_param.specs.declared.ids.NameId.{NameId}
 use Rattle.swreq_param.specs.declared.ids.ProtoId.{ProtoId}
 use Rattle.swreq_param.specs.declared.ids.TermId.{TermId}
+use Rattle.swreq_param.specs.declared.ids.Step.{Step}
 use Rattle.swreq_param.specs.declared.ids.Step.TheVariants.{Bound, Name}
 use Rattle.swreq_param.specs.Terms.{Term}
 use Rattle.swreq_param.specs.Terms.Term.{Member}
@@ -123,11 +124,15 @@ assoc_same_given terms m p q n f c t u v x y e g k =
           ((cc), (cc), cc)),
     )
 
-pub same_name_given : (terms : List Term) (m : IdFacts) (p : ProtoId) (a : NameId) (x : AssocId) (f s c : Statement) (t u l r : TermId) → AreDistinct terms
-    → IsStatementOf terms m f → IsOf terms u
-    → s ≡ Holds (Same t u) → c ≡ Holds (Same l r) → IsDeclared m p a x
-    → ((f ≡ Holds (Conf u p)) × (term_at terms l ≡ Member (term_at terms t) (Name a)) × (term_at terms r ≡ Member (term_at terms u) (Name a))) ↔ IsGiven terms m (Rule.SameName p a) (f ∷ s ∷ []) c
-same_name_given terms m p a x f s c t u l r d h o e g k =
+-- From [U : P] and [T == U] the members T.X and U.X are equal, where X is what P makes of a declared name.
+same_member_given : (terms : List Term) (m : IdFacts) (member : AssocId → Step) (p : ProtoId) (a : NameId) (x : AssocId) (f s c : Statement) (t u l r : TermId)
+    → AreDistinct terms → IsStatementOf terms m f → IsOf terms u → s ≡ Holds (Same t u) → c ≡ Holds (Same l r)
+    → IsDeclared m p a x → ((d : AssocId) → IsDeclared m p a d → member x ≡ member d)
+    → ((f ≡ Holds (Conf u p)) × (term_at terms l ≡ Member (term_at terms t) (member x)) × (term_at terms r ≡ Member (term_at terms u) (member x)))
+    ↔ ((v : Term) × (w : Term) × (d : AssocId)
+    × (map (statement_of terms) (f ∷ s ∷ []) ≡ Requires (Conforms w p) ∷ Requires (Equals v w) ∷ [])
+    × (statement_of terms c ≡ Requires (Equals (Member v (member d)) (Member w (member d)))) × IsDeclared m p a d)
+same_member_given terms m member p a x f s c t u l r d h o e g k one =
     let n : statement_of terms s ≡ Requires (Equals (term_at terms t) (term_at terms u)) = ap (statement_of terms) e in
     let b : statement_of terms c ≡ Requires (Equals (term_at terms l) (term_at terms r)) = ap (statement_of terms) g in (
       (λ i. (
@@ -139,34 +144,25 @@ same_name_given terms m p a x f s c t u l r d h o e g k =
         k,
       )),
       λ w. (let i : statement_of terms f ∷ statement_of terms s ∷ [] ≡ Requires (Conforms w.1 p) ∷ Requires (Equals w.0 w.1) ∷ [] = w.3 in
-          let j : statement_of terms c ≡ Requires (Equals (Member w.0 (Name a)) (Member w.1 (Name a))) = w.4 in
+          let j : statement_of terms c ≡ Requires (Equals (Member w.0 (member w.2)) (Member w.1 (member w.2))) = w.4 in
+          let v : member x ≡ member w.2 = one w.2 w.5 in
           let y = conf_shape terms f w.1 p (cc) in
           let oy : IsStatementOf terms m (Holds (Conf y.0 p)) = subst (λ z. IsStatementOf terms m z) y.1 h in
           (y.1 ∙ ap (λ z. Holds (Conf z p)) (d y.0 u oy.0 o (let z = y.2 in cc)), (cc), cc)),
     )
+
+pub same_name_given : (terms : List Term) (m : IdFacts) (p : ProtoId) (a : NameId) (x : AssocId) (f s c : Statement) (t u l r : TermId) → AreDistinct terms
+    → IsStatementOf terms m f → IsOf terms u
+    → s ≡ Holds (Same t u) → c ≡ Holds (Same l r) → IsDeclared m p a x
+    → ((f ≡ Holds (Conf u p)) × (term_at terms l ≡ Member (term_at terms t) (Name a)) × (term_at terms r ≡ Member (term_at terms u) (Name a))) ↔ IsGiven terms m (Rule.SameName p a) (f ∷ s ∷ []) c
+same_name_given terms m p a x f s c t u l r d h o e g k = same_member_given terms m (λ _. Name a) p a x f s c t u l r d h o e g k (λ y i. refl)
 
 pub same_decl_given : (terms : List Term) (m : IdFacts) (p : ProtoId) (a : NameId) (x : AssocId) (f s c : Statement) (t u l r : TermId) → AreDistinct terms → AreOneToOne m.associated_types
     → IsStatementOf terms m f → IsOf terms u
     → s ≡ Holds (Same t u) → c ≡ Holds (Same l r) → IsDeclared m p a x
     → ((f ≡ Holds (Conf u p)) × (term_at terms l ≡ Member (term_at terms t) (Bound x)) × (term_at terms r ≡ Member (term_at terms u) (Bound x))) ↔ IsGiven terms m (Rule.SameDecl p a) (f ∷ s ∷ []) c
 same_decl_given terms m p a x f s c t u l r d one h o e g k =
-    let n : statement_of terms s ≡ Requires (Equals (term_at terms t) (term_at terms u)) = ap (statement_of terms) e in
-    let b : statement_of terms c ≡ Requires (Equals (term_at terms l) (term_at terms r)) = ap (statement_of terms) g in (
-      (λ i. (
-        term_at terms t,
-        term_at terms u,
-        x,
-        (let j : statement_of terms f ≡ Requires (Conforms (term_at terms u) p) = ap (statement_of terms) i.0 in cc),
-        (let y = i.1 in let z = i.2 in cc),
-        k,
-      )),
-      λ w. (let i : statement_of terms f ∷ statement_of terms s ∷ [] ≡ Requires (Conforms w.1 p) ∷ Requires (Equals w.0 w.1) ∷ [] = w.3 in
-          let j : statement_of terms c ≡ Requires (Equals (Member w.0 (Bound w.2)) (Member w.1 (Bound w.2))) = w.4 in
-          let v : x ≡ w.2 = one.of_pair p a x w.2 k w.5 in
-          let y = conf_shape terms f w.1 p (cc) in
-          let oy : IsStatementOf terms m (Holds (Conf y.0 p)) = subst (λ z. IsStatementOf terms m z) y.1 h in
-          (y.1 ∙ ap (λ z. Holds (Conf z p)) (d y.0 u oy.0 o (let z = y.2 in cc)), (cc), cc)),
-    )
+    same_member_given terms m Bound p a x f s c t u l r d h o e g k (λ y i. ap Bound (one.of_pair p a x y k i))
 
 -- ---- requirements of a protocol that are not there, or of another kind
 

@@ -4,16 +4,11 @@ use Rattle.std.proofs.lemmas.List.Elements.{Contains-push, Contains-push_cases, 
 use Rattle.swreq_param.specs.declared.ids.ParamId.{ParamId}
 use Rattle.swreq_derive.specs.declared.known.Params.{Params}
 use Rattle.swreq_derive.specs.Facts.{params_of_depth, generic_params}
-
-last_or_before : (i n : ℕ) → i < suc n → (i ≡ n) ⊎ (i < n)
-last_or_before zero zero h = inl refl
-last_or_before zero (suc n) h = inr (omega arith)
-last_or_before (suc i) zero h = absurd (omega arith)
-last_or_before (suc i) (suc n) h = elim (last_or_before i n (omega arith)) [ inl e ↦ inl (ap suc e) | inr k ↦ inr (omega arith) ]
+use Rattle.swreq_orders.proofs.Numbers.{last_or_below}
 
 has_depth : (d n : ℕ) (g : ParamId) → g.depth ≡ d → g.index < n → Contains (params_of_depth d n) g
 has_depth d zero g e h = absurd (omega arith)
-has_depth d (suc n) g e h = elim (last_or_before g.index n h) [
+has_depth d (suc n) g e h = elim (last_or_below g.index n (omega (arith, h))) [
   | inl k ↦ subst (Contains (params_of_depth d (suc n))) (λ i. record { depth = sym e i; index = sym k i }) (Contains-push (params_of_depth d n) (record { depth = d; index = n }))
   | inr k ↦ Contains-append_left (params_of_depth d n) (record { depth = d; index = n } ∷ []) g (has_depth d n g e k)
 ]

@@ -9,6 +9,3 @@ mod showing;
 pub use around::Evidence;
 pub use loops::loop_of_pair;
 pub use showing::redundant;
-
-#[cfg(test)]
-mod tests;

@@ -8,8 +8,6 @@ pub mod laws;
 mod lexer;
 mod marks;
 mod refusal;
-#[cfg(test)]
-mod tests;
 mod token;
 mod words;
 

@@ -9,6 +9,3 @@ mod vanishing;
 pub use appending::append;
 pub use map::{Properties, PropertyMap};
 pub use vanishing::vanishes;
-
-#[cfg(test)]
-mod tests;

@@ -111,3 +111,11 @@ set_cases (z ∷ xs) zero x zero y e = inr (refl, cc)
 set_cases (z ∷ xs) zero x (suc n) y e = inl e
 set_cases (z ∷ xs) (suc k) x zero y e = inl e
 set_cases (z ∷ xs) (suc k) x (suc n) y e = elim (set_cases xs k x n y e) [ inl h ↦ inl h | inr h ↦ inr (ap suc h.0, h.1) ]
+
+-- ---- lists of one more element that are equal
+
+pub same_heads : {A : Type 0} {x y : A} {xs ys : List A} → x ∷ xs ≡ y ∷ ys → x ≡ y
+same_heads e = cc
+
+pub same_tails : {A : Type 0} {x y : A} {xs ys : List A} → x ∷ xs ≡ y ∷ ys → xs ≡ ys
+same_tails e = cc

@@ -2,3 +2,4 @@ pub mod Induction
 pub mod Elements
 pub mod Members
 pub mod Numbers
+pub mod Orderings

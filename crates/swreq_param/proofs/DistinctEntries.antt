@@ -1,5 +1,6 @@
 -- Distinct entries stand for distinct type parameters, and what a look-up of an entry answers.
 use Rattle.std.proofs.Common.{◌≡◌, ℕ, zero, suc, ◌<◌, Bool, true, false, ◌||◌, List, [], ◌∷◌, length, get_or, slice_get, Some, Contains, refl, sym, ap, subst, ◌∙◌, arith, position, true≢false}
+use Rattle.std.proofs.Math.Bool.{or-true}
 use Rattle.std.proofs.lemmas.List.{get_or_default}
 use Rattle.std.proofs.lemmas.List.Quantifiers.{position-Some}
 use Rattle.std.proofs.lemmas.Option.{slice_get-get_or, slice_get_within}
@@ -72,11 +73,7 @@ module _ {K : Type 0} (eq : K → K → Bool) (laws : IsEquivalence eq) where
   found_any : (xs : List K) (i : ℕ) (x : K) → slice_get xs i ≡ Some x → list_any (eq x) xs ≡ true
   found_any [] i x h = absurd cc
   found_any (y ∷ ys) zero x h = let same : y ≡ x = cc in ap (λ b. b || list_any (eq x) ys) (subst (λ z. eq x z ≡ true) (sym same) (laws.refl x))
-  found_any (y ∷ ys) (suc i) x h = ap (λ b. eq x y || b) (found_any ys i x h) ∙ or_true (eq x y)
-    where
-      or_true : (b : Bool) → b || true ≡ true
-      or_true true = refl
-      or_true false = refl
+  found_any (y ∷ ys) (suc i) x h = ap (λ b. eq x y || b) (found_any ys i x h) ∙ or-true (eq x y)
 
 pub each_once : (es : List Entry) → IsDistinct eq-value.it es → IsOnce es
 each_once = once eq-value.it laws-law

@@ -7,6 +7,7 @@ use Rattle.std.specs.Cmp.{IsTotalOrder}
 use Rattle.std.specs.Cmp.Lexicographic.{slice_cmp}
 use Rattle.std.specs.FinSet.{nat_cmp-IsAntisymmetric}
 use Rattle.std.proofs.lemmas.Cmp.{ranked, by_ranked, then_total, on_total, lists_total, nat_cmp_total}
+use Rattle.swreq_orders.proofs.Orderings.{then_equal, then_nothing}
 use Rattle.swreq_param.specs.declared.ids.ParamId.{ParamId}
 use Rattle.swreq_param.specs.declared.ids.Step.{Step}
 use Rattle.swreq_param.specs.declared.ids.Step.TheVariants.{Bound, Name}
@@ -18,11 +19,6 @@ pub then_assoc : (a b c : Ordering) → ordering_then (ordering_then a b) c ≡ 
 then_assoc Less b c = refl
 then_assoc Equal b c = refl
 then_assoc Greater b c = refl
-
-then_equal : (a b : Ordering) → ordering_then a b ≡ Equal → (a ≡ Equal) × (b ≡ Equal)
-then_equal Less b h = absurd cc
-then_equal Equal b h = (refl, h)
-then_equal Greater b h = absurd cc
 
 fewer : (t u : Term) → member_count t < member_count u → alike_cmp t u ≡ Less
 fewer (Generic p) (Generic q) h = absurd (omega arith)
@@ -46,12 +42,7 @@ term_is_alike t u =
 
 -- steps from the left
 pub alike_steps : (t u : Term) (xs ys : List Step) → length xs ≡ length ys → alike_cmp (with_steps t xs) (with_steps u ys) ≡ ordering_then (alike_cmp t u) (slice_cmp step_cmp xs ys)
-alike_steps t u [] [] h = ends (alike_cmp t u)
-  where
-    ends : (o : Ordering) → o ≡ ordering_then o Equal
-    ends Less = refl
-    ends Equal = refl
-    ends Greater = refl
+alike_steps t u [] [] h = sym (then_nothing (alike_cmp t u))
 alike_steps t u [] (y ∷ ys) h = absurd (omega arith)
 alike_steps t u (x ∷ xs) [] h = absurd (omega arith)
 alike_steps t u (x ∷ xs) (y ∷ ys) h = alike_steps (Member t x) (Member u y) xs ys (omega arith) ∙ then_assoc (alike_cmp t u) (step_cmp x y) (slice_cmp step_cmp xs ys)
@@ -66,7 +57,8 @@ abbrev pub steps_of : Term → List Step
 steps_of (Generic p) = []
 steps_of (Member t s) = steps_of t ++ s ∷ []
 
-with_more : (t : Term) (xs : List Step) (s : Step) → with_steps t (xs ++ s ∷ []) ≡ Member (with_steps t xs) s
+-- one more step at the end
+pub with_more : (t : Term) (xs : List Step) (s : Step) → with_steps t (xs ++ s ∷ []) ≡ Member (with_steps t xs) s
 with_more t [] s = refl
 with_more t (x ∷ xs) s = with_more (Member t x) xs s
 

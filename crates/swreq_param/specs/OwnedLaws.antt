@@ -1,11 +1,10 @@
 -- The comparison of type parameters by themselves is a total order, and tells all of them apart.
-use Rattle.std.proofs.Common.{◌≡◌, true, List, [], ◌∷◌, ◌++◌, refl, sym, ap, ◌∙◌, append_assoc, append-nil, true≢false}
-use Rattle.std.specs.declared.cmp.Ordering.{Ordering}
-use Rattle.std.specs.declared.cmp.Ordering.TheVariants.{Less, Equal, Greater}
+use Rattle.std.proofs.Common.{◌≡◌, true, List, [], ◌∷◌, ◌++◌, refl, sym, ap, ◌∙◌, append_assoc, append-nil}
 use Rattle.swreq_param.specs.declared.ids.Step.{Step}
-use Rattle.std.specs.Ordering.{eq_by_cmp, as_partial_cmp, is_eq}
+use Rattle.std.specs.Ordering.{eq_by_cmp, as_partial_cmp}
 use Rattle.std.specs.Cmp.{IsTotalOrder, IsEquivalence, IsPartialOrder, partial_order_from_agreeing_total}
 use Rattle.std.proofs.lemmas.Cmp.{on_total, eq_by_cmp_equiv}
+use Rattle.swreq_orders.proofs.Orderings.{is_equal}
 use Rattle.swreq_param.specs.declared.owned.TypeParam.{TypeParam}
 use Rattle.swreq_param.specs.Terms.{Term, head, with_steps}
 use Rattle.swreq_param.specs.Terms.Term.{Generic, Member}
@@ -21,8 +20,7 @@ owned_equivalent = eq_by_cmp_equiv owned_total
 pub owned_partial : IsPartialOrder (eq_by_cmp owned_cmp) (as_partial_cmp owned_cmp)
 owned_partial = partial_order_from_agreeing_total owned_cmp owned_total (λ a b. refl) (λ a b. refl)
 
--- equal by the order means equal
-heads_same : (t : Term) (xs : List Step) → head (with_steps t xs) ≡ head t
+pub heads_same : (t : Term) (xs : List Step) → head (with_steps t xs) ≡ head t
 heads_same t [] = refl
 heads_same t (x ∷ xs) = heads_same (Member t x) xs
 
@@ -30,16 +28,12 @@ steps_same : (t : Term) (xs : List Step) → steps_of (with_steps t xs) ≡ step
 steps_same t [] = sym (append-nil (steps_of t))
 steps_same t (x ∷ xs) = steps_same (Member t x) xs ∙ append_assoc (steps_of t) (x ∷ []) xs
 
+-- equal by the order means equal
 pub same_as_term : (a b : TypeParam) → as_term a ≡ as_term b → a ≡ b
 same_as_term a b e =
     let h : a.head ≡ b.head = sym (heads_same (Generic a.head) a.steps) ∙ ap head e ∙ heads_same (Generic b.head) b.steps in
     let s : a.steps ≡ b.steps = sym (steps_same (Generic a.head) a.steps) ∙ ap steps_of e ∙ steps_same (Generic b.head) b.steps in
     λ i. record { head = h i; steps = s i }
 
-equal_by : (o : Ordering) → is_eq o ≡ true → o ≡ Equal
-equal_by Less h = absurd (true≢false (sym h))
-equal_by Equal h = refl
-equal_by Greater h = absurd (true≢false (sym h))
-
 pub owned_same : (a b : TypeParam) → eq_by_cmp owned_cmp a b ≡ true → a ≡ b
-owned_same a b h = same_as_term a b (terms_same (as_term a) (as_term b) (equal_by (owned_cmp a b) h))
+owned_same a b h = same_as_term a b (terms_same (as_term a) (as_term b) (is_equal (owned_cmp a b) h))

@@ -9,6 +9,3 @@ mod steps;
 pub use paths::{Loop, Path, append_copies, compose, invert};
 pub use reduction::{path_of, step_at, take_redex};
 pub use steps::RewriteStep;
-
-#[cfg(test)]
-mod tests;

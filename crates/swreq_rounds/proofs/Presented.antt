@@ -96,8 +96,8 @@ module _ (base : List Rule) (given : List (Word × Word)) (trace : List Rule) (E
 
   each_equation : (l r : Word) (k : ℕ) → slice_get {X = Word × Word} (all_equations (length base) given trace) k ≡ Some (l, r) → Linking E l r
   each_equation l r k e =
-      elim (Contains-append_cases (map (λ (x : Rule). (x.left, x.right)) (take (length base) trace)) given (l, r) (get_contains {X = Word × Word} (all_equations (length base) given trace) k (l, r) e)) [
-        | inl h ↦ (let g = contains_get {X = Word × Word} (map (λ (x : Rule). (x.left, x.right)) (take (length base) trace)) (l, r) h in
+      elim (Contains-append_cases (map (λ (x : Rule). (x.left, x.right)) (take (length base) trace)) given (l, r) (get_contains {A = Word × Word} (all_equations (length base) given trace) k (l, r) e)) [
+        | inl h ↦ (let g = contains_get {A = Word × Word} (map (λ (x : Rule). (x.left, x.right)) (take (length base) trace)) (l, r) h in
             linking_to old ((before l r).0 (base_equation g.0 l r (subst (λ b. slice_get {X = Word × Word} (map (λ (x : Rule). (x.left, x.right)) b) g.0 ≡ Some (l, r)) over g.1))))
         | inr h ↦ one_equation l r (new l r h)
       ]
@@ -116,7 +116,7 @@ module _ (base : List Rule) (given : List (Word × Word)) (trace : List Rule) (E
   up : (u v : Word) → Linking E u v → Linked (Step trace) u v
   up u v = linking_linked trace (λ l r e. elim (all l r e) [
     | inl h ↦ linked_by (λ w. w) base_step ((before l r).1 (one_equation l r h))
-    | inr h ↦ (let g = contains_get {X = Word × Word} (all_equations (length base) given trace) (l, r) (Contains-append_right (map (λ (x : Rule). (x.left, x.right)) (take (length base) trace)) given (l, r) h) in
+    | inr h ↦ (let g = contains_get {A = Word × Word} (all_equations (length base) given trace) (l, r) (Contains-append_right (map (λ (x : Rule). (x.left, x.right)) (take (length base) trace)) given (l, r) h) in
         complete (length base) given trace ended l r (on_forth (record {
           number = g.0;
           left = l;

@@ -1,8 +1,8 @@
 //! The texts of a list, with a separator between them.
 
-ghost use Rattle.std.specs.Prelude.{◌≡◌, ◌++◌, ℕ, List, OnOk, map};
+ghost use Rattle.std.specs.Prelude.{◌≡◌, ◌++◌, ℕ, List, OnErr, OnOk, map};
 ghost use Rattle.std.specs.List.{All};
-ghost use Rattle.swreq_text.specs.Joined.{followed, joined};
+ghost use Rattle.swreq_text.specs.Joined.{GrewByPart, followed, joined};
 
 use crate::append_bytes;
 use std::alloc::AllocError;
@@ -15,13 +15,15 @@ pub trait Print<T> {
     /// Which things have a text.
     ghost fits: { Self → T → Type 0 };
 
-    /// Writes the text of the item at the end of the list. For want of memory a part of it may stand there.
+    /// Writes the text of the item at the end of the list. For want of memory the first bytes of it may stand there.
     fn put(&self, out: &mut Vec<u8>, item: &T) -> Result<(), AllocError>
         requires { fits self.now item.now }
-        ensures ok { OnOk result (out.new.items ≡ out.old.items ++ text self.now item.now) };
+        ensures ok { OnOk result (out.new.items ≡ out.old.items ++ text self.now item.now) }
+        ensures err { OnErr result (GrewByPart out.old.items (text self.now item.now) out.new.items) };
 }
 
-/// Writes the texts of the items, with the separator between each two. For want of memory a part of it may stand at the end.
+/// Writes the texts of the items, with the separator between each two. For want of memory the first bytes of that may stand at
+/// the end.
 pub fn put_joined<T, P: Print<T>>(
     out: &mut Vec<u8>,
     printer: &P,
@@ -30,6 +32,8 @@ pub fn put_joined<T, P: Print<T>>(
 ) -> Result<(), AllocError>
     requires { All (P.fits printer.now) items.now }
     ensures ok { OnOk result (out.new.items ≡ out.old.items ++ joined separator.now (map (P.text printer.now) items.now)) }
+    ensures err { OnErr result
+        (GrewByPart out.old.items (joined separator.now (map (P.text printer.now) items.now)) out.new.items) }
 {
     match items {
         [] => Ok(()),
@@ -49,10 +53,28 @@ fn put_followed<T, P: Print<T>>(
 ) -> Result<(), AllocError>
     requires { All (P.fits printer.now) items.now }
     ensures ok { OnOk result (out.new.items ≡ out.old.items ++ followed separator.now (map (P.text printer.now) items.now)) }
+    ensures err { OnErr result
+        (GrewByPart out.old.items (followed separator.now (map (P.text printer.now) items.now)) out.new.items) }
 {
     for item in items {
-        append_bytes(out, separator)?;
-        printer.put(out, item)?;
+        put_after(out, printer, separator, item)?;
     }
     Ok(())
+}
+
+// Writes the separator, and after it the text of the item.
+#[tactic(auto, using(crate::proofs::Parts::none_grew, crate::proofs::Parts::grew_next))]
+fn put_after<T, P: Print<T>>(
+    out: &mut Vec<u8>,
+    printer: &P,
+    separator: &[u8],
+    item: &T,
+) -> Result<(), AllocError>
+    requires { P.fits printer.now item.now }
+    ensures ok { OnOk result (out.new.items ≡ out.old.items ++ (separator.now ++ P.text printer.now item.now)) }
+    ensures err { OnErr result
+        (GrewByPart out.old.items (separator.now ++ P.text printer.now item.now) out.new.items) }
+{
+    append_bytes(out, separator)?;
+    printer.put(out, item)
 }

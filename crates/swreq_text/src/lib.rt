@@ -7,6 +7,7 @@
 
 mod append;
 mod joined;
+pub mod laws;
 mod memory;
 mod seq;
 mod standard;

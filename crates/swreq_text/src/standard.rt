@@ -8,6 +8,9 @@ use std::io::{Read, Write};
 use std::marker::Model;
 
 /// A reader as a source, with a count of its errors. It tells what the reader tells, and of the standard input nothing.
+///
+/// When a read fails is not promised, since no contract can say what the call on the reader answered: tests alone show that it
+/// is where the reader fails.
 #[derive(Drop)]
 pub struct StdSource<R: Read> {
     inner: R,
@@ -58,6 +61,9 @@ impl<R: Read> Source for StdSource<R> {
 
 /// A writer as a sink, flushed at each write, with a count of its errors. It hands on what it is given; as a sink it tells
 /// nothing of it, since a flush may fail after bytes were taken.
+///
+/// When a write fails, and that the flush is called, is not promised, since no contract can say what the calls on the writer
+/// answered: tests alone show it.
 #[derive(Drop)]
 pub struct StdSink<W: Write> {
     inner: W,

@@ -13,6 +13,3 @@ mod walk;
 
 pub use found::Found;
 pub use trie::{Entry, Trie};
-
-#[cfg(test)]
-mod tests;

@@ -13,6 +13,3 @@ pub use events::Event;
 pub use fan::Fan;
 pub use recording::Recorder;
 pub use watching::{Quiet, Watch};
-
-#[cfg(test)]
-mod tests;

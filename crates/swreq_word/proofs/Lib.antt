@@ -4,6 +4,7 @@ pub mod SymbolsFounded
 pub mod WordsFounded
 pub mod Comparing
 pub mod Cuts
+pub mod SameSymbols
 pub mod Tables
 pub mod Congruence
 pub mod LeastWords

@@ -1,9 +1,10 @@
 -- What an indexed set says of the table whose words its keys stand for.
-use Rattle.std.proofs.Common.{◌≡◌, inl, inr, ℕ, zero, suc, ◌+◌, Bool, true, false, ◌||◌, cond, not, if◌then◌else◌, List, [], ◌∷◌, ◌++◌, length, length-append, map, get_or, slice_get, Some, Contains, position, Vec, refl, sym, ap, subst, ◌∙◌, arith, true≢false}
+use Rattle.std.proofs.Common.{◌≡◌, inl, inr, ℕ, zero, suc, ◌+◌, Bool, false, cond, not, if◌then◌else◌, List, [], ◌∷◌, ◌++◌, length, length-append, map, get_or, slice_get, Some, Contains, position, Vec, refl, sym, ap, subst, ◌∙◌, arith, true≢false}
 use Rattle.std.specs.Bool.{Decides}
 use Rattle.std.specs.List.{IsDistinct, AllByRecursion, list_any, position_or_len}
 use Rattle.std.proofs.Math.Numerals.{one-add}
 use Rattle.std.specs.Cmp.Lexicographic.{pointwise}
+use Rattle.std.proofs.lemmas.Bool.{or_parts}
 use Rattle.std.proofs.lemmas.List.{length-map, map_push}
 use Rattle.std.proofs.lemmas.List.Quantifiers.{position-Some}
 use Rattle.std.proofs.lemmas.Option.{slice_get-map, slice_get-get_or, slice_get_within}
@@ -30,17 +31,13 @@ module _ {K : Type 0} (word_of : K → List Symbol) where
         let e : w ≡ word_of (get_or (k ∷ keys) i k) = (is (get_or (k ∷ keys) i k)).0 p.1 in
         slice_get-map word_of (k ∷ keys) i ∙ rw (g, ← e) refl
 
-    or_false : (a b : Bool) → a || b ≡ false → (a ≡ false) × (b ≡ false)
-    or_false true b h = absurd (true≢false h)
-    or_false false b h = (refl, h)
-
     -- where none passes it, no key stands for the word
     pub none_at : (keys : List K) → list_any test keys ≡ false → (i : ℕ) → slice_get (map word_of keys) i ≡ Some w → ⊥
     none_at [] h i s = cc
     none_at (k ∷ keys) h zero s =
         let e : w ≡ word_of k = cc in
-        true≢false (sym ((is k).1 e) ∙ (or_false (test k) (list_any test keys) h).0)
-    none_at (k ∷ keys) h (suc i) s = none_at keys (or_false (test k) (list_any test keys) h).1 i s
+        true≢false (sym ((is k).1 e) ∙ (or_parts (test k) (list_any test keys) h).0)
+    none_at (k ∷ keys) h (suc i) s = none_at keys (or_parts (test k) (list_any test keys) h).1 i s
 
     pub is_absent : (keys : List K) → list_any test keys ≡ false → Contains (map word_of keys) w → ⊥
     is_absent keys h c = none_at keys h c.0 (slice_get-get_or (map word_of keys) c.0 w c.1 ∙ ap Some c.2)
@@ -48,7 +45,7 @@ module _ {K : Type 0} (word_of : K → List Symbol) where
     pub first_of_none : (keys : List K) → list_any test keys ≡ false → position_or_len test keys ≡ length keys
     first_of_none [] h = refl
     first_of_none (k ∷ keys) h =
-        let p = or_false (test k) (list_any test keys) h in
+        let p = or_parts (test k) (list_any test keys) h in
         ap (λ c. cond (not c) (1 + position_or_len test keys) 0) p.0 ∙ rw one-add (ap suc (first_of_none keys p.1))
 
   -- keys of which no two are equal stand for different words

@@ -1,11 +1,12 @@
 -- The orders of symbols and of words are total, and what compares alike is equal.
-use Rattle.std.proofs.Common.{◌≡◌, ◌⊎◌, inl, inr, ℕ, ◌<◌, true, refl, sym, ap, subst, List, [], ◌∷◌, length, true≢false}
+use Rattle.std.proofs.Common.{◌≡◌, ◌⊎◌, inl, inr, ℕ, ◌<◌, true, refl, ap, subst, List, [], ◌∷◌, length}
 use Rattle.std.specs.declared.cmp.Ordering.{Ordering}
 use Rattle.std.specs.declared.cmp.Ordering.TheVariants.{Less, Equal, Greater}
 use Rattle.std.specs.Cmp.{IsTotalOrder, IsEquivalence, IsPartialOrder, partial_order_from_agreeing_total}
 use Rattle.std.specs.Cmp.Lexicographic.{slice_cmp}
-use Rattle.std.specs.Ordering.{nat_cmp, ordering_then, then_cmp, on, is_eq, eq_by_cmp, as_partial_cmp, MatchOrdering}
+use Rattle.std.specs.Ordering.{nat_cmp, ordering_then, then_cmp, on, eq_by_cmp, as_partial_cmp, MatchOrdering}
 use Rattle.std.proofs.lemmas.Cmp.{ranked, on_total, then_total, lists_total, nat_cmp_total, eq_by_cmp_equiv}
+use Rattle.swreq_orders.proofs.Orderings.{then_equal, then_nothing, is_equal}
 use Rattle.swreq_word.specs.declared.symbols.Symbol.{Symbol}
 use Rattle.swreq_word.specs.declared.symbols.Symbol.TheVariants.{Proto, Member, Param, Name, Layout}
 use Rattle.swreq_word.specs.Order.{kind, symbol_cmp, word_cmp}
@@ -22,11 +23,6 @@ then_less Less b h = inl refl
 then_less Equal b h = inr (refl, h)
 then_less Greater b h = cc
 
-pub then_equal : (a b : Ordering) → ordering_then a b ≡ Equal → (a ≡ Equal) × (b ≡ Equal)
-then_equal Less b h = cc
-then_equal Equal b h = (refl, h)
-then_equal Greater b h = cc
-
 -- the two numbers of a symbol, 0 where it has none
 major : Symbol → ℕ
 major (Proto p) = p
@@ -41,11 +37,6 @@ minor a = 0
 
 by_numbers : Symbol → Symbol → Ordering
 by_numbers = then_cmp (on kind nat_cmp) (then_cmp (on major nat_cmp) (on minor nat_cmp))
-
-then_nothing : (a : Ordering) → ordering_then a Equal ≡ a
-then_nothing Less = refl
-then_nothing Equal = refl
-then_nothing Greater = refl
 
 symbols_by_numbers : (a b : Symbol) → by_numbers a b ≡ symbol_cmp a b
 unfolding by_numbers major minor
@@ -89,11 +80,6 @@ pub word_exact : (u v : List Symbol) → word_cmp u v ≡ Equal → u ≡ v
 word_exact u v h = symbols_exact u v (then_equal (nat_cmp (length u) (length v)) (slice_cmp symbol_cmp u v) h).1
 
 -- what the comparisons of `Word` need
-pub is_equal : (o : Ordering) → is_eq o ≡ true → o ≡ Equal
-is_equal Less h = absurd (true≢false (sym h))
-is_equal Equal h = refl
-is_equal Greater h = absurd (true≢false (sym h))
-
 pub word_equal : (u v : List Symbol) → eq_by_cmp word_cmp u v ≡ true → u ≡ v
 word_equal u v h = word_exact u v (is_equal (word_cmp u v) h)
 

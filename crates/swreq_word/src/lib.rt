@@ -8,7 +8,4 @@ mod words;
 
 pub use symbols::Symbol;
 pub use table::{WordId, WordTable};
-pub use words::{Word, compare};
-
-#[cfg(test)]
-mod tests;
+pub use words::{Word, are_same, compare};

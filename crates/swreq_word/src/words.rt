@@ -1,6 +1,7 @@
 //! Words, and their order.
 
 ghost use Rattle.std.specs.Prelude.{◌≡◌};
+ghost use Rattle.std.specs.Bool.{Decides};
 ghost use Rattle.std.specs.Cmp as cmps;
 ghost use Rattle.std.specs.Hash as fed;
 ghost use Rattle.std.specs.Ordering.{as_partial_cmp, eq_by_cmp};
@@ -50,6 +51,13 @@ pub fn compare(a: &[Symbol], b: &[Symbol]) -> Ordering
     ensures { result ≡ word_cmp a.now b.now }
 {
     a.len().cmp(&b.len()).then_with(|| a.cmp(&b))
+}
+
+/// Whether two words are the same.
+pub fn are_same(u: &[Symbol], v: &[Symbol]) -> bool
+    ensures { Decides result (u.now ≡ v.now) }
+{
+    u == v
 }
 
 impl Clone for Word {

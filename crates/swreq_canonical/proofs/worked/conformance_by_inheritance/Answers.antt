@@ -11,7 +11,7 @@ use Rattle.swreq_derive.specs.Inheritance.{IsWrittenFor, LeadsTo}
 use Rattle.swreq_derive.specs.Inheritance.LeadsTo.{here, further}
 use Rattle.swreq_derive.specs.Reduced.{IsReduced}
 use Rattle.swreq_derive.specs.Worked.{by_rank, of_one, param, τ_0_0}
-use Rattle.swreq_derive.proofs.ByInheritance.{by_inheritance}
+use Rattle.swreq_derive.proofs.ByInheritance.{by_inheritance, conformance_is_no_layout, conformance_is_no_same_type, subject_of}
 use Rattle.swreq_derive.proofs.Guard.{sound}
 use Rattle.swreq_orders.proofs.Members.{each_member, no_member, only_member}
 use Rattle.swreq_derive.proofs.NoConformance.{says}
@@ -23,7 +23,7 @@ use Rattle.swreq_canonical.specs.Generators.Takes.{ended, taken}
 use Rattle.swreq_canonical.specs.Minimised.{Leaves}
 use Rattle.swreq_canonical.specs.Minimised.Leaves.{dropped, kept, nothing}
 use Rattle.swreq_canonical.specs.Worked.{one, Base, Derived, inherited, inherited_requirements, inherited_f, inherited_g}
-use Rattle.swreq_canonical.proofs.FirstParam.{first_reduced}
+use Rattle.swreq_derive.proofs.FirstParam.{first_reduced}
 use Rattle.swreq_canonical.proofs.Taking.{generator_list}
 use Rattle.swreq_canonical.proofs.worked.conformance_by_inheritance.Goals as goal
 
@@ -47,15 +47,6 @@ Says (Requires (Equals t u)) = (t ≡ τ_0_0) × (u ≡ τ_0_0)
 protocol_of : {t u : Term} {p q : ProtoId} → Conforms t p ≡ Conforms u q → p ≡ q
 protocol_of e = cc
 
-subject_of : {t u : Term} {p q : ProtoId} → Conforms t p ≡ Conforms u q → t ≡ u
-subject_of e = cc
-
-no_equality : {t u v : Term} {p : ProtoId} → Equals t u ≡ Conforms v p → ⊥
-no_equality e = cc
-
-no_layout : {t u : Term} {p : ProtoId} → IsAnyObject t ≡ Conforms u p → ⊥
-no_layout e = cc
-
 -- both lists have such members
 AreSuch : List TermRequirement → Type 0
 AreSuch rs = (r : TermRequirement) → Contains rs r → (p : ProtoId) × (r ≡ Conforms τ_0_0 p) × IsOne p
@@ -64,16 +55,16 @@ say : {rs : List TermRequirement} {st : TermStatement} → Derives inherited tru
 unfolding AreSuch
 say (generic {g = g} h) n = ap Generic (only_member (param 0) g h)
 say (conf {t = t} {p = p} h v) n = let (q, e, i) = n (Conforms t p) h in (subject_of e, subst IsOne (sym (protocol_of e)) i)
-say (same {t = t} {u = u} h v w) n = absurd (no_equality (n (Equals t u) h).1)
-say (layout {t = t} h v) n = absurd (no_layout (n (IsAnyObject t) h).1)
+say (same {t = t} {u = u} h v w) n = absurd (conformance_is_no_same_type (n (Equals t u) h).1)
+say (layout {t = t} h v) n = absurd (conformance_is_no_layout (n (IsAnyObject t) h).1)
 say (assoc_name e d) n = no_member _ d
 say (assoc_decl e d) n = no_member _ d
 say (assoc_bind e d) n = no_member _ d
 say (assoc_conf {t = t} {u = u} {p = p} {q = q} e h v) n =
     let k = required p.rank (Conforms u q) h in
     (ap (for_self t) (subject_of k) ∙ (say e n).0, inl (protocol_of k))
-say (assoc_same {u = u} {v = v} {p = p} e h x y) n = absurd (no_equality (required p.rank (Equals u v) h))
-say (assoc_layout {u = u} {p = p} e h v) n = absurd (no_layout (required p.rank (IsAnyObject u) h))
+say (assoc_same {u = u} {v = v} {p = p} e h x y) n = absurd (conformance_is_no_same_type (required p.rank (Equals u v) h))
+say (assoc_layout {u = u} {p = p} e h v) n = absurd (conformance_is_no_layout (required p.rank (IsAnyObject u) h))
 say (reflex e) n = (say e n, say e n)
 say (symm e) n = let k = say e n in (k.1, k.0)
 say (trans e h) n = ((say e n).0, (say h n).1)

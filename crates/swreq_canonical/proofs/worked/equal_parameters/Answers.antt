@@ -23,7 +23,7 @@ use Rattle.swreq_canonical.specs.Generators.Takes.{ended, skipped, taken}
 use Rattle.swreq_canonical.specs.Minimised.{Leaves}
 use Rattle.swreq_canonical.specs.Minimised.Leaves.{kept, nothing}
 use Rattle.swreq_canonical.specs.Worked.{two, layouts_canonical, layouts_minimised}
-use Rattle.swreq_canonical.proofs.FirstParam.{first_reduced, none_before}
+use Rattle.swreq_derive.proofs.FirstParam.{first_reduced, none_before}
 use Rattle.swreq_canonical.proofs.Taking.{generator_list}
 use Rattle.swreq_canonical.proofs.worked.equal_parameters.Goals as goal
 

@@ -1,5 +1,0 @@
-//! Texts, and the ranks of what they have.
-#![tactic(auto)]
-
-#[cfg(test)]
-mod tests;

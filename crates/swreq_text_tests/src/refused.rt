@@ -1,0 +1,226 @@
+//! Texts, and the first name of each that is refused.
+
+use std::alloc::Global;
+use std::process::Abort;
+use std::test::Fail;
+use swreq_decl::Skeleton;
+use swreq_names::{Names, Param, Ranks, Signature, member_names};
+use swreq_resolve::resolve_names;
+use swreq_samples::skeleton_of;
+
+/// The refusal of a skeleton as one line, or `ok`.
+fn refusal(alloc: Global, text: &[u8], skeleton: &Skeleton) -> Result<String, Fail> {
+    match resolve_names(alloc, text, skeleton) {
+        Ok(_) => Ok(format!(in alloc; "ok")?),
+        Err(refusal) => Ok(format!(in alloc; "{refusal}")?),
+    }
+}
+
+/// The names of a text are refused as one line says, or `ok`.
+fn has_verdict(rt: &impl Abort, alloc: Global, text: &str, want: &str) -> Result<(), Fail> {
+    assert!(rt; text.len() <= 1_048_576);
+    let skeleton = skeleton_of(alloc, text.as_bytes())?;
+    let found = refusal(alloc, text.as_bytes(), &skeleton)?;
+    assert_eq!(rt; found.as_str(), want, "{text}");
+    Ok(())
+}
+
+/// Looks at texts that stand a line each, behind the refusal that is wanted and a bar.
+fn look_at(rt: &impl Abort, alloc: Global, rows: &str) -> Result<(), Fail> {
+    for row in rows.lines() {
+        match row.split_once(" | ") {
+            Some((want, text)) => has_verdict(rt, alloc, text, want)?,
+            None => return Err("a row without a bar".into()),
+        }
+    }
+    Ok(())
+}
+
+/// Names that are declared twice, and names that only seem to be.
+const DUPLICATES: &str = "duplicate name at 24 | protocol P { } protocol P { }
+duplicate name at 23 | func f() func g() func f()
+duplicate name at 20 | struct S { } struct S { }
+duplicate name at 22 | protocol S { } struct S { }
+duplicate name at 22 | struct S { } protocol S { }
+duplicate name at 16 | func S() struct S { }
+duplicate name at 18 | struct S { } func S()
+ok | protocol S { } func S()
+duplicate name at 25 | struct S { func f() func f() }
+ok | struct S { func f() } struct R { func f() } func f()
+duplicate name at 45 | protocol P { associatedtype A associatedtype A }
+ok | protocol P { associatedtype A } protocol Q { associatedtype A }
+duplicate name at 14 | protocol P<A, A> { associatedtype A }
+duplicate name at 13 | func f<T, U, T>()
+ok | func f<T>() func g<T>()
+duplicate name at 12 | struct S<T, T> { }
+duplicate name at 21 | struct S<T> { func f<T>() }
+duplicate name at 24 | struct S<T> { func f<U, U>() }
+ok | struct S<T> { func f<U>() func g<U>() } struct R<T> { }
+duplicate name at 37 | func f<T: S>() protocol S { } struct S { }
+duplicate name at 39 | query S.f() struct S { func f() } func S()
+duplicate name at 27 | protocol P: P { } protocol P { }
+duplicate name at 24 | protocol P { } protocol P: P { }";
+
+/// First words of types.
+const HEADS: &str = "concrete type at 23 | func f<T>() where T == Int
+concrete type at 20 | func f<T>() query f(U) func f<U>()
+concrete type at 18 | func f<T>() where Self: AnyObject
+concrete type at 15 | struct S where Self: AnyObject { }
+ok | protocol P where Self: AnyObject, Self.A: AnyObject { }
+concrete type at 17 | protocol P where A: AnyObject { }
+ok | protocol P { associatedtype A } protocol Q: P where A: AnyObject { }
+ok | protocol P { associatedtype A } protocol Q: P { } protocol R: Q where A == A.B { }
+concrete type at 49 | protocol P { associatedtype A } protocol Q where A: AnyObject { }
+ok | protocol P { associatedtype A } protocol Q where Self: P, A: AnyObject { }
+ok | protocol P { associatedtype A } protocol Q { associatedtype B where Self: P, A == B }
+concrete type at 60 | protocol P { associatedtype A } protocol Q where Self.B: P, A: AnyObject { }
+concrete type at 67 | struct S<T> { func f<U>() where U == T } query S.f(U == T) query S(U)
+concrete type at 31 | struct S<T> { } func f() where T: AnyObject
+concrete type at 47 | protocol P<A> { associatedtype A } func f<T: P<U>>()
+concrete type at 49 | protocol P<A> { associatedtype A } protocol Q: P<B> { }
+concrete type at 38 | protocol P: Q { } protocol Q: P where A: AnyObject { }";
+
+/// Names that stand for protocols.
+const PROTOCOLS: &str = "not a protocol at 10 | func f<T: Base>()
+not a protocol at 10 | func f<T: S>() struct S { } protocol S { }
+not a protocol at 23 | protocol P: AnyObject, Q { }
+not a protocol at 23 | protocol P where Self: Q & AnyObject { }
+not a protocol at 31 | protocol P { associatedtype A: Q }
+not a protocol at 39 | protocol P { associatedtype A where A: Q }
+not a protocol at 12 | struct S<T: Q> { }
+not a protocol at 21 | struct S<T> where T: Q { }
+not a protocol at 21 | struct S { func f<T: S>() }
+not a protocol at 23 | func f<T>() query f(T: P)
+not a protocol at 23 | func f<T>() query f(T.[Q]A)
+not a protocol at 10 | func f<T: P<U>>()
+not a protocol at 46 | protocol P: Q { } protocol Q: P { } func f<T: R>()";
+
+/// Members of queries, and primary names.
+const MEMBERS: &str = "no such member at 43 | protocol P { } func f<T: P>() query f(T.[P]A)
+no such member at 11 | protocol P<A> { }
+no such member at 28 | protocol P { } query f(T.[P]A) func f<T>() protocol P { associatedtype A }
+ok | func f<T>() query f(T.A.B.C)
+no such member at 78 | protocol P { associatedtype A } protocol Q: P { } func f<T: Q>() query f(T.[Q]A)
+ok | protocol P { associatedtype A } protocol Q: P { } func f<T: Q>() query f(T.[P]A)
+no such member at 67 | protocol P { associatedtype A } func f<T>() query f(T.[P]A == T.[P]B)
+ok | protocol Q { associatedtype A } protocol P<A>: Q { }
+no such member at 43 | protocol Q { associatedtype A } protocol P<A> where Self.B: Q { }";
+
+/// Names that queries ask.
+const SIGNATURES: &str = "unknown signature at 6 | query g()
+unknown signature at 9 | \u{feff}query g()
+unknown signature at 21 | struct S { } query S.h()
+unknown signature at 6 | query S.f() func S() struct S { func f() }
+unknown signature at 6 | query g(U: P) func f<T>()
+unknown signature at 6 | query S.f(U: P) func f<T>()
+unknown signature at 6 | query f.f() func f()
+unknown signature at 21 | struct S { } query S.f(U.[Q]A)
+unknown signature at 28 | struct S { func f() } query f()
+ok | struct S<T> { func f() } query S(T) query S.f(T)";
+
+/// Constraints with arguments.
+const ARGUMENTS: &str = "wrong number of arguments at 25 | protocol P { } func f<T: P<T>>()
+wrong number of arguments at 10 | func f<T: P<T>>() protocol P<A, A> { associatedtype A }
+ok | protocol P<A> { associatedtype A } func f<T: P, U: P<T>>()
+wrong number of arguments at 45 | protocol P<A> { associatedtype A } func f<T: P<T, T>>()
+ok | protocol P<A> { associatedtype A } protocol Q: P<B> { associatedtype B }";
+
+/// Protocols that inherit themselves, and others.
+const CYCLES: &str = "circular inheritance at 9 | protocol P: Q { } protocol Q: P { }
+circular inheritance at 9 | protocol P: P { }
+circular inheritance at 9 | protocol P where Self: P { }
+circular inheritance at 9 | protocol P { associatedtype A where Self: P }
+circular inheritance at 9 | protocol P<A>: P<A> { associatedtype A }
+ok | protocol P { associatedtype A: P }
+ok | protocol P where Self.A: P { }
+circular inheritance at 9 | protocol P: Q { } protocol Q: R { } protocol R: P { }
+circular inheritance at 27 | protocol P: Q { } protocol Q: R { } protocol R: Q { }
+circular inheritance at 9 | protocol P: Q where A: AnyObject { } protocol Q: P { associatedtype A }";
+
+#[test]
+fn names_are_refused_or_resolve(rt: HostRuntime) -> Result<(), Fail> {
+    for rows in [
+        DUPLICATES, HEADS, PROTOCOLS, MEMBERS, SIGNATURES, ARGUMENTS, CYCLES,
+    ] {
+        look_at(&rt, rt.alloc(), rows)?;
+    }
+    Ok(())
+}
+
+/// Texts with one cause each, and the name of the refusal. None of them has a name that another one has.
+const CAUSES: &[(&str, &str)] = &[
+    ("protocol D { } protocol D { }", "duplicate name at 24"),
+    ("func n<T: No>() ", "not a protocol at 10"),
+    ("func c<T>() where No: AnyObject", "concrete type at 18"),
+    ("protocol M<No> { } ", "no such member at 11"),
+    ("query no()", "unknown signature at 6"),
+    (
+        "protocol W { } func w<T: W<T>>()",
+        "wrong number of arguments at 25",
+    ),
+];
+
+/// A text with one cause, and a cycle.
+const CYCLE: &str = "protocol C: C { } ";
+
+/// Of the text and one that follows, the refusal is this.
+fn comes_first(
+    rt: &impl Abort,
+    alloc: Global,
+    first: &str,
+    second: &str,
+    want: &str,
+) -> Result<(), Fail> {
+    let text = format!(in alloc; "{first}\n{second}")?;
+    has_verdict(rt, alloc, text.as_str(), want)
+}
+
+#[test]
+fn of_two_causes_the_first_is_told(rt: HostRuntime) -> Result<(), Fail> {
+    for (first, want) in CAUSES {
+        for (second, _) in CAUSES {
+            comes_first(&rt, rt.alloc(), first, second, want)?;
+        }
+        comes_first(&rt, rt.alloc(), first, CYCLE, want)?;
+    }
+    Ok(())
+}
+
+/// The names of a skeleton whose names resolve.
+fn names_of(alloc: Global, text: &[u8], skeleton: &Skeleton) -> Result<(Names, Ranks), Fail> {
+    match resolve_names(alloc, text, skeleton) {
+        Ok(names) => Ok((names, member_names(alloc, text, skeleton)?)),
+        Err(_) => Err("a refusal of names".into()),
+    }
+}
+
+/// A text with a signature of each kind, and a protocol that inherits another one.
+const NAMED: &[u8] = b"struct S<T> { func f<U>() } func g<V>() query g(V.C)
+protocol P { associatedtype B } protocol Q: P { associatedtype A }";
+
+const NESTED: Signature = Signature::Nested {
+    outer: 0,
+    function: 0,
+};
+
+#[test]
+fn names_are_found_by_their_bytes(rt: HostRuntime) -> Result<(), Fail> {
+    let alloc = rt.alloc();
+    assert!(rt; NAMED.len() <= 1_048_576);
+    let skeleton = skeleton_of(alloc, NAMED)?;
+    let (names, members) = names_of(alloc, NAMED, &skeleton)?;
+    assert!(rt; names.find_protocol(b"Q") == Some(1));
+    assert!(rt; names.find_protocol(b"S") == None);
+    assert!(rt; names.find_signature(b"S") == Some(Signature::Struct(0)));
+    assert!(rt; names.find_signature(b"g") == Some(Signature::Function(0)));
+    assert!(rt; names.find_signature(b"f") == None);
+    assert!(rt; names.find_nested(b"S", b"f") == Some(NESTED));
+    assert!(rt; names.find_nested(b"g", b"f") == None);
+    assert!(rt; names.find_param(NESTED, b"T") == Some(Param::Outer(0)));
+    assert!(rt; names.find_param(NESTED, b"U") == Some(Param::Own(0)));
+    assert!(rt; names.find_param(NESTED, b"V") == None);
+    assert!(rt; !names.declares(1, b"B") && names.has_member(1, b"B"));
+    assert!(rt; names.inherits(1, 0) && !names.inherits(0, 1));
+    assert!(rt; members.len() == 3 && members.find(b"C") == Some(2));
+    Ok(())
+}
