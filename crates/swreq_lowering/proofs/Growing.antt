@@ -7,6 +7,7 @@ use Rattle.std.specs.declared.result.Result.TheVariants.{Ok, Err}
 use Rattle.swreq_param.specs.declared.ids.TermId.{TermId}
 use Rattle.swreq_param.specs.Terms.{Term, self}
 use Rattle.swreq_param.specs.Tables.{Extends, Interned, IsOf}
+use Rattle.swreq_param.proofs.Growing.{onward, unchanged}
 use Rattle.swreq_derive.specs.declared.requirements.Requirement.{Requirement}
 use Rattle.swreq_derive.specs.declared.requirements.Requirement.TheVariants.{Conf, Layout, Same}
 use Rattle.swreq_derive.specs.Facts.{requirement_of}
@@ -15,17 +16,9 @@ use Rattle.swreq_lowering.specs.Requirements.{PlacedRequirement}
 use Rattle.swreq_lowering.specs.ByTable.{placed_by, placed, AreOf, HasIdsOf}
 use Rattle.swreq_lowering.specs.Adding.{Spells, Adds, Lists}
 
-pub extends_itself : (terms : List Term) → Extends terms terms
-extends_itself terms = record { longer = omega arith; stands = λ t h. refl }
-
-pub extends_then : (a b c : List Term) → Extends a b → Extends b c → Extends a c
-extends_then a b c p q =
-    let l = p.longer in let m = q.longer in
-    record { longer = omega arith; stands = λ t h. q.stands t (omega arith) ∙ p.stands t h }
-
 pub extends_interned : (old new : List Term) (t : Term) (id : TermId) → Interned old new t id → Extends old new
 extends_interned old new t id n =
-    ⊎_elim (λ e. subst (Extends old) (sym e) (extends_itself old))
+    ⊎_elim (λ e. subst (Extends old) (sym e) (unchanged old))
     (λ e. subst (Extends old) (sym e.1) (record { longer = let l = length-append old (t ∷ []) in omega arith; stands = λ u h. get_or_append_left old (t ∷ []) self u.place h })) n.grown
 
 pub spelled : (old new : List Term) (t : Term) (id : TermId) → Interned old new t id → Spells old new t id
@@ -62,11 +55,11 @@ all_push terms (q ∷ rs) r h g (suc k) d l = all_push terms rs r (λ k d l. h (
 -- ---- what is added
 
 pub adds_nothing : (terms : List Term) (rs : List Written) → Adds terms terms rs rs []
-adds_nothing terms rs = record { extends = extends_itself terms; are_of = λ h. h; placed = λ h. sym (append-nil (placed terms rs)) }
+adds_nothing terms rs = record { extends = unchanged terms; are_of = λ h. h; placed = λ h. sym (append-nil (placed terms rs)) }
 
 pub adds_then : (a b c : List Term) (us vs ws : List Written) (ps qs : List PlacedRequirement) → Adds a b us vs ps → Adds b c vs ws qs → Adds a c us ws (ps ++ qs)
 adds_then a b c us vs ws ps qs p q = record {
-  extends = extends_then a b c p.extends q.extends;
+  extends = onward a b c p.extends q.extends;
   are_of = λ h. q.are_of (p.are_of h);
   placed = λ h. q.placed (p.are_of h) ∙ ap (λ xs. xs ++ qs) (p.placed h) ∙ append_assoc (placed a us) ps qs;
 }
@@ -83,7 +76,7 @@ adds_one old new ws vs r p b e h q =
 -- a table that has grown before
 pub adds_later : (a b c : List Term) (us vs : List Written) (ps : List PlacedRequirement) → Extends a b → Adds b c us vs ps → Adds a c us vs ps
 adds_later a b c us vs ps g p = record {
-  extends = extends_then a b c g p.extends;
+  extends = onward a b c g p.extends;
   are_of = λ h. p.are_of (are_of_stay a b us g h);
   placed = λ h. p.placed (are_of_stay a b us g h) ∙ ap (λ xs. xs ++ ps) (placed_stay a b us g h);
 }

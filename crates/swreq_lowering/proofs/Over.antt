@@ -1,10 +1,9 @@
 -- What requirements of a protocol are over.
-use Rattle.std.proofs.Common.{◌≡◌, ◌∙◌, ℕ, ◌<◌, zero, suc, Bool, true, false, cond, List, [], ◌∷◌, ◌++◌, map, refl, arith}
+use Rattle.std.proofs.Common.{◌≡◌, ◌∙◌, ℕ, zero, suc, Bool, true, false, cond, List, [], ◌∷◌, ◌++◌, map, refl, arith}
 use Rattle.std.specs.List.{All, flat_map}
 use Rattle.std.specs.Str.{bytes_eq}
-use Rattle.swreq_param.specs.declared.ids.Step.{Step}
-use Rattle.swreq_param.specs.Terms.{Term, self, self_param, head, with_steps}
-use Rattle.swreq_param.specs.Terms.Term.{Member}
+use Rattle.swreq_param.specs.Terms.{Term, self, self_param, head}
+use Rattle.swreq_param.specs.OwnedLaws.{heads_same}
 use Rattle.swreq_derive.specs.Derivation.TermRequirement.{Conforms, IsAnyObject}
 use Rattle.swreq_decl.specs.declared.skeleton.Span.{Span}
 use Rattle.swreq_decl.specs.declared.skeleton.Entity.{Entity}
@@ -39,17 +38,13 @@ pub all_pieces : {A B : Type 0} (P : B → Type 0) (f : A → List B) (xs : List
 all_pieces P f [] h = all_none P
 all_pieces P f (x ∷ xs) h = all_append P (f x) (flat_map f xs) (h x) (all_pieces P f xs h)
 
-pub head_steps : (t : Term) (xs : List Step) → head (with_steps t xs) ≡ head t
-head_steps t [] = refl
-head_steps t (x ∷ xs) = head_steps (Member t x) xs
-
 module _ (w : WordsView) where
   first_by : (s : Span) (b : Bool) → head (cond b self (member_named w self s)) ≡ self_param
   first_by s true = refl
   first_by s false = refl
 
   type_head : (t : TypeDecl) → head (type_in w Protocol t) ≡ self_param
-  type_head t = head_steps (protocol_head w t.head) (map (step_of w) t.steps) ∙ first_by t.head (bytes_eq self_bytes (word w.text t.head))
+  type_head t = heads_same (protocol_head w t.head) (map (step_of w) t.steps) ∙ first_by t.head (bytes_eq self_bytes (word w.text t.head))
 
   bound_over : (t : Term) (e : Entity) (b : Bool) → head t ≡ self_param → IsOverSelf (cond b (IsAnyObject t) (Conforms t (proto_of w e.span)))
   bound_over t e true h = h

@@ -1,20 +1,14 @@
 -- Lists that go by places, one more at a time.
 use Rattle.std.proofs.Common.{◌≡◌, ℕ, zero, suc, ◌+◌, ◌<◌, ◌≤◌, ◌⊎◌, inl, inr, List, [], ◌∷◌, ◌++◌, length, get_or, take, refl, sym, ap, ◌∙◌, arith, append_assoc, append-nil}
-use Rattle.std.proofs.lemmas.List.{take_more}
+use Rattle.std.proofs.lemmas.List.{length-take-le, take_more}
 use Rattle.swreq_param.specs.Terms.{Term}
 use Rattle.swreq_decl.specs.declared.skeleton.ParamDecl.{ParamDecl}
 use Rattle.swreq_decl.specs.declared.skeleton.Span.{Span}
 use Rattle.swreq_decl.specs.declared.skeleton.TypeDecl.{TypeDecl}
 use Rattle.swreq_names.specs.declared.signature.Signature.{Signature}
 use Rattle.swreq_lowering.specs.declared.scope.Scope.{Scope}
-use Rattle.swreq_lowering.specs.Requirements.{PlacedRequirement, argument, arguments, in_param, in_params}
+use Rattle.swreq_lowering.specs.Requirements.{argument, arguments, in_param, in_params}
 use Rattle.swreq_lowering.specs.Words.{WordsView}
-
-length_take : {A : Type 0} (xs : List A) (i : ℕ) → i ≤ length xs → length (take i xs) ≡ i
-length_take [] zero h = refl
-length_take [] (suc i) h = absurd (omega arith)
-length_take (x ∷ xs) zero h = refl
-length_take (x ∷ xs) (suc i) h = ap suc (length_take xs i (omega arith))
 
 -- ---- the bounds of generic parameters
 
@@ -27,7 +21,7 @@ params_push w g k (p ∷ ps) q =
 
 pub params_more : (w : WordsView) (g : Signature) (ps : List ParamDecl) (i : ℕ) (p : ParamDecl) → i < length ps → p ≡ get_or ps i p → in_params w g 0 (take i ps) ++ in_param w g i p ≡ in_params w g 0 (take (i + 1) ps)
 params_more w g ps i p h e =
-    let n : 0 + length (take i ps) ≡ i = omega (arith, length_take ps i (omega arith)) in
+    let n : 0 + length (take i ps) ≡ i = omega (arith, length-take-le i ps (omega arith)) in
     sym (ap (in_params w g 0) (take_more ps i p h) ∙ params_push w g 0 (take i ps) (get_or ps i p) ∙ (λ j. in_params w g 0 (take i ps) ++ in_param w g (n j) (sym e j)))
 
 -- ---- arguments
@@ -42,7 +36,7 @@ arguments_push w scope t at (m ∷ ns) (v ∷ us) n u e = ap (λ rs. argument w 
 pub arguments_more : (w : WordsView) (scope : Scope) (t : Term) (at : ℕ) (ns : List Span) (us : List TypeDecl) (i : ℕ) (n : Span) (u : TypeDecl) → i < length ns → i < length us → n ≡ get_or ns i n → u ≡ get_or us i u
     → arguments w scope t at (take i ns) (take i us) ++ argument w scope t at n u ∷ [] ≡ arguments w scope t at (take (i + 1) ns) (take (i + 1) us)
 arguments_more w scope t at ns us i n u h k e f =
-    let same : length (take i ns) ≡ length (take i us) = length_take ns i (omega arith) ∙ sym (length_take us i (omega arith)) in
+    let same : length (take i ns) ≡ length (take i us) = length-take-le i ns (omega arith) ∙ sym (length-take-le i us (omega arith)) in
     (λ j. arguments w scope t at (take i ns) (take i us) ++ argument w scope t at (e j) (f j) ∷ [])
     ∙ sym (arguments_push w scope t at (take i ns) (take i us) (get_or ns i n) (get_or us i u) same)
     ∙ sym (λ j. arguments w scope t at (take_more ns i n h j) (take_more us i u k j))

@@ -1,5 +1,6 @@
 -- What a name refers to is at a place of its list.
-use Rattle.std.proofs.Common.{◌≡◌, ℕ, ◌+◌, ◌<◌, suc, Bool, true, false, cond, List, [], ◌∷◌, Option, Some, None, length, map, refl, sym, ap, ◌∙◌, arith}
+use Rattle.std.proofs.Common.{◌≡◌, ℕ, ◌+◌, ◌<◌, suc, Bool, true, false, cond, List, [], ◌∷◌, Option, Some, None, length, map, arith}
+use Rattle.std.proofs.lemmas.List.{length-map}
 use Rattle.std.specs.List.{position_from}
 use Rattle.std.specs.Option.{option_map}
 use Rattle.std.specs.Str.{bytes_eq}
@@ -17,14 +18,10 @@ from_below test i (x ∷ xs) k e = by (test x) e (from_below test (i + 1) xs k)
     by true e h = let l : i ≡ k = cc in omega arith
     by false e h = let l : k < i + 1 + length xs = h e in omega arith
 
-length_map : {A B : Type 0} (f : A → B) (xs : List A) → length (map f xs) ≡ length xs
-length_map f [] = refl
-length_map f (x ∷ xs) = ap suc (length_map f xs)
-
 pub place_below : (ds : List Declaration) (name : List ℕ) (k : ℕ) → place ds name ≡ Some k → k < length ds
 place_below ds name k e =
     let l = from_below (bytes_eq name) 0 (map (λ d. d.name) ds) k e in
-    let m = length_map (λ (d : Declaration). d.name) ds in
+    let m = length-map ds (λ (d : Declaration). d.name) in
     omega arith
 
 outer_by : (o p : Option ℕ) (k : ℕ) → (elim o as (λ _. Option Param) [ None ↦ option_map Own p | Some j ↦ Some (Outer j) ]) ≡ Some (Outer k) → o ≡ Some k

@@ -1,5 +1,6 @@
 -- The lists of a skeleton are no longer than its text.
-use Rattle.std.proofs.Common.{◌≡◌, ℕ, zero, suc, ◌+◌, ◌-◌, ◌≤◌, ◌<◌, ◌^◌, Bool, true, false, cond, List, [], ◌∷◌, ◌++◌, Option, Some, None, length, get_or, slice_get, map, drop, sum_by, refl, sym, ap, subst, ◌∙◌, arith, length-append, length-drop}
+use Rattle.std.proofs.Common.{◌≡◌, ℕ, zero, suc, ◌+◌, ◌≤◌, ◌<◌, ◌^◌, Bool, true, false, cond, List, [], ◌∷◌, ◌++◌, Option, Some, None, length, get_or, slice_get, map, drop, sum_by, refl, ap, ◌∙◌, arith, length-append, length-drop}
+use Rattle.std.proofs.lemmas.List.{length-map}
 use Rattle.std.proofs.lemmas.List.Concat.{length-flat_map}
 use Rattle.std.proofs.lemmas.List.Sums.{sum_by-cons, sum_by-le-sum_by}
 use Rattle.std.specs.List.{All, filter_map, flat_map, prefix_len}
@@ -9,7 +10,6 @@ use Rattle.swreq_lex.specs.Slices.{AreSlices, last, next}
 use Rattle.swreq_lex.specs.Tokens.{HasTokens, first_offset}
 use Rattle.swreq_decl.specs.declared.skeleton.Entity.{Entity}
 use Rattle.swreq_decl.specs.declared.skeleton.TypeDecl.{TypeDecl}
-use Rattle.swreq_decl.specs.declared.skeleton.StepDecl.{StepDecl}
 use Rattle.swreq_decl.specs.declared.skeleton.ReqDecl.{ReqDecl}
 use Rattle.swreq_decl.specs.declared.skeleton.ReqDecl.TheVariants as requirements
 use Rattle.swreq_decl.specs.declared.skeleton.AssocDecl.{AssocDecl}
@@ -176,9 +176,9 @@ module _ {A B : Type 0} (measure : B → ℕ) (size : A → ℕ) where
   found_sum f (x ∷ xs) zero z h = let j = h x in let k = sum_by-cons size x xs in omega arith
   found_sum f (x ∷ xs) (suc i) z h = let j = found_sum f xs i z h in let k = sum_by-cons size x xs in omega arith
 
-length_map : {A B : Type 0} (f : A → B) (xs : List A) → length (map f xs) ≡ length xs
-length_map f [] = refl
-length_map f (x ∷ xs) = ap suc (length_map f xs)
+pub nested_count : (i j n : ℕ) → length (nested_from i j n) ≡ n
+nested_count i j zero = refl
+nested_count i j (suc n) = ap suc (nested_count i (j + 1) n)
 
 params_count : (ps : List ParamDecl) → length ps ≤ sum_by param_size ps
 params_count ps = count_sum param_size ps (λ p. omega arith)
@@ -190,7 +190,7 @@ function_count : (f : FunctionDecl) → length f.params ≤ function_size f
 function_count f = let i = params_count f.params in omega arith
 
 declared_count : (text : List ℕ) (ps : List ParamDecl) → length (of_params text ps) ≡ length ps
-declared_count text ps = length_map (declaration text) (map (λ g. g.name) ps) ∙ length_map (λ (g : ParamDecl). g.name) ps
+declared_count text ps = length-map (map (λ g. g.name) ps) (declaration text) ∙ length-map ps (λ (g : ParamDecl). g.name)
 
 module _ (text : List ℕ) (s : Skeleton) where
   struct_declared : (i : ℕ) → length (get_or (spaces text s).struct_params i []) ≤ sum_by struct_size s.structs
@@ -226,8 +226,8 @@ module _ (text : List ℕ) (s : Skeleton) where
     where
       nested_names : (t : StructDecl) → length (declarations text (map (λ f. f.name) t.functions)) ≤ struct_size t
       nested_names t =
-          let k = length_map (declaration text) (map (λ (f : FunctionDecl). f.name) t.functions) in
-          let l = length_map (λ (f : FunctionDecl). f.name) t.functions in
+          let k = length-map (map (λ (f : FunctionDecl). f.name) t.functions) (declaration text) in
+          let l = length-map t.functions (λ (f : FunctionDecl). f.name) in
           let m = count_sum function_size t.functions (λ f. omega arith) in omega arith
 
   -- ---- of the skeleton itself
@@ -256,10 +256,6 @@ module _ (text : List ℕ) (s : Skeleton) where
   from_count : (k n : ℕ) → length (functions_from k n) ≡ n
   from_count k zero = refl
   from_count k (suc n) = ap suc (from_count (k + 1) n)
-
-  nested_count : (i j n : ℕ) → length (nested_from i j n) ≡ n
-  nested_count i j zero = refl
-  nested_count i j (suc n) = ap suc (nested_count i (j + 1) n)
 
   front_count : {A : Type 0} (p : A → Bool) (xs : List A) → prefix_len p xs ≤ length xs
   front_count p [] = omega arith

@@ -2,11 +2,9 @@
 use Rattle.std.proofs.Common.{◌≡◌, ℕ, ◌+◌, ◌≤◌, ⊎_elim, List, [], ◌∷◌, ◌++◌, length, sum_by, refl, ap, subst, ◌∙◌, arith, length-append}
 use Rattle.std.proofs.lemmas.List.Sums.{sum_by-cons}
 use Rattle.swreq_grammar.specs.declared.token.Token.{Token}
-use Rattle.swreq_grammar.specs.Grammar.{Limit, Matches, Parts, unlimited, terminal, empty, mapped, sequence, alternative, repetition, labelled}
+use Rattle.swreq_grammar.specs.Grammar.{Limit, Matches, Parts, empty, mapped, sequence, alternative, repetition}
 use Rattle.swreq_decl.specs.declared.terminal.Terminal.{Terminal}
-use Rattle.swreq_decl.specs.declared.terminal.Terminal.TheVariants.{Colon, EqualEqual, Less, Greater}
 use Rattle.swreq_decl.specs.declared.kind.Kind.{Kind}
-use Rattle.swreq_decl.specs.declared.skeleton.Span.{Span}
 use Rattle.swreq_decl.specs.declared.skeleton.Entity.{Entity}
 use Rattle.swreq_decl.specs.declared.skeleton.StepDecl.{StepDecl}
 use Rattle.swreq_decl.specs.declared.skeleton.TypeDecl.{TypeDecl}

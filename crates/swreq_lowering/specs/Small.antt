@@ -1,5 +1,5 @@
 -- Numbers that fit 32 bits.
-use Rattle.std.specs.Prelude.{ℕ, ◌<◌, ◌^◌, length}
+use Rattle.std.specs.Prelude.{◌<◌, ◌^◌, length}
 use Rattle.swreq_names.specs.declared.signature.Signature.{Signature}
 use Rattle.swreq_names.specs.Spaces.{Spaces, outer_params, own_params}
 

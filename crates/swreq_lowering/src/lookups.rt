@@ -9,9 +9,9 @@ use crate::laws::lists_are_short;
 use crate::params::own_depth;
 use crate::words::Words;
 use swreq_decl::{ProtocolDecl, Skeleton, Span, StepDecl};
+use swreq_lexicon::Lexicon;
 use swreq_names::{Param, Signature, word};
 use swreq_param::{NameId, ParamId, ProtoId, Step};
-use swreq_lexicon::Lexicon;
 
 /// The protocol of this name.
 pub fn proto_of(words: &Words<'_>, name: Span) -> ProtoId

@@ -1,5 +1,6 @@
 // The requirements of protocols.
 ghost use Rattle.std.specs.Prelude.{OnOk, IfOk};
+ghost use Rattle.swreq_param.specs.Tables.{Extends};
 ghost use Rattle.swreq_lowering.specs.Adding.{Adds, Lists};
 ghost use Rattle.swreq_lowering.specs.Requirements.{in_member, in_members, in_protocol};
 ghost use Rattle.swreq_lowering.specs.Words.{words_by};
@@ -15,13 +16,15 @@ use swreq_decl::{AssocDecl, ProtocolDecl};
 use swreq_param::{ParamTable, Step};
 
 /// An associated type.
+#[tactic(auto, using(swreq_param::proofs::Growing::onward))]
 fn add_member(
     table: &mut ParamTable,
     words: &Words<'_>,
     m: &AssocDecl,
     into: &mut Vec<Written>,
 ) -> Result<(), AllocError>
-    ensures { OnOk result (Adds table.old table.new into.old.items into.new.items (in_member (words_by words.now) m.now)) }
+    ensures adds { OnOk result (Adds table.old table.new into.old.items into.new.items (in_member (words_by words.now) m.now)) }
+    ensures extends { Extends table.old table.new }
 {
     let scope = Scope::Protocol;
     let base = table.param(SELF)?;
@@ -38,13 +41,15 @@ fn add_member(
     add_clause(table, words, scope, m.clause.items(), into)
 }
 
+#[tactic(auto, using(swreq_param::proofs::Growing::onward))]
 fn add_members(
     table: &mut ParamTable,
     words: &Words<'_>,
     members: &[AssocDecl],
     into: &mut Vec<Written>,
 ) -> Result<(), AllocError>
-    ensures { OnOk result (Adds table.old table.new into.old.items into.new.items (in_members (words_by words.now) members.now)) }
+    ensures adds { OnOk result (Adds table.old table.new into.old.items into.new.items (in_members (words_by words.now) members.now)) }
+    ensures extends { Extends table.old table.new }
 {
     for m in members {
         add_member(table, words, m, into)?;
@@ -53,13 +58,15 @@ fn add_members(
 }
 
 /// The requirements of a protocol, in the order of their places.
+#[tactic(auto, using(swreq_param::proofs::Growing::onward))]
 pub fn of_protocol(
     alloc: Global,
     table: &mut ParamTable,
     words: &Words<'_>,
     p: &ProtocolDecl,
 ) -> Result<Vec<Written>, AllocError>
-    ensures { IfOk result (λ v. Lists table.old table.new (in_protocol (words_by words.now) p.now) v.items) }
+    ensures lists { IfOk result (λ v. Lists table.old table.new (in_protocol (words_by words.now) p.now) v.items) }
+    ensures extends { Extends table.old table.new }
 {
     let scope = Scope::Protocol;
     let mut into = Vec::new(alloc);

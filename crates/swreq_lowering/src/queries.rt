@@ -1,7 +1,7 @@
 // The queries of a text.
 ghost use Rattle.std.specs.Prelude.{◌≡◌, List, cond, IfOk};
 ghost use Rattle.swreq_param.specs.Terms.{Term};
-ghost use Rattle.swreq_param.specs.Tables.{IsOf, term_at};
+ghost use Rattle.swreq_param.specs.Tables.{Extends, IsOf, term_at};
 ghost use Rattle.swreq_lowering.specs.Adding.{Asks};
 ghost use Rattle.swreq_lowering.specs.ByTable.{query_by, HasQueryIdsOf};
 ghost use Rattle.swreq_lowering.specs.Queries.{asked_of, asked_signature, signature_named, TermQuery.AsksAnyObject, TermQuery.AsksConforms};
@@ -40,6 +40,7 @@ fn signature_named(words: &Words<'_>, outer: Option<Span>, function: Span) -> Op
 }
 
 /// What is asked of a signature, which has the place `f`.
+#[tactic(auto, using(swreq_param::proofs::Growing::onward))]
 pub fn query(
     table: &mut ParamTable,
     words: &Words<'_>,
@@ -47,7 +48,8 @@ pub fn query(
     f: FuncId,
     ask: &Ask,
 ) -> Result<Query, AllocError>
-    ensures { IfOk result (Asks table.old table.new (asked_of (words_by words.now) signature f ask.now)) }
+    ensures asks { IfOk result (Asks table.old table.new (asked_of (words_by words.now) signature f ask.now)) }
+    ensures extends { Extends table.old table.new }
 {
     let scope = Scope::Signature(signature);
     match ask {

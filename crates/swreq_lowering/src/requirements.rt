@@ -1,7 +1,7 @@
 // The requirements that bounds and where clauses write.
 ghost use Rattle.std.specs.Prelude.{◌≡◌, [], ◌∷◌, List, OnOk};
 ghost use Rattle.swreq_param.specs.Terms.{Term};
-ghost use Rattle.swreq_param.specs.Tables.{IsOf, term_at};
+ghost use Rattle.swreq_param.specs.Tables.{Extends, IsOf, term_at};
 ghost use Rattle.swreq_derive.specs.Facts.{requirement_of};
 ghost use Rattle.swreq_lowering.specs.Adding.{Adds};
 ghost use Rattle.swreq_lowering.specs.ByTable.{HasIdsOf};
@@ -35,6 +35,7 @@ fn bound_of(words: &Words<'_>, subject: TermId, e: &Entity) -> Requirement
 }
 
 /// The equality of an argument with the primary associated type of this name, at the offset of the bound.
+#[tactic(auto, using(swreq_param::proofs::Growing::onward))]
 fn add_argument(
     table: &mut ParamTable,
     words: &Words<'_>,
@@ -46,8 +47,9 @@ fn add_argument(
     into: &mut Vec<Written>,
 ) -> Result<(), AllocError>
     requires { IsOf table.old subject }
-    ensures { OnOk result (Adds table.old table.new into.old.items into.new.items
+    ensures adds { OnOk result (Adds table.old table.new into.old.items into.new.items
         (argument (words_by words.now) scope (term_at table.old subject) at name given.now ∷ [])) }
+    ensures extends { Extends table.old table.new }
 {
     let left = table.member(subject, Step::Name(name_of(words, name)))?;
     let right = spell(table, words, scope, given)?;
@@ -60,6 +62,7 @@ fn add_argument(
 }
 
 /// The equalities of arguments with the primary associated types of these names, at the offset of the bound.
+#[tactic(auto, using(swreq_param::proofs::Growing::onward))]
 fn add_arguments(
     table: &mut ParamTable,
     words: &Words<'_>,
@@ -71,8 +74,9 @@ fn add_arguments(
     into: &mut Vec<Written>,
 ) -> Result<(), AllocError>
     requires { IsOf table.old subject }
-    ensures { OnOk result (Adds table.old table.new into.old.items into.new.items
+    ensures adds { OnOk result (Adds table.old table.new into.old.items into.new.items
         (arguments (words_by words.now) scope (term_at table.old subject) at names.now given.now)) }
+    ensures extends { Extends table.old table.new }
 {
     let mut k = 0;
     while k < names.len() && k < given.len() {
@@ -94,8 +98,9 @@ fn add_bound(
     into: &mut Vec<Written>,
 ) -> Result<(), AllocError>
     requires { IsOf table.old subject }
-    ensures { OnOk result (Adds table.old table.new into.old.items into.new.items
+    ensures adds { OnOk result (Adds table.old table.new into.old.items into.new.items
         (in_bound (words_by words.now) scope (term_at table.old subject) at e.now)) }
+    ensures extends { Extends table.old table.new }
 {
     into.push(Written {
         requirement: bound_of(words, subject, e),
@@ -116,6 +121,7 @@ fn add_bound(
 }
 
 /// What bounds require of a type parameter that is written at an offset.
+#[tactic(auto, using(swreq_param::proofs::Growing::onward))]
 pub fn add_bounds(
     table: &mut ParamTable,
     words: &Words<'_>,
@@ -126,8 +132,9 @@ pub fn add_bounds(
     into: &mut Vec<Written>,
 ) -> Result<(), AllocError>
     requires { IsOf table.old subject }
-    ensures { OnOk result (Adds table.old table.new into.old.items into.new.items
+    ensures adds { OnOk result (Adds table.old table.new into.old.items into.new.items
         (in_bounds (words_by words.now) scope (term_at table.old subject) at bounds.now)) }
+    ensures extends { Extends table.old table.new }
 {
     for e in bounds {
         add_bound(table, words, scope, subject, at, e, into)?;
@@ -136,6 +143,7 @@ pub fn add_bounds(
 }
 
 /// `T == U`.
+#[tactic(auto, using(swreq_param::proofs::Growing::onward))]
 fn add_same(
     table: &mut ParamTable,
     words: &Words<'_>,
@@ -144,8 +152,9 @@ fn add_same(
     right: &TypeDecl,
     into: &mut Vec<Written>,
 ) -> Result<(), AllocError>
-    ensures { OnOk result (Adds table.old table.new into.old.items into.new.items
+    ensures adds { OnOk result (Adds table.old table.new into.old.items into.new.items
         (equality (type_in (words_by words.now) scope left.now) left.now.head.start (type_in (words_by words.now) scope right.now) right.now.head.start ∷ [])) }
+    ensures extends { Extends table.old table.new }
 {
     let t = spell(table, words, scope, left)?;
     let u = spell(table, words, scope, right)?;
@@ -158,6 +167,7 @@ fn add_same(
 }
 
 /// `T: P & Q`.
+#[tactic(auto, using(swreq_param::proofs::Growing::onward))]
 fn add_subject(
     table: &mut ParamTable,
     words: &Words<'_>,
@@ -166,8 +176,9 @@ fn add_subject(
     bounds: &[Entity],
     into: &mut Vec<Written>,
 ) -> Result<(), AllocError>
-    ensures { OnOk result (Adds table.old table.new into.old.items into.new.items
+    ensures adds { OnOk result (Adds table.old table.new into.old.items into.new.items
         (in_bounds (words_by words.now) scope (type_in (words_by words.now) scope subject.now) subject.now.head.start bounds.now)) }
+    ensures extends { Extends table.old table.new }
 {
     let t = spell(table, words, scope, subject)?;
     add_bounds(table, words, scope, t, subject.head.start, bounds, into)
@@ -181,8 +192,9 @@ fn add_requirement(
     r: &ReqDecl,
     into: &mut Vec<Written>,
 ) -> Result<(), AllocError>
-    ensures { OnOk result (Adds table.old table.new into.old.items into.new.items
+    ensures adds { OnOk result (Adds table.old table.new into.old.items into.new.items
         (in_requirement (words_by words.now) scope r.now)) }
+    ensures extends { Extends table.old table.new }
 {
     match r {
         ReqDecl::Bound { subject, bounds } => {
@@ -193,6 +205,7 @@ fn add_requirement(
 }
 
 /// A where clause.
+#[tactic(auto, using(swreq_param::proofs::Growing::onward))]
 pub fn add_clause(
     table: &mut ParamTable,
     words: &Words<'_>,
@@ -200,8 +213,9 @@ pub fn add_clause(
     clause: &[ReqDecl],
     into: &mut Vec<Written>,
 ) -> Result<(), AllocError>
-    ensures { OnOk result (Adds table.old table.new into.old.items into.new.items
+    ensures adds { OnOk result (Adds table.old table.new into.old.items into.new.items
         (in_clause (words_by words.now) scope clause.now)) }
+    ensures extends { Extends table.old table.new }
 {
     for r in clause {
         add_requirement(table, words, scope, r, into)?;

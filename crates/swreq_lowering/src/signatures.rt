@@ -1,6 +1,7 @@
 // The lists of signatures.
 ghost use Rattle.std.specs.Prelude.{◌≡◌, ◌++◌, ◌<◌, ◌^◌, length, OnOk, IfOk};
 ghost use Rattle.swreq_param.specs.Terms.{Term};
+ghost use Rattle.swreq_param.specs.Tables.{Extends};
 ghost use Rattle.swreq_decl.specs.declared.skeleton.StructDecl.{StructDecl};
 ghost use Rattle.swreq_lowering.specs.Adding.{Adds, Lists};
 ghost use Rattle.swreq_lowering.specs.ByTable.{AreOf, placed};
@@ -18,6 +19,7 @@ use swreq_names::Signature;
 use swreq_param::{ParamId, ParamTable};
 
 /// The bounds of a signature's own generic parameter at an index.
+#[tactic(auto, using(swreq_param::proofs::Growing::onward))]
 fn add_param(
     table: &mut ParamTable,
     words: &Words<'_>,
@@ -26,7 +28,8 @@ fn add_param(
     p: &ParamDecl,
     into: &mut Vec<Written>,
 ) -> Result<(), AllocError>
-    ensures { OnOk result (Adds table.old table.new into.old.items into.new.items (in_param (words_by words.now) signature index p.now)) }
+    ensures adds { OnOk result (Adds table.old table.new into.old.items into.new.items (in_param (words_by words.now) signature index p.now)) }
+    ensures extends { Extends table.old table.new }
 {
     let depth = own_depth(words.skeleton, signature);
     let subject = table.param(ParamId { depth, index })?;
@@ -42,6 +45,7 @@ fn add_param(
     )
 }
 
+#[tactic(auto, using(swreq_param::proofs::Growing::onward))]
 fn add_params(
     table: &mut ParamTable,
     words: &Words<'_>,
@@ -50,7 +54,8 @@ fn add_params(
     into: &mut Vec<Written>,
 ) -> Result<(), AllocError>
     requires { length params.now < 2 ^ 32 }
-    ensures { OnOk result (Adds table.old table.new into.old.items into.new.items (in_params (words_by words.now) signature 0 params.now)) }
+    ensures adds { OnOk result (Adds table.old table.new into.old.items into.new.items (in_params (words_by words.now) signature 0 params.now)) }
+    ensures extends { Extends table.old table.new }
 {
     let mut i = 0;
     while i < params.len() {
@@ -62,6 +67,7 @@ fn add_params(
 }
 
 /// What is written in a signature.
+#[tactic(auto, using(swreq_param::proofs::Growing::onward))]
 fn add_signature(
     table: &mut ParamTable,
     words: &Words<'_>,
@@ -71,7 +77,8 @@ fn add_signature(
     into: &mut Vec<Written>,
 ) -> Result<(), AllocError>
     requires { length params.now < 2 ^ 32 }
-    ensures { OnOk result (Adds table.old table.new into.old.items into.new.items (in_signature (words_by words.now) signature params.now clause.now)) }
+    ensures adds { OnOk result (Adds table.old table.new into.old.items into.new.items (in_signature (words_by words.now) signature params.now clause.now)) }
+    ensures extends { Extends table.old table.new }
 {
     add_params(table, words, signature, params, into)?;
     add_clause(table, words, Scope::Signature(signature), clause, into)
@@ -86,7 +93,8 @@ pub fn of_struct(
     s: &StructDecl,
 ) -> Result<Vec<Written>, AllocError>
     requires { length s.now.params < 2 ^ 32 }
-    ensures { IfOk result (λ v. Lists table.old table.new (in_struct (words_by words.now) place s.now) v.items) }
+    ensures lists { IfOk result (λ v. Lists table.old table.new (in_struct (words_by words.now) place s.now) v.items) }
+    ensures extends { Extends table.old table.new }
 {
     let mut into = Vec::new(alloc);
     let signature = Signature::Struct(place);
@@ -110,7 +118,8 @@ pub fn of_function(
     f: &FunctionDecl,
 ) -> Result<Vec<Written>, AllocError>
     requires { length f.now.params < 2 ^ 32 }
-    ensures { IfOk result (λ v. Lists table.old table.new (in_function (words_by words.now) place f.now) v.items) }
+    ensures lists { IfOk result (λ v. Lists table.old table.new (in_function (words_by words.now) place f.now) v.items) }
+    ensures extends { Extends table.old table.new }
 {
     let mut into = Vec::new(alloc);
     let signature = Signature::Function(place);
@@ -138,8 +147,9 @@ pub fn of_nested(
 ) -> Result<Vec<Written>, AllocError>
     requires small { length f.now.params < 2 ^ 32 }
     requires of { AreOf table.old of_struct.now }
-    ensures { (s : StructDecl) → placed table.old of_struct.now ≡ in_struct (words_by words.now) outer s
+    ensures lists { (s : StructDecl) → placed table.old of_struct.now ≡ in_struct (words_by words.now) outer s
         → IfOk result (λ v. Lists table.old table.new (in_nested (words_by words.now) outer s function f.now) v.items) }
+    ensures extends { Extends table.old table.new }
 {
     let mut list = Vec::from_slice(alloc, of_struct)?;
     let signature = Signature::Nested { outer, function };

@@ -1,7 +1,7 @@
 // Written types as type parameters of a table.
 ghost use Rattle.std.specs.Prelude.{◌≡◌, IfOk, map};
 ghost use Rattle.swreq_param.specs.Terms.{with_steps};
-ghost use Rattle.swreq_param.specs.Tables.{IsOf, term_at};
+ghost use Rattle.swreq_param.specs.Tables.{Extends, IsOf, term_at};
 ghost use Rattle.swreq_lowering.specs.Adding.{Spells};
 ghost use Rattle.swreq_lowering.specs.Types.{head_in, protocol_head, signature_head, step_of, type_in};
 ghost use Rattle.swreq_lowering.specs.Words.{words_by};
@@ -18,13 +18,15 @@ use swreq_param::{ParamId, ParamTable, Step, TermId};
 pub const SELF: ParamId = ParamId { depth: 0, index: 0 };
 
 /// The type parameter that a type stands for where it is written.
+#[tactic(auto, using(swreq_param::proofs::Growing::onward))]
 pub fn spell(
     table: &mut ParamTable,
     words: &Words<'_>,
     scope: Scope,
     t: &TypeDecl,
 ) -> Result<TermId, AllocError>
-    ensures { IfOk result (Spells table.old table.new (type_in (words_by words.now) scope t.now)) }
+    ensures spells { IfOk result (Spells table.old table.new (type_in (words_by words.now) scope t.now)) }
+    ensures extends { Extends table.old table.new }
 {
     let head = spell_head(table, words, scope, t.head)?;
     spell_steps(table, words, head, t.steps.items())
@@ -37,7 +39,8 @@ fn spell_head(
     scope: Scope,
     head: Span,
 ) -> Result<TermId, AllocError>
-    ensures { IfOk result (Spells table.old table.new (head_in (words_by words.now) scope head)) }
+    ensures spells { IfOk result (Spells table.old table.new (head_in (words_by words.now) scope head)) }
+    ensures extends { Extends table.old table.new }
 {
     match scope {
         Scope::Protocol => spell_protocol_head(table, words, head),
@@ -45,12 +48,14 @@ fn spell_head(
     }
 }
 
+#[tactic(auto, using(swreq_param::proofs::Growing::onward))]
 fn spell_protocol_head(
     table: &mut ParamTable,
     words: &Words<'_>,
     head: Span,
 ) -> Result<TermId, AllocError>
-    ensures { IfOk result (Spells table.old table.new (protocol_head (words_by words.now) head)) }
+    ensures spells { IfOk result (Spells table.old table.new (protocol_head (words_by words.now) head)) }
+    ensures extends { Extends table.old table.new }
 {
     let base = table.param(SELF)?;
     if b"Self".as_slice() == word(words.text, head) {
@@ -66,7 +71,8 @@ fn spell_signature_head(
     signature: Signature,
     head: Span,
 ) -> Result<TermId, AllocError>
-    ensures { IfOk result (Spells table.old table.new (signature_head (words_by words.now) signature head)) }
+    ensures spells { IfOk result (Spells table.old table.new (signature_head (words_by words.now) signature head)) }
+    ensures extends { Extends table.old table.new }
 {
     match param_named(words, signature, word(words.text, head)) {
         Some(param) => table.param(param),
@@ -75,6 +81,7 @@ fn spell_signature_head(
 }
 
 /// A type parameter with the steps at its end.
+#[tactic(auto, using(swreq_param::proofs::Growing::onward))]
 fn spell_steps(
     table: &mut ParamTable,
     words: &Words<'_>,
@@ -82,8 +89,9 @@ fn spell_steps(
     steps: &[StepDecl],
 ) -> Result<TermId, AllocError>
     requires { IsOf table.old base }
-    ensures { IfOk result (Spells table.old table.new
+    ensures spells { IfOk result (Spells table.old table.new
         (with_steps (term_at table.old base) (map (step_of (words_by words.now)) steps.now))) }
+    ensures extends { Extends table.old table.new }
 {
     let mut id = base;
     for step in steps {

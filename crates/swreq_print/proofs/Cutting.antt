@@ -1,6 +1,7 @@
 -- Texts that are cut in one way.
-use Rattle.std.proofs.Common.{◌≡◌, ◌≢◌, ◌∙◌, ◌&&◌, ◌++◌, ◌∷◌, [], ap, ap₂, refl, sym, ℕ, Bool, true, false, List, map, codes, true≢false, arith}
+use Rattle.std.proofs.Common.{◌≡◌, ◌≢◌, ◌∙◌, ◌++◌, ◌∷◌, [], ap, ap₂, refl, sym, ℕ, Bool, true, false, List, map, codes, true≢false, arith}
 use Rattle.std.specs.List.{list_all, AllByRecursion}
+use Rattle.std.proofs.lemmas.Bool.{and_parts}
 use Rattle.std.proofs.lemmas.List.{append_assoc}
 use Rattle.swreq_print.specs.Names.{Text}
 use Rattle.swreq_text.specs.Joined.{followed}
@@ -17,10 +18,6 @@ rest_of (x ∷ xs) = xs
 unfoldable pub first_of : {A : Type 0} → A → List A → A
 first_of d [] = d
 first_of d (x ∷ xs) = x
-
-pub both : (a b : Bool) → (a && b) ≡ true → (a ≡ true) × (b ≡ true)
-both true b e = (refl, e)
-both false b e = absurd (true≢false (sym e))
 
 length_of : Text → ℕ
 length_of [] = 0
@@ -41,12 +38,12 @@ unfolding rest_of first_of
 cut inside [] [] x y ia ib sx sy e = (refl, e)
 cut inside [] (c ∷ b) [] y ia ib sx sy e = absurd (empty_not c (b ++ y) e)
 cut inside [] (c ∷ b) (d ∷ x) y ia ib sx sy e =
-    absurd (true≢false (sym (both (inside c) _ ib).0 ∙ ap inside (sym (ap (first_of 0) e)) ∙ sx))
+    absurd (true≢false (sym (and_parts (inside c) _ ib).0 ∙ ap inside (sym (ap (first_of 0) e)) ∙ sx))
 cut inside (c ∷ a) [] x [] ia ib sx sy e = absurd (empty_not c (a ++ x) (sym e))
 cut inside (c ∷ a) [] x (d ∷ y) ia ib sx sy e =
-    absurd (true≢false (sym (both (inside c) _ ia).0 ∙ ap inside (ap (first_of 0) e) ∙ sy))
+    absurd (true≢false (sym (and_parts (inside c) _ ia).0 ∙ ap inside (ap (first_of 0) e) ∙ sy))
 cut inside (c ∷ a) (d ∷ b) x y ia ib sx sy e =
-    let more = cut inside a b x y (both (inside c) _ ia).1 (both (inside d) _ ib).1 sx sy (ap rest_of e) in
+    let more = cut inside a b x y (and_parts (inside c) _ ia).1 (and_parts (inside d) _ ib).1 sx sy (ap rest_of e) in
     (ap₂ (λ h t. h ∷ t) (ap (first_of 0) e) more.0, more.1)
 
 -- ---- lists with a comma and a space between each two

@@ -4,3 +4,4 @@ mod ReadTypes
 pub mod Steps
 mod Telling
 mod Where
+mod Failing

@@ -1,6 +1,7 @@
 -- The text of a type parameter says which one it is.
 use Rattle.std.proofs.Common.{◌≡◌, ◌∙◌, ◌&&◌, ◌==◌, ◌++◌, ◌∷◌, ◌+◌, ◌<◌, ◌^◌, ◌%◌, [], ap, ap₂, refl, sym, ℕ, Bool, true, false, nat_le, List, true≢false, arith, if◌then◌else◌}
 use Rattle.std.specs.List.{list_all, AllByRecursion}
+use Rattle.std.proofs.lemmas.Bool.{and_parts}
 use Rattle.std.proofs.lemmas.List.{append_assoc}
 use Rattle.std.proofs.lemmas.Fmt.{decimal_by_steps, decimal_is_IsNumeral}
 use Rattle.std.specs.Str.Parse.{digits_value}
@@ -11,14 +12,15 @@ use Rattle.swreq_param.specs.declared.ids.ProtoId.{ProtoId}
 use Rattle.swreq_param.specs.declared.ids.Step.{Step}
 use Rattle.swreq_param.specs.declared.ids.Step.TheVariants.{Bound, Name}
 use Rattle.swreq_param.specs.Terms.{Term, head, with_steps}
-use Rattle.swreq_param.specs.Terms.Term.{Generic, Member}
+use Rattle.swreq_param.specs.Terms.Term.{Generic}
+use Rattle.swreq_param.specs.ComparisonLaws.{as_steps, steps_of}
 use Rattle.swreq_lexicon.specs.declared.pair.ProtocolName.{ProtocolName}
 use Rattle.swreq_lexicon.specs.Views.{LexiconView, IsName, IsProtocol}
 use Rattle.swreq_print.specs.declared.types.Scope.TheVariants.{Signature}
 use Rattle.swreq_print.specs.Names.{Text, protocol_name, name_text, pair_at}
 use Rattle.swreq_print.specs.Types.{param_text, bound_text, step_text, steps_text, type_text}
 use Rattle.swreq_print.specs.Reading.{in_name, IsPair, IsStep, HasSteps, TellsApart, HasNumbers, IsTypeOf}
-use Rattle.swreq_print.proofs.Cutting.{Stops, cut, both, rest_of, first_of, empty_not}
+use Rattle.swreq_print.proofs.Cutting.{Stops, cut, rest_of, first_of, empty_not}
 use Rattle.swreq_print.proofs.Steps.{steps_of_text, type_by_steps}
 
 -- ---- numbers and generic parameters
@@ -31,7 +33,7 @@ glyph n lt = search (arith, lt)
 
 all_snoc : (ds : Text) (c : ℕ) → list_all in_number ds ≡ true → in_number c ≡ true → list_all in_number (ds ++ c ∷ []) ≡ true
 all_snoc [] c e f = rw f refl
-all_snoc (d ∷ ds) c e f = let p = both (in_number d) _ e in rw (p.0) (all_snoc ds c p.1 f)
+all_snoc (d ∷ ds) c e f = let p = and_parts (in_number d) _ e in rw (p.0) (all_snoc ds c p.1 f)
 
 digits_only : (n : ℕ) → n < 2 ^ 64 → list_all in_number (decimal n) ≡ true
 digits_only = decimal_by_steps (λ n bs. list_all in_number bs ≡ true) (λ n lt. rw (glyph n lt) refl)
@@ -74,19 +76,6 @@ EndsType x = Stops in_type x × Stops in_number x
 
 -- ---- type parameters by their steps
 
-steps_of : Term → List Step
-steps_of (Generic g) = []
-steps_of (Member t x) = steps_of t ++ (x ∷ [])
-
-with_more : (t : Term) (xs : List Step) (x : Step) → with_steps t (xs ++ (x ∷ [])) ≡ Member (with_steps t xs) x
-with_more t [] x = refl
-with_more t (y ∷ xs) x = with_more (Member t y) xs x
-
-as_steps : (t : Term) → with_steps (Generic (head t)) (steps_of t) ≡ t
-unfolding steps_of
-as_steps (Generic g) = refl
-as_steps (Member t x) = with_more (Generic (head t)) (steps_of t) x ∙ ap (λ u. Member u x) (as_steps t)
-
 module _ (x : LexiconView) (names : TellsApart x) where
   pub name_read : (a b : NameId) (v w : Text) → IsName x a → IsName x b → Stops in_name v → Stops in_name w
       → name_text x a ++ v ≡ name_text x b ++ w → (a ≡ b) × (v ≡ w)
@@ -106,7 +95,7 @@ module _ (x : LexiconView) (names : TellsApart x) where
   no_bracket a v w oa e =
       let p = names.names a oa in
       let first : p.first ≡ 91 = ap (first_of 0) (ap (λ t. t ++ v) (sym p.is) ∙ e) in
-      absurd (true≢false (sym (both (in_name p.first) _ (ap (list_all in_name) (sym p.is) ∙ p.bytes)).0 ∙ ap in_name first))
+      absurd (true≢false (sym (and_parts (in_name p.first) _ (ap (list_all in_name) (sym p.is) ∙ p.bytes)).0 ∙ ap in_name first))
 
   bound_read : (d e : ProtocolName) (v w : Text) → IsPair x d → IsPair x e → Stops in_name v → Stops in_name w
       → bound_text x d ++ v ≡ bound_text x e ++ w → (d ≡ e) × (v ≡ w)

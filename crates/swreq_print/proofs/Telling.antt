@@ -4,9 +4,8 @@ use Rattle.std.specs.declared.cmp.Ordering.{Ordering}
 use Rattle.std.specs.Cmp.{IsTotalOrder}
 use Rattle.std.specs.List.{list_all}
 use Rattle.std.specs.List.Sorted.{IsStrictlySortedBy}
-use Rattle.std.proofs.lemmas.Bool.{ne_eqb}
+use Rattle.std.proofs.lemmas.Bool.{and_parts, ne_eqb}
 use Rattle.std.proofs.lemmas.Cmp.{nat_list_cmp_total}
-use Rattle.std.proofs.lemmas.List.{length-map, get_or-map}
 use Rattle.std.proofs.lemmas.List.Elements.{Contains-get_or}
 use Rattle.std.proofs.lemmas.Option.{slice_get-get_or, slice_get_within}
 use Rattle.swreq_lex.specs.declared.token.TokenKind.TheVariants as kinds
@@ -31,7 +30,6 @@ use Rattle.swreq_lexicon.proofs.Rising.{one_place, rising_from_sorted}
 use Rattle.swreq_names.specs.WordBytes.{HasWordBytes, in_word}
 use Rattle.swreq_print.specs.Names.{Text, name_text, pair_at, protocol_name}
 use Rattle.swreq_print.specs.Reading.{IsPair, IsProper, TellsApart, in_name}
-use Rattle.swreq_print.proofs.Cutting.{both}
 use Rattle.swreq_orders.proofs.Members.{contains_map}
 
 -- ---- bytes
@@ -55,7 +53,7 @@ byte_of_name b e =
 
 bytes_of_name : (t : Text) → list_all in_word t ≡ true → list_all in_name t ≡ true
 bytes_of_name [] e = refl
-bytes_of_name (b ∷ t) e = let p = both (in_word b) _ e in rw (byte_of_name b p.0) (bytes_of_name t p.1)
+bytes_of_name (b ∷ t) e = let p = and_parts (in_word b) _ e in rw (byte_of_name b p.0) (bytes_of_name t p.1)
 
 proper : (t : Text) → HasWordBytes t → IsProper t
 proper [] w = absurd (omega (arith, w.some))

@@ -2,7 +2,6 @@
 use Rattle.std.specs.Prelude.{ℕ, List, ◌++◌, codes, decimal}
 use Rattle.swreq_decl.specs.declared.kind.Kind.{Kind}
 use Rattle.swreq_decl.specs.declared.kind.Kind.TheVariants as kinds
-use Rattle.swreq_print.specs.declared.refusal.TheConstants.{OUT_OF_MEMORY, READ_FAULT, TOO_LARGE, USAGE}
 use Rattle.swreq_print.specs.declared.refusal.RefusalKind.{RefusalKind}
 use Rattle.swreq_print.specs.declared.refusal.RefusalKind.TheVariants as refusals
 
@@ -38,7 +37,7 @@ abbrev pub placed_line : List ℕ → ℕ → List ℕ
 placed_line what at = codes "error: " ++ (what ++ (codes " at " ++ (decimal at ++ codes "\n")))
 
 abbrev pub refusal_line : RefusalKind → List ℕ
-refusal_line refusals.TooLarge = TOO_LARGE.now
+refusal_line refusals.TooLarge = codes "error: text longer than 1048576 bytes\n"
 refusal_line (refusals.NotUtf8 at) = placed_line (codes "not UTF-8") at
 refusal_line (refusals.BadCharacter at) = placed_line (codes "bad character") at
 refusal_line (refusals.OpenComment at) = placed_line (codes "open comment") at
@@ -54,6 +53,7 @@ refusal_line (refusals.Cycle at) = placed_line (codes "circular inheritance") at
 refusal_line (refusals.NotATypeParameter at) = placed_line (codes "not a type parameter") at
 refusal_line (refusals.LimitRules max) = codes "error: more than " ++ (decimal max ++ codes " rules\n")
 refusal_line (refusals.LimitLength max) = codes "error: rule longer than " ++ (decimal max ++ codes " symbols\n")
-refusal_line refusals.ReadFault = READ_FAULT.now
-refusal_line refusals.OutOfMemory = OUT_OF_MEMORY.now
-refusal_line refusals.Usage = USAGE.now
+refusal_line refusals.ReadFault = codes "error: read fault\n"
+refusal_line refusals.OutOfMemory = codes "error: out of memory\n"
+refusal_line refusals.Usage =
+    codes "usage: genreq (answer | signatures | rules | gen N) [--max-rules N] [--max-length N] [--trace]\n"

@@ -9,8 +9,8 @@ ghost use Rattle.swreq_print.specs.Signatures.{signature_text};
 ghost use Rattle.swreq_lexicon.specs.Texts.{IsLexiconOf};
 ghost use Rattle.swreq_lexicon.specs.Views.{LexiconView};
 
-use swreq_param::ParamId;
 use swreq_names::laws::{names_are_words, words_have_word_bytes};
+use swreq_param::ParamId;
 
 /// The text of a signature determines its generic parameters and its requirements: two signatures of one text that print alike are one.
 pub fn texts_tell_signatures_apart()

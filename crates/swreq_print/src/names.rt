@@ -3,8 +3,8 @@
 ghost use Rattle.std.specs.Prelude.{◌≡◌};
 ghost use Rattle.swreq_print.specs.Names.{first_pair, name_text, pair_at, protocol_name, symbol_at};
 
-use swreq_param::{AssocId, NameId, ProtoId};
 use swreq_lexicon::{Lexicon, ProtocolName};
+use swreq_param::{AssocId, NameId, ProtoId};
 
 /// The first protocol with the first name.
 fn first_pair() -> ProtocolName

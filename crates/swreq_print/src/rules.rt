@@ -1,21 +1,24 @@
 //! Rules, and the traces of completions.
 
 ghost use Rattle.std.specs.Prelude.{◌≡◌, ◌++◌, ⊤, OnErr, OnOk};
+ghost use Rattle.swreq_text.specs.Joined.{GrewByPart};
 ghost use Rattle.swreq_word.specs.declared.symbols.Symbol.TheVariants.{Proto};
 ghost use Rattle.swreq_print.specs.Rules.{birth_text, member_text, rule_text, symbol_text, trace_line, trace_text, word_text};
 
 use crate::names::{name_text, protocol_name, symbol_at};
 use crate::types::put_param;
 use std::alloc::{AllocError, Global};
-use swreq_text::{Print, append_bytes, append_number, put_joined};
-use swreq_param::{NameId, ParamId, ProtoId};
 use swreq_lexicon::{Lexicon, ProtocolName};
+use swreq_param::{NameId, ParamId, ProtoId};
 use swreq_rule::{Birth, Rule};
+use swreq_text::{Print, append_bytes, append_number, put_joined};
 use swreq_word::Symbol;
 
 // `[P]`
+#[tactic(auto, using(swreq_text::proofs::Parts::none_grew, swreq_text::proofs::Parts::grew_next))]
 fn put_protocol(names: &Lexicon, proto: ProtoId, out: &mut Vec<u8>) -> Result<(), AllocError>
-    ensures { OnOk result (out.new.items ≡ out.old.items ++ symbol_text names.now (Proto proto.rank)) }
+    ensures ok { OnOk result (out.new.items ≡ out.old.items ++ symbol_text names.now (Proto proto.rank)) }
+    ensures err { OnErr result (GrewByPart out.old.items (symbol_text names.now (Proto proto.rank)) out.new.items) }
 {
     append_bytes(out, b"[")?;
     append_bytes(out, protocol_name(names, proto))?;
@@ -23,8 +26,10 @@ fn put_protocol(names: &Lexicon, proto: ProtoId, out: &mut Vec<u8>) -> Result<()
 }
 
 // `[P:A]`
+#[tactic(auto, using(swreq_text::proofs::Parts::none_grew, swreq_text::proofs::Parts::grew_next))]
 fn put_member(names: &Lexicon, pair: ProtocolName, out: &mut Vec<u8>) -> Result<(), AllocError>
-    ensures { OnOk result (out.new.items ≡ out.old.items ++ member_text names.now pair) }
+    ensures ok { OnOk result (out.new.items ≡ out.old.items ++ member_text names.now pair) }
+    ensures err { OnErr result (GrewByPart out.old.items (member_text names.now pair) out.new.items) }
 {
     append_bytes(out, b"[")?;
     append_bytes(out, protocol_name(names, pair.proto))?;
@@ -33,8 +38,10 @@ fn put_member(names: &Lexicon, pair: ProtocolName, out: &mut Vec<u8>) -> Result<
     append_bytes(out, b"]")
 }
 
+#[tactic(auto, using(swreq_text::proofs::Parts::none_grew, swreq_text::proofs::Parts::grew_next))]
 fn put_symbol(names: &Lexicon, symbol: Symbol, out: &mut Vec<u8>) -> Result<(), AllocError>
-    ensures { OnOk result (out.new.items ≡ out.old.items ++ symbol_text names.now symbol) }
+    ensures ok { OnOk result (out.new.items ≡ out.old.items ++ symbol_text names.now symbol) }
+    ensures err { OnErr result (GrewByPart out.old.items (symbol_text names.now symbol) out.new.items) }
 {
     match symbol {
         Symbol::Proto(rank) => put_protocol(names, ProtoId { rank }, out),

@@ -10,10 +10,10 @@ ghost use Rattle.swreq_print.specs.Signatures.{requirement_in, requirement_text,
 use crate::names::protocol_name;
 use crate::types::{Scope, put_param, put_type};
 use std::alloc::{AllocError, Global};
-use swreq_text::{Print, append_bytes, put_joined};
 use swreq_derive::{Params, Requirement};
-use swreq_param::{ParamId, ParamTable};
 use swreq_lexicon::Lexicon;
+use swreq_param::{ParamId, ParamTable};
+use swreq_text::{Print, append_bytes, put_joined};
 
 fn put_requirement(
     alloc: Global,
@@ -57,15 +57,9 @@ impl Print<Requirement> for Requirements<'_> {
 
     ghost fits = { λ s r. HasIdsOf s.table.now r };
 
+    #[tactic(auto, using(swreq_text::proofs::Parts::none_grew))]
     fn put(&self, out: &mut Vec<u8>, item: &Requirement) -> Result<(), AllocError> {
-        put_requirement(
-            self.alloc,
-            self.names,
-            self.table,
-            Scope::Signature,
-            item,
-            out,
-        )
+        requirement_text(self.alloc, self.names, self.table, item, out)
     }
 }
 

@@ -3,13 +3,14 @@
 ghost use Rattle.std.specs.Prelude.{◌≡◌, ◌++◌, codes, OnErr, OnOk};
 ghost use Rattle.swreq_param.specs.Owned.{as_term};
 ghost use Rattle.swreq_param.specs.Tables.{IsOf, term_at};
+ghost use Rattle.swreq_text.specs.Joined.{GrewByPart};
 ghost use Rattle.swreq_print.specs.Types.{bound_text, head_text, param_text, step_text, steps_text, type_in, type_text};
 
 use crate::names::{name_text, pair_at, protocol_name};
 use std::alloc::{AllocError, Global};
-use swreq_text::{append_bytes, append_number};
-use swreq_param::{ParamId, ParamTable, Step, TermId, TypeParam};
 use swreq_lexicon::{Lexicon, ProtocolName};
+use swreq_param::{ParamId, ParamTable, Step, TermId, TypeParam};
+use swreq_text::{append_bytes, append_number};
 
 /// Where a type parameter stands, and so how its generic parameter is printed.
 #[derive(Clone, Copy)]
@@ -23,8 +24,11 @@ pub(crate) enum Scope {
 /// `τ_` in UTF-8.
 const TAU: &str = "τ_";
 
+/// Writes a generic parameter at the end. If memory runs out the first bytes of its text may stand there.
+#[tactic(auto, using(swreq_text::proofs::Parts::none_grew, swreq_text::proofs::Parts::grew_next))]
 pub(crate) fn put_param(param: ParamId, out: &mut Vec<u8>) -> Result<(), AllocError>
-    ensures { OnOk result (out.new.items ≡ out.old.items ++ param_text param) }
+    ensures ok { OnOk result (out.new.items ≡ out.old.items ++ param_text param) }
+    ensures err { OnErr result (GrewByPart out.old.items (param_text param) out.new.items) }
 {
     append_bytes(out, TAU.as_bytes())?;
     append_number(out, param.depth as u64)?;

@@ -26,7 +26,7 @@ use Rattle.swreq_lowering.specs.Heads.{IsOver}
 use Rattle.swreq_lowering.specs.Requirements.{PlacedRequirement, of_one_side, equality, bound_of, argument, arguments, in_bound, in_bounds, in_requirement, in_clause}
 use Rattle.swreq_lowering.specs.Types.{step_of, head_in, type_in}
 use Rattle.swreq_lowering.specs.Words.{WordsView, declared, proto_of, name_of, primaries_named}
-use Rattle.swreq_lowering.proofs.Over.{head_steps}
+use Rattle.swreq_param.specs.OwnedLaws.{heads_same}
 use Rattle.swreq_world.specs.Closed.{IsStepOf, IsTermOf, IsRequirementOf}
 use Rattle.swreq_world.proofs.Everywhere.{all_left, all_right, all_in_pieces, each_piece}
 use Rattle.swreq_world.proofs.Resolving.{Never, IsRanked, Refers, Resolved, passes, refused}
@@ -90,7 +90,7 @@ module _ (w : WordsView) (refers : Refers w) where
           let of_steps = flat_map (of_step w.text (declared w)) t.steps in
           let i = starts t.head (passes (begins (word w.text t.head)) ConcreteType t.head.start (all_left Never of_head of_steps h.0)) in (
             steps_are (head_in w scope t.head) t.steps i.0 (after w of_head of_steps (names.in_type w.text t) h),
-            subst IsHead (sym (head_steps (head_in w scope t.head) (map (step_of w) t.steps))) i.1,
+            subst IsHead (sym (heads_same (head_in w scope t.head) (map (step_of w) t.steps))) i.1,
           )
 
       types_are : (us : List TypeDecl) → Resolved w (flat_map (of_type w.text (declared w) begins) us) (flat_map (names.in_type w.text) us) → All IsTyped us

@@ -1,12 +1,13 @@
 use Rattle.std.proofs.Common.{◌∷◌}
 use Rattle.swreq_param.specs.Tables.{term_at}
+use Rattle.swreq_param.proofs.Growing.{unchanged}
 use Rattle.swreq_lowering.specs.Requirements.{of_one_side, bound_of, arguments}
 use Rattle.swreq_lowering.specs.Words.{words_by}
-use Rattle.swreq_lowering.proofs.Growing.{extends_itself, adds_one, adds_then, adds_same, on_ok}
+use Rattle.swreq_lowering.proofs.Growing.{adds_one, adds_then, adds_same, on_ok}
 use Rattle.swreq_lowering.proofs.requirements.add_bound.Goals as goal
 
-pub returns : goal.returns
-returns c =
+pub returns-clause-adds : goal.returns-clause-adds
+returns-clause-adds c =
     let w = words_by c.args.words.now in
     let t = term_at c.args.table.now c.args.subject in
     on_ok c.add_arguments.result
@@ -14,8 +15,8 @@ returns c =
     (adds_then c.args.table.now c.args.table.now c.add_arguments.new.table c.args.into.now.items c.push.new.self.items c.add_arguments.new.into.items _ _
     (adds_one c.args.table.now c.args.table.now c.args.into.now.items c.push.new.self.items
     (record { requirement = c.bound_of.result; left_at = c.args.at; right_at = c.args.at }) (of_one_side (bound_of w t c.args.e.now) c.args.at)
-    (extends_itself c.args.table.now) c.in_ok-push.ensures.items (c.bound_of.ensures.of c.args.table.now c.requires)
+    (unchanged c.args.table.now) c.in_ok-push.ensures.items (c.bound_of.ensures.of c.args.table.now c.requires)
     (λ i. record { requirement = c.bound_of.ensures.means c.args.table.now i; left_at = c.args.at; right_at = c.args.at }))
     a)
     (λ i. of_one_side (bound_of w t c.args.e.now) c.args.at ∷ arguments w c.args.scope t c.args.e.now.span.start (c.primaries_named-names.ensures i) (c.items.ensures i)))
-    c.add_arguments.ensures
+    c.add_arguments.ensures.adds

@@ -8,8 +8,8 @@ use Rattle.swreq_lowering.specs.Words.{words_by}
 use Rattle.swreq_lowering.proofs.Growing.{extends_interned, adds_later, adds_same, on_ok}
 use Rattle.swreq_lowering.proofs.signatures.add_param.Goals as goal
 
-pub returns : goal.returns
-returns c =
+pub returns-clause-adds : goal.returns-clause-adds
+returns-clause-adds c =
     let w = words_by c.args.words.now in
     let s = c.in_ok-subject.ensures.ok in
     let is : term_at c.param.new.self c.in_ok-subject.subject ≡ Generic (record { depth = own_depth c.args.words.now.skeleton.now c.args.signature; index = c.args.index }) =
@@ -18,4 +18,4 @@ returns c =
     (λ a. adds_same c.args.table.now c.add_bounds.new.table c.args.into.now.items c.add_bounds.new.into.items _ _
     (adds_later c.args.table.now c.param.new.self c.add_bounds.new.table c.args.into.now.items c.add_bounds.new.into.items _ (extends_interned c.args.table.now c.param.new.self _ c.in_ok-subject.subject s) a)
     (λ i. in_bounds w (scopes.Signature c.args.signature) (is i) c.args.p.now.name.start (c.items.ensures i)))
-    c.add_bounds.ensures
+    c.add_bounds.ensures.adds
