@@ -21,6 +21,7 @@ use Rattle.swreq_correspondence.specs.Symbols.{Word}
 use Rattle.swreq_correspondence.specs.Equations.{Link, Linking}
 use Rattle.swreq_correspondence.specs.Equations.Link.{forth, back, there}
 use Rattle.swreq_correspondence.proofs.Chained.{turn_all}
+use Rattle.swreq_correspondence.proofs.Context.{chain_after, chain_before}
 use Rattle.swreq_correspondence.proofs.Shown.{linking_to}
 use Rattle.swreq_rounds.specs.Presents.{Presents}
 
@@ -34,25 +35,8 @@ module _ (rules : List Rule) where
   links_after z l = linked_by (λ w. w ++ z) (λ a b s. on_forth (Step-after z s) here) l
 
 module _ {E : Word → Word → Type 0} where
-  link_front : (x : Word) {u v : Word} → Link E u v → Link E (x ++ u) (x ++ v)
-  link_front [] l = l
-  link_front (y ∷ x) l = there y (link_front x l)
-
-  link_rest : (z : Word) {u v : Word} → Link E u v → Link E (u ++ z) (v ++ z)
-  link_rest z (forth {l = l} {r = r} y e) = subst₂ (Link E) (sym (append_assoc l y z)) (sym (append_assoc r y z)) (forth (y ++ z) e)
-  link_rest z (back {l = l} {r = r} y e) = subst₂ (Link E) (sym (append_assoc r y z)) (sym (append_assoc l y z)) (back (y ++ z) e)
-  link_rest z (there x l) = there x (link_rest z l)
-
-  linking_front : (x : Word) {u v : Word} → Linking E u v → Linking E (x ++ u) (x ++ v)
-  linking_front x done = done
-  linking_front x (more l c) = more (link_front x l) (linking_front x c)
-
-  linking_rest : (z : Word) {u v : Word} → Linking E u v → Linking E (u ++ z) (v ++ z)
-  linking_rest z done = done
-  linking_rest z (more l c) = more (link_rest z l) (linking_rest z c)
-
   at_place : {u v l r : Word} → Replaced u v l r → Linking E l r → Linking E u v
-  at_place s k = subst₂ (Linking E) (sym s.source) (sym s.target) (linking_front s.before (linking_rest s.after k))
+  at_place s k = subst₂ (Linking E) (sym s.source) (sym s.target) (chain_before s.before (chain_after s.after k))
 
   pub linked_linking : {R : Word → Word → Type 0} → ((u v : Word) → R u v → Linking E u v) → {u v : Word} → Linked R u v → Linking E u v
   linked_linking h here = done
@@ -96,8 +80,8 @@ module _ (base : List Rule) (given : List (Word × Word)) (trace : List Rule) (E
 
   each_equation : (l r : Word) (k : ℕ) → slice_get {X = Word × Word} (all_equations (length base) given trace) k ≡ Some (l, r) → Linking E l r
   each_equation l r k e =
-      elim (Contains-append_cases (map (λ (x : Rule). (x.left, x.right)) (take (length base) trace)) given (l, r) (get_contains {X = Word × Word} (all_equations (length base) given trace) k (l, r) e)) [
-        | inl h ↦ (let g = contains_get {X = Word × Word} (map (λ (x : Rule). (x.left, x.right)) (take (length base) trace)) (l, r) h in
+      elim (Contains-append_cases (map (λ (x : Rule). (x.left, x.right)) (take (length base) trace)) given (l, r) (get_contains {A = Word × Word} (all_equations (length base) given trace) k (l, r) e)) [
+        | inl h ↦ (let g = contains_get {A = Word × Word} (map (λ (x : Rule). (x.left, x.right)) (take (length base) trace)) (l, r) h in
             linking_to old ((before l r).0 (base_equation g.0 l r (subst (λ b. slice_get {X = Word × Word} (map (λ (x : Rule). (x.left, x.right)) b) g.0 ≡ Some (l, r)) over g.1))))
         | inr h ↦ one_equation l r (new l r h)
       ]
@@ -116,7 +100,7 @@ module _ (base : List Rule) (given : List (Word × Word)) (trace : List Rule) (E
   up : (u v : Word) → Linking E u v → Linked (Step trace) u v
   up u v = linking_linked trace (λ l r e. elim (all l r e) [
     | inl h ↦ linked_by (λ w. w) base_step ((before l r).1 (one_equation l r h))
-    | inr h ↦ (let g = contains_get {X = Word × Word} (all_equations (length base) given trace) (l, r) (Contains-append_right (map (λ (x : Rule). (x.left, x.right)) (take (length base) trace)) given (l, r) h) in
+    | inr h ↦ (let g = contains_get {A = Word × Word} (all_equations (length base) given trace) (l, r) (Contains-append_right (map (λ (x : Rule). (x.left, x.right)) (take (length base) trace)) given (l, r) h) in
         complete (length base) given trace ended l r (on_forth (record {
           number = g.0;
           left = l;
