@@ -8,6 +8,7 @@ use Rattle.swreq_param.specs.declared.ids.TermId.{TermId}
 use Rattle.swreq_param.specs.Terms.{Term, with_steps}
 use Rattle.swreq_param.specs.Terms.Term.{Member}
 use Rattle.swreq_param.specs.Tables.{Interned, term_at}
+use Rattle.swreq_param.specs.ComparisonLaws.{with_more}
 use Rattle.swreq_lowering.specs.declared.ids.Written.{Written}
 use Rattle.swreq_lowering.specs.Requirements.{PlacedRequirement}
 use Rattle.swreq_lowering.specs.Adding.{Adds, Spells}
@@ -26,10 +27,6 @@ adds_more g xs i x a b c us vs ws h e p q =
 
 -- ---- the steps of a type
 
-steps_push : (t : Term) (xs : List Step) (x : Step) → with_steps t (xs ++ x ∷ []) ≡ Member (with_steps t xs) x
-steps_push t [] x = refl
-steps_push t (y ∷ xs) x = steps_push (Member t y) xs x
-
 pub step_next : {A : Type 0} (f : A → Step) (xs : List A) (i : ℕ) (d : A) (x : Step) (a b c : List Term) (t : Term) (id next : TermId) → i < length xs → x ≡ f (get_or xs i d)
     → Spells a b (with_steps t (map f (take i xs))) id → Interned b c (Member (term_at b id) x) next → Spells a c (with_steps t (map f (take (i + 1) xs))) next
 step_next f xs i d x a b c t id next h e s n =
@@ -37,5 +34,5 @@ step_next f xs i d x a b c t id next h e s n =
     record {
       extends = extends_then a b c s.extends (extends_interned b c (Member (term_at b id) x) next n);
       is_of = n.is_of;
-      stands = n.stands ∙ (λ j. Member (s.stands j) (e j)) ∙ sym (steps_push t (map f (take i xs)) (f (get_or xs i d))) ∙ ap (with_steps t) (sym mapped);
+      stands = n.stands ∙ (λ j. Member (s.stands j) (e j)) ∙ sym (with_more t (map f (take i xs)) (f (get_or xs i d))) ∙ ap (with_steps t) (sym mapped);
     }
