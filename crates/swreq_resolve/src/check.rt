@@ -10,7 +10,7 @@ ghost use Rattle.swreq_resolve.specs.Scopes.{begins};
 use crate::refusal::{Fault, Refusal, noted};
 use swreq_closure::Closure;
 use swreq_decl::{Entity, ReqDecl, Span, StepDecl, TypeDecl};
-use swreq_names::{Declaration, Declared, Directory, Signature, word};
+use swreq_names::{Declaration, Declared, Directory, Signature, has_member, word};
 
 /// Where a type stands: in a protocol, by its place in written order, of which it is known what it inherits, or in a
 /// signature.
