@@ -29,6 +29,7 @@ use Rattle.swreq_canonical.specs.Generators.{Follows, IsEarlier, IsGenerator}
 use Rattle.swreq_canonical.proofs.Following.{by_one, by_two, wider}
 use Rattle.swreq_canonical.proofs.ReducedLemmas.{not_itself, result_reduced}
 use Rattle.swreq_canonical.proofs.Sides.{IsOfEarlierType, shorter_is_earlier}
+use Rattle.swreq_correspondence.proofs.OneType.{one_assoc}
 use Rattle.swreq_candidates.specs.Blocks.{AreMembersNamed, Cut}
 use Rattle.swreq_candidates.specs.Blocks.Place.{Outside}
 use Rattle.swreq_candidates.specs.Candidates.{IsCandidate}
@@ -36,7 +37,7 @@ use Rattle.swreq_candidates.specs.Completed.{HasLeastWords, IsWordOfText}
 use Rattle.swreq_candidates.proofs.Ends.{single_factors}
 use Rattle.swreq_candidates.proofs.Parts.{conformance}
 use Rattle.swreq_candidates.proofs.SameTypes.{first_settled}
-use Rattle.swreq_candidates.proofs.Searches.{assocs_decided, both_decided, least_below, names_decided, same_assoc_id}
+use Rattle.swreq_candidates.proofs.Searches.{assocs_decided, both_decided, least_below, names_decided}
 use Rattle.swreq_candidates.proofs.Settled.{IsSettled, conformance_settled, equal_spells, layout_settled, least_word, not_least, one_reduced, reduce, stands_for}
 use Rattle.swreq_candidates.proofs.ShorterTypes.{principal_follows}
 
@@ -79,7 +80,7 @@ module _ (m : Symbols) (f : TermFacts) (ps : List ParamId) (list : List TermRequ
         → Follows f ps (IsOfEarlierType f ps list (Member r (Bound d))) (Requires (Equals z (Member r (Bound d))))
     with_another r z p a d g h c b i differ can =
         let le : g.rank ≤ d.rank = i.first p d h c in
-        let ne : g.rank ≡ d.rank → ⊥ = λ k. differ (same_assoc_id k) in
+        let ne : g.rank ≡ d.rank → ⊥ = λ k. differ (one_assoc k) in
         let lt : g.rank < d.rank = omega arith in
         let before : TermBefore (Member r (Bound g)) (Member r (Bound d)) = inr (refl, inr (refl, lt)) in
         let S : TermRequirement → Type 0 = IsOfEarlierType f ps list (Member r (Bound d)) in

@@ -30,7 +30,7 @@ use Rattle.swreq_candidates.specs.Blocks.{AreMembersNamed, Cut, GoesOn, Place, b
 use Rattle.swreq_candidates.specs.Blocks.Cut.{alone, on, opened}
 use Rattle.swreq_candidates.specs.Blocks.Place.{Inside, Outside}
 use Rattle.swreq_candidates.proofs.InsideBlocks.{AreStepsRead, Changes, HasCut, all_same, appears, equal_steps, goes_on, no_steps_read, steps_read, vanishes}
-use Rattle.swreq_candidates.proofs.Longer.{chain_before}
+use Rattle.swreq_correspondence.proofs.Context.{chain_before}
 
 module _ (m : Symbols) (f : TermFacts) (s : Source) (fit : AreSymbolsOf m f) where
   abbrev C : Word → Word → Type 0

@@ -38,7 +38,8 @@ use Rattle.swreq_candidates.specs.Candidates.{IsCandidate, IsCandidateList, IsNa
 use Rattle.swreq_candidates.specs.Completed.{IsCompleted}
 use Rattle.swreq_candidates.proofs.Completions.{canonical_here, firsts_here, param_decided, reads_here}
 use Rattle.swreq_candidates.proofs.Deciding.{has_name}
-use Rattle.swreq_candidates.proofs.ReadOff.{one_name, one_read_off, one_spoken, same_push, typed_read}
+use Rattle.std.proofs.lemmas.List.{same_from_push}
+use Rattle.swreq_candidates.proofs.ReadOff.{not_empty, one_name, one_read_off, one_spoken, typed_read}
 use Rattle.swreq_candidates.proofs.SameTypes.{by_last}
 
 -- ---- exactly the rules of the reduced system
@@ -110,18 +111,18 @@ module _ (m : Symbols) (f : TermFacts) (ps : List ParamId) (list : List TermRequ
 
   -- the last symbol is neither a generic parameter nor of a name
   no_speech : (u : Word) (x : Symbol) → ((g : ParamId) → x ≡ ParamSymbol g.depth g.index → ⊥) → ((a : NameId) → IsNamed m x a → ⊥) → Speaks (u ++ (x ∷ [])) → ⊥
-  no_speech u x no_param no_name (Generic g, v, e) = no_param g (same_push u [] x (ParamSymbol g.depth g.index) e).1
+  no_speech u x no_param no_name (Generic g, v, e) = no_param g (same_from_push u [] x (ParamSymbol g.depth g.index) e).1
   no_speech u x no_param no_name (Member t (Name a), v, e) = e
-  no_speech u x no_param no_name (Member t (Bound d), v, (w, y, a, e, h, o, i)) = no_name a (subst (λ z. IsNamed m z a) (sym (same_push u w x y e).1) o)
+  no_speech u x no_param no_name (Member t (Bound d), v, (w, y, a, e, h, o, i)) = no_name a (subst (λ z. IsNamed m z a) (sym (same_from_push u w x y e).1) o)
 
   -- a generic parameter
   param_spoken : (u : Word) (d i : ℕ) → Speaks (u ++ (ParamSymbol d i ∷ [])) → (u ≡ []) × Contains ps (record { depth = d; index = i })
   param_spoken u d i (Generic g, v, e) =
-      let (h, k) = same_push u [] (ParamSymbol d i) (ParamSymbol g.depth g.index) e in
+      let (h, k) = same_from_push u [] (ParamSymbol d i) (ParamSymbol g.depth g.index) e in
       (h, subst (λ x. Contains ps x) (sym (one_param {g = record { depth = d; index = i }} {h = g} k)) (valid_generic v))
   param_spoken u d i (Member t (Name a), v, e) = absurd e
   param_spoken u d i (Member t (Bound c), v, (w, y, a, e, h, o, j)) =
-      absurd (subst (λ z. IsNamed m z a) (sym (same_push u w (ParamSymbol d i) y e).1) o)
+      absurd (subst (λ z. IsNamed m z a) (sym (same_from_push u w (ParamSymbol d i) y e).1) o)
 
   param_speaks : (u : Word) (d i : ℕ) → Dec (Speaks (u ++ (ParamSymbol d i ∷ [])))
   param_speaks [] d i = elim (param_decided m f ps list ended (record { depth = d; index = i })) [
@@ -136,10 +137,10 @@ module _ (m : Symbols) (f : TermFacts) (ps : List ParamId) (list : List TermRequ
   -- a member by name
   named_spoken : (u : Word) (x : Symbol) (a : NameId) → IsNamed m x a → Speaks (u ++ (x ∷ []))
       → (t : Term) × IsTypeOf m f L u t × Derivable f L (IsValid t) × HasName f L t a
-  named_spoken u x a o (Generic g, v, e) = absurd (subst (λ z. IsNamed m z a) (same_push u [] x (ParamSymbol g.depth g.index) e).1 o)
+  named_spoken u x a o (Generic g, v, e) = absurd (subst (λ z. IsNamed m z a) (same_from_push u [] x (ParamSymbol g.depth g.index) e).1 o)
   named_spoken u x a o (Member t (Name b), v, e) = absurd e
   named_spoken u x a o (Member t (Bound d), v, (w, y, b, e, h, k, i)) =
-      let (uw, xy) = same_push u w x y e in
+      let (uw, xy) = same_from_push u w x y e in
       let ab : a ≡ b = one_name m x a b o (subst (λ z. IsNamed m z b) (sym xy) k) in (
         t,
         subst (λ z. IsTypeOf m f L z t) (sym uw) h,
@@ -166,9 +167,6 @@ module _ (m : Symbols) (f : TermFacts) (ps : List ParamId) (list : List TermRequ
     | no n ↦ no (no_speech u (MemberSymbol k) (λ g e. cc) (λ a h. n h.0))
   ]
 
-  not_empty : (u : Word) (x : Symbol) → [] ≡ u ++ (x ∷ []) → ⊥
-  not_empty u x e = let n = ap length e in omega (arith, length-append u (x ∷ []))
-
   nothing_spoken : Speaks [] → ⊥
   nothing_spoken (Generic g, v, e) = not_empty [] (ParamSymbol g.depth g.index) e
   nothing_spoken (Member t (Name a), v, e) = e
@@ -192,12 +190,12 @@ module _ (m : Symbols) (f : TermFacts) (ps : List ParamId) (list : List TermRequ
   proto_by_symbol : (u r : Word) (x : Symbol) → Dec (EndsInProto (u ++ (x ∷ [])) r)
   proto_by_symbol u r (ProtoSymbol p) = elim (words_decided u r) [
     | yes e ↦ yes (record { rank = p }, ap (λ w. w ++ (ProtoSymbol p ∷ [])) e)
-    | no n ↦ no (λ h. n (same_push u r (ProtoSymbol p) (ProtoSymbol h.0.rank) h.1).0)
+    | no n ↦ no (λ h. n (same_from_push u r (ProtoSymbol p) (ProtoSymbol h.0.rank) h.1).0)
   ]
-  proto_by_symbol u r (MemberSymbol k) = no (λ h. no_proto (MemberSymbol k) (λ q e. cc) (same_push u r (MemberSymbol k) (ProtoSymbol h.0.rank) h.1).1)
-  proto_by_symbol u r (ParamSymbol d i) = no (λ h. no_proto (ParamSymbol d i) (λ q e. cc) (same_push u r (ParamSymbol d i) (ProtoSymbol h.0.rank) h.1).1)
-  proto_by_symbol u r (NameSymbol a) = no (λ h. no_proto (NameSymbol a) (λ q e. cc) (same_push u r (NameSymbol a) (ProtoSymbol h.0.rank) h.1).1)
-  proto_by_symbol u r LayoutSymbol = no (λ h. no_proto LayoutSymbol (λ q e. cc) (same_push u r LayoutSymbol (ProtoSymbol h.0.rank) h.1).1)
+  proto_by_symbol u r (MemberSymbol k) = no (λ h. no_proto (MemberSymbol k) (λ q e. cc) (same_from_push u r (MemberSymbol k) (ProtoSymbol h.0.rank) h.1).1)
+  proto_by_symbol u r (ParamSymbol d i) = no (λ h. no_proto (ParamSymbol d i) (λ q e. cc) (same_from_push u r (ParamSymbol d i) (ProtoSymbol h.0.rank) h.1).1)
+  proto_by_symbol u r (NameSymbol a) = no (λ h. no_proto (NameSymbol a) (λ q e. cc) (same_from_push u r (NameSymbol a) (ProtoSymbol h.0.rank) h.1).1)
+  proto_by_symbol u r LayoutSymbol = no (λ h. no_proto LayoutSymbol (λ q e. cc) (same_from_push u r LayoutSymbol (ProtoSymbol h.0.rank) h.1).1)
 
   proto_decided : (l r : Word) → Dec (EndsInProto l r)
   proto_decided l r = elim (by_last l) [

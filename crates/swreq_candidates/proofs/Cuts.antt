@@ -12,7 +12,7 @@ use Rattle.swreq_candidates.specs.Blocks.{AreMembersNamed, Cut, Place, blocks, c
 use Rattle.swreq_candidates.specs.Blocks.Cut.{alone, at_end, on, opened}
 use Rattle.swreq_candidates.specs.Blocks.Place.{Outside}
 use Rattle.swreq_candidates.proofs.Blocks.{blocks_law}
-use Rattle.swreq_candidates.proofs.Longer.{chain_after, chain_before}
+use Rattle.swreq_correspondence.proofs.Context.{chain_after, chain_before}
 
 module _ {m : Symbols} {f : TermFacts} {s : Source} where
   one_cut : {o : Place} {w : Word} → (k l : Cut m f s o w) → (current k ≡ current l) × (blocks k ≡ blocks l)

@@ -35,7 +35,7 @@ use Rattle.swreq_canonical.proofs.Ordered.{strict_requirements, transitive_requi
 use Rattle.swreq_canonical.proofs.Sides.{IsOfEarlierType, sides_by_earlier}
 use Rattle.swreq_candidates.specs.Evidence.{AreRulesOfRest, HasEvidence, HasPlainTypes, IsPlain, IsPlainIn, RestEquation}
 use Rattle.swreq_candidates.proofs.Inherited.{reached}
-use Rattle.swreq_candidates.proofs.Longer.{chain_after, chain_before, link_before}
+use Rattle.swreq_correspondence.proofs.Context.{chain_after, chain_before, link_before}
 
 -- ---- steps by rules
 

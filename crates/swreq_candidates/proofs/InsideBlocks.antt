@@ -18,7 +18,7 @@ use Rattle.swreq_correspondence.proofs.Readings.{read_same, rest_is_read, unboun
 use Rattle.swreq_candidates.specs.Blocks.{Cut, Place, blocks, current}
 use Rattle.swreq_candidates.specs.Blocks.Cut.{alone, at_end, on, opened}
 use Rattle.swreq_candidates.specs.Blocks.Place.{Inside}
-use Rattle.swreq_candidates.proofs.Longer.{chain_before}
+use Rattle.swreq_correspondence.proofs.Context.{chain_before}
 
 module _ (m : Symbols) (f : TermFacts) (s : Source) where
   abbrev C : Word → Word → Type 0

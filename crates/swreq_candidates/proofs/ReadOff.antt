@@ -1,5 +1,7 @@
 -- What is read off a rule of the reduced system is canonical, so a sorted list of all candidates is enough. A rule says at most one thing.
 use Rattle.std.proofs.Common.{◌≡◌, ◌⊎◌, ℕ, List, [], ◌∷◌, ◌++◌, length, length-append, ap, ap₂, subst, sym, ◌∙◌, inl, inr, arith}
+use Rattle.std.proofs.lemmas.List.{same_from_push}
+use Rattle.swreq_orders.proofs.Elements.{same_heads}
 use Rattle.swreq_param.specs.declared.ids.NameId.{NameId}
 use Rattle.swreq_param.specs.declared.ids.ParamId.{ParamId}
 use Rattle.swreq_param.specs.declared.ids.ProtoId.{ProtoId}
@@ -16,7 +18,6 @@ use Rattle.swreq_word.specs.declared.symbols.Symbol.{Symbol}
 use Rattle.swreq_word.specs.declared.symbols.Symbol.TheVariants.{Layout as LayoutSymbol, Member as MemberSymbol, Name as NameSymbol, Param as ParamSymbol, Proto as ProtoSymbol}
 use Rattle.swreq_word.specs.Least.{IsLeast}
 use Rattle.swreq_word.proofs.Chains.{joined}
-use Rattle.swreq_word.proofs.Cuts.{same_cut}
 use Rattle.swreq_correspondence.specs.Equations.{AreCongruent}
 use Rattle.swreq_correspondence.specs.Readings.{CanRead, HasName, HasReading, after, first, reading}
 use Rattle.swreq_correspondence.specs.Symbols.{AreOfText, AreSymbolsOf, IsInText, Symbols, Word, spell}
@@ -125,14 +126,9 @@ module _ (m : Symbols) (f : TermFacts) (ps : List ParamId) (list : List TermRequ
 
 -- ---- a rule says at most one thing
 
-heads : {x y : Symbol} {u v : Word} → x ∷ u ≡ y ∷ v → x ≡ y
-heads e = cc
-
-pub same_push : (u v : Word) (x y : Symbol) → u ++ (x ∷ []) ≡ v ++ (y ∷ []) → (u ≡ v) × (x ≡ y)
-same_push u v x y e =
-    let n = ap length e in
-    let (h, k) = same_cut u (x ∷ []) v (y ∷ []) e (omega (arith, length-append u (x ∷ []), length-append v (y ∷ []))) in
-    (h, heads k)
+pub not_empty : (u : Word) (x : Symbol) → [] ≡ u ++ (x ∷ []) → ⊥
+not_empty [] x e = cc
+not_empty (y ∷ u) x e = cc
 
 one_proto : {p q : ProtoId} → ProtoSymbol p.rank ≡ ProtoSymbol q.rank → p ≡ q
 one_proto {p = p} {q = q} e = λ j. record { rank = same_rank e j }
@@ -156,14 +152,14 @@ module _ (m : Symbols) (f : TermFacts) (s : Source) where
   not_single t u x y h e = let n = ap length e in let k = typed_length m f s t [] u h in omega (arith, length-append u (x ∷ []))
 
   pub one_spoken : (v w : Term) (l : Word) → SpeaksOf m f s v l → SpeaksOf m f s w l → v ≡ w
-  one_spoken (Generic g) (Generic h) l i k = ap Generic (one_param (heads (sym i ∙ k)))
+  one_spoken (Generic g) (Generic h) l i k = ap Generic (one_param (same_heads (sym i ∙ k)))
   one_spoken (Generic g) (Member t (Bound e)) l h (u, x, a, q, r, o, i) = absurd (not_single t u x (ParamSymbol g.depth g.index) r (sym q ∙ h))
   one_spoken (Generic g) (Member t (Name a)) l h k = absurd k
   one_spoken (Member t (Bound e)) (Generic g) l (u, x, a, q, r, o, i) h = absurd (not_single t u x (ParamSymbol g.depth g.index) r (sym q ∙ h))
   one_spoken (Member t (Name a)) w l h k = absurd h
   one_spoken (Member t (Bound d)) (Member z (Name a)) l h k = absurd k
   one_spoken (Member t (Bound d)) (Member z (Bound e)) l (u, x, a, q, r, o, i) (v, y, b, q', r', o', i') =
-      let (uv, xy) = same_push u v x y (sym q ∙ q') in
+      let (uv, xy) = same_from_push u v x y (sym q ∙ q') in
       let tz : t ≡ z = one_type m f s t z u r (subst (λ w. IsTypeOf m f s w z) (sym uv) r') in
       let ab : a ≡ b = one_name m x a b o (subst (λ y. IsNamed m y b) (sym xy) o') in
       ap₂ Member tz (ap Bound (one_first m f s t a d e i (subst (λ c. IsFirstFor f s t c e) (sym ab) (subst (λ w. IsFirstFor f s w b e) (sym tz) i'))))
@@ -171,13 +167,13 @@ module _ (m : Symbols) (f : TermFacts) (s : Source) where
   not_spoken : (v : Term) (l r : Word) (x : Symbol) (t : Term) → IsTypeOf m f s r t → l ≡ r ++ (x ∷ []) → ((a : NameId) → IsNamed m x a → ⊥) → SpeaksOf m f s v l → ⊥
   not_spoken (Generic g) l r x t h e none k = not_single t r x (ParamSymbol g.depth g.index) h (sym e ∙ k)
   not_spoken (Member z (Name a)) l r x t h e none k = k
-  not_spoken (Member z (Bound d)) l r x t h e none (u, y, a, q, hu, o, i) = none a (subst (λ w. IsNamed m w a) (sym (same_push r u x y (sym e ∙ q)).1) o)
+  not_spoken (Member z (Bound d)) l r x t h e none (u, y, a, q, hu, o, i) = none a (subst (λ w. IsNamed m w a) (sym (same_from_push r u x y (sym e ∙ q)).1) o)
 
   pub one_read_off : (l r : Word) (q o : TermRequirement) → IsReadOff m f s l r q → IsReadOff m f s l r o → q ≡ o
   one_read_off l r (Conforms t p) (Conforms u g) (v, h, e) (w, k, i) =
-      ap₂ Conforms (one_type m f s t u r h k) (one_proto (same_push r r (ProtoSymbol p.rank) (ProtoSymbol g.rank) (sym e ∙ i)).1)
-  one_read_off l r (Conforms t p) (IsAnyObject u) (v, h, e) (w, k, i) = absurd (no_layout (same_push r r (ProtoSymbol p.rank) LayoutSymbol (sym e ∙ i)).1)
-  one_read_off l r (IsAnyObject t) (Conforms u p) (v, h, e) (w, k, i) = absurd (no_layout (same_push r r (ProtoSymbol p.rank) LayoutSymbol (sym i ∙ e)).1)
+      ap₂ Conforms (one_type m f s t u r h k) (one_proto (same_from_push r r (ProtoSymbol p.rank) (ProtoSymbol g.rank) (sym e ∙ i)).1)
+  one_read_off l r (Conforms t p) (IsAnyObject u) (v, h, e) (w, k, i) = absurd (no_layout (same_from_push r r (ProtoSymbol p.rank) LayoutSymbol (sym e ∙ i)).1)
+  one_read_off l r (IsAnyObject t) (Conforms u p) (v, h, e) (w, k, i) = absurd (no_layout (same_from_push r r (ProtoSymbol p.rank) LayoutSymbol (sym i ∙ e)).1)
   one_read_off l r (IsAnyObject t) (IsAnyObject u) (v, h, e) (w, k, i) = ap IsAnyObject (one_type m f s t u r h k)
   one_read_off l r (Conforms t p) (Equals u z) (v, h, e) (w, w', differ, k, i) = absurd (not_spoken z l r (ProtoSymbol p.rank) t h e (λ a y. y) i)
   one_read_off l r (IsAnyObject t) (Equals u z) (v, h, e) (w, w', differ, k, i) = absurd (not_spoken z l r LayoutSymbol t h e (λ a y. y) i)

@@ -39,6 +39,7 @@ use Rattle.swreq_canonical.proofs.Covering.{follows_in_list}
 use Rattle.swreq_canonical.proofs.Following.{by_one, by_two}
 use Rattle.swreq_canonical.proofs.ReducedLemmas.{member_before, reduced_valid, result_reduced}
 use Rattle.swreq_canonical.proofs.Sides.{IsOfEarlierType, IsShorter, no_longer, shorter_is_earlier, valid_by_shorter}
+use Rattle.swreq_correspondence.proofs.OneType.{one_assoc}
 use Rattle.swreq_candidates.specs.Blocks.{AreMembersNamed, Cut}
 use Rattle.swreq_candidates.specs.Blocks.Place.{Outside}
 use Rattle.swreq_candidates.specs.Completed.{HasLeastWords, IsWordOfText}
@@ -46,7 +47,7 @@ use Rattle.swreq_candidates.proofs.Ends.{minimal_end}
 use Rattle.swreq_candidates.proofs.LessParts.{SymbolsLess, less_at, symbols_in_parts}
 use Rattle.swreq_candidates.proofs.Parts.{HasTypeAt, Leads, conformance, last_read, leads_longer, part_reduced, read_on-for_self, read_on-push, reads_as, type_of_part}
 use Rattle.swreq_candidates.proofs.ReadOver.{chain_over, read_behind}
-use Rattle.swreq_candidates.proofs.Searches.{same_assoc_id, same_name_id}
+use Rattle.swreq_candidates.proofs.Searches.{same_name_id}
 use Rattle.swreq_candidates.proofs.Settled.{IsSettled, equal_spells, leads_of_text, least_word, leasts, member_of_text, minimal_read, not_least, one_reduced, push_of_text, reduce, stands_for}
 use Rattle.swreq_candidates.proofs.ShorterTypes.{principal_follows, shorter_reduces}
 
@@ -171,7 +172,7 @@ module _ (m : Symbols) (f : TermFacts) (ps : List ParamId) (list : List TermRequ
           let not_after : d.rank < e.rank → ⊥ = λ h.
           let y : (name_of m k).rank ≤ (name_of m j).rank = ranked.assocs i.proto (name_of m k) d ie.proto (name_of m j) e i.declares ie.declares h in neq (omega arith) in
           let not_same : e.rank ≡ d.rank → ⊥ = λ h. neq (ap (λ (y : NameId). y.rank)
-          (ranked.one_name ie.proto (name_of m j) i.proto (name_of m k) d (subst (λ y. Declares f ie.proto (name_of m j) y) (same_assoc_id h) ie.declares) i.declares)) in
+          (ranked.one_name ie.proto (name_of m j) i.proto (name_of m k) d (subst (λ y. Declares f ie.proto (name_of m j) y) (one_assoc h) ie.declares) i.declares)) in
           let before : e.rank < d.rank = omega arith in
           subst (λ y. TermBefore (Member y (Bound e)) v) (sym wr) (inr (refl, inr (refl, before)))
 

@@ -1,6 +1,7 @@
 -- Finite searches for what is decided.
 use Rattle.std.proofs.Common.{◌≡◌, ◌⊎◌, ◌<◌, ◌≤◌, ℕ, zero, suc, List, [], ◌∷◌, Contains, ap, subst, sym, inl, inr, arith}
 use Rattle.std.proofs.Math.Decide.{dec_lt, ℕ_discrete}
+use Rattle.swreq_correspondence.proofs.OneType.{one_assoc}
 use Rattle.swreq_param.specs.declared.ids.AssocId.{AssocId}
 use Rattle.swreq_param.specs.declared.ids.NameId.{NameId}
 use Rattle.swreq_param.specs.declared.ids.ParamId.{ParamId}
@@ -16,9 +17,6 @@ both_decided (no n) b = no (λ h. n h.0)
 pub same_name_id : {a b : NameId} → a.rank ≡ b.rank → a ≡ b
 same_name_id e = λ i. record { rank = e i }
 
-pub same_assoc_id : {d e : AssocId} → d.rank ≡ e.rank → d ≡ e
-same_assoc_id e = λ i. record { rank = e i }
-
 pub same_param_id : {g h : ParamId} → g.depth ≡ h.depth → g.index ≡ h.index → g ≡ h
 same_param_id d i = λ j. record { depth = d j; index = i j }
 
@@ -26,7 +24,7 @@ pub names_decided : (a b : NameId) → Dec (a ≡ b)
 names_decided a b = elim (ℕ_discrete a.rank b.rank) [ yes e ↦ yes (same_name_id e) | no n ↦ no (λ e. n (ap (λ (z : NameId). z.rank) e)) ]
 
 pub assocs_decided : (d e : AssocId) → Dec (d ≡ e)
-assocs_decided d e = elim (ℕ_discrete d.rank e.rank) [ yes h ↦ yes (same_assoc_id h) | no n ↦ no (λ h. n (ap (λ (z : AssocId). z.rank) h)) ]
+assocs_decided d e = elim (ℕ_discrete d.rank e.rank) [ yes h ↦ yes (one_assoc h) | no n ↦ no (λ h. n (ap (λ (z : AssocId). z.rank) h)) ]
 
 pub params_decided : (g h : ParamId) → Dec (g ≡ h)
 params_decided g h = elim (ℕ_discrete g.depth h.depth) [

@@ -6,8 +6,7 @@ use Rattle.swreq_derive.specs.Derivation.Derives.{generic, conf, assoc_conf, ass
 use Rattle.swreq_derive.specs.Derivation.Source.{SelfOf}
 use Rattle.swreq_derive.specs.Derivation.TermRequirement.{Conforms}
 use Rattle.swreq_derive.specs.Derivation.TermStatement.{IsValid, Requires}
-use Rattle.swreq_derive.specs.Worked.{◌·◌, declared, of_one, param, τ_0_0, N, Next, Next_of_N, endless, endless_f}
-use Rattle.swreq_derive.specs.Worked.{P, Q, A, A_of_P, A_of_Q, shared, shared_f, shared_requirements, Early, Late, redeclared, redeclared_f}
+use Rattle.swreq_derive.specs.Worked.{◌·◌, declared, of_one, param, τ_0_0, N, Next, Next_of_N, endless, endless_f, P, Q, A, A_of_P, A_of_Q, shared, shared_f, shared_requirements, Early, Late, redeclared, redeclared_f}
 use Rattle.swreq_derive.proofs.Lengths.{HasNoSameType}
 use Rattle.swreq_derive.proofs.Listed.{none_listed}
 

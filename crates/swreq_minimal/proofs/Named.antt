@@ -14,14 +14,15 @@ use Rattle.swreq_world.specs.Worlds.{TextWorld}
 use Rattle.swreq_candidates.specs.Blocks.{AreMembersDeclared, AreMembersNamed}
 use Rattle.swreq_candidates.proofs.Inherited.{declared_named}
 use Rattle.swreq_symbols.specs.Meaning.{facts_of, symbols_of}
-use Rattle.swreq_symbols.proofs.Declared.{from_rank, member_is, of_rank, there}
+use Rattle.swreq_orders.proofs.Elements.{get_contains}
+use Rattle.swreq_symbols.proofs.Declared.{from_rank, member_is, of_rank}
 use Rattle.swreq_minimal.specs.Inheritance.{IsInheritanceWritten}
 
 module _ (w : TextWorld) (closed : IsClosed w) (written : IsInheritanceWritten w) where
   members_declared : AreMembersDeclared (symbols_of w.lexicon) (facts_of w)
   members_declared k h =
       let (e, at) = of_rank w.lexicon k h in
-      let of_text = (closed.ids.symbols e.proto e.name).0 (there w.lexicon.symbols k e at) in
+      let of_text = (closed.ids.symbols e.proto e.name).0 (get_contains w.lexicon.symbols k e at) in
       let is_it = member_is w.lexicon k e at in
       by e (sym (ap (λ z. z.proto) is_it)) (sym (ap (λ z. z.name) is_it))
       (⊎_elim (λ c. (e.proto, here, c))

@@ -22,7 +22,7 @@ use Rattle.swreq_rounds.specs.Rounds.{Ends, LeavesUsable, IsRound, IsLastRound}
 use Rattle.swreq_rounds.specs.Rounds.IsRound.{first, next}
 use Rattle.swreq_rounds.specs.Given.{basic_equations, of_self, protocols_plan, of_list, list_plan}
 use Rattle.swreq_rounds.specs.Presents.{Presents, ProtocolEquation, AreProtocolRules, AreListRules}
-use Rattle.swreq_rounds.proofs.Members.{selected, selects, basic_is, has_doubled, has_named, items_are, has_item}
+use Rattle.swreq_rounds.proofs.Members.{selected, selects, round_within, basic_is, has_doubled, has_named, items_are, has_item}
 use Rattle.swreq_rounds.proofs.Presented.{ended_presents, presents_to, none_presents}
 
 -- what is shown by rules that present equations is what is shown by the equations
@@ -110,10 +110,6 @@ module _ (m : Symbols) (f : TermFacts) (fit : AreSymbolsOf m f) (ranges : AreOfT
             ((shown_over_self used rules (round_presents used within rules e) p o r).0 q.1),
       )
 
-  pub round_within : {used : List Item} {told : List Event} → IsRound limits plan used told → (x : Item) → Contains used x → Contains plan.all x
-  round_within first x h = no_member x h
-  round_within (next rules r e s d t) x h = (selected s x h).0
-
   round_usable : {used : List Item} {told : List Event} → IsRound limits plan used told → AreUsable used
   round_usable first = λ p r h. no_member (of_self p r) h
   round_usable (next {used = used} {usable = usable} rules r e s d t) = usable_next used usable rules (round_within r) (round_usable r) e s
@@ -181,10 +177,6 @@ module _ (m : Symbols) (f : TermFacts) (fit : AreSymbolsOf m f) (ranges : AreOfT
   list_presents used within rules e =
       ended_presents base (given listed used) rules (ProtocolEquation m f) (ByList used) e.0 e.1.ended over (from_protocols used) (list_given used within) (by_list used)
 
-  pub list_within : {used : List Item} {told : List Event} → IsRound limits listed used told → (x : Item) → Contains used x → Contains listed.all x
-  list_within first x h = no_member x h
-  list_within (next rules r e s d t) x h = (selected s x h).0
-
   of_listed : (r : TermRequirement) → Contains listed.all (of_list gs rs r) → Contains rs r
   of_listed r h = let i = member_is (of_list gs rs r) h in same i.0 i.1 i.2
     where
@@ -202,14 +194,14 @@ module _ (m : Symbols) (f : TermFacts) (fit : AreSymbolsOf m f) (ranges : AreOfT
 
   list_usable : {used : List Item} {told : List Event} → IsRound limits listed used told → (r : TermRequirement) → Own used r → UsableIn f (Written gs rs) r
   list_usable first = λ r h. no_member (of_list gs rs r) h
-  list_usable (next {used = used} {usable = usable} rules r e s d t) = list_next used usable rules (list_within r) (list_usable r) e s
+  list_usable (next {used = used} {usable = usable} rules r e s d t) = list_next used usable rules (round_within r) (list_usable r) e s
 
   pub last_listed : (used : List Item) (rules : List Rule) (told : List Event) → IsLastRound limits listed used rules told → (r : TermRequirement)
       → Own used r ↔ UsableIn f (Written gs rs) r
   last_listed used rules told l r = (list_usable l.round r, λ u. closed r u.0 (shown r u))
     where
       present : Presents rules (ByList used)
-      present = list_presents used (list_within l.round) rules l.ends
+      present = list_presents used (round_within l.round) rules l.ends
 
       closed : (x : TermRequirement) → Contains rs x → ShowsUsable m f (Written gs rs) (Linking (ByList used)) x → Own used x
       closed x h a = selects l.repeats (of_list gs rs x) (contains_map (of_list gs rs) rs x h) ((shown_both m f (Written gs rs) rules (ByList used) present x).1 a)
@@ -222,4 +214,4 @@ module _ (m : Symbols) (f : TermFacts) (fit : AreSymbolsOf m f) (ranges : AreOfT
       let law = last_listed used rules told l in
       presents_to rules (ByList used) (UsableEquation m f (Written gs rs))
       (more_equations (λ p r h. h) (λ r h. (law r).0 h)) (more_equations (λ p r h. h) (λ r h. (law r).1 h))
-      (list_presents used (list_within l.round) rules l.ends)
+      (list_presents used (round_within l.round) rules l.ends)

@@ -21,6 +21,7 @@ use Rattle.swreq_correspondence.specs.Symbols.{Word}
 use Rattle.swreq_correspondence.specs.Equations.{Link, Linking}
 use Rattle.swreq_correspondence.specs.Equations.Link.{forth, back, there}
 use Rattle.swreq_correspondence.proofs.Chained.{turn_all}
+use Rattle.swreq_correspondence.proofs.Context.{chain_after, chain_before}
 use Rattle.swreq_correspondence.proofs.Shown.{linking_to}
 use Rattle.swreq_rounds.specs.Presents.{Presents}
 
@@ -34,25 +35,8 @@ module _ (rules : List Rule) where
   links_after z l = linked_by (λ w. w ++ z) (λ a b s. on_forth (Step-after z s) here) l
 
 module _ {E : Word → Word → Type 0} where
-  link_front : (x : Word) {u v : Word} → Link E u v → Link E (x ++ u) (x ++ v)
-  link_front [] l = l
-  link_front (y ∷ x) l = there y (link_front x l)
-
-  link_rest : (z : Word) {u v : Word} → Link E u v → Link E (u ++ z) (v ++ z)
-  link_rest z (forth {l = l} {r = r} y e) = subst₂ (Link E) (sym (append_assoc l y z)) (sym (append_assoc r y z)) (forth (y ++ z) e)
-  link_rest z (back {l = l} {r = r} y e) = subst₂ (Link E) (sym (append_assoc r y z)) (sym (append_assoc l y z)) (back (y ++ z) e)
-  link_rest z (there x l) = there x (link_rest z l)
-
-  linking_front : (x : Word) {u v : Word} → Linking E u v → Linking E (x ++ u) (x ++ v)
-  linking_front x done = done
-  linking_front x (more l c) = more (link_front x l) (linking_front x c)
-
-  linking_rest : (z : Word) {u v : Word} → Linking E u v → Linking E (u ++ z) (v ++ z)
-  linking_rest z done = done
-  linking_rest z (more l c) = more (link_rest z l) (linking_rest z c)
-
   at_place : {u v l r : Word} → Replaced u v l r → Linking E l r → Linking E u v
-  at_place s k = subst₂ (Linking E) (sym s.source) (sym s.target) (linking_front s.before (linking_rest s.after k))
+  at_place s k = subst₂ (Linking E) (sym s.source) (sym s.target) (chain_before s.before (chain_after s.after k))
 
   pub linked_linking : {R : Word → Word → Type 0} → ((u v : Word) → R u v → Linking E u v) → {u v : Word} → Linked R u v → Linking E u v
   linked_linking h here = done

@@ -2,6 +2,7 @@
 use Rattle.std.proofs.Common.{◌≡◌, ℕ, ◌<◌, List, length, get_or, map, slice_get, Some, Contains, inl, ap, sym, subst, ◌∙◌}
 use Rattle.std.proofs.lemmas.List.{length-map, get_or-map}
 use Rattle.std.proofs.lemmas.Option.{get_or_from_slice_get, slice_get-get_or, slice_get_within}
+use Rattle.swreq_orders.proofs.Elements.{get_contains}
 use Rattle.swreq_param.specs.declared.ids.AssocId.{AssocId}
 use Rattle.swreq_param.specs.declared.ids.NameId.{NameId}
 use Rattle.swreq_param.specs.declared.ids.ProtoId.{ProtoId}
@@ -13,9 +14,6 @@ use Rattle.swreq_correspondence.specs.Symbols.{member_at}
 use Rattle.swreq_world.specs.Closed.{AreIds}
 use Rattle.swreq_symbols.specs.Meaning.{associated_at, member_name, rank_in, symbols_of}
 use Rattle.swreq_symbols.specs.Vanishing.{IsDeclared}
-
-pub there : {X : Type 0} (xs : List X) (k : ℕ) (x : X) → slice_get xs k ≡ Some x → Contains xs x
-there xs k x e = (k, slice_get_within xs k x e, get_or_from_slice_get xs k x x e)
 
 -- ---- member symbols
 
@@ -45,14 +43,14 @@ module _ (x : LexiconView) (p : ProtoId) (a : NameId) (d : AssocId) where
 
   module _ (ids : AreIds x) (c : IsDeclared x p a d) where
     pub of_text : IsProtocol x p × IsName x a
-    of_text = ids.associated (pair p a) (there x.associated d.rank (pair p a) (at_rank c))
+    of_text = ids.associated (pair p a) (get_contains x.associated d.rank (pair p a) (at_rank c))
 
     -- it has the member symbol of its protocol and name
     pub symbol_at : slice_get x.symbols ((symbols_of x).rank_of d) ≡ Some (pair p a)
     symbol_at =
         let is : associated_at x d ≡ pair p a =
         get_or_from_slice_get x.associated d.rank (pair p a) (pair (record { rank = 0 }) (record { rank = 0 })) (at_rank c) in
-        let has = (ids.symbols p a).1 (of_text.0, inl (there x.associated d.rank (pair p a) (at_rank c))) in
+        let has = (ids.symbols p a).1 (of_text.0, inl (get_contains x.associated d.rank (pair p a) (at_rank c))) in
         ap (λ z. slice_get x.symbols (rank_in x.symbols z)) is ∙ assoc_is x.symbols (pair p a) has
 
     pub one_rank : (k : ℕ) → slice_get x.symbols k ≡ Some (pair p a) → k ≡ (symbols_of x).rank_of d

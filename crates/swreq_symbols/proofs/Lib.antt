@@ -3,3 +3,4 @@ pub mod Symbols
 pub mod Walking
 pub mod Giving
 pub mod Fronts
+pub mod LeastWords

@@ -20,7 +20,8 @@ use Rattle.swreq_lowering.specs.Requirements.{PlacedRequirement}
 use Rattle.swreq_world.specs.Closed.{AreIds, IsClosed, IsOfProtocol, IsRequirementOf}
 use Rattle.swreq_world.specs.Worlds.{TextWorld, requirements_of}
 use Rattle.swreq_symbols.specs.Meaning.{facts_of, symbols_of}
-use Rattle.swreq_symbols.proofs.Declared.{at_rank, is_rank, member_is, of_rank, symbol_at, there}
+use Rattle.swreq_orders.proofs.Elements.{get_contains}
+use Rattle.swreq_symbols.proofs.Declared.{at_rank, is_rank, member_is, of_rank, symbol_at}
 
 pub symbols_law : (w : TextWorld) → IsClosed w → AreSymbolsOf (symbols_of w.lexicon) (facts_of w)
 symbols_law w closed = λ p a d c.
@@ -52,7 +53,7 @@ text_law w closed = record {
   owners = λ p r c. (closed.ids.written_order p).1 (written w closed p r c).proto;
   members = λ k l.
       let (d, e) = of_rank w.lexicon k l in
-      let is = (closed.ids.symbols d.proto d.name).0 (there w.lexicon.symbols k d e) in
+      let is = (closed.ids.symbols d.proto d.name).0 (get_contains w.lexicon.symbols k d e) in
       subst (λ z. Contains w.lexicon.written_order z) (sym (ap (λ z. z.proto) (member_is w.lexicon k d e))) ((closed.ids.written_order d.proto).1 is.0);
   protocols = λ p t q c. (closed.ids.written_order q).1 (written w closed p (Conforms t q) c).requirement.1;
 }

@@ -4,11 +4,13 @@
 
 mod behind;
 pub mod laws;
+mod names;
 mod over;
 mod walk;
 mod words;
 
 pub use behind::first_behind;
+pub use names::name_at;
 pub use over::Over;
 pub use walk::least_word;
 pub use words::equation;

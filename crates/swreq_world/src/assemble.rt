@@ -14,11 +14,12 @@ use crate::making::lists_of;
 use crate::world::World;
 use std::alloc::{AllocError, Global};
 use swreq_decl::Skeleton;
-use swreq_names::{NameErr, Names, resolve_names};
-use swreq_param::ParamTable;
 use swreq_lexicon::Lexicon;
 use swreq_lowering::laws::lists_are_short;
 use swreq_lowering::words_of;
+use swreq_names::Names;
+use swreq_param::ParamTable;
+use swreq_resolve::{NameErr, resolve_names};
 
 /// The world of a skeleton with this lexicon.
 fn assemble(

@@ -1,11 +1,9 @@
 use Rattle.std.proofs.Common.{◌≡◌, zero, suc, [], ◌∷◌, refl, ap, lit<, arith}
-use Rattle.swreq_param.specs.Terms.{self}
-use Rattle.swreq_derive.specs.Derivation.{AssociatedType, Derivable}
-use Rattle.swreq_derive.specs.Derivation.Derives.{generic, conf, assoc_conf, assoc_name}
+use Rattle.swreq_derive.specs.Derivation.{AssociatedType}
+use Rattle.swreq_derive.specs.Derivation.Derives.{generic, conf}
 use Rattle.swreq_derive.specs.Derivation.TermRequirement.{Conforms}
-use Rattle.swreq_derive.specs.Derivation.TermStatement.{IsValid, Requires}
-use Rattle.swreq_derive.specs.Derivation.Source.{SelfOf}
-use Rattle.swreq_derive.specs.Worked.{◌·◌, declared, of_one, param, τ_0_0, N, Missing, Next, Next_of_N, endless, endless_f}
+use Rattle.swreq_derive.specs.Worked.{declared, of_one, param, τ_0_0, N, Missing, Next, Next_of_N, endless, endless_f}
+use Rattle.swreq_derive.proofs.WorkedDerivations.{endless_conforms, endless_next}
 use Rattle.swreq_orders.proofs.Members.{only_member}
 use Rattle.swreq_word.specs.declared.symbols.Symbol.TheVariants.{Proto}
 use Rattle.swreq_word.proofs.Chains.{at_once}
@@ -21,17 +19,8 @@ use Rattle.swreq_candidates.specs.Blocks.Cut.{alone, at_end, on, opened}
 use Rattle.swreq_candidates.proofs.Ends.{factors_by_ends, param_least, proto_least}
 use Rattle.swreq_candidates.proofs.worked.members_without_end.Goals as goal
 
-conforms : Derivable endless (of_one endless_f) (Requires (Conforms τ_0_0 N))
-conforms = conf (0, lit< tt, refl) (λ _. generic (0, lit< tt, refl))
-
-usable : Derivable endless (SelfOf N) (IsValid (self · Next))
-usable = assoc_name (conf refl (λ _. generic refl)) (0, lit< tt, refl)
-
-next_conforms : Derivable endless (of_one endless_f) (Requires (Conforms (τ_0_0 · Next) N))
-next_conforms = assoc_conf {u = self · Next} conforms (0, lit< tt, refl) (λ _. usable)
-
 next_name : HasName endless (of_one endless_f) τ_0_0 Next
-next_name = (N, Next_of_N, conforms, (0, lit< tt, refl))
+next_name = (N, Next_of_N, endless_conforms, (0, lit< tt, refl))
 
 named : AreMembersNamed endless_symbols endless
 named zero h = (N, Next_of_N, conf refl (λ _. generic refl), (0, lit< tt, refl))
@@ -42,7 +31,7 @@ returns-clause-named c = named
 
 pub returns-clause-one : goal.returns-clause-one
 returns-clause-one c = (
-  opened (λ h. h) (0, lit< tt, refl) (on (lit< tt, conforms, next_name) (on next_conforms at_end)),
+  opened (λ h. h) (0, lit< tt, refl) (on (lit< tt, endless_conforms, next_name) (on (endless_next endless_conforms) at_end)),
   refl,
 )
 

@@ -2,11 +2,10 @@ use Rattle.std.proofs.Common.{◌≡◌, [], ◌∷◌, ◌++◌, refl, ap, ap�
 use Rattle.swreq_param.specs.declared.ids.Step.TheVariants.{Bound, Name as NameStep}
 use Rattle.swreq_param.specs.Terms.{Term}
 use Rattle.swreq_param.specs.Terms.Term.{Generic, Member as MemberOf}
-use Rattle.swreq_derive.specs.Derivation.{TermRequirement, Derivable}
-use Rattle.swreq_derive.specs.Derivation.Derives.{generic, conf}
+use Rattle.swreq_derive.specs.Derivation.{TermRequirement}
 use Rattle.swreq_derive.specs.Derivation.TermRequirement.{Conforms, IsAnyObject, Equals}
-use Rattle.swreq_derive.specs.Derivation.TermStatement.{Requires}
 use Rattle.swreq_derive.specs.Worked.{bound, of_one, τ_0_0, P, A, A_of_P, shared, shared_f}
+use Rattle.swreq_derive.proofs.WorkedDerivations.{shared_to_p}
 use Rattle.swreq_word.specs.declared.symbols.Symbol.{Symbol}
 use Rattle.swreq_word.specs.declared.symbols.Symbol.TheVariants.{Proto, Member, Layout}
 use Rattle.swreq_correspondence.specs.Symbols.{Word}
@@ -14,20 +13,17 @@ use Rattle.swreq_correspondence.specs.Types.{IsFirstFor, IsTypeOf}
 use Rattle.swreq_correspondence.specs.Worked.{first_param, shared_symbols}
 use Rattle.swreq_correspondence.proofs.OneType.{one_first, one_type}
 use Rattle.swreq_candidates.specs.Candidates.{IsNamed, IsReadOff, SpeaksOf}
-use Rattle.swreq_candidates.proofs.ReadOff.{same_push}
+use Rattle.std.proofs.lemmas.List.{same_from_push}
 use Rattle.swreq_candidates.proofs.worked.one_name_in_two_protocols.Goals as goal
 
-conforms : Derivable shared (of_one shared_f) (Requires (Conforms τ_0_0 P))
-conforms = conf (0, lit< tt, refl) (λ _. generic (0, lit< tt, refl))
-
 first : IsFirstFor shared (of_one shared_f) τ_0_0 A A_of_P
-first = record { proto = P; declares = (0, lit< tt, refl); conforms = conforms; first = λ q e h c. omega arith }
+first = record { proto = P; declares = (0, lit< tt, refl); conforms = shared_to_p; first = λ q e h c. omega arith }
 
 abbrev Right : Word
 Right = first_param ∷ Member 0 ∷ []
 
 right_type : IsTypeOf shared_symbols shared (of_one shared_f) Right (bound τ_0_0 A_of_P)
-right_type = (0, (lit< tt, conforms, (P, A_of_P, conforms, (0, lit< tt, refl))), first, refl)
+right_type = (0, (lit< tt, shared_to_p, (P, A_of_P, shared_to_p, (0, lit< tt, refl))), first, refl)
 
 -- no symbol behind the right side makes the left side
 no_longer : (x : Symbol) → first_param ∷ Member 1 ∷ [] ≡ Right ++ (x ∷ []) → ⊥
@@ -41,7 +37,7 @@ spoken : (v : Term) → SpeaksOf shared_symbols shared (of_one shared_f) v (firs
 spoken (Generic g) e = absurd (no_param e)
 spoken (MemberOf t (NameStep a)) e = absurd e
 spoken (MemberOf t (Bound d)) (u, x, a, e, h, o, i) =
-    let (k, y) = same_push (first_param ∷ []) u (Member 1) x e in
+    let (k, y) = same_from_push (first_param ∷ []) u (Member 1) x e in
     let tt0 : τ_0_0 ≡ t = one_type shared_symbols shared (of_one shared_f) τ_0_0 t (first_param ∷ []) refl
     (subst (λ w. IsTypeOf shared_symbols shared (of_one shared_f) w t) (sym k) h) in
     let named : IsNamed shared_symbols (Member 1) a = subst (λ z. IsNamed shared_symbols z a) (sym y) o in

@@ -1,10 +1,11 @@
-use Rattle.swreq_symbols.proofs.Declared.{from_rank, there}
+use Rattle.swreq_orders.proofs.Elements.{get_contains}
+use Rattle.swreq_symbols.proofs.Declared.{from_rank}
 use Rattle.swreq_minimal.proofs.plain.gives_assoc.Goals as goal
 
 pub holds_conformance-requires-clause-p : goal.holds_conformance-requires-clause-p
 holds_conformance-requires-clause-p c =
     (c.requires.text.closed.ids.associated c.assoc-declared.result
-    (there c.args.world.now.lexicon.associated c.args.d.rank c.assoc-declared.result c.assoc-declared.ensures)).0
+    (get_contains c.args.world.now.lexicon.associated c.args.d.rank c.assoc-declared.result c.assoc-declared.ensures)).0
 
 pub returns : goal.returns
 returns c h ps plain =

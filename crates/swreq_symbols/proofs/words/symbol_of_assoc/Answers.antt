@@ -2,7 +2,8 @@ use Rattle.std.proofs.Common.{ap}
 use Rattle.swreq_word.specs.declared.symbols.Symbol.TheVariants.{Member}
 use Rattle.swreq_lexicon.specs.Lexicons.{pair}
 use Rattle.swreq_symbols.specs.Meaning.{symbols_of}
-use Rattle.swreq_symbols.proofs.Declared.{from_rank, one_rank, symbol_at, there}
+use Rattle.swreq_orders.proofs.Elements.{get_contains}
+use Rattle.swreq_symbols.proofs.Declared.{from_rank, one_rank, symbol_at}
 use Rattle.swreq_symbols.proofs.words.symbol_of_assoc.Goals as goal
 
 pub unreachable-requires : goal.unreachable-requires
@@ -10,7 +11,7 @@ unreachable-requires c =
     let x = c.args.world.now.lexicon in
     let p = c.assoc-declared.result.proto in
     let a = c.assoc-declared.result.name in
-    c.in-None.ensures (there x.symbols ((symbols_of x).rank_of c.args.d) (pair p a)
+    c.in-None.ensures (get_contains x.symbols ((symbols_of x).rank_of c.args.d) (pair p a)
     (symbol_at x p a c.args.d c.requires.ids (from_rank x p a c.args.d c.assoc-declared.ensures)))
 
 pub returns : goal.returns
