@@ -1,6 +1,6 @@
 -- What a rule says.
 use Rattle.std.proofs.Common.{◌≡◌, ◌∙◌, ◌⊎◌, inl, inr, refl, sym, ap, ap₂, subst, ℕ, suc, ◌<◌, ◌+◌, arith, List, [], ◌∷◌, ◌++◌, Option, Some, None, MatchOption, length, take, drop, get_or, length-take-le}
-use Rattle.std.proofs.lemmas.List.{drop_all, take-append-drop}
+use Rattle.std.proofs.lemmas.List.{drop_all, take-append-drop, same_from_push}
 use Rattle.swreq_param.specs.declared.ids.AssocId.{AssocId}
 use Rattle.swreq_param.specs.declared.ids.NameId.{NameId}
 use Rattle.swreq_param.specs.declared.ids.ProtoId.{ProtoId}
@@ -22,7 +22,7 @@ use Rattle.swreq_rule.specs.declared.rules.Rule.{Rule}
 use Rattle.swreq_lexicon.specs.Views.{IsProtocol, LexiconView}
 use Rattle.swreq_correspondence.specs.Symbols.{Word}
 use Rattle.swreq_candidates.specs.Candidates.{IsNamed}
-use Rattle.swreq_candidates.proofs.ReadOff.{one_name, same_push}
+use Rattle.swreq_candidates.proofs.ReadOff.{one_name}
 use Rattle.swreq_symbols.specs.Known.{IsRequirementIn}
 use Rattle.swreq_symbols.specs.Meaning.{symbols_of}
 use Rattle.swreq_world.specs.Closed.{IsTermOf}
@@ -39,7 +39,7 @@ with_last l k d e =
     parted l k d (omega (arith, e)) ∙ ap (λ z. take k l ++ get_or l k d ∷ z) (drop_all (suc k) l (omega (arith, e)))
 
 pub front_differs : (l r : Word) (k : ℕ) (d : Symbol) → length l ≡ k + 1 → (take k l ≡ r → ⊥) → (y : Symbol) → l ≡ r ++ y ∷ [] → ⊥
-front_differs l r k d e n y h = n (same_push (take k l) r (get_or l k d) y (sym (with_last l k d e) ∙ h)).0
+front_differs l r k d e n y h = n (same_from_push (take k l) r (get_or l k d) y (sym (with_last l k d e) ∙ h)).0
 
 pub nothing_behind : (l r : Word) → length l ≡ 0 → (y : Symbol) → l ≡ r ++ y ∷ [] → ⊥
 nothing_behind [] r e y h = not_empty r y h
@@ -100,7 +100,7 @@ module _ (x : LexiconView) (rules : List Rule) (params : Params) where
       let (f, s) = nothing_before (Param g.depth g.index) y front (sym e) in
       absurd (let n : length front ≡ 0 = ap length f in omega (arith, l, n))
   spoken_behind front y (Member z (Bound d)) l (other, s, a, e, h, n, m) =
-      let (f, q) = same_push front other y s e in (
+      let (f, q) = same_from_push front other y s e in (
         z,
         d,
         a,
@@ -131,7 +131,7 @@ module _ (x : LexiconView) (rules : List Rule) (params : Params) where
   one_spoken (Member t (Bound d)) (Generic g) l (front, y, a, k, h, n, f) (c, e) =
       absurd (none_of_nothing x rules params t (subst (λ u. IsTypeBy x rules params u t) (nothing_before (Param g.depth g.index) y front (sym e ∙ k)).0 h))
   one_spoken (Member t (Bound d)) (Member z (Bound b)) l (front, y, a, e, h, n, f) (other, s, c, k, j, m, g) =
-      let (p, q) = same_push front other y s (sym e ∙ k) in
+      let (p, q) = same_from_push front other y s (sym e ∙ k) in
       let j' : IsTypeBy x rules params front z = subst (λ v. IsTypeBy x rules params v z) (sym p) j in
       let m' : IsNamed (symbols_of x) y c = subst (λ v. IsNamed (symbols_of x) v c) (sym q) m in
       let names : c ≡ a = one_name (symbols_of x) y c a m' n in
@@ -205,7 +205,7 @@ module _ (x : LexiconView) (rules : List Rule) (params : Params) where
   not_spoken l r y t (Generic g) h e none (c, k) =
       none_of_nothing x rules params t (subst (λ u. IsTypeBy x rules params u t) (nothing_before (Param g.depth g.index) y r (sym k ∙ e)).0 h)
   not_spoken l r y t (Member z (Bound d)) h e none (front, s, a, k, j, n, f) =
-      none a (subst (λ u. IsNamed (symbols_of x) u a) (same_push front r s y (sym k ∙ e)).1 n)
+      none a (subst (λ u. IsNamed (symbols_of x) u a) (same_from_push front r s y (sym k ∙ e)).1 n)
   not_spoken l r y t (Member z (Name a)) h e none k = k
 
   one_proto : {p q : ProtoId} → Proto p.rank ≡ Proto q.rank → p ≡ q
@@ -219,10 +219,10 @@ module _ (x : LexiconView) (rules : List Rule) (params : Params) where
 
   pub one_said : (l r : Word) (q o : TermRequirement) → SaysBy x rules params l r q → SaysBy x rules params l r o → q ≡ o
   one_said l r (Conforms t p) (Conforms u g) (h, i, e) (k, j, s) =
-      ap₂ Conforms (one_type x rules params t u r h k) (one_proto (same_push r r (Proto p.rank) (Proto g.rank) (sym e ∙ s)).1)
-  one_said l r (Conforms t p) (IsAnyObject u) (h, i, e) (k, s) = absurd (no_layout {p = p} (same_push r r (Proto p.rank) Layout (sym e ∙ s)).1)
+      ap₂ Conforms (one_type x rules params t u r h k) (one_proto (same_from_push r r (Proto p.rank) (Proto g.rank) (sym e ∙ s)).1)
+  one_said l r (Conforms t p) (IsAnyObject u) (h, i, e) (k, s) = absurd (no_layout {p = p} (same_from_push r r (Proto p.rank) Layout (sym e ∙ s)).1)
   one_said l r (Conforms t p) (Equals u v) (h, i, e) (k, s, n) = absurd (not_spoken l r (Proto p.rank) t v h e (λ a m. m) s)
-  one_said l r (IsAnyObject t) (Conforms u p) (h, e) (k, i, s) = absurd (no_layout {p = p} (same_push r r (Proto p.rank) Layout (sym s ∙ e)).1)
+  one_said l r (IsAnyObject t) (Conforms u p) (h, e) (k, i, s) = absurd (no_layout {p = p} (same_from_push r r (Proto p.rank) Layout (sym s ∙ e)).1)
   one_said l r (IsAnyObject t) (IsAnyObject u) (h, e) (k, s) = ap IsAnyObject (one_type x rules params t u r h k)
   one_said l r (IsAnyObject t) (Equals u v) (h, e) (k, s, n) = absurd (not_spoken l r Layout t v h e (λ a m. m) s)
   one_said l r (Equals t v) (Conforms u p) (h, s, n) (k, i, e) = absurd (not_spoken l r (Proto p.rank) u v k e (λ a m. m) s)

@@ -1,6 +1,6 @@
 -- The type of a word, symbol by symbol.
 use Rattle.std.proofs.Common.{◌≡◌, ◌∙◌, inl, inr, refl, sym, ap, subst, ◌<◌, ◌+◌, arith, ℕ, List, [], ◌∷◌, ◌++◌, Option, Some, None, MatchOption, Contains, length, take, drop, get_or}
-use Rattle.std.proofs.lemmas.List.{take_more, take-append-drop}
+use Rattle.std.proofs.lemmas.List.{take_more, take-append-drop, same_from_push}
 use Rattle.std.proofs.lemmas.Option.{slice_get_within}
 use Rattle.swreq_param.specs.declared.ids.AssocId.{AssocId}
 use Rattle.swreq_param.specs.declared.ids.NameId.{NameId}
@@ -22,7 +22,6 @@ use Rattle.swreq_symbols.specs.Vanishing.{IsFirstBehind, IsLeastBy}
 use Rattle.swreq_lexicon.specs.Lexicons.{pair}
 use Rattle.swreq_lexicon.specs.Views.{LexiconView}
 use Rattle.swreq_correspondence.specs.Symbols.{Word, name_of}
-use Rattle.swreq_candidates.proofs.ReadOff.{same_push}
 use Rattle.swreq_symbols.specs.Meaning.{symbols_of}
 use Rattle.swreq_symbols.proofs.Declared.{at_rank}
 use Rattle.swreq_world.specs.Closed.{IsTermOf}
@@ -57,7 +56,7 @@ not_empty (x ∷ u) y e = cc
 
 -- a word of one symbol has nothing before it
 pub nothing_before : (z y : Symbol) (front : Word) → z ∷ [] ≡ front ++ y ∷ [] → (front ≡ []) × (z ≡ y)
-nothing_before z y front e = let (f, s) = same_push [] front z y e in (sym f, s)
+nothing_before z y front e = let (f, s) = same_from_push [] front z y e in (sym f, s)
 
 same_params : (g h : ParamId) → Param g.depth g.index ≡ Param h.depth h.index → g ≡ h
 same_params g h e = λ i. record { depth = depths e i; index = indices e i }
@@ -129,7 +128,7 @@ module _ (x : LexiconView) (rules : List Rule) where
     one_type (Generic g) (Member z (Bound d)) u (c, e) (front, y, k, h, m) = absurd (generic_or_longer g front y z (sym e ∙ k) h)
     one_type (Member t (Bound d)) (Generic g) u (front, y, k, h, m) (c, e) = absurd (generic_or_longer g front y t (sym e ∙ k) h)
     one_type (Member t (Bound d)) (Member z (Bound b)) u (front, y, e, h, m) (other, s, k, j, n) =
-        let (f, q) = same_push front other y s (sym e ∙ k) in
+        let (f, q) = same_from_push front other y s (sym e ∙ k) in
         let j' : IsTypeBy x rules params front z = subst (λ v. IsTypeBy x rules params v z) (sym f) j in
         let n' : IsMemberBehind x rules front y b = subst (λ v. IsMemberBehind x rules v y b) (sym f) (subst (λ v. IsMemberBehind x rules other v b) (sym q) n) in
         λ i. Member (one_type t z front h j' i) (Bound (one_member front y d b m n' i))
@@ -146,7 +145,7 @@ module _ (x : LexiconView) (rules : List Rule) where
         let (f, s) = nothing_before (Param g.depth g.index) y front (sym e) in
         absurd (let n : length front ≡ 0 = ap length f in omega (arith, l, n))
     behind_some front y (Member z (Bound d)) l (other, s, e, h, m) =
-        let (f, q) = same_push front other y s e in (
+        let (f, q) = same_from_push front other y s e in (
           z,
           d,
           refl,
