@@ -13,7 +13,10 @@ type Expected<'a> = ((u32, u32, usize), &'a [Symbol], &'a [Symbol]);
 fn assert_pairs(rt: &impl Abort, pairs: &[Pair], expected: &[Expected<'_>]) {
     assert_eq!(rt; pairs.len(), expected.len());
     for (pair, wanted) in pairs.iter().zip(expected) {
-        assert_eq!(rt; (pair.place.i, pair.place.j, pair.place.at), wanted.0);
+        let (i, j, at) = wanted.0;
+        assert_eq!(rt; pair.place.i, i);
+        assert_eq!(rt; pair.place.j, j);
+        assert_eq!(rt; pair.place.at, at);
         assert_eq!(rt; pair.left.symbols(), wanted.1);
         assert_eq!(rt; pair.right.symbols(), wanted.2);
     }

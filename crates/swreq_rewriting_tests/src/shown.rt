@@ -12,7 +12,8 @@ pub(crate) fn assert_steps(rt: &impl Abort, path: &Path, expected: &[Expected<'_
     assert_eq!(rt; steps.len(), expected.len());
     for (step, wanted) in steps.iter().zip(expected) {
         assert_eq!(rt; step.before.symbols(), wanted.0);
-        assert_eq!(rt; (step.rule, step.forward), (wanted.1, wanted.2));
+        assert_eq!(rt; step.rule, wanted.1);
+        assert_eq!(rt; step.forward, wanted.2);
         assert_eq!(rt; step.after.symbols(), wanted.3);
     }
 }

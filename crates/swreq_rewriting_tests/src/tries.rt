@@ -35,7 +35,10 @@ fn assert_found(rt: &impl Abort, trie: &Trie, w: &[Symbol], found: &[Option<u32>
 fn assert_are(rt: &impl Abort, places: &[Place], expected: &[Expected]) {
     assert_eq!(rt; places.len(), expected.len());
     for (place, wanted) in places.iter().zip(expected) {
-        assert_eq!(rt; (place.i, place.j, place.at), *wanted);
+        let (i, j, at) = *wanted;
+        assert_eq!(rt; place.i, i);
+        assert_eq!(rt; place.j, j);
+        assert_eq!(rt; place.at, at);
     }
 }
 
