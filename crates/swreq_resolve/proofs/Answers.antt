@@ -1,9 +1,10 @@
 -- What a refusal, or none, says of the names.
-use Rattle.std.proofs.Common.{◌≡◌, ℕ, ◌<◌, ◌≤◌, ◌⊎◌, inl, inr, ⊎_elim, Bool, true, List, [], length, slice_get, Option, None, Some, Contains, sym, ap, subst, ◌∙◌, arith, true≢false}
+use Rattle.std.proofs.Common.{◌≡◌, ℕ, zero, suc, ◌<◌, ◌≤◌, ◌⊎◌, inl, inr, ⊎_elim, Bool, true, false, refl, List, [], length, slice_get, Option, None, Some, Contains, sym, ap, subst, ◌∙◌, arith, true≢false}
 use Rattle.std.proofs.lemmas.Bool.{cases_lt, cases_eq}
-use Rattle.std.proofs.lemmas.List.{length-map, get_or_past}
-use Rattle.swreq_closure.specs.Chains.{Leads, leads}
-use Rattle.swreq_closure.specs.Chains.Leads.{step, more}
+use Rattle.std.proofs.lemmas.List.{length-map}
+use Rattle.std.proofs.lemmas.Option.{slice_get_cases}
+use Rattle.swreq_closure.specs.Chains.{leads}
+use Rattle.swreq_closure.proofs.Marks.{begins_within}
 use Rattle.swreq_decl.specs.declared.skeleton.ProtocolDecl.{ProtocolDecl}
 use Rattle.swreq_decl.specs.declared.skeleton.Skeleton.{Skeleton}
 use Rattle.swreq_resolve.specs.declared.refusal.Refusal.{Refusal}
@@ -23,12 +24,11 @@ use Rattle.swreq_resolve.proofs.Order.{none_refused, least_is_first, one_first}
 no_element : {A : Type 0} (x : A) → Contains [] x → ⊥
 no_element x c = let h = c.1 in omega arith
 
-begins_within : (graph : List (List ℕ)) (i j : ℕ) → Leads graph i j → i < length graph
-begins_within graph i j l = ⊎_elim (λ h. h) (λ h. absurd (none h l)) (cases_lt i (length graph))
-  where
-    none : length graph ≤ i → {j : ℕ} → Leads graph i j → ⊥
-    none h (step {j} c) = no_element j (subst (λ xs. Contains xs j) (get_or_past graph i [] h) c)
-    none h (more {j} c rest) = no_element j (subst (λ xs. Contains xs j) (get_or_past graph i [] h) c)
+-- what inherits a protocol is a protocol of the text
+inherits_within : (text : List ℕ) (s : Skeleton) (i : ℕ) → Inherits text s i i → i < length s.protocols
+inherits_within text s i k =
+    let b = begins_within (inheritance text s) i i k in
+    subst (λ m. i < m) (length-map s.protocols (direct text (spaces text s))) b
 
 -- ---- the answers
 
@@ -57,11 +57,8 @@ module _ (text : List ℕ) (s : Skeleton) (n : NamesView) (h : HasDeclared text 
     pub resolved : HasNoLoop n.inherits (length s.protocols) → Resolve text s
     resolved none = record {
       names = has_names;
-      no_cycle = λ i k. true≢false (sym ((h.tells i i).1 k) ∙ none i (within i k));
+      no_cycle = λ i k. true≢false (sym ((h.tells i i).1 k) ∙ none i (inherits_within text s i k));
     }
-      where
-        within : (i : ℕ) → Inherits text s i i → i < length s.protocols
-        within i k = let b = begins_within (inheritance text s) i i k in subst (λ m. i < m) (length-map s.protocols (direct text (spaces text s))) b
 
 -- ---- one answer
 
@@ -102,3 +99,59 @@ module _ (text : List ℕ) (s : Skeleton) where
   one_refusal e f (inl n) (inr d) = absurd (no_refused_name n.0 d.1.names n.1)
   one_refusal e f (inr c) (inl m) = absurd (no_refused_name m.0 c.1.names m.1)
   one_refusal e f (inr c) (inr d) = c.2 ∙ ap Cycle (one_cycle c.0 d.0 c.1 d.1) ∙ sym d.2
+
+-- ---- some answer
+
+-- none of the places below a number leads to itself, or one is the first that does
+abbrev Loops : (ℕ → ℕ → Bool) → ℕ → Type 0
+Loops t n = ((i : ℕ) → i < n → t i i ≡ false) ⊎ ((i : ℕ) × (i < n) × (t i i ≡ true) × ((j : ℕ) → j < i → t j j ≡ false))
+
+loops_more : (t : ℕ → ℕ → Bool) (n : ℕ) (b : Bool) → t n n ≡ b → Loops t n → Loops t (suc n)
+loops_more t n b e (inr m) = let l = m.1 in inr (m.0, omega (arith, l), m.2, m.3)
+loops_more t n true e (inl none) = inr (n, omega arith, e, none)
+loops_more t n false e (inl none) =
+    inl (λ i l. ⊎_elim (λ s. subst (λ (x : ℕ). t x x ≡ false) (sym s) e) (λ d. none i (below i n l d)) (cases_eq i n))
+  where
+    below : (i n : ℕ) → i < suc n → (i ≡ n → ⊥) → i < n
+    below i n l d = omega arith
+
+loops : (t : ℕ → ℕ → Bool) (n : ℕ) → Loops t n
+loops t zero = inl (λ i l. absurd (omega arith))
+loops t (suc n) = loops_more t n (t n n) refl (loops t n)
+
+module _ (text : List ℕ) (s : Skeleton) (t : ℕ → ℕ → Bool) (tells : Tells text s t) where
+  abbrev Answer : Type 0
+  Answer = Resolve text s ⊎ ((e : NameErr) × Refuses text s e)
+
+  stands : (i : ℕ) → i < length s.protocols → (p : ProtocolDecl) × (slice_get s.protocols i ≡ Some p)
+  stands i l = ⊎_elim (λ c. (c.0, c.2)) (λ c. absurd (let h = c.0 in omega (arith, h))) (slice_get_cases s.protocols i).1
+
+  cycle_or_none : HasNames text s → Loops t (length s.protocols) → Answer
+  cycle_or_none names (inl none) =
+      inl (record { names = names; no_cycle = λ i k. true≢false (sym ((tells i i).1 k) ∙ none i (inherits_within text s i k)) })
+  cycle_or_none names (inr m) =
+      let p = stands m.0 m.1 in
+      inr (
+        Cycle p.0.name.start,
+        inr (
+          p.0.name.start,
+          record {
+            names = names;
+            place = m.0;
+            protocol = p.0;
+            stands = p.1;
+            cycle = record { itself = (tells m.0 m.0).0 m.2; first = λ j g k. true≢false (sym ((tells j j).1 k) ∙ m.3 j g) };
+            is = refl;
+          },
+          refl,
+        ),
+      )
+
+  by_first : (o : Option Refusal) → least None (refusals text t s) ≡ o → Answer
+  by_first (Some r) l =
+      inr (error_of r, inl (r, record { inherits = t; tells = tells; first = least_is_first (refusals text t s) r l }, refl))
+  by_first None l =
+      cycle_or_none (record { inherits = t; tells = tells; none = none_refused (refusals text t s) l }) (loops t (length s.protocols))
+
+  pub some_answer : Answer
+  some_answer = by_first (least None (refusals text t s)) refl

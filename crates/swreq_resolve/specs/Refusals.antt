@@ -24,7 +24,7 @@ use Rattle.swreq_names.specs.declared.signature.Signature.TheVariants.{Struct, F
 use Rattle.swreq_resolve.specs.declared.refusal.Refusal.{Refusal}
 use Rattle.swreq_resolve.specs.declared.refusal.Fault.TheVariants.{Duplicate, NotAProtocol, ConcreteType, NoSuchMember, UnknownSignature, WrongArity}
 use Rattle.swreq_resolve.specs.First.{when}
-use Rattle.swreq_names.specs.Spaces.{word, is_declared_before, protocol_of, struct_of, signature_of, nested_in, outer_params, own_params, param_of, declares, has_member, self_bytes, Spaces, spaces}
+use Rattle.swreq_names.specs.Spaces.{self_bytes, word, is_declared_before, protocol_of, struct_of, signature_of, nested_in, outer_params, own_params, param_of, declares, has_member, Spaces, spaces}
 
 -- each item with its place, which begins from i
 abbrev pub by_place : {A B : Type 0} → (ℕ → A → List B) → ℕ → List A → List B

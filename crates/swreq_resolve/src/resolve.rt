@@ -19,9 +19,10 @@ fn first_error(text: &[u8], s: &Skeleton, names: &Names) -> Option<NameErr>
     requires { HasDeclared text.now s.now names.now }
     ensures { MatchOption result (Resolve text.now s.now) (Refuses text.now s.now) }
 {
-    match first_refusal(text, names.declared(), names.inheritance(), s) {
+    let inherits = names.inheritance();
+    match first_refusal(text, names.declared(), inherits, s) {
         Some(r) => Some(error_of(r)),
-        None => match cycle_of(s, names.inheritance()) {
+        None => match cycle_of(s, inherits) {
             Some(at) => Some(NameErr::Cycle { at }),
             None => None,
         },

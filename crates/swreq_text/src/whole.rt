@@ -2,10 +2,11 @@
 ghost use Rattle.std.specs.Prelude.{◌≡◌, ◌⊎◌, ℕ, ◌+◌, ◌^◌, ◌≤◌, ◌<◌, length, IfOk, OnOk, OnErr, IsErrOf};
 ghost use Rattle.std.specs.Io.KnownBytes.{Appends, Consumes, IsAtEnd};
 ghost use Rattle.swreq_text.specs.Faults.{HasRisen};
+ghost use Rattle.swreq_text.specs.declared.whole.ReadErr.TheVariants.{Memory};
 ghost use Rattle.swreq_text.specs.Given.{AppendsPart, GivesCount, HasGiven};
 
 use crate::{Sink, Source};
-use std::alloc::Global;
+use std::alloc::{AllocError, Global};
 
 /// Why a source was not read to its end.
 #[derive(Clone, Copy, Debug, PartialEq, Eq)]
@@ -16,6 +17,14 @@ pub enum ReadErr {
     Fault,
     /// There was no memory for the bytes.
     Memory,
+}
+
+impl From<AllocError> for ReadErr {
+    ghost from_gives = { λ _ e. e ≡ Memory };
+
+    fn from(_: AllocError) -> Self {
+        ReadErr::Memory
+    }
 }
 
 /// A write failed before all was taken.
@@ -58,9 +67,7 @@ pub fn read_all<S: Source>(alloc: Global, src: &mut S, limit: u32) -> Result<Vec
             Ok(n) => n,
             Err(_) => return Err(ReadErr::Fault),
         };
-        if bytes.extend_from_slice(&buf[..n]).is_err() {
-            return Err(ReadErr::Memory);
-        }
+        bytes.extend_from_slice(&buf[..n])?;
     }
     Err(ReadErr::TooLarge)
 }

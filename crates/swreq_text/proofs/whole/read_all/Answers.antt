@@ -4,8 +4,8 @@ use Rattle.std.proofs.lemmas.List.{length-take, length-take-le}
 use Rattle.swreq_text.proofs.whole.read_all.Goals as goal
 
 -- the bytes that came for which there was no memory are gone too
-pub returns-then-is_err-clause-rest : goal.returns-then-is_err-clause-rest
-returns-then-is_err-clause-rest g c =
+pub returns-in_err-extend_from_slice-clause-rest : goal.returns-in_err-extend_from_slice-clause-rest
+returns-in_err-extend_from_slice-clause-rest g c =
     let bytes = c.loop-buf.bytes.items in
     let n = c.in-Ok.n in
     let more = take n c.read.new.buf in
