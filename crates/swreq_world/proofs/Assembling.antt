@@ -1,10 +1,12 @@
 -- The world of a skeleton from its lists.
 use Rattle.std.proofs.Common.{◌≡◌, ℕ, zero, suc, ◌≤◌, List, [], ◌∷◌, length, get_or, map, refl, sym, ap, subst, ◌∙◌, arith}
 use Rattle.std.specs.List.{All}
+use Rattle.std.proofs.lemmas.List.{length-map}
 use Rattle.swreq_decl.specs.declared.skeleton.Skeleton.{Skeleton}
 use Rattle.swreq_names.specs.declared.signature.Signature.{Signature}
 use Rattle.swreq_names.specs.Spaces.{Spaces}
 use Rattle.swreq_param.specs.Terms.{Term}
+use Rattle.swreq_param.proofs.Growing.{onward}
 use Rattle.swreq_lexicon.specs.Texts.{IsLexiconOf}
 use Rattle.swreq_lexicon.specs.Views.{LexiconView, assoc_cmp, inherits}
 use Rattle.swreq_lexicon.proofs.RankLaws.{one_to_one, assoc_total}
@@ -16,7 +18,7 @@ use Rattle.swreq_lowering.specs.Signatures.{in_order}
 use Rattle.swreq_lowering.specs.Short.{HasShortLists}
 use Rattle.swreq_lowering.specs.Small.{HasFewParams}
 use Rattle.swreq_lowering.specs.Words.{WordsView}
-use Rattle.swreq_lowering.proofs.Growing.{extends_then, are_of_stay, placed_stay}
+use Rattle.swreq_lowering.proofs.Growing.{are_of_stay, placed_stay}
 use Rattle.swreq_world.specs.declared.entry.Entry.{Entry}
 use Rattle.swreq_world.specs.ByTable.{signature_by, world_by, IsOverTable}
 use Rattle.swreq_world.specs.Entries.{entry_view, entry_meant, IsEntryOf, FillsEntries}
@@ -29,12 +31,8 @@ use Rattle.swreq_world.specs.WorldOf.{IsWorldOf}
 use Rattle.swreq_world.specs.Worlds.{IdWorld}
 use Rattle.swreq_world.proofs.Filled.{fills_later, entry_of_stay, entry_stays}
 
-length_map : {A B : Type 0} (f : A → B) (xs : List A) → length (map f xs) ≡ length xs
-length_map f [] = refl
-length_map f (x ∷ xs) = ap suc (length_map f xs)
-
 pub same_count : {A B C : Type 0} (f : A → B) (g : C → B) (xs : List A) (ys : List C) → map f xs ≡ map g ys → length xs ≡ length ys
-same_count f g xs ys e = sym (length_map f xs) ∙ ap length e ∙ length_map g ys
+same_count f g xs ys e = sym (length-map xs f) ∙ ap length e ∙ length-map ys g
 
 of_meant : (terms : List Term) (es : List Entry) → map (λ g. g.signature) (map (entry_meant terms) es) ≡ map (λ e. e.signature) es
 of_meant terms [] = refl
@@ -66,7 +64,7 @@ module _ (text : List ℕ) (s : Skeleton) (lexicon : LexiconView) (order : List 
       → FillsQueries c d (map (query_of words order) words.skeleton.queries) qs → IsWorldOf text s (world_by d (made lexicon listed es qs))
   the_world e is o f g h = record {
     lexicon = is;
-    requirements = (fills_later AreOf placed (λ u v x. are_of_stay u v x) (λ u v x. placed_stay u v x) a b d (map (requirements_named words) words.lexicon.protocols) listed f (extends_then b c d g.extends h.extends)).means
+    requirements = (fills_later AreOf placed (λ u v x. are_of_stay u v x) (λ u v x. placed_stay u v x) a b d (map (requirements_named words) words.lexicon.protocols) listed f (onward b c d g.extends h.extends)).means
         ∙ (λ i. map (requirements_named (e i)) (e i).lexicon.protocols);
     signatures = viewed d es ∙ (fills_later IsEntryOf entry_meant entry_of_stay entry_stays b c d (map (signature_in words order) order) es g h.extends).means
         ∙ (λ i. map (signature_in (e i) (o i)) (o i));
@@ -76,7 +74,7 @@ module _ (text : List ℕ) (s : Skeleton) (lexicon : LexiconView) (order : List 
   pub over_table : FillsLists a b (map (requirements_named words) words.lexicon.protocols) listed → FillsEntries b c (map (signature_in words order) order) es
       → FillsQueries c d (map (query_of words order) words.skeleton.queries) qs → IsOverTable d (made lexicon listed es qs)
   over_table f g h = record {
-    requirements = (fills_later AreOf placed (λ u v x. are_of_stay u v x) (λ u v x. placed_stay u v x) a b d (map (requirements_named words) words.lexicon.protocols) listed f (extends_then b c d g.extends h.extends)).are_of;
+    requirements = (fills_later AreOf placed (λ u v x. are_of_stay u v x) (λ u v x. placed_stay u v x) a b d (map (requirements_named words) words.lexicon.protocols) listed f (onward b c d g.extends h.extends)).are_of;
     signatures = all_viewed d es (fills_later IsEntryOf entry_meant entry_of_stay entry_stays b c d (map (signature_in words order) order) es g h.extends).are_of;
     queries = h.are_of;
   }

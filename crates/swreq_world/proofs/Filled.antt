@@ -4,11 +4,12 @@ use Rattle.std.proofs.lemmas.List.{map-append, take_more}
 use Rattle.std.specs.List.{All}
 use Rattle.swreq_param.specs.Terms.{Term}
 use Rattle.swreq_param.specs.Tables.{Extends}
+use Rattle.swreq_param.proofs.Growing.{onward, unchanged}
 use Rattle.swreq_lowering.specs.declared.ids.Query.{Query}
 use Rattle.swreq_lowering.specs.declared.ids.Query.TheVariants as ids
 use Rattle.swreq_lowering.specs.Queries.TermQuery.{AsksReduced, AsksConforms, AsksAnyObject, AsksEquals}
 use Rattle.swreq_lowering.specs.ByTable.{query_by, HasQueryIdsOf}
-use Rattle.swreq_lowering.proofs.Growing.{extends_itself, extends_then, of_stays, are_of_stay, placed_stay}
+use Rattle.swreq_lowering.proofs.Growing.{of_stays, are_of_stay, placed_stay}
 use Rattle.swreq_world.specs.declared.entry.Entry.{Entry}
 use Rattle.swreq_world.specs.Entries.{IsEntryOf, entry_meant}
 use Rattle.swreq_world.specs.Filling.{Fills}
@@ -17,7 +18,7 @@ module _ {A B : Type 0} (are_of : List Term → A → Type 0) (by : List Term �
     (of_stay : (old new : List Term) (x : A) → Extends old new → are_of old x → are_of new x)
     (by_stay : (old new : List Term) (x : A) → Extends old new → are_of old x → by new x ≡ by old x) where
   pub fills_nothing : (ts : List Term) (xs : List A) → xs ≡ [] → Fills are_of by ts ts [] xs
-  fills_nothing ts xs e = subst (Fills are_of by ts ts []) (sym e) (record { extends = extends_itself ts; are_of = λ k d l. absurd (omega arith); means = refl })
+  fills_nothing ts xs e = subst (Fills are_of by ts ts []) (sym e) (record { extends = unchanged ts; are_of = λ k d l. absurd (omega arith); means = refl })
 
   means_stay : (old new : List Term) (xs : List A) → Extends old new → All (are_of old) xs → map (by new) xs ≡ map (by old) xs
   means_stay old new [] b h = refl
@@ -32,7 +33,7 @@ module _ {A B : Type 0} (are_of : List Term → A → Type 0) (by : List Term �
   fills_push : (a b c : List Term) (ys : List B) (xs zs : List A) (x : A) (y : B) → Fills are_of by a b ys xs → Extends b c → are_of c x → by c x ≡ y → zs ≡ xs ++ x ∷ [] → Fills are_of by a c (ys ++ y ∷ []) zs
   fills_push a b c ys xs zs x y f g o m e =
       subst (Fills are_of by a c (ys ++ y ∷ [])) (sym e) (record {
-        extends = extends_then a b c f.extends g;
+        extends = onward a b c f.extends g;
         are_of = all_push c xs x (λ k d l. of_stay b c (get_or xs k d) g (f.are_of k d l)) o;
         means = map-append (by c) xs (x ∷ []) ∙ (λ i. (means_stay b c xs g f.are_of ∙ f.means) i ++ m i ∷ []);
       })
@@ -46,7 +47,7 @@ module _ {A B : Type 0} (are_of : List Term → A → Type 0) (by : List Term �
 
   pub fills_later : (a b c : List Term) (ys : List B) (xs : List A) → Fills are_of by a b ys xs → Extends b c → Fills are_of by a c ys xs
   fills_later a b c ys xs f g = record {
-    extends = extends_then a b c f.extends g;
+    extends = onward a b c f.extends g;
     are_of = λ k d l. of_stay b c (get_or xs k d) g (f.are_of k d l);
     means = means_stay b c xs g f.are_of ∙ f.means;
   }

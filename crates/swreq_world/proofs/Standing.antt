@@ -18,6 +18,7 @@ use Rattle.swreq_lexicon.proofs.SymbolPlaces.{get_left, get_right}
 use Rattle.swreq_lowering.specs.Signatures.{nested_from, functions_from, with_nested, merged, in_order, is_signature, place_in, func_id}
 use Rattle.swreq_lowering.specs.declared.ids.FuncId.{FuncId}
 use Rattle.swreq_lowering.proofs.Referring.{from_below}
+use Rattle.swreq_lowering.proofs.Shorter.{nested_count}
 use Rattle.swreq_world.specs.Text.{outer_of}
 use Rattle.swreq_world.proofs.WrittenOrder.{length_rest}
 use Rattle.swreq_orders.proofs.Elements.{get_either}
@@ -109,10 +110,6 @@ nested_at i j zero m l h e = absurd (omega arith)
 nested_at i j (suc n) zero l h e = let f : j ≡ l = omega arith in ap (λ b. Some (Nested i b)) f
 nested_at i j (suc n) (suc m) l h e = nested_at i (j + 1) n m l (omega arith) (omega arith)
 
-length_nested : (i j n : ℕ) → length (nested_from i j n) ≡ n
-length_nested i j zero = refl
-length_nested i j (suc n) = ap suc (length_nested i (j + 1) n)
-
 -- After the m-th struct, which stands at p, its functions stand.
 record IsFollowed (order : List Signature) (i : ℕ) (ss : List StructDecl) (m p : ℕ) : Type 0 where
   pub from : i ≤ m
@@ -136,7 +133,7 @@ module _ (i : ℕ) (s : StructDecl) (ss : List StructDecl) (before later : List 
       let same : i ≡ m = signature_number (same_Some (Struct i) (Struct m) h) in
       let first : m - i ≡ 0 = omega (arith, same) in
       let nested = nested_from i 0 (length s.functions) in
-      let count = length_nested i 0 (length s.functions) in
+      let count = nested_count i 0 (length s.functions) in
       record {
         from = omega (arith, same);
         is = s;

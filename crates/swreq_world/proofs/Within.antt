@@ -18,11 +18,6 @@ found_within (Some k) n h = let l = h k refl in omega arith
 pub place_within : (order : List Signature) (g : Signature) (n : ℕ) → length order ≤ n → unwrap_or (place_in order g) 0 ≤ n
 place_within order g n h = let i = found_within (place_in order g) (length order) (λ k e. let l = from_below (is_signature g) 0 order k e in omega arith) in omega arith
 
-pub got : {A : Type 0} (xs : List A) (i : ℕ) (x d : A) → slice_get xs i ≡ Some x → get_or xs i d ≡ x
-got [] i x d e = cc
-got (y ∷ xs) zero x d e = cc
-got (y ∷ xs) (suc i) x d e = got xs i x d e
-
 -- ---- functions within their structs
 
 Short : Spaces → Type 0

@@ -1,6 +1,6 @@
 -- Signatures in written order, one more at a time.
 use Rattle.std.proofs.Common.{◌≡◌, ℕ, zero, suc, ◌+◌, ◌-◌, ◌≤◌, ◌<◌, Bool, true, false, cond, List, [], ◌∷◌, ◌++◌, length, get_or, drop, refl, sym, ap, ◌∙◌, arith, append_assoc}
-use Rattle.std.proofs.lemmas.List.{drop_more}
+use Rattle.std.proofs.lemmas.List.{drop_all, drop_more}
 use Rattle.std.specs.List.{prefix_len}
 use Rattle.swreq_decl.specs.declared.skeleton.FunctionDecl.{FunctionDecl}
 use Rattle.swreq_decl.specs.declared.skeleton.StructDecl.{StructDecl}
@@ -31,12 +31,6 @@ module _ {A : Type 0} where
   drop_none zero = refl
   drop_none (suc n) = refl
 
-  pub drop_all : (xs : List A) (i : ℕ) → length xs ≤ i → drop i xs ≡ []
-  drop_all [] zero h = refl
-  drop_all [] (suc i) h = refl
-  drop_all (x ∷ xs) zero h = absurd (omega arith)
-  drop_all (x ∷ xs) (suc i) h = drop_all xs i (omega arith)
-
   pub drop_twice : (xs : List A) (i n : ℕ) → drop n (drop i xs) ≡ drop (i + n) xs
   drop_twice xs zero n = let e : n ≡ 0 + n = omega arith in ap (λ (m : ℕ). drop m xs) e
   drop_twice [] (suc i) n = drop_none n ∙ sym (drop_none (suc i + n))
@@ -58,7 +52,7 @@ module _ {A : Type 0} where
   prefix_ends p xs i x h e f = ap (prefix_len p) (drop_at xs i x h e) ∙ prefix_first p x (drop (i + 1) xs) false f
 
   pub prefix_none : (p : A → Bool) (xs : List A) (i : ℕ) → length xs ≤ i → prefix_len p (drop i xs) ≡ 0
-  prefix_none p xs i h = ap (prefix_len p) (drop_all xs i h)
+  prefix_none p xs i h = ap (prefix_len p) (drop_all i xs h)
 
 -- a struct with the functions before it, and its own
 pub merged_next : (ss : List StructDecl) (fs : List FunctionDecl) (all so more before after : List Signature) (i at n : ℕ) (s : StructDecl) → i < length ss → s ≡ get_or ss i s
@@ -79,4 +73,4 @@ merged_next ss fs all so more before after i at n s h e c inv b a =
 pub merged_last : (ss : List StructDecl) (fs : List FunctionDecl) (all so after : List Signature) (i at : ℕ) → length ss ≤ i
     → so ++ merged i (drop i ss) at (drop at fs) ≡ all → after ≡ so ++ functions_from at (length fs - at) → after ≡ all
 merged_last ss fs all so after i at h inv a =
-    a ∙ (λ j. so ++ functions_from at (sym (length_rest fs at) j)) ∙ (λ j. so ++ merged i (sym (drop_all ss i h) j) at (drop at fs)) ∙ inv
+    a ∙ (λ j. so ++ functions_from at (sym (length_rest fs at) j)) ∙ (λ j. so ++ merged i (sym (drop_all i ss h) j) at (drop at fs)) ∙ inv

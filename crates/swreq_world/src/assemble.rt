@@ -1,5 +1,6 @@
 // The world of a skeleton whose names resolve.
 ghost use Rattle.std.specs.Prelude.{◌≡◌, ◌≤◌, ◌⊎◌, length, IfOk, IfErr, IsOk, Err};
+ghost use Rattle.swreq_param.specs.Tables.{Extends};
 ghost use Rattle.swreq_decl.specs.Skeletons.{StandsFor};
 ghost use Rattle.swreq_names.specs.Names.{HasDeclared};
 ghost use Rattle.swreq_resolve.specs.Resolving.{Resolve, Refuses};
@@ -35,6 +36,7 @@ fn assemble(
     requires lexicon { IsLexiconOf text.now s.now lexicon }
     ensures world { IfOk result (λ w. IsWorldOf text.now s.now (world_by table.new w)) }
     ensures over { IfOk result (IsOverTable table.new) }
+    ensures extends { Extends table.old table.new }
 {
     let words = words_of(text, s, &lexicon);
     let made = lists_of(alloc, table, &words)?;
@@ -54,6 +56,7 @@ fn with_names(
     requires declared { HasDeclared text.now s.now names }
     ensures world { IfOk result (λ w. IsWorldOf text.now s.now (world_by table.new w)) }
     ensures over { IfOk result (IsOverTable table.new) }
+    ensures extends { Extends table.old table.new }
 {
     lists_are_short(text);
     let lexicon = Lexicon::of(alloc, text, s, names)?;
@@ -65,8 +68,8 @@ impl World {
     /// protocol inherits itself, and then the table has each type parameter of the text.
     ///
     /// Where they do not, the refusal is of the name with the least offset among those that are refused. `Cycle` comes only
-    /// where no name is refused, at the name of the first protocol in written order that inherits itself. After a refusal the
-    /// table has some of the type parameters of the text.
+    /// where no name is refused, at the name of the first protocol in written order that inherits itself. On
+    /// every answer the table begins with the one that was given, and after a refusal it has some of the type parameters of the text.
     pub fn resolve(
         alloc: Global,
         text: &[u8],
@@ -77,6 +80,7 @@ impl World {
         requires stands { StandsFor text.now s.now }
         ensures world { IfOk result (λ w. IsWorldOf text.now s.now (world_by table.new w)) }
         ensures over { IfOk result (IsOverTable table.new) }
+        ensures extends { Extends table.old table.new }
         ensures ok { IsOk result → Resolve text.now s.now }
         ensures resolves { Resolve text.now s.now → IsOk result ⊎ (result ≡ Err Memory) }
         ensures refused { IfErr result (λ e. Refuses text.now s.now e ⊎ (e ≡ Memory)) }

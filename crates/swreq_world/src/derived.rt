@@ -5,8 +5,8 @@ ghost use Rattle.swreq_world.specs.FactsAt.{facts_at};
 use crate::facts::FunctionFacts;
 use crate::world::World;
 use swreq_derive::{Facts, Params, Requirement};
-use swreq_param::{AssocId, NameId, ProtoId};
 use swreq_lowering::FuncId;
+use swreq_param::{AssocId, NameId, ProtoId};
 
 impl<'a> FunctionFacts<'a> {
     /// The list of a signature.

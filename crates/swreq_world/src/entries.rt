@@ -14,12 +14,12 @@ use crate::listed::Listed;
 use crate::order::Order;
 use std::alloc::{AllocError, Global};
 use swreq_decl::{FunctionDecl, StructDecl};
-use swreq_names::{Signature, word};
-use swreq_param::ParamTable;
-use swreq_text::Seq;
 use swreq_lowering::{
     FuncId, Words, Written, of_function, of_nested, of_struct, own_depth, params_of,
 };
+use swreq_names::{Signature, word};
+use swreq_param::ParamTable;
+use swreq_text::Seq;
 
 fn struct_name<'a>(words: &Words<'a>, place: usize) -> &'a [u8]
     ensures { result.now ≡ struct_name (words_by words.now) (slice_get words.now.skeleton.now.structs place) }
@@ -79,7 +79,8 @@ fn list_of_struct(
     place: usize,
 ) -> Result<Vec<Written>, AllocError>
     requires { HasShortLists words.now.text.now words.now.skeleton.now }
-    ensures { IfOk result (λ v. Lists table.old table.new (of_struct (words_by words.now) place (slice_get words.now.skeleton.now.structs place)) v.items) }
+    ensures lists { IfOk result (λ v. Lists table.old table.new (of_struct (words_by words.now) place (slice_get words.now.skeleton.now.structs place)) v.items) }
+    ensures extends { Extends table.old table.new }
 {
     match words.skeleton.structs.items().get(place) {
         Some(s) => of_struct(alloc, table, words, place, s),
@@ -94,7 +95,8 @@ fn list_of_function(
     place: usize,
 ) -> Result<Vec<Written>, AllocError>
     requires { HasShortLists words.now.text.now words.now.skeleton.now }
-    ensures { IfOk result (λ v. Lists table.old table.new (of_function (words_by words.now) place (slice_get words.now.skeleton.now.functions place)) v.items) }
+    ensures lists { IfOk result (λ v. Lists table.old table.new (of_function (words_by words.now) place (slice_get words.now.skeleton.now.functions place)) v.items) }
+    ensures extends { Extends table.old table.new }
 {
     match words.skeleton.functions.items().get(place) {
         Some(f) => of_function(alloc, table, words, place, f),
@@ -103,6 +105,7 @@ fn list_of_function(
 }
 
 /// The list of a struct, followed by what is written in a function of it.
+#[tactic(auto, using(swreq_param::proofs::Growing::onward))]
 fn list_within(
     alloc: Global,
     table: &mut ParamTable,
@@ -114,7 +117,8 @@ fn list_within(
 ) -> Result<Vec<Written>, AllocError>
     requires outer { length s.now.params < 2 ^ 32 }
     requires own { length f.now.params < 2 ^ 32 }
-    ensures { IfOk result (λ v. Lists table.old table.new (in_nested (words_by words.now) outer s.now function f.now) v.items) }
+    ensures lists { IfOk result (λ v. Lists table.old table.new (in_nested (words_by words.now) outer s.now function f.now) v.items) }
+    ensures extends { Extends table.old table.new }
 {
     let list = of_struct(alloc, table, words, outer, s)?;
     of_nested(alloc, table, words, outer, &list, function, f)
@@ -128,7 +132,8 @@ fn list_of_nested(
     function: usize,
 ) -> Result<Vec<Written>, AllocError>
     requires { HasShortLists words.now.text.now words.now.skeleton.now }
-    ensures { IfOk result (λ v. Lists table.old table.new (of_nested_in (words_by words.now) outer function (slice_get words.now.skeleton.now.structs outer)) v.items) }
+    ensures lists { IfOk result (λ v. Lists table.old table.new (of_nested_in (words_by words.now) outer function (slice_get words.now.skeleton.now.structs outer)) v.items) }
+    ensures extends { Extends table.old table.new }
 {
     match words.skeleton.structs.items().get(outer) {
         Some(s) => match s.functions.items().get(function) {
@@ -147,7 +152,8 @@ fn list_of(
     g: Signature,
 ) -> Result<Vec<Written>, AllocError>
     requires { HasShortLists words.now.text.now words.now.skeleton.now }
-    ensures { IfOk result (λ v. Lists table.old table.new (list_of (words_by words.now) g) v.items) }
+    ensures lists { IfOk result (λ v. Lists table.old table.new (list_of (words_by words.now) g) v.items) }
+    ensures extends { Extends table.old table.new }
 {
     match g {
         Signature::Struct(place) => list_of_struct(alloc, table, words, place),
@@ -167,7 +173,7 @@ fn entry(
     g: Signature,
 ) -> Result<Entry, AllocError>
     requires { HasShortLists words.now.text.now words.now.skeleton.now }
-    ensures extends { IfOk result (λ _. Extends table.old table.new) }
+    ensures extends { Extends table.old table.new }
     ensures of { IfOk result (IsEntryOf table.new) }
     ensures means { IfOk result (λ e. entry_meant table.new e ≡ signature_in (words_by words.now) order.now g) }
 {
@@ -183,6 +189,7 @@ fn entry(
 }
 
 /// The signatures in written order, with their lists.
+#[tactic(auto, using(swreq_param::proofs::Growing::onward))]
 pub fn entries(
     alloc: Global,
     table: &mut ParamTable,
@@ -190,7 +197,8 @@ pub fn entries(
     order: &Order,
 ) -> Result<Vec<Entry>, AllocError>
     requires { HasShortLists words.now.text.now words.now.skeleton.now }
-    ensures { IfOk result (λ v. FillsEntries table.old table.new (map (signature_in (words_by words.now) order.now) order.now) v.items) }
+    ensures fills { IfOk result (λ v. FillsEntries table.old table.new (map (signature_in (words_by words.now) order.now) order.now) v.items) }
+    ensures extends { Extends table.old table.new }
 {
     let mut made = Vec::new(alloc);
     for g in order.signatures() {

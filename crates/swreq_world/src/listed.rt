@@ -4,8 +4,8 @@ ghost use Rattle.std.specs.Prelude.{◌≡◌, map, IfOk};
 use std::alloc::{AllocError, Global};
 use std::marker::Model;
 use swreq_derive::Requirement;
-use swreq_text::Seq;
 use swreq_lowering::Written;
+use swreq_text::Seq;
 
 /// Written requirements, with the places of their sides and without.
 #[derive(Drop)]

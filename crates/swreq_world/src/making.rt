@@ -1,6 +1,7 @@
 // The lists of the world of a text.
 ghost use Rattle.std.specs.Prelude.{IfOk};
 ghost use Rattle.swreq_names.specs.Names.{HasDeclared};
+ghost use Rattle.swreq_param.specs.Tables.{Extends};
 ghost use Rattle.swreq_world.specs.Made.{AreListsOf};
 ghost use Rattle.swreq_lowering.specs.Short.{HasShortLists};
 ghost use Rattle.swreq_lowering.specs.Words.{words_by};
@@ -11,10 +12,11 @@ use crate::order::Order;
 use crate::protocols::requirements;
 use crate::queries::queries;
 use std::alloc::{AllocError, Global};
-use swreq_param::ParamTable;
 use swreq_lowering::Words;
+use swreq_param::ParamTable;
 
 /// The lists of the world of a text.
+#[tactic(auto, using(swreq_param::proofs::Growing::onward))]
 pub fn lists_of(
     alloc: Global,
     table: &mut ParamTable,
@@ -22,7 +24,8 @@ pub fn lists_of(
 ) -> Result<Lists, AllocError>
     requires short { HasShortLists words.now.text.now words.now.skeleton.now }
     requires declared { HasDeclared words.now.text.now words.now.skeleton.now words.now.lexicon.now.resolved }
-    ensures { IfOk result (AreListsOf table.old table.new (words_by words.now)) }
+    ensures lists { IfOk result (AreListsOf table.old table.new (words_by words.now)) }
+    ensures extends { Extends table.old table.new }
 {
     let order = Order::of(alloc, words.skeleton)?;
     let requirements = requirements(alloc, table, words)?;

@@ -9,8 +9,8 @@ use crate::places::{Places, places_of};
 use std::alloc::{AllocError, Global};
 use std::marker::Model;
 use swreq_decl::Skeleton;
-use swreq_names::Signature;
 use swreq_lowering::FuncId;
+use swreq_names::Signature;
 
 /// At most 1,048,576 signatures in written order.
 #[derive(Drop)]

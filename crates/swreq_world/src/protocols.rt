@@ -9,8 +9,8 @@ ghost use Rattle.swreq_lowering.specs.Words.{words_by};
 
 use crate::listed::Listed;
 use std::alloc::{AllocError, Global};
-use swreq_param::{ParamTable, ProtoId};
 use swreq_lowering::{Words, Written, of_protocol};
+use swreq_param::{ParamTable, ProtoId};
 
 fn of_place(
     alloc: Global,
@@ -18,7 +18,8 @@ fn of_place(
     words: &Words<'_>,
     place: usize,
 ) -> Result<Vec<Written>, AllocError>
-    ensures { IfOk result (λ v. Lists table.old table.new (of_protocol (words_by words.now) (slice_get words.now.skeleton.now.protocols place)) v.items) }
+    ensures lists { IfOk result (λ v. Lists table.old table.new (of_protocol (words_by words.now) (slice_get words.now.skeleton.now.protocols place)) v.items) }
+    ensures extends { Extends table.old table.new }
 {
     match words.skeleton.protocols.items().get(place) {
         Some(p) => of_protocol(alloc, table, words, p),
@@ -33,7 +34,8 @@ fn named(
     words: &Words<'_>,
     name: &[u8],
 ) -> Result<Vec<Written>, AllocError>
-    ensures { IfOk result (λ v. Lists table.old table.new (requirements_named (words_by words.now) name.now) v.items) }
+    ensures lists { IfOk result (λ v. Lists table.old table.new (requirements_named (words_by words.now) name.now) v.items) }
+    ensures extends { Extends table.old table.new }
 {
     match words.lexicon.resolved().find_protocol(name) {
         Some(place) => of_place(alloc, table, words, place),
@@ -47,7 +49,7 @@ fn listed(
     words: &Words<'_>,
     name: &[u8],
 ) -> Result<Listed, AllocError>
-    ensures extends { IfOk result (λ _. Extends table.old table.new) }
+    ensures extends { Extends table.old table.new }
     ensures of { IfOk result (AreOf table.new) }
     ensures means { IfOk result (λ l. placed table.new l ≡ requirements_named (words_by words.now) name.now) }
 {
@@ -56,13 +58,15 @@ fn listed(
 }
 
 /// The requirements of each protocol, by rank.
+#[tactic(auto, using(swreq_param::proofs::Growing::onward))]
 pub fn requirements(
     alloc: Global,
     table: &mut ParamTable,
     words: &Words<'_>,
 ) -> Result<Vec<Listed>, AllocError>
-    ensures { IfOk result (λ v. FillsLists table.old table.new
+    ensures fills { IfOk result (λ v. FillsLists table.old table.new
         (map (requirements_named (words_by words.now)) words.now.lexicon.now.protocols) v.items) }
+    ensures extends { Extends table.old table.new }
 {
     let mut made = Vec::new(alloc);
     let count = words.lexicon.protocols();

@@ -1,6 +1,7 @@
 // The queries of a text.
 ghost use Rattle.std.specs.Prelude.{◌≡◌, map, IfOk};
 ghost use Rattle.swreq_names.specs.Names.{HasDeclared};
+ghost use Rattle.swreq_param.specs.Tables.{Extends};
 ghost use Rattle.swreq_world.specs.Filling.{FillsQueries};
 ghost use Rattle.swreq_lowering.specs.Adding.{Asks};
 ghost use Rattle.swreq_lowering.specs.Queries.{query_of};
@@ -10,8 +11,8 @@ ghost use Rattle.swreq_lowering.specs.Words.{words_by};
 use crate::order::Order;
 use std::alloc::{AllocError, Global};
 use swreq_decl::QueryDecl;
-use swreq_param::ParamTable;
 use swreq_lowering::{Query, Words, asked_signature, query};
+use swreq_param::ParamTable;
 
 /// A query.
 fn query_of(
@@ -22,7 +23,8 @@ fn query_of(
 ) -> Result<Query, AllocError>
     requires short { HasShortLists words.now.text.now words.now.skeleton.now }
     requires declared { HasDeclared words.now.text.now words.now.skeleton.now words.now.lexicon.now.resolved }
-    ensures { IfOk result (Asks table.old table.new (query_of (words_by words.now) order.now q.now)) }
+    ensures asks { IfOk result (Asks table.old table.new (query_of (words_by words.now) order.now q.now)) }
+    ensures extends { Extends table.old table.new }
 {
     let g = asked_signature(words, q);
     let f = order.func_id(g);
@@ -30,6 +32,7 @@ fn query_of(
 }
 
 /// The queries in written order.
+#[tactic(auto, using(swreq_param::proofs::Growing::onward))]
 pub fn queries(
     alloc: Global,
     table: &mut ParamTable,
@@ -38,7 +41,8 @@ pub fn queries(
 ) -> Result<Vec<Query>, AllocError>
     requires short { HasShortLists words.now.text.now words.now.skeleton.now }
     requires declared { HasDeclared words.now.text.now words.now.skeleton.now words.now.lexicon.now.resolved }
-    ensures { IfOk result (λ v. FillsQueries table.old table.new (map (query_of (words_by words.now) order.now) words.now.skeleton.now.queries) v.items) }
+    ensures fills { IfOk result (λ v. FillsQueries table.old table.new (map (query_of (words_by words.now) order.now) words.now.skeleton.now.queries) v.items) }
+    ensures extends { Extends table.old table.new }
 {
     let mut made = Vec::new(alloc);
     for q in words.skeleton.queries.items() {

@@ -15,11 +15,11 @@ use crate::made::Lists;
 use crate::order::Order;
 use std::marker::Model;
 use swreq_derive::{Params, Requirement};
+use swreq_lexicon::{Lexicon, ProtocolName};
+use swreq_lowering::{FuncId, Query, Written};
 use swreq_names::{Param, Signature};
 use swreq_param::{AssocId, NameId, ParamId, ProtoId};
-use swreq_lexicon::{Lexicon, ProtocolName};
 use swreq_text::Seq;
-use swreq_lowering::{FuncId, Query, Written};
 
 /// The protocols, names, signatures and queries of a text, with the requirements that are written in it.
 ///

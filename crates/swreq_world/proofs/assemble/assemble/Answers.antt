@@ -20,12 +20,13 @@ lists_of-requires-clause-declared c = subst (λ (w : WordsView). HasDeclared w.t
 pub of-requires : goal.of-requires
 of-requires c =
     ready c.args.text.now c.args.s.now c.args.lexicon c.args.table.now c.lists_of.new.table (words_by c.words_of-words.result) c.in_ok-made.made c.words_of-words.ensures c.requires.short c.requires.lexicon
-    c.in_ok-made.ensures
+    c.in_ok-made.ensures.lists
 
 pub returns : goal.returns
 returns c = record {
   world = subst (λ (w : IdWorld). IsWorldOf c.args.text.now c.args.s.now (world_by c.lists_of.new.table w)) (sym c.of.ensures)
-      (world_is c.args.text.now c.args.s.now c.args.lexicon c.args.table.now c.lists_of.new.table (words_by c.words_of-words.result) c.in_ok-made.made c.words_of-words.ensures c.requires.lexicon c.in_ok-made.ensures);
+      (world_is c.args.text.now c.args.s.now c.args.lexicon c.args.table.now c.lists_of.new.table (words_by c.words_of-words.result) c.in_ok-made.made c.words_of-words.ensures c.requires.lexicon c.in_ok-made.ensures.lists);
   over = subst (IsOverTable c.lists_of.new.table) (sym c.of.ensures)
-      (over_is c.args.text.now c.args.s.now c.args.lexicon c.args.table.now c.lists_of.new.table (words_by c.words_of-words.result) c.in_ok-made.made c.in_ok-made.ensures);
+      (over_is c.args.text.now c.args.s.now c.args.lexicon c.args.table.now c.lists_of.new.table (words_by c.words_of-words.result) c.in_ok-made.made c.in_ok-made.ensures.lists);
+  extends = c.in_ok-made.ensures.extends;
 }
