@@ -15,14 +15,13 @@ ghost use Rattle.swreq_world.specs.ByTable.{world_by};
 ghost use Rattle.swreq_valid.specs.Machines.{IsMachineOf};
 ghost use Rattle.swreq_valid.specs.Rounds.{last_rules};
 
-use crate::words::are_same;
 use std::alloc::{AllocError, Global};
 use swreq_complete::CompleteRules;
 use swreq_derive::Requirement;
 use swreq_param::{ParamTable, TermId};
 use swreq_symbols::{Over, equation, least_word};
 use swreq_valid::Machine;
-use swreq_word::{Symbol, Word};
+use swreq_word::{Symbol, Word, are_same};
 use swreq_world::World;
 
 /// Whether the rules of the machine show that a type parameter is valid.

@@ -12,6 +12,5 @@ mod plain;
 mod sifting;
 mod spoken;
 mod typed;
-mod words;
 
 pub use minimised::minimise;

@@ -19,13 +19,12 @@ ghost use Rattle.swreq_symbols.specs.Vanishing.{IsFirstBehind, IsLeastBy, Links}
 ghost use Rattle.swreq_minimal.specs.Typed.{Finds, Identifies, IsTypeBy, SaysBy, SpeaksBy};
 
 use crate::typed::{bound, symbol_type, type_of};
-use crate::words::are_same;
 use std::alloc::{AllocError, Global};
 use swreq_complete::CompleteRules;
 use swreq_derive::{Params, Requirement};
 use swreq_param::{AssocId, NameId, ParamTable, ProtoId, TermId};
 use swreq_symbols::first_behind;
-use swreq_word::Symbol;
+use swreq_word::{Symbol, are_same};
 use swreq_world::World;
 
 /// The name of the member symbol with this rank, or None where there is none.
