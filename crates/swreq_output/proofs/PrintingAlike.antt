@@ -37,7 +37,8 @@ use Rattle.swreq_output.specs.Ended.{HasEnded}
 use Rattle.swreq_output.specs.Signatures.{IsMinimisedLine, written_list}
 use Rattle.swreq_output.proofs.Agreeing.{same_by_one}
 use Rattle.swreq_output.proofs.Ended.{completed}
-use Rattle.swreq_output.proofs.OfText.{each_by_recursion, requirement_is, speaks}
+use Rattle.swreq_orders.proofs.Members.{each_by_recursion}
+use Rattle.swreq_output.proofs.OfText.{requirement_is, speaks}
 
 -- ---- generic parameters
 
