@@ -9,10 +9,10 @@ ghost use Rattle.swreq_symbols.specs.Meaning.{facts_of};
 ghost use Rattle.swreq_output.specs.Ended.{HasEnded, IsWorldOfText};
 ghost use Rattle.swreq_output.specs.Signatures.{IsMinimisedLine, written_list};
 
+use swreq_lowering::laws::lists_are_short;
 use swreq_minimal::laws::inheritance_is_written;
 use swreq_print::laws::signatures_of_a_text_are_told_apart;
 use swreq_world::laws::worlds_are_closed;
-use swreq_lowering::laws::lists_are_short;
 
 /// Equivalent signatures with the same generic parameters have one minimised line.
 pub fn equivalent_signatures_print_alike()

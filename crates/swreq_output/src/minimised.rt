@@ -18,12 +18,12 @@ ghost use Rattle.swreq_output.specs.Minimising.{MinimisingFails, MinimisingTells
 ghost use Rattle.swreq_output.specs.Signatures.{IsMinimisedLine, written_list};
 
 use std::alloc::{AllocError, Global};
-use swreq_text::append_bytes;
 use swreq_complete::{Failed, Limits};
 use swreq_derive::{Params, Requirement};
 use swreq_minimal::minimise;
 use swreq_param::ParamTable;
 use swreq_print::signature_text;
+use swreq_text::append_bytes;
 use swreq_valid::{Machine, Protocols};
 use swreq_watch::Watch;
 use swreq_world::{FuncId, World};

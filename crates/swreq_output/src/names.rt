@@ -7,8 +7,8 @@ ghost use Rattle.swreq_world.specs.Worlds.{signature_at};
 ghost use Rattle.swreq_output.specs.Signatures.{full_name};
 
 use std::alloc::AllocError;
-use swreq_text::append_bytes;
 use swreq_param::ParamTable;
+use swreq_text::append_bytes;
 use swreq_world::{FuncId, World};
 
 /// Writes `S.` for a function of a struct S, and else nothing.

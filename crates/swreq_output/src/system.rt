@@ -10,11 +10,11 @@ ghost use Rattle.swreq_output.specs.Systems.{IsSystemText, rule_line, system_tex
 
 use crate::names::full_name;
 use std::alloc::{AllocError, Global};
-use swreq_text::{append_bytes, append_number};
+use swreq_lexicon::Lexicon;
 use swreq_param::ParamTable;
 use swreq_print::rule_text;
-use swreq_lexicon::Lexicon;
 use swreq_rule::Rule;
+use swreq_text::{append_bytes, append_number};
 use swreq_valid::Machine;
 use swreq_world::{FuncId, World};
 

@@ -13,12 +13,12 @@ ghost use Rattle.swreq_query.specs.Asked.{AppendsAnswer, IsOfTypes, IsQueryIn, I
 use crate::reduced::reduced_line;
 use crate::verdict::{judge_equality, judge_property};
 use std::alloc::{AllocError, Global};
-use swreq_text::append_bytes;
+use swreq_lowering::Query;
 use swreq_map::PropertyMap;
 use swreq_param::ParamTable;
+use swreq_text::append_bytes;
 use swreq_valid::{Machine, Property, Scratch};
 use swreq_world::World;
-use swreq_lowering::Query;
 
 /// Appends the line that answers a query of a requirement or a type, from every list of which m is the machine.
 ///

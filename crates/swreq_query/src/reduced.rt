@@ -15,10 +15,10 @@ ghost use Rattle.swreq_query.specs.Asked.{AppendsAnswer};
 
 use crate::verdict::Verdict;
 use std::alloc::{AllocError, Global};
-use swreq_text::append_bytes;
+use swreq_lexicon::Lexicon;
 use swreq_param::{ParamId, ParamTable, Step, TermId};
 use swreq_print::steps_text;
-use swreq_lexicon::Lexicon;
+use swreq_text::append_bytes;
 use swreq_valid::{Machine, Scratch};
 use swreq_world::World;
 

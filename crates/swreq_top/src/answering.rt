@@ -19,13 +19,13 @@ ghost use Rattle.swreq_top.specs.Wanted.{AreAsked, by_machine_at, is_list_asked,
 
 use crate::wanted::{Asked, function_of, list_asked, members};
 use std::alloc::{AllocError, Global};
+use swreq_lowering::{FuncId, Query};
 use swreq_map::PropertyMap;
 use swreq_param::ParamTable;
 use swreq_query::answer;
 use swreq_text::Seq;
 use swreq_valid::{Machine, Scratch};
 use swreq_world::World;
-use swreq_lowering::{FuncId, Query};
 
 /// Room for the type parameters that a query of the text names.
 fn scratch(

@@ -14,11 +14,11 @@ use crate::making::{Made, make};
 use crate::wanted::Asked;
 use std::alloc::Global;
 use swreq_complete::Limits;
+use swreq_lowering::FuncId;
 use swreq_param::ParamTable;
 use swreq_valid::{Machine, Protocols, Refused};
 use swreq_watch::Watch;
 use swreq_world::World;
-use swreq_lowering::FuncId;
 
 /// What a check without a refusal gives: the rules of the protocols, and what the command prints by the machines of the signatures.
 #[derive(Drop)]

@@ -11,13 +11,13 @@ ghost use Rattle.swreq_top.specs.Wanted.{AreAsked};
 use crate::answering::answers_of;
 use crate::wanted::Asked;
 use std::alloc::{AllocError, Global};
+use swreq_lowering::FuncId;
 use swreq_output::system_text;
 use swreq_param::ParamTable;
 use swreq_text::Seq;
 use swreq_valid::Machine;
 use swreq_words::Command;
 use swreq_world::World;
-use swreq_lowering::FuncId;
 
 /// What a command prints by machines. It is made of each machine as soon as that stands, so that only one has to be kept at a time.
 #[derive(Drop)]

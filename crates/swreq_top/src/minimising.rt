@@ -19,6 +19,7 @@ ghost use Rattle.swreq_top.specs.Wanted.{AreFlags, wants_list};
 
 use std::alloc::{AllocError, Global};
 use swreq_complete::{Failed, Limits};
+use swreq_lowering::FuncId;
 use swreq_output::minimised_line;
 use swreq_param::ParamTable;
 use swreq_text::Seq;
@@ -26,7 +27,6 @@ use swreq_valid::{Machine, Protocols, Refused};
 use swreq_watch::{Quiet, Watch};
 use swreq_words::Command;
 use swreq_world::World;
-use swreq_lowering::FuncId;
 
 /// The want of memory for which alone a list that has passed the check is refused.
 fn lost(_refused: &Refused) -> AllocError

@@ -14,13 +14,12 @@ ghost use Rattle.swreq_top.specs.Wanted.{HasCount, wants_list};
 use crate::answering::answers;
 use crate::making::Made;
 use std::alloc::{AllocError, Global};
-use swreq_text::{append_bytes, append_number};
+use swreq_lowering::FuncId;
 use swreq_output::full_name;
 use swreq_param::ParamTable;
-use swreq_text::Seq;
+use swreq_text::{Seq, append_bytes, append_number};
 use swreq_words::Command;
 use swreq_world::World;
-use swreq_lowering::FuncId;
 
 /// The line of a signature: its name, and its minimised list.
 fn named_line(

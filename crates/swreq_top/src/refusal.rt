@@ -5,8 +5,8 @@ ghost use Rattle.swreq_top.specs.Reports.{lexical_refusal, limit_refusal, name_r
 use swreq_complete::{Limits, Which};
 use swreq_decl::ParseErr;
 use swreq_lex::LexErr;
-use swreq_resolve::NameErr;
 use swreq_print::RefusalKind;
+use swreq_resolve::NameErr;
 
 /// The refusal of a text that could not be read.
 pub(crate) fn refusal_of(e: ParseErr) -> RefusalKind

@@ -5,10 +5,10 @@ ghost use Rattle.swreq_lowering.specs.ByTable.{HasQueryIdsOf, query_by};
 ghost use Rattle.swreq_top.specs.Wanted.{AreFlags, HasShortSides, AreAsked, by_machine, function_of, is_list_asked, list_asked, wants_list};
 
 use std::alloc::{AllocError, Global};
+use swreq_lowering::{FuncId, Query};
 use swreq_param::ParamTable;
 use swreq_words::Command;
 use swreq_world::World;
-use swreq_lowering::{FuncId, Query};
 
 /// What a command asks of the machines of a text.
 #[derive(Drop)]
