@@ -1,9 +1,10 @@
 //! Worked rows of the pairs of rules.
 
+use std::alloc::Global;
 use std::process::Abort;
 use std::test::Fail;
 use swreq_pair::{Pair, is_pair, pairs_of, pairs_up_to, sides_at, write_sides};
-use swreq_rule::Place;
+use swreq_rule::{Place, Rule};
 use swreq_sample_rules::{A, B, C, D, N, N_NEXT, NEXT, Sides, list};
 use swreq_word::Symbol;
 
@@ -41,14 +42,26 @@ const BY_NUMBER: &[(u32, &[Expected<'static>])] = &[
     ),
 ];
 
+fn assert_pairs_up_to(
+    rt: &impl Abort,
+    alloc: Global,
+    rules: &[Rule],
+    greater: u32,
+    expected: &[Expected<'_>],
+) -> Result<(), Fail> {
+    assert!(rt; 0 < greater);
+    assert!(rt; greater as usize <= rules.len());
+    assert!(rt; rules.len() <= 1000);
+    let pairs = pairs_up_to(alloc, rules, greater)?;
+    assert_pairs(rt, &pairs, expected);
+    Ok(())
+}
+
 #[test]
 fn pairs_come_by_their_greater_number(rt: HostRuntime) -> Result<(), Fail> {
     let list = list(rt.alloc(), PROTOCOL)?;
-    let rules = list.rules();
     for (greater, expected) in BY_NUMBER {
-        assert!(rt; 0 < *greater && *greater as usize <= rules.len());
-        let pairs = pairs_up_to(rt.alloc(), rules, *greater)?;
-        assert_pairs(&rt, &pairs, expected);
+        assert_pairs_up_to(&rt, rt.alloc(), list.rules(), *greater, expected)?;
     }
     Ok(())
 }
