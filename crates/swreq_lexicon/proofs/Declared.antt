@@ -5,35 +5,34 @@ use Rattle.std.proofs.lemmas.List.{length-map}
 use Rattle.std.proofs.lemmas.List.Concat.{flat_map-cons}
 use Rattle.std.proofs.lemmas.List.Elements.{Contains-append_left, Contains-append_right, Contains-append_cases}
 use Rattle.std.proofs.lemmas.Option.{slice_get-get_or}
+use Rattle.swreq_orders.proofs.Members.{no_member, member_cases, first_member, later_member}
 use Rattle.swreq_decl.specs.declared.skeleton.AssocDecl.{AssocDecl}
 use Rattle.swreq_decl.specs.declared.skeleton.ProtocolDecl.{ProtocolDecl}
 use Rattle.swreq_decl.specs.declared.skeleton.Skeleton.{Skeleton}
 use Rattle.swreq_names.specs.Spaces.{word}
 use Rattle.swreq_names.specs.Mentioned as names
 use Rattle.swreq_names.specs.Mentioned.{mentioned}
-use Rattle.swreq_names.proofs.Declaring.{no_element}
 use Rattle.swreq_lexicon.specs.declared.pair.ProtocolName.{ProtocolName}
 use Rattle.swreq_lexicon.specs.Lexicons.{pair, proto_by, name_by}
-use Rattle.swreq_lexicon.specs.Ranks.{Bytes, IsRanking, bytes_cmp, rank}
+use Rattle.swreq_rank.specs.Ranks.{Bytes, IsRanking, bytes_cmp, rank}
 use Rattle.swreq_lexicon.specs.Texts.{declared_by, declared_in}
 use Rattle.swreq_lexicon.proofs.Keyed.{key_of}
 use Rattle.swreq_lexicon.proofs.Positions.{rank_of_there}
-use Rattle.swreq_lexicon.proofs.Rising.{rising_from_sorted}
-use Rattle.swreq_lexicon.proofs.Passing.{one_of}
+use Rattle.swreq_rank.proofs.Rising.{rising_from_sorted}
 
 module _ {A B : Type 0} (f : A → List B) where
   -- an item of a piece, and the piece of an item
   pub in_pieces : (xs : List A) (x : A) (y : B) → Contains xs x → Contains (f x) y → Contains (flat_map f xs) y
-  in_pieces [] x y c d = absurd (no_element x c)
+  in_pieces [] x y c d = no_member x c
   in_pieces (z ∷ zs) x y c d =
       subst (λ ys. Contains ys y) (sym (flat_map-cons f z zs))
-      (⊎_elim (λ e. Contains-append_left (f z) (flat_map f zs) y (subst (λ w. Contains (f w) y) (sym e) d))
-      (λ b. Contains-append_right (f z) (flat_map f zs) y (in_pieces zs x y b d)) (one_of z zs x c))
+      (⊎_elim (λ e. Contains-append_left (f z) (flat_map f zs) y (subst (λ w. Contains (f w) y) e d))
+      (λ b. Contains-append_right (f z) (flat_map f zs) y (in_pieces zs x y b d)) (member_cases z x zs c))
 
   pub from_pieces : (xs : List A) (y : B) → Contains (flat_map f xs) y → (x : A) × Contains xs x × Contains (f x) y
-  from_pieces [] y c = absurd (no_element y c)
+  from_pieces [] y c = no_member y c
   from_pieces (z ∷ zs) y c =
-      ⊎_elim (λ h. (z, (0, omega arith, refl), h)) (λ h. let s = from_pieces zs y h in (s.0, Contains-append_right (z ∷ []) zs s.0 s.1, s.2))
+      ⊎_elim (λ h. (z, first_member z zs, h)) (λ h. let s = from_pieces zs y h in (s.0, later_member z s.0 zs s.1, s.2))
       (Contains-append_cases (f z) (flat_map f zs) y (subst (λ ys. Contains ys y) (flat_map-cons f z zs) c))
 
   pub same_sizes : {C : Type 0} (g : A → List C) → ((x : A) → length (f x) ≡ length (g x)) → (xs : List A) → length (flat_map f xs) ≡ length (flat_map g xs)

@@ -9,8 +9,8 @@ use Rattle.swreq_lexicon.specs.contracts.associated.AssocKeyOrd.TheImpl.{cmp-val
 use Rattle.swreq_lexicon.specs.Associated.{inherits_name, assoc_cmp}
 use Rattle.swreq_lexicon.specs.Keys.{key, pair_of}
 use Rattle.swreq_lexicon.proofs.Keyed.{GoesBy, key_of, keyed_same, keyed_rises}
-use Rattle.swreq_lexicon.proofs.Rising.{rising_from_sorted, sorted_from_rising}
-use Rattle.swreq_lexicon.proofs.Passing.{same_members}
+use Rattle.swreq_rank.proofs.Rising.{rising_from_sorted, sorted_from_rising}
+use Rattle.swreq_rank.proofs.Tests.{same_members}
 
 roots_first : (a b : Bool) → nat_cmp (cond (not a) 0 1) (cond (not b) 0 1) ≡ bool_cmp a b
 roots_first true true = refl

@@ -2,7 +2,7 @@
 use Rattle.std.proofs.Common.{◌≡◌, ℕ, ◌<◌, ◌↔◌, List, length, map, get_or, Contains, sym, ap, subst, ◌∙◌, arith}
 use Rattle.std.specs.declared.cmp.Ordering.{Ordering}
 use Rattle.std.proofs.lemmas.List.{get_or_default, get_or-map, length-map}
-use Rattle.swreq_lexicon.proofs.Rising.{IsRising}
+use Rattle.swreq_rank.proofs.Rising.{IsRising}
 
 -- The order of the keys is that of their items.
 abbrev pub GoesBy : {K A : Type 0} → (K → K → Ordering) → (K → A) → (A → A → Ordering) → List K → Type 0

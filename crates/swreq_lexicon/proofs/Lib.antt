@@ -1,8 +1,5 @@
-pub mod Rising
 pub mod Counting
-pub mod Names
 pub mod Places
-pub mod Passing
 pub mod Declarers
 pub mod KeyOrders
 pub mod SymbolPlaces
@@ -13,8 +10,6 @@ pub mod Declared
 pub mod Whole
 pub mod Few
 pub mod RankLaws
-pub mod Made
-pub mod Search
 pub mod Positions
 pub mod Mapped
 pub mod Keyed

@@ -5,15 +5,15 @@ use Rattle.std.specs.Ordering.{nat_cmp, ordering_then}
 use Rattle.std.proofs.lemmas.Bool.{cases_lt}
 use Rattle.std.proofs.lemmas.List.{length-map}
 use Rattle.std.proofs.lemmas.List.Elements.{Contains-append_left, Contains-push, Contains-push_cases}
+use Rattle.swreq_orders.proofs.Members.{no_member}
 use Rattle.swreq_param.specs.declared.ids.ProtoId.{ProtoId}
-use Rattle.swreq_names.proofs.Declaring.{no_element}
 use Rattle.swreq_lexicon.specs.declared.symbols.OrderKey.{OrderKey}
 use Rattle.swreq_lexicon.specs.contracts.symbols.OrderKeyOrd.TheImpl.{cmp-value}
 use Rattle.swreq_lexicon.specs.Associated.{protocol, order_cmp}
 use Rattle.swreq_lexicon.specs.Keys.{order_key, order_keys}
-use Rattle.swreq_lexicon.specs.Ranks.{IsRanking}
+use Rattle.swreq_rank.specs.Ranks.{IsRanking}
 use Rattle.swreq_lexicon.proofs.Keyed.{GoesBy, key_of, of_key, keyed_rises}
-use Rattle.swreq_lexicon.proofs.Rising.{rising_from_sorted, sorted_from_rising}
+use Rattle.swreq_rank.proofs.Rising.{rising_from_sorted, sorted_from_rising}
 
 abbrev proto_of : OrderKey → ProtoId
 proto_of k = k.proto
@@ -21,7 +21,7 @@ proto_of k = k.proto
 module _ (inherits : ProtoId → ProtoId → Bool) (n : ℕ) where
   -- each of the first m protocols has its key
   key_is : (m : ℕ) (k : OrderKey) → Contains (order_keys inherits n m) k → (k.proto.rank < m) × (k ≡ order_key inherits n k.proto)
-  key_is zero k c = absurd (no_element k c)
+  key_is zero k c = no_member k c
   key_is (suc m) k c =
       ⊎_elim (λ b. let s = key_is m k b in (later k.proto.rank m s.0, s.1))
       (λ e. (subst (λ (x : OrderKey). x.proto.rank < suc m) e (next m), sym e ∙ ap (λ (x : OrderKey). order_key inherits n x.proto) e))

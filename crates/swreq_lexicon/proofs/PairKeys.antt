@@ -6,29 +6,25 @@ use Rattle.std.specs.declared.cmp.Ordering.{Ordering}
 use Rattle.std.specs.declared.cmp.Ordering.TheVariants.{Less, Equal, Greater}
 use Rattle.std.specs.Ordering.{nat_cmp, bool_cmp, ordering_then}
 use Rattle.std.specs.FinSet.{nat_cmp-IsAntisymmetric}
-use Rattle.std.proofs.lemmas.Bool.{eqb-true}
+use Rattle.std.proofs.lemmas.Bool.{eqb-true, false_from_ne_true}
 use Rattle.std.proofs.lemmas.Cmp.{nat_cmp_total, tied_itself}
 use Rattle.std.proofs.lemmas.List.{get_or_default, length-map}
 use Rattle.std.proofs.lemmas.Option.{slice_get_within, get_or_from_slice_get}
+use Rattle.swreq_orders.proofs.Orderings.{then_equal}
 use Rattle.swreq_lexicon.proofs.Mapped.{at_map_any}
 use Rattle.swreq_param.specs.declared.ids.NameId.{NameId}
 use Rattle.swreq_param.specs.declared.ids.ProtoId.{ProtoId}
-use Rattle.swreq_lexicon.specs.Ranks.{TellsApart}
-use Rattle.swreq_lexicon.proofs.Rising.{IsRising}
+use Rattle.swreq_rank.specs.Ranks.{TellsApart}
+use Rattle.swreq_rank.proofs.Rising.{IsRising}
 use Rattle.swreq_lexicon.specs.declared.pair.ProtocolName.{ProtocolName}
 use Rattle.swreq_lexicon.specs.declared.associated.AssocKey.{AssocKey}
 use Rattle.swreq_lexicon.specs.contracts.associated.AssocKeyOrd.TheImpl.{cmp-value}
 use Rattle.swreq_lexicon.specs.Lexicons.{is_pair}
 use Rattle.swreq_lexicon.specs.Keys.{pair_of}
-use Rattle.swreq_lexicon.proofs.Positions.{fails, is_first, is_none}
+use Rattle.swreq_lexicon.proofs.Positions.{is_first, is_none}
 
 abbrev pub key : ProtoId → NameId → Bool → AssocKey
 key p a b = record { name = a; inherited = b; proto = p }
-
-then_equal : (a b : Ordering) → ordering_then a b ≡ Equal → (a ≡ Equal) × (b ≡ Equal)
-then_equal Less b h = absurd cc
-then_equal Equal b h = (refl, h)
-then_equal Greater b h = absurd cc
 
 same_bools : (a b : Bool) → bool_cmp a b ≡ Equal → a ≡ b
 same_bools true true h = refl
@@ -90,7 +86,7 @@ module _ (ks : List AssocKey) (rising : IsRising cmp-value.it ks) (p : ProtoId) 
   first_at i b h none =
       is_first (is_pair p a) (map pair_of ks) i (pair_of (key p a b)) (subst (λ n. i < n) (sym (length-map ks pair_of)) (slice_get_within ks i (key p a b) h))
       (at_map i (key p a b) ∙ ap (λ k. is_pair p a (pair_of k)) (get_or_from_slice_get ks i (key p a b) (key p a b) h) ∙ is_pair_itself p a)
-      (λ j l. fails (is_pair p a (get_or (map pair_of ks) j (pair_of (key p a b)))) (none j l))
+      (λ j l. false_from_ne_true (is_pair p a (get_or (map pair_of ks) j (pair_of (key p a b)))) (none j l))
 
   -- key j comes before key i
   before : (i j : ℕ) (b : Bool) → slice_get ks i ≡ Some (key p a b) → j < i → cmp-value.it (get_or ks j (key p a b)) (key p a b) ≡ Less
@@ -112,7 +108,7 @@ module _ (ks : List AssocKey) (rising : IsRising cmp-value.it ks) (p : ProtoId) 
 
   pub nowhere : (Contains ks (key p a false) → ⊥) → (Contains ks (key p a true) → ⊥) → position (is_pair p a) (map pair_of ks) ≡ None
   nowhere lacks none = is_none (is_pair p a) (map pair_of ks) (pair_of (key p a true))
-      (λ j l. fails (is_pair p a (get_or (map pair_of ks) j (pair_of (key p a true)))) (λ t. by j (subst (λ n. j < n) (length-map ks pair_of) l) (get_or ks j (key p a true)).inherited (key_at j (key p a true) t)))
+      (λ j l. false_from_ne_true (is_pair p a (get_or (map pair_of ks) j (pair_of (key p a true)))) (λ t. by j (subst (λ n. j < n) (length-map ks pair_of) l) (get_or ks j (key p a true)).inherited (key_at j (key p a true) t)))
     where
       by : (j : ℕ) → j < length ks → (b : Bool) → get_or ks j (key p a true) ≡ key p a b → ⊥
       by j l true e = none (there j (key p a true) true l e)

@@ -5,16 +5,12 @@ use Rattle.std.specs.Cmp.Lexicographic.{same_text, texts_ties, nat_list_eq_equiv
 use Rattle.std.specs.declared.cmp.Ordering.TheVariants.{Less}
 use Rattle.std.specs.Ordering.{is_eq, ordering_reverse}
 use Rattle.std.proofs.lemmas.List.Sums.{position_or_len_is, fails_before_first}
-use Rattle.std.proofs.lemmas.Bool.{lt-ltb, le-ltb, ltb-false}
+use Rattle.std.proofs.lemmas.Bool.{lt-ltb, le-ltb, ltb-false, false_from_ne_true}
 use Rattle.std.proofs.lemmas.Cmp.{nat_list_cmp_total}
 use Rattle.std.specs.Str.{bytes_eq}
 use Rattle.std.proofs.lemmas.Option.{slice_get_within, get_or_from_slice_get}
-use Rattle.swreq_lexicon.specs.Ranks.{Bytes, bytes_cmp, rank}
-use Rattle.swreq_lexicon.proofs.Rising.{IsRising}
-
-pub fails : (b : Bool) → (b ≡ true → ⊥) → b ≡ false
-fails true h = absurd (h refl)
-fails false h = refl
+use Rattle.swreq_rank.specs.Ranks.{Bytes, bytes_cmp, rank}
+use Rattle.swreq_rank.proofs.Rising.{IsRising}
 
 module _ {X : Type 0} (p : X → Bool) (xs : List X) where
   pub is_first : (i : ℕ) (d : X) → i < length xs → p (get_or xs i d) ≡ true → ((k : ℕ) → k < i → p (get_or xs k d) ≡ false) → position p xs ≡ Some i
@@ -50,7 +46,7 @@ rank_place names w i r h =
     (λ k b. less_is_other (get_or names k w) w (subst (λ v. bytes_cmp (get_or names k w) v ≡ Less) (get_or_from_slice_get names i w w h) (r k i w b l)))
 
 pub no_place : (names : List Bytes) (w : Bytes) → (Contains names w → ⊥) → position (bytes_eq w) names ≡ None
-no_place names w h = is_none (bytes_eq w) names w (λ k l. fails (bytes_eq w (get_or names k w)) (λ t. h (k, l, sym (same_text w (get_or names k w) (sym t)))))
+no_place names w h = is_none (bytes_eq w) names w (λ k l. false_from_ne_true (bytes_eq w (get_or names k w)) (λ t. h (k, l, sym (same_text w (get_or names k w) (sym t)))))
 
 pub rank_of_there : (names : List Bytes) (w : Bytes) (i : ℕ) → IsRising bytes_cmp names → slice_get names i ≡ Some w → i ≡ rank names w
 rank_of_there names w i r h = sym (ap (λ o. unwrap_or o 0) (rank_place names w i r h))

@@ -16,11 +16,12 @@ use Rattle.std.proofs.lemmas.List.Elements.{Contains-append_right}
 use Rattle.std.proofs.lemmas.List.Quantifiers.{position-Some}
 use Rattle.std.proofs.lemmas.Option.{slice_get-get_or, slice_get-map, slice_get_within, get_or_from_slice_get, same_Some}
 use Rattle.std.proofs.lemmas.Slice.Eq.{bytes_eq-Decides}
+use Rattle.swreq_orders.proofs.Elements.{get_contains}
+use Rattle.swreq_orders.proofs.Members.{no_member, member_cases}
 use Rattle.swreq_decl.specs.declared.skeleton.ProtocolDecl.{ProtocolDecl}
 use Rattle.swreq_decl.specs.declared.skeleton.Skeleton.{Skeleton}
 use Rattle.swreq_derive.specs.Derivation.{AssociatedType}
 use Rattle.swreq_derive.specs.Facts.{AreOneToOne}
-use Rattle.swreq_names.proofs.Declaring.{no_element}
 use Rattle.swreq_names.specs.Spaces.{word, place, spaces}
 use Rattle.swreq_param.specs.declared.ids.AssocId.{AssocId}
 use Rattle.swreq_param.specs.declared.ids.NameId.{NameId}
@@ -28,15 +29,14 @@ use Rattle.swreq_param.specs.declared.ids.ProtoId.{ProtoId}
 use Rattle.swreq_lexicon.specs.declared.pair.ProtocolName.{ProtocolName}
 use Rattle.swreq_lexicon.specs.Associated as over
 use Rattle.swreq_lexicon.specs.Lexicons.{pair, is_pair, proto_by, assoc_at, assoc_by, associated_from, associated_types}
-use Rattle.swreq_lexicon.specs.Ranks.{Bytes, IsRanking, bytes_cmp, rank}
+use Rattle.swreq_rank.specs.Ranks.{Bytes, IsRanking, bytes_cmp, rank}
 use Rattle.swreq_lexicon.specs.Texts.{IsLexiconOf, protocol_names}
 use Rattle.swreq_lexicon.specs.Views.{LexiconView, IsProtocol, place_of, inherits}
-use Rattle.swreq_lexicon.proofs.Names.{few_names, distinct_names}
+use Rattle.swreq_rank.proofs.Names.{few_names, distinct_names}
 use Rattle.swreq_lexicon.proofs.PairPlaces.{by_place}
-use Rattle.swreq_lexicon.proofs.Places.{declared_names, names_length, there}
+use Rattle.swreq_lexicon.proofs.Places.{declared_names, names_length}
 use Rattle.swreq_lexicon.proofs.Positions.{rank_of_there}
-use Rattle.swreq_lexicon.proofs.Rising.{rising_from_sorted, one_place}
-use Rattle.swreq_lexicon.proofs.Passing.{one_of}
+use Rattle.swreq_rank.proofs.Rising.{rising_from_sorted, one_place}
 
 -- ---- names
 
@@ -64,10 +64,10 @@ record HasRank (k : ℕ) (ds : List ProtocolName) (d : AssociatedType) : Type 0 
   pub is : slice_get ds (d.assoc.rank - k) ≡ Some (pair d.proto d.name)
 
 ranked_to : (k : ℕ) (ds : List ProtocolName) (d : AssociatedType) → Contains (associated_from k ds) d → HasRank k ds d
-ranked_to k [] d c = absurd (no_element d c)
+ranked_to k [] d c = no_member d c
 ranked_to k (e ∷ ds) d c =
-    ⊎_elim (λ s. here (ap (λ (x : AssociatedType). x.assoc.rank) s) (ap (λ (x : AssociatedType). pair x.proto x.name) s)) (λ b. further (ranked_to (k + 1) ds d b))
-    (one_of (record { proto = e.proto; name = e.name; assoc = record { rank = k } }) (associated_from (k + 1) ds) d c)
+    ⊎_elim (λ s. here (ap (λ (x : AssociatedType). x.assoc.rank) (sym s)) (ap (λ (x : AssociatedType). pair x.proto x.name) (sym s))) (λ b. further (ranked_to (k + 1) ds d b))
+    (member_cases (record { proto = e.proto; name = e.name; assoc = record { rank = k } }) d (associated_from (k + 1) ds) c)
   where
     here : k ≡ d.assoc.rank → e ≡ pair d.proto d.name → HasRank k (e ∷ ds) d
     here r s = record { from = omega (arith, r); is = let z : d.assoc.rank - k ≡ 0 = omega (arith, r) in ap (slice_get (e ∷ ds)) z ∙ ap Some s }
@@ -182,13 +182,13 @@ module _ (text : Bytes) (s : Skeleton) (x : LexiconView) (is : IsLexiconOf text 
       by (Some q) e =
           let same = same_Some p (proto_by x.protocols (word text q.name)) (sym h ∙ at ∙ ap (option_map (λ (q : ProtocolDecl). proto_by x.protocols (word text q.name))) e) in
           let named = slice_get-map (λ (q : ProtocolDecl). word text q.name) s.protocols k ∙ ap (option_map (λ (q : ProtocolDecl). word text q.name)) e in
-          let r = rank_is (Contains (protocol_names text s.protocols)) x.protocols is.protocols (word text q.name) (there (protocol_names text s.protocols) k (word text q.name) named) in
+          let r = rank_is (Contains (protocol_names text s.protocols)) x.protocols is.protocols (word text q.name) (get_contains (protocol_names text s.protocols) k (word text q.name) named) in
           subst (IsProtocol x) (sym same) (slice_get_within x.protocols (rank x.protocols (word text q.name)) (word text q.name) r)
 
   pub meant : (name : Bytes) (k : ℕ) → place (spaces text s).protocols name ≡ Some k → place_of x (proto_by x.protocols name) ≡ k
   meant name k h =
       let at = place_is (protocol_names text s.protocols) name k (first_place name k h) in
-      let r = rank_is (Contains (protocol_names text s.protocols)) x.protocols is.protocols name (there (protocol_names text s.protocols) k name at) in
+      let r = rank_is (Contains (protocol_names text s.protocols)) x.protocols is.protocols name (get_contains (protocol_names text s.protocols) k name at) in
       same_Some (place_of x (proto_by x.protocols name)) k (sym (is.places (proto_by x.protocols name) name r) ∙ h)
 
   pub written_once : IsDistinct bytes_eq (protocol_names text s.protocols) → length x.written_order ≡ length x.protocols

@@ -4,23 +4,22 @@ use Rattle.std.specs.List.{AllByRecursion}
 use Rattle.std.specs.List.Sorted.{IsStrictlySortedBy}
 use Rattle.std.specs.declared.cmp.Ordering.TheVariants.{Less, Equal, Greater}
 use Rattle.std.specs.Ordering.{nat_cmp, ordering_then}
-use Rattle.std.proofs.lemmas.Bool.{lt-ltb, eq-eqb, cases_lt}
+use Rattle.std.proofs.lemmas.Bool.{lt-ltb, eq-eqb, cases_lt, or_cases, or_left, or_right, and_from, and_parts}
 use Rattle.std.proofs.lemmas.Cmp.{nat_cmp_total, tied_itself}
 use Rattle.std.proofs.lemmas.List.Elements.{Contains-append_left, Contains-append_right, Contains-append_cases, All-filter, All-contains, All-contains_itself, filter_passes}
 use Rattle.std.proofs.lemmas.List.Kept.{IsStrictlySortedBy-filter}
+use Rattle.swreq_orders.proofs.Elements.{get_contains}
+use Rattle.swreq_orders.proofs.Members.{no_member, each_by_recursion}
 use Rattle.swreq_param.specs.declared.ids.NameId.{NameId}
 use Rattle.swreq_param.specs.declared.ids.ProtoId.{ProtoId}
-use Rattle.swreq_names.proofs.Booleans.{or_cases, or_left, or_right, and_both, and_first, and_second}
-use Rattle.swreq_names.proofs.Declaring.{no_element}
 use Rattle.swreq_lexicon.specs.declared.pair.ProtocolName.{ProtocolName}
 use Rattle.swreq_lexicon.specs.Associated.{name, order_cmp, symbol_cmp, HasMember}
 use Rattle.swreq_lexicon.specs.Lexicons.{pair}
 use Rattle.swreq_lexicon.specs.Symbols.{has_member, having, symbols_of, symbols_below}
 use Rattle.swreq_lexicon.proofs.Keyed.{key_of, of_key}
-use Rattle.swreq_lexicon.proofs.Places.{there}
-use Rattle.swreq_lexicon.proofs.Rising.{all_contained, sorted_nil, sorted_append, sorted_map}
+use Rattle.swreq_rank.proofs.Rising.{sorted_nil, sorted_append, sorted_map}
 use Rattle.swreq_lexicon.proofs.SymbolPlaces.{filter_place}
-use Rattle.swreq_lexicon.proofs.Passing.{some_passes, passes}
+use Rattle.swreq_rank.proofs.Tests.{some_passes, passes}
 
 -- ---- which there are
 
@@ -47,12 +46,12 @@ module _ (order : List ProtoId) (has : ProtoId → NameId → Bool) where
       next n = omega arith
 
   pub symbol_is : (n : ℕ) (d : ProtocolName) → Contains (symbols_below order has n) d → IsSymbol n d
-  symbol_is zero d c = absurd (no_element d c)
+  symbol_is zero d c = no_member d c
   symbol_is (suc n) d c = ⊎_elim (λ b. later n d (symbol_is n d b)) (at_last n d) (Contains-append_cases (symbols_below order has n) (symbols_of order has (name n)) d c)
 
   having_there : (p : ProtoId) (a : NameId) → Contains order p → has p a ≡ true → Contains (having order has a) p
   having_there p a c e =
-      there (having order has a) (length (having (take c.0 order) has a)) p
+      get_contains (having order has a) (length (having (take c.0 order) has a)) p
       (filter_place (λ q. has q a) order c.0 p c.1 (ap (λ q. has q a) c.2 ∙ e) ∙ ap Some c.2)
 
   pub symbol_there : (n : ℕ) (d : ProtocolName) → d.name.rank < n → Contains order d.proto → has d.proto d.name ≡ true → Contains (symbols_below order has n) d
@@ -92,8 +91,8 @@ module _ (inherits : ProtoId → ProtoId → Bool) (count : ℕ) (order : List P
       sorted_append (symbol_cmp inherits count) (symbols_below order has n) (symbols_of order has (name n)) (symbols_sorted n)
       (sorted_map (order_cmp inherits count) (symbol_cmp inherits count) (λ p. pair p (name n)) (keeps (name n)) (having order has (name n))
       (IsStrictlySortedBy-filter (order_cmp inherits count) (λ p. has p (name n)) order sorted))
-      (all_contained (λ d. AllByRecursion (λ e. symbol_cmp inherits count d e ≡ Less) (symbols_of order has (name n))) (symbols_below order has n)
-      (λ d c. all_contained (λ e. symbol_cmp inherits count d e ≡ Less) (symbols_of order has (name n))
+      (each_by_recursion (λ d. AllByRecursion (λ e. symbol_cmp inherits count d e ≡ Less) (symbols_of order has (name n))) (symbols_below order has n)
+      (λ d c. each_by_recursion (λ e. symbol_cmp inherits count d e ≡ Less) (symbols_of order has (name n))
       (λ e b. by_name d e (subst (λ r. d.name.rank < r) (sym (named n e b)) (symbol_is order has n d c).named))))
 
 -- ---- member names
@@ -109,13 +108,13 @@ module _ (inherits : ProtoId → ProtoId → Bool) (associated : List ProtocolNa
   member_from h =
       let s = some_passes test associated h in
       let d = s.0 in
-      let n = eqb-true a.rank d.name.rank (and_first (nat_eq a.rank d.name.rank) (nat_eq p.rank d.proto.rank || inherits p d.proto) s.2) in
+      let n = eqb-true a.rank d.name.rank ((and_parts (nat_eq a.rank d.name.rank) (nat_eq p.rank d.proto.rank || inherits p d.proto) s.2).0) in
       ⊎_elim (λ e. inl (subst (λ x. Contains associated x) (same_pair p d (eqb-true p.rank d.proto.rank e) n) s.1))
       (λ e. inr (d.proto, e, subst (λ x. Contains associated x) (same_pair d.proto d refl n) s.1))
-      (or_cases (nat_eq p.rank d.proto.rank) (inherits p d.proto) (and_second (nat_eq a.rank d.name.rank) (nat_eq p.rank d.proto.rank || inherits p d.proto) s.2))
+      (or_cases (nat_eq p.rank d.proto.rank) (inherits p d.proto) ((and_parts (nat_eq a.rank d.name.rank) (nat_eq p.rank d.proto.rank || inherits p d.proto) s.2).1))
 
   pub member_to : HasMember inherits associated p a → has_member inherits associated p a ≡ true
   member_to h =
       ⊎_elim
-      (λ c. passes test associated (pair p a) c (and_both (nat_eq a.rank a.rank) (nat_eq p.rank p.rank || inherits p p) (eq-eqb a.rank a.rank refl) (or_left (nat_eq p.rank p.rank) (inherits p p) (eq-eqb p.rank p.rank refl))))
-      (λ s. passes test associated (pair s.0 a) s.2 (and_both (nat_eq a.rank a.rank) (nat_eq p.rank s.0.rank || inherits p s.0) (eq-eqb a.rank a.rank refl) (or_right (nat_eq p.rank s.0.rank) (inherits p s.0) s.1))) h
+      (λ c. passes test associated (pair p a) c (and_from (nat_eq a.rank a.rank) (nat_eq p.rank p.rank || inherits p p) (eq-eqb a.rank a.rank refl) (or_left (nat_eq p.rank p.rank) (inherits p p) (eq-eqb p.rank p.rank refl))))
+      (λ s. passes test associated (pair s.0 a) s.2 (and_from (nat_eq a.rank a.rank) (nat_eq p.rank s.0.rank || inherits p s.0) (eq-eqb a.rank a.rank refl) (or_right (nat_eq p.rank s.0.rank) (inherits p s.0) s.1))) h

@@ -6,6 +6,7 @@ use Rattle.std.proofs.lemmas.Bool.{cases_lt}
 use Rattle.std.proofs.lemmas.List.{length-map, get_or_past}
 use Rattle.std.proofs.lemmas.List.Sums.{sum_by_more, length-filter, count_by-le-length}
 use Rattle.std.proofs.lemmas.Option.{slice_get-map}
+use Rattle.swreq_orders.proofs.Elements.{get_after}
 use Rattle.swreq_param.specs.declared.ids.NameId.{NameId}
 use Rattle.swreq_param.specs.declared.ids.ProtoId.{ProtoId}
 use Rattle.swreq_lexicon.specs.Associated.{name}
@@ -18,16 +19,6 @@ pub get_left : {A : Type 0} (xs ys : List A) (i : ℕ) → i < length xs → sli
 get_left [] ys i h = absurd (omega arith)
 get_left (x ∷ xs) ys zero h = refl
 get_left (x ∷ xs) ys (suc i) h = get_left xs ys i (omega arith)
-
-pub get_right : {A : Type 0} (xs ys : List A) (k : ℕ) → slice_get (xs ++ ys) (length xs + k) ≡ slice_get ys k
-get_right [] ys k = ap (slice_get ys) (zero_more k)
-  where
-    zero_more : (k : ℕ) → 0 + k ≡ k
-    zero_more k = omega arith
-get_right (x ∷ xs) ys k = ap (slice_get (x ∷ (xs ++ ys))) (one_more (length xs) k) ∙ get_right xs ys k
-  where
-    one_more : (n k : ℕ) → suc n + k ≡ suc (n + k)
-    one_more n k = omega arith
 
 -- an item that passes stands among those that pass after those before it
 pub filter_place : {A : Type 0} (p : A → Bool) (xs : List A) (i : ℕ) (d : A) → i < length xs → p (get_or xs i d) ≡ true → slice_get (filter p xs) (length (filter p (take i xs))) ≡ Some (get_or xs i d)
@@ -96,7 +87,7 @@ module _ (order : List ProtoId) (has : ProtoId → NameId → Bool) where
       let m = length_more a in
       let within : length (symbols_below order has a) + k < length (symbols_below order has (suc a)) = omega (arith, m, l) in
       kept (suc a) n (length (symbols_below order has a) + k) (next a n h) within
-      ∙ get_right (symbols_below order has a) (symbols_of order has (name a)) k
+      ∙ get_after (symbols_below order has a) (symbols_of order has (name a)) k
       ∙ slice_get-map (λ q. pair q (name a)) (having order has (name a)) k
       ∙ ap (option_map (λ q. pair q (name a))) e
     where

@@ -12,7 +12,7 @@ use Rattle.swreq_param.specs.declared.ids.ProtoId.{ProtoId}
 use Rattle.swreq_lexicon.specs.declared.pair.ProtocolName.{ProtocolName}
 use Rattle.swreq_lexicon.specs.Associated as over
 use Rattle.swreq_lexicon.specs.Lexicons.{pair, proto_by}
-use Rattle.swreq_lexicon.specs.Ranks.{Bytes, IsRanking, bytes_cmp}
+use Rattle.swreq_rank.specs.Ranks.{Bytes, IsRanking, bytes_cmp}
 use Rattle.swreq_lexicon.specs.Symbols.{has_member, symbols_below}
 use Rattle.swreq_lexicon.specs.Texts.{IsLexiconOf, protocol_names, declared_in}
 use Rattle.swreq_lexicon.specs.Views.{LexiconView, ProtocolsView, IsProtocol, HasMember, place_by, inherits_by, symbol_cmp}

@@ -5,7 +5,7 @@ use Rattle.swreq_param.specs.declared.ids.NameId.{NameId}
 use Rattle.swreq_param.specs.declared.ids.ProtoId.{ProtoId}
 use Rattle.swreq_derive.specs.Derivation.{AssociatedType}
 use Rattle.swreq_lexicon.specs.declared.pair.ProtocolName.{ProtocolName}
-use Rattle.swreq_lexicon.specs.Ranks.{Bytes, rank}
+use Rattle.swreq_rank.specs.Ranks.{Bytes, rank}
 
 -- The bytes of a text, the names of its protocols and its names of members by rank, and its associated types by rank.
 pub record Lexicon : Type 0 where

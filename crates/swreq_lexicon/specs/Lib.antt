@@ -1,4 +1,3 @@
-pub mod Ranks
 pub mod Lexicons
 pub mod Associated
 pub mod Keys

@@ -11,10 +11,10 @@ ghost use Rattle.swreq_lexicon.specs.Views.{inherits_by};
 
 use crate::pair::ProtocolName;
 use crate::protocols::Protocols;
-use crate::ranked::Ranked;
 use std::alloc::{AllocError, Global};
 use std::marker::Model;
 use swreq_param::{AssocId, NameId, ProtoId};
+use swreq_rank::{Lists, Ranked};
 
 /// By what associated types are ranked: their name, whether their protocol inherits one that declares it, and their protocol.
 #[derive(Clone, Copy, PartialEq, Eq, PartialOrd, Ord)]
@@ -36,49 +36,11 @@ impl AssocKey {
     }
 }
 
-/// Protocols, which grow.
-#[derive(Drop)]
-pub struct ProtoList {
-    items: Vec<ProtoId>,
-}
-
-impl Model for ProtoList {
-    ghost use Rattle.std.specs.Prelude.{List};
-    ghost use Rattle.swreq_param.specs.declared.ids.ProtoId.{ProtoId};
-
-    ghost Value = { List ProtoId };
-
-    ghost view = { λ d. d.items.items };
-}
-
-impl ProtoList {
-    fn new(alloc: Global) -> Self
-        ensures { result ≡ [] }
-    {
-        ProtoList {
-            items: Vec::new(alloc),
-        }
-    }
-
-    fn push(&mut self, p: ProtoId) -> Result<(), AllocError>
-        ensures { OnOk result (self.new ≡ self.old ++ p ∷ []) }
-    {
-        self.items.push(p)?;
-        Ok(())
-    }
-
-    fn items(&self) -> &[ProtoId]
-        ensures { result.now ≡ self.now }
-    {
-        &self.items
-    }
-}
-
 /// At most 1,048,576 associated types by rank, and for each name the protocols that declare it.
 #[derive(Drop)]
 pub struct Associated {
     ranked: Ranked<AssocKey>,
-    declarers: Vec<ProtoList>,
+    declarers: Lists<ProtoId>,
 }
 
 impl Model for Associated {
@@ -91,7 +53,7 @@ impl Model for Associated {
 
     ghost view = { λ a. map pair_of a.ranked };
 
-    ghost invariant = { λ a. AreDeclarers (map pair_of a.ranked) a.declarers.items × (length a.ranked ≤ 1048576) };
+    ghost invariant = { λ a. AreDeclarers (map pair_of a.ranked) a.declarers × (length a.ranked ≤ 1048576) };
 }
 
 impl Associated {
@@ -108,7 +70,7 @@ impl Associated {
         ensures sorted { IfOk result (λ x. IsStrictlySortedBy (assoc_cmp (inherits_by protocols.now.places protocols.now.resolved.inherits) x) x) }
     {
         let declarers = declarers_of(alloc, names, &pairs)?;
-        let ranked = Ranked::of(alloc, keys(alloc, protocols, &declarers, &pairs)?)?;
+        let ranked = Ranked::of(keys(alloc, protocols, &declarers, &pairs)?);
         let _sorted = ranked.items();
         Ok(Associated { ranked, declarers })
     }
@@ -155,63 +117,38 @@ impl Associated {
     }
 }
 
-/// The protocols that declare a name.
-fn list_of(lists: &[ProtoList], a: NameId) -> &[ProtoId]
-    ensures { result.now ≡ slice_index_or lists.now a.rank [] }
-{
-    match lists.get(a.rank as usize) {
-        Some(list) => list.items(),
-        None => &[],
-    }
-}
-
-fn empty_lists(alloc: Global, count: usize) -> Result<Vec<ProtoList>, AllocError>
-    ensures len { IfOk result (λ lists. length lists.items ≡ count) }
-    ensures none { IfOk result (λ lists. (r : ℕ) → slice_index_or lists.items r [] ≡ []) }
-{
-    let mut lists = Vec::new(alloc);
-    for _ in 0..count {
-        lists.push(ProtoList::new(alloc))?;
-    }
-    Ok(lists)
-}
-
-fn add(lists: &mut Vec<ProtoList>, d: ProtocolName) -> Result<(), AllocError>
-    requires { d.name.rank < length lists.old.items }
-    ensures { OnOk result (lists.new.items ≡ slice_set lists.old.items d.name.rank (slice_index_or lists.old.items d.name.rank [] ++ d.proto ∷ [])) }
-{
-    lists[d.name.rank as usize].push(d.proto)?;
-    Ok(())
-}
-
 /// For each name, by rank, the protocols that declare it.
 fn declarers_of(
     alloc: Global,
     names: usize,
     pairs: &[ProtocolName],
-) -> Result<Vec<ProtoList>, AllocError>
+) -> Result<Lists<ProtoId>, AllocError>
     requires { (d : ProtocolName) → Contains pairs.now d → d.name.rank < names }
-    ensures { IfOk result (λ lists. AreDeclarers pairs.now lists.items) }
+    ensures { IfOk result (λ lists. AreDeclarers pairs.now lists) }
 {
-    let mut lists = empty_lists(alloc, names)?;
+    let mut lists = Lists::new(alloc, names)?;
     for d in pairs {
-        add(&mut lists, *d)?;
+        lists.push(d.name.rank as usize, d.proto)?;
     }
     Ok(lists)
 }
 
 /// Whether some protocol that the protocol inherits declares the name.
-fn inherits_name(protocols: &Protocols, lists: &[ProtoList], p: ProtoId, a: NameId) -> bool
+fn inherits_name(protocols: &Protocols, lists: &Lists<ProtoId>, p: ProtoId, a: NameId) -> bool
     ensures { result ≡ list_any (inherits_by protocols.now.places protocols.now.resolved.inherits p) (slice_index_or lists.now a.rank []) }
 {
-    list_of(lists, a).iter().any(|q| protocols.inherits(p, *q))
+    lists
+        .at(a.rank as usize)
+        .iter()
+        .any(|q| protocols.inherits(p, *q))
 }
 
 /// Whether the protocol, or one that it inherits, is among those that declare the name.
-fn has_name(protocols: &Protocols, lists: &[ProtoList], p: ProtoId, a: NameId) -> bool
+fn has_name(protocols: &Protocols, lists: &Lists<ProtoId>, p: ProtoId, a: NameId) -> bool
     ensures { result ≡ list_any (λ q. nat_eq p.rank q.rank || inherits_by protocols.now.places protocols.now.resolved.inherits p q) (slice_index_or lists.now a.rank []) }
 {
-    list_of(lists, a)
+    lists
+        .at(a.rank as usize)
         .iter()
         .any(|q| p == *q || protocols.inherits(p, *q))
 }
@@ -220,7 +157,7 @@ fn has_name(protocols: &Protocols, lists: &[ProtoList], p: ProtoId, a: NameId) -
 fn keys(
     alloc: Global,
     protocols: &Protocols,
-    lists: &[ProtoList],
+    lists: &Lists<ProtoId>,
     pairs: &[ProtocolName],
 ) -> Result<Vec<AssocKey>, AllocError>
     requires { AreDeclarers pairs.now lists.now }

@@ -11,7 +11,7 @@ ghost use Rattle.swreq_names.specs.Spaces.{place, spaces};
 ghost use Rattle.swreq_param.specs.declared.ids.ProtoId.{ProtoId};
 ghost use Rattle.swreq_lexicon.specs.declared.pair.ProtocolName.{ProtocolName};
 ghost use Rattle.swreq_lexicon.specs.Lexicons.{pair, proto_by, name_by, assoc_by, associated_types};
-ghost use Rattle.swreq_lexicon.specs.Ranks.{Bytes};
+ghost use Rattle.swreq_rank.specs.Ranks.{Bytes};
 ghost use Rattle.swreq_lexicon.specs.Texts.{IsLexiconOf, protocol_names, declared_in};
 ghost use Rattle.swreq_lexicon.specs.Views.{LexiconView, IsProtocol, place_of};
 

@@ -5,7 +5,7 @@ ghost use Rattle.swreq_names.specs.Names.{HasDeclared};
 ghost use Rattle.swreq_names.specs.Spaces.{word};
 ghost use Rattle.swreq_lexicon.specs.declared.pair.ProtocolName.{ProtocolName};
 ghost use Rattle.swreq_lexicon.specs.Lexicons.{pair, proto_by, name_by, assoc_by};
-ghost use Rattle.swreq_lexicon.specs.Ranks.{IsRanking, bytes_cmp};
+ghost use Rattle.swreq_rank.specs.Ranks.{IsRanking, bytes_cmp};
 ghost use Rattle.swreq_lexicon.specs.Texts.{IsSmall, IsLexiconOf, declared_in};
 ghost use Rattle.swreq_lexicon.specs.Views.{inherits, depth, HasMember};
 
@@ -16,8 +16,9 @@ use crate::symbols::Symbols;
 use std::alloc::{AllocError, Global};
 use std::marker::Model;
 use swreq_decl::{AssocDecl, ProtocolDecl, Skeleton};
-use swreq_names::{Names, Ranks, member_names, word};
+use swreq_names::{Names, member_names, word};
 use swreq_param::{AssocId, NameId, ProtoId};
+use swreq_rank::Ranks;
 
 /// What the words of a text stand for: its protocols, its names of associated types and of members, its associated types and
 /// its member symbols, each by rank.

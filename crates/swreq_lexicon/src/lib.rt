@@ -6,7 +6,6 @@ pub mod laws;
 mod lexicon;
 mod pair;
 mod protocols;
-mod ranked;
 mod symbols;
 
 pub use lexicon::Lexicon;

@@ -2,18 +2,19 @@
 ghost use Rattle.std.specs.Prelude.{◌≡◌, ◌<◌, ◌≤◌, ◌+◌, ◌++◌, ◌∷◌, [], ◌↔◌, ℕ, List, length, map, cond, slice_get, slice_index, slice_index_or, Some, MatchOption, IfOk, Contains};
 ghost use Rattle.std.specs.List.{position_from};
 ghost use Rattle.std.specs.Str.{bytes_eq};
-ghost use Rattle.swreq_names.specs.Spaces.{word};
+ghost use Rattle.swreq_names.specs.Spaces.{word, declarations, place};
 ghost use Rattle.swreq_lexicon.specs.Associated.{depth};
 ghost use Rattle.swreq_lexicon.specs.Lexicons.{proto_by};
-ghost use Rattle.swreq_lexicon.specs.Ranks.{Bytes, IsRanking, bytes_cmp, rank};
+ghost use Rattle.swreq_rank.specs.Ranks.{Bytes, IsRanking, bytes_cmp, rank};
 ghost use Rattle.swreq_lexicon.specs.Texts.{protocol_names};
 ghost use Rattle.swreq_lexicon.specs.Views.{place_by, inherits_by};
 
 use std::alloc::{AllocError, Global};
 use std::marker::Model;
 use swreq_decl::ProtocolDecl;
-use swreq_names::{Names, Ranks, word};
+use swreq_names::{Names, word};
 use swreq_param::ProtoId;
+use swreq_rank::Ranks;
 use swreq_text::Seq;
 
 /// The protocols of a text by rank, and which of them inherits which.
@@ -50,7 +51,8 @@ impl Protocols {
         protocols: &[ProtocolDecl],
         resolved: Names,
     ) -> Result<Protocols, AllocError>
-        requires { length protocols.now ≤ 1048576 }
+        requires small { length protocols.now ≤ 1048576 }
+        requires declared { resolved.declared.protocols ≡ declarations text.now (map (λ p. p.name) protocols.now) }
         ensures ranking { IfOk result (λ x. IsRanking bytes_cmp (Contains (protocol_names text.now protocols.now)) x.protocols) }
         ensures places { IfOk result (λ x. (p : ProtoId) (name : Bytes) → slice_get x.protocols p.rank ≡ Some name
             → position_from (bytes_eq name) 0 (protocol_names text.now protocols.now) ≡ Some (place_by x.places p)) }
@@ -58,7 +60,7 @@ impl Protocols {
         ensures resolved { IfOk result (λ x. x.resolved ≡ resolved) }
     {
         let ranks = ranks_of(alloc, text, protocols)?;
-        let places = places(alloc, text, protocols, &ranks)?;
+        let places = places(alloc, &resolved, &ranks)?;
         let written_order = written_order(alloc, text, protocols, &ranks)?;
         Ok(Protocols {
             ranks,
@@ -177,42 +179,25 @@ fn ranks_of(alloc: Global, text: &[u8], protocols: &[ProtocolDecl]) -> Result<Ra
     ensures ranking { IfOk result (IsRanking bytes_cmp (Contains (protocol_names text.now protocols.now))) }
     ensures few { IfOk result (λ ranks. length ranks ≤ length protocols.now) }
 {
-    let ranks = Ranks::of(alloc, names(alloc, text, protocols)?)?;
+    let ranks = Ranks::of(names(alloc, text, protocols)?);
     let _count = ranks.len();
     Ok(ranks)
 }
 
-/// Notes the place of a protocol with this name.
-fn note(place: usize, name: &[u8], ranks: &Ranks, places: &mut Vec<usize>)
-    requires { length places.old.items ≡ length ranks.now }
-    ensures len { length places.new.items ≡ length places.old.items }
-    ensures noted { (r : ℕ) (q : Bytes) → slice_get ranks.now r ≡ Some q
-        → slice_index places.new.items r ≡ cond (bytes_eq q name.now) place (slice_index places.old.items r) }
+/// The first place of a name among those of protocols in written order, or 0 where it is none of them.
+fn first_place(resolved: &Names, name: &[u8]) -> usize
+    ensures { result ≡ unwrap_or (place resolved.now.declared.protocols name.now) 0 }
 {
-    let _count = ranks.len();
-    match ranks.find(name) {
-        Some(rank) => places[rank] = place,
-        None => {}
-    }
+    resolved.declared().protocols().find(name).unwrap_or(0)
 }
 
 /// Of each protocol, by rank, the first place of its name in written order.
-fn places(
-    alloc: Global,
-    text: &[u8],
-    protocols: &[ProtocolDecl],
-    ranks: &Ranks,
-) -> Result<Vec<usize>, AllocError>
-    requires { (q : Bytes) → Contains ranks.now q → Contains (protocol_names text.now protocols.now) q }
-    ensures { IfOk result (λ places. (r : ℕ) (q : Bytes) → slice_get ranks.now r ≡ Some q
-        → position_from (bytes_eq q) 0 (protocol_names text.now protocols.now) ≡ Some (slice_index places.items r)) }
+fn places(alloc: Global, resolved: &Names, ranks: &Ranks) -> Result<Vec<usize>, AllocError>
+    ensures { IfOk result (λ places. places.items ≡ map (λ name. unwrap_or (place resolved.now.declared.protocols name) 0) ranks.now) }
 {
-    let mut places = vec![in alloc; 0; ranks.len()]?;
-    let mut i = protocols.len();
-    while i > 0 {
-        i -= 1;
-        let p = &protocols[i];
-        note(i, word(text, p.name), ranks, &mut places);
+    let mut places = Vec::new(alloc);
+    for rank in 0..ranks.len() {
+        places.push(first_place(resolved, ranks.name(rank)))?;
     }
     Ok(places)
 }

@@ -4,18 +4,18 @@ ghost use Rattle.swreq_param.specs.declared.ids.ProtoId.{ProtoId};
 ghost use Rattle.swreq_lexicon.specs.Associated.{name, order_cmp};
 ghost use Rattle.swreq_lexicon.specs.Keys.{order_keys};
 ghost use Rattle.swreq_lexicon.specs.Lexicons.{pair};
-ghost use Rattle.swreq_lexicon.specs.Ranks.{IsRanking};
+ghost use Rattle.swreq_rank.specs.Ranks.{IsRanking};
 ghost use Rattle.swreq_lexicon.specs.Symbols.{has_member, having, symbols_below, AreCounts, AreStarts};
 ghost use Rattle.swreq_lexicon.specs.Views.{inherits_by};
 
 use crate::associated::Associated;
 use crate::pair::ProtocolName;
 use crate::protocols::Protocols;
-use crate::ranked::Ranked;
 use std::alloc::{AllocError, Global};
 use std::cmp::Reverse;
 use std::marker::Model;
 use swreq_param::{NameId, ProtoId};
+use swreq_rank::Ranked;
 
 /// By what protocols are ordered: how many protocols they inherit, more first, and their rank.
 #[derive(Clone, Copy, PartialEq, Eq, PartialOrd, Ord)]
@@ -152,7 +152,7 @@ fn order(alloc: Global, protocols: &Protocols) -> Result<Vec<ProtoId>, AllocErro
     ensures few { IfOk result (λ order. length order.items ≤ 1048576) }
 {
     let _count = protocols.len();
-    let ranked = Ranked::of(alloc, keys(alloc, protocols)?)?;
+    let ranked = Ranked::of(keys(alloc, protocols)?);
     let order = protos(alloc, ranked.items())?;
     Ok(order)
 }

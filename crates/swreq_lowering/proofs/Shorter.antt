@@ -31,10 +31,10 @@ use Rattle.swreq_names.specs.declared.signature.Signature.{Signature}
 use Rattle.swreq_names.specs.declared.signature.Signature.TheVariants.{Struct, Function, Nested}
 use Rattle.swreq_names.specs.Mentioned as names
 use Rattle.swreq_names.specs.Spaces.{spaces, declaration, declarations, of_params, outer_params as declared_outer, own_params as declared_own}
-use Rattle.swreq_lexicon.specs.Ranks.{bytes_cmp}
+use Rattle.swreq_rank.specs.Ranks.{bytes_cmp}
 use Rattle.swreq_lexicon.specs.Texts.{IsSmall}
-use Rattle.swreq_lexicon.proofs.Names.{few_names}
-use Rattle.swreq_lexicon.proofs.Rising.{rising_from_sorted}
+use Rattle.swreq_rank.proofs.Names.{few_names}
+use Rattle.swreq_rank.proofs.Rising.{rising_from_sorted}
 use Rattle.swreq_lowering.specs.Short.{HasShortLists}
 use Rattle.swreq_lowering.specs.Signatures.{params_of_struct, params_of_function, functions_of, outer_params, own_params, nested_from, functions_from, with_nested, merged, in_order}
 use Rattle.swreq_lowering.proofs.Sizes.{type_size, entity_size, bounds_size, requirement_size, clause_size, member_size, protocol_size, param_size, function_size, struct_size, ask_size, query_size, item_size, parts_bound}

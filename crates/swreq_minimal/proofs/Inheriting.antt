@@ -4,6 +4,7 @@ use Rattle.std.specs.List.{flat_map}
 use Rattle.std.specs.Option.{option_to_list}
 use Rattle.std.specs.Str.{bytes_eq}
 use Rattle.std.proofs.lemmas.List.Elements.{Contains-append_cases, Contains-append_left, Contains-append_right}
+use Rattle.std.proofs.lemmas.Bool.{and_parts}
 use Rattle.swreq_param.specs.Terms.{self, with_steps}
 use Rattle.swreq_decl.specs.declared.skeleton.AssocDecl.{AssocDecl}
 use Rattle.swreq_decl.specs.declared.skeleton.Entity.{Entity}
@@ -17,7 +18,6 @@ use Rattle.swreq_orders.proofs.Members.{no_member, only_member}
 use Rattle.swreq_names.specs.Inheritance as inheritance
 use Rattle.swreq_names.specs.Inheritance.{direct, is_bare, named_by}
 use Rattle.swreq_names.specs.Spaces.{self_bytes, Spaces, protocol_of, word}
-use Rattle.swreq_names.proofs.Booleans.{and_first, and_second}
 use Rattle.swreq_lexicon.proofs.Declared.{from_pieces, in_pieces}
 use Rattle.swreq_lowering.specs.declared.scope.Scope.TheVariants.{Protocol}
 use Rattle.swreq_lowering.specs.Requirements.{PlacedRequirement, bound_of, in_bound, in_bounds, in_clause, in_member, in_members, in_protocol, in_requirement, of_one_side}
@@ -77,8 +77,8 @@ module _ (d : Spaces) (w : WordsView) (j : ℕ) where
     where
       is_self : (bytes_eq self_bytes (word w.text t.head) && is_bare t.steps) ≡ true → type_in w Protocol t ≡ self
       is_self e =
-          let begins = and_first (bytes_eq self_bytes (word w.text t.head)) (is_bare t.steps) e in
-          let ends = bare t.steps (and_second (bytes_eq self_bytes (word w.text t.head)) (is_bare t.steps) e) in
+          let begins = (and_parts (bytes_eq self_bytes (word w.text t.head)) (is_bare t.steps) e).0 in
+          let ends = bare t.steps (and_parts (bytes_eq self_bytes (word w.text t.head)) (is_bare t.steps) e).1 in
           λ i. with_steps (cond (begins i) self (member_named w self t.head)) (map (step_of w) (ends i))
 
       by : (b : Bool) → (bytes_eq self_bytes (word w.text t.head) && is_bare t.steps) ≡ b

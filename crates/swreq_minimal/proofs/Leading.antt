@@ -20,7 +20,7 @@ use Rattle.swreq_names.specs.Spaces.{Spaces, declaration, is_declared_before, of
 use Rattle.swreq_param.specs.declared.ids.ProtoId.{ProtoId}
 use Rattle.swreq_param.specs.Terms.{self}
 use Rattle.swreq_lexicon.specs.Lexicons.{proto_by}
-use Rattle.swreq_lexicon.specs.Ranks.{Bytes}
+use Rattle.swreq_rank.specs.Ranks.{Bytes}
 use Rattle.swreq_lexicon.specs.Views.{IsProtocol, LexiconView, place_of}
 use Rattle.swreq_lexicon.proofs.RankLaws.{meant, written_at}
 use Rattle.swreq_orders.proofs.Members.{contains_map}

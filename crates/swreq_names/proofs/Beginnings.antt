@@ -2,31 +2,18 @@
 use Rattle.std.proofs.Common.{◌≡◌, ℕ, zero, suc, ◌+◌, ◌<◌, ⊎_elim, ◌↔◌, Bool, true, false, cond, ◌&&◌, ◌||◌, List, [], ◌∷◌, length, get_or, Contains, is_some, Some, refl, sym, ap, subst, ◌∙◌, arith, true≢false}
 use Rattle.std.specs.List.{list_any, position_from}
 use Rattle.std.specs.Str.{bytes_eq}
-use Rattle.std.proofs.lemmas.Bool.{cases_eq, cases_lt}
+use Rattle.std.proofs.lemmas.Bool.{cases_eq, cases_lt, or_cases, or_left, or_right, and_from, and_parts}
 use Rattle.std.proofs.lemmas.List.{get_or_past}
 use Rattle.std.proofs.lemmas.List.Elements.{Contains-append_right}
 use Rattle.std.proofs.lemmas.Slice.Eq.{bytes_eq-Decides}
+use Rattle.swreq_orders.proofs.Members.{no_member}
+use Rattle.swreq_rank.proofs.Tests.{same_bool, some_passes, passes}
 use Rattle.swreq_names.specs.declared.directory.Declaration.{Declaration}
 use Rattle.swreq_names.specs.Spaces.{is_declared, any_below}
 use Rattle.swreq_names.specs.Directories.{names_of}
-use Rattle.swreq_names.proofs.Booleans.{same_bool, or_cases, or_left, or_right, and_both, and_first, and_second}
 use Rattle.swreq_names.proofs.Firsts.{same_true}
-use Rattle.swreq_names.proofs.Declaring.{no_element}
 
--- ---- some element, some number
-
-any_to : (test : ℕ → Bool) (xs : List ℕ) → list_any test xs ≡ true → (j : ℕ) × Contains xs j × (test j ≡ true)
-any_to test [] e = absurd (true≢false (sym e))
-any_to test (x ∷ xs) e =
-    ⊎_elim (λ h. (x, (0, omega arith, refl), h)) (λ h. let k = any_to test xs h in (k.0, Contains-append_right (x ∷ []) xs k.0 k.1, k.2)) (or_cases (test x) (list_any test xs) e)
-
-any_from : (test : ℕ → Bool) (xs : List ℕ) (j : ℕ) → Contains xs j → test j ≡ true → list_any test xs ≡ true
-any_from test [] j c e = absurd (no_element j c)
-any_from test (x ∷ xs) j c e = by c.0 c.1 c.2 (λ d. any_from test xs j d e)
-  where
-    by : (k : ℕ) → k < length (x ∷ xs) → get_or (x ∷ xs) k j ≡ j → (Contains xs j → list_any test xs ≡ true) → (test x || list_any test xs) ≡ true
-    by zero l s rest = or_left (test x) (list_any test xs) (ap test s ∙ e)
-    by (suc k) l s rest = let m : k < length xs = omega arith in or_right (test x) (list_any test xs) (rest (k, m, s))
+-- ---- some number
 
 below_to : (test : ℕ → Bool) (n : ℕ) → any_below test n ≡ true → (j : ℕ) × (j < n) × (test j ≡ true)
 below_to test zero e = absurd (true≢false (sym e))
@@ -49,7 +36,7 @@ declared_to (x ∷ xs) q i e = by (bytes_eq q x) refl e (declared_to xs q (i + 1
     by false s f rest = Contains-append_right (x ∷ []) xs q (rest f)
 
 declared_from : (names : List (List ℕ)) (q : List ℕ) (i : ℕ) → Contains names q → is_some (position_from (bytes_eq q) i names) ≡ true
-declared_from [] q i c = absurd (no_element q c)
+declared_from [] q i c = no_member q c
 declared_from (x ∷ xs) q i c = by (bytes_eq q x) refl c.0 c.1 c.2 (declared_from xs q (i + 1))
   where
     by : (b : Bool) → bytes_eq q x ≡ b → (k : ℕ) → k < length (x ∷ xs) → get_or (x ∷ xs) k q ≡ q → (Contains xs q → is_some (position_from (bytes_eq q) (i + 1) xs) ≡ true)
@@ -68,16 +55,16 @@ declared_by_any tells members q list same = same_bool (list_any tells list) (any
     test j = tells j && is_declared (get_or members j []) q
 
     within : (j : ℕ) → Contains (names_of (get_or members j [])) q → j < length members
-    within j c = ⊎_elim (λ l. l) (λ l. absurd (no_element q (subst (λ (xs : List Declaration). Contains (names_of xs) q) (get_or_past members j [] l) c))) (cases_lt j (length members))
+    within j c = ⊎_elim (λ l. l) (λ l. no_member q (subst (λ (xs : List Declaration). Contains (names_of xs) q) (get_or_past members j [] l) c)) (cases_lt j (length members))
 
     to : list_any tells list ≡ true → any_below test (length members) ≡ true
     to e =
-        let k = any_to tells list e in
+        let k = some_passes tells list e in
         let c = (same k.0).0 k.1 in
-        below_from test (length members) k.0 (within k.0 c) (and_both (tells k.0) (is_declared (get_or members k.0 []) q) k.2 (declared_from (names_of (get_or members k.0 [])) q 0 c))
+        below_from test (length members) k.0 (within k.0 c) (and_from (tells k.0) (is_declared (get_or members k.0 []) q) k.2 (declared_from (names_of (get_or members k.0 [])) q 0 c))
 
     from : any_below test (length members) ≡ true → list_any tells list ≡ true
     from e =
         let k = below_to test (length members) e in
-        any_from tells list k.0 ((same k.0).1 (declared_to (names_of (get_or members k.0 [])) q 0 (and_second (tells k.0) (is_declared (get_or members k.0 []) q) k.2)))
-        (and_first (tells k.0) (is_declared (get_or members k.0 []) q) k.2)
+        passes tells list k.0 ((same k.0).1 (declared_to (names_of (get_or members k.0 [])) q 0 ((and_parts (tells k.0) (is_declared (get_or members k.0 []) q) k.2).1)))
+        ((and_parts (tells k.0) (is_declared (get_or members k.0 []) q) k.2).0)

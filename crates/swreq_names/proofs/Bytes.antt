@@ -1,6 +1,6 @@
 -- The bytes of words.
 use Rattle.std.proofs.Common.{◌≡◌, ◌∙◌, ◌∷◌, ◌||◌, ◌==◌, ◌<◌, ℕ, suc, Bool, true, false, not, All, List, [], length, length-append, get_or, nat_le, refl, sym, ap, ⊎_elim, arith}
-use Rattle.std.proofs.lemmas.Bool.{eqb-true, le-leb, cases_lt, not-false}
+use Rattle.std.proofs.lemmas.Bool.{eqb-true, le-leb, cases_lt, not-false, or_right}
 use Rattle.std.proofs.lemmas.List.Sums.{list_all-from_AllPass}
 use Rattle.std.proofs.lemmas.List.{get_or_default}
 use Rattle.std.proofs.lemmas.Str.{NoCharPasses-byte, length-encode, len_utf8_bounds}
@@ -35,16 +35,12 @@ no_end : (bytes : List ℕ) → IsSpelledWord bytes → NoCharPasses ends_word b
 unfolding ends_word
 no_end bytes w = (w.first ∷ w.others, sym w.spelled, (ap not (goes_on w.first w.starts), none_ends w.others w.continues))
 
-or_true : (a b : Bool) → b ≡ true → (a || b) ≡ true
-or_true true b e = refl
-or_true false b e = e
-
 -- A byte below 128 is a whole character.
 byte_in_word : (bytes : List ℕ) → IsSpelledWord bytes → (k : ℕ) → k < length bytes → in_word (get_or bytes k 0) ≡ true
 unfolding ends_word
 byte_in_word bytes w k l =
     ⊎_elim
-    (λ h. or_true (nat_le 128 b) (is_ascii_alphanumeric b || (b == 95))
+    (λ h. or_right (nat_le 128 b) (is_ascii_alphanumeric b || (b == 95))
     (sym (is_xid_continue-ascii b h) ∙ not-false (continues_word b) (NoCharPasses-byte ends_word bytes k (no_end bytes w) l h)))
     (λ h. ap (λ t. t || (is_ascii_alphanumeric b || (b == 95))) (le-leb 128 b h))
     (cases_lt b 128)

@@ -2,55 +2,30 @@
 use Rattle.std.proofs.Common.{◌≡◌, ℕ, zero, suc, ◌+◌, ◌<◌, ◌≤◌, ◌⊎◌, inl, inr, ⊎_elim, ◌↔◌, List, [], ◌∷◌, ◌++◌, length, get_or, set, take, slice_get, Some, Contains, refl, sym, ap, subst, ◌∙◌, arith}
 use Rattle.std.proofs.lemmas.Bool.{cases_eq, cases_lt}
 use Rattle.std.proofs.lemmas.List.{get_or-set_same, get_or-set_other, get_or_past, take_all}
-use Rattle.std.proofs.lemmas.Option.{slice_get_within, get_or_from_slice_get}
+use Rattle.std.proofs.lemmas.Cmp.{nat_list_cmp_total}
+use Rattle.std.proofs.lemmas.Option.{slice_get_within, get_or_from_slice_get, same_Some}
 use Rattle.std.proofs.lemmas.List.Elements.{Contains-append_left, Contains-append_right, Contains-push, Contains-push_cases}
-use Rattle.swreq_names.specs.Rising.{IsRising}
+use Rattle.swreq_orders.proofs.Members.{no_member}
+use Rattle.swreq_orders.proofs.Numbers.{below}
+use Rattle.swreq_rank.specs.Ranks.{bytes_cmp}
+use Rattle.swreq_rank.proofs.Pushed.{pushed, with_item}
+use Rattle.swreq_rank.proofs.Rising.{IsRising, one_place}
 use Rattle.swreq_names.specs.declared.directory.Declaration.{Declaration}
 use Rattle.swreq_names.specs.Directories.{names_of}
-use Rattle.swreq_names.proofs.Firsts.{one_rank}
 use Rattle.swreq_names.proofs.Pieces.{mapped_more}
-
-pub no_element : {A : Type 0} (x : A) → Contains [] x → ⊥
-no_element x c = let h = c.1 in omega arith
-
-some_same : (q name : List ℕ) → Some q ≡ Some name → q ≡ name
-some_same q name e = cc
 
 -- ---- one name
 
 module _ (ranks : List (List ℕ)) (lists : List (List ℕ)) (size : length lists ≡ length ranks) (place : ℕ) (name : List ℕ) where
-  module _ (rising : IsRising ranks) (k : ℕ) (is : slice_get ranks k ≡ Some name) where
-    abbrev with_place : List (List ℕ)
-    with_place = set lists k (get_or lists k [] ++ place ∷ [])
-
-    within : k < length lists
-    within = let l = slice_get_within ranks k name is in omega (arith, size, l)
-
-    here : get_or with_place k [] ≡ get_or lists k [] ++ place ∷ []
-    here = get_or-set_same lists k (get_or lists k [] ++ place ∷ []) [] within
-
-    pub added_at : (r : ℕ) (q : List ℕ) → slice_get ranks r ≡ Some q → (j : ℕ)
-        → Contains (get_or with_place r []) j ↔ (Contains (get_or lists r []) j ⊎ ((j ≡ place) × (q ≡ name)))
-    added_at r q f j = (to, from)
-      where
-        same_name : r ≡ k → q ≡ name
-        same_name e = some_same q name (sym f ∙ ap (slice_get ranks) e ∙ is)
-
-        to : Contains (get_or with_place r []) j → Contains (get_or lists r []) j ⊎ ((j ≡ place) × (q ≡ name))
-        to c =
-            ⊎_elim
-            (λ e. ⊎_elim (λ d. inl (subst (λ x. Contains (get_or lists x []) j) (sym e) d)) (λ s. inr (sym s, same_name e))
-            (Contains-push_cases (get_or lists k []) place j (subst (λ xs. Contains xs j) (ap (λ x. get_or with_place x []) e ∙ here) c)))
-            (λ n. inl (subst (λ xs. Contains xs j) (get_or-set_other lists k r (get_or lists k [] ++ place ∷ []) [] n) c)) (cases_eq r k)
-
-        from : Contains (get_or lists r []) j ⊎ ((j ≡ place) × (q ≡ name)) → Contains (get_or with_place r []) j
-        from h =
-            ⊎_elim
-            (λ e. subst (λ xs. Contains xs j) (sym (ap (λ x. get_or with_place x []) e ∙ here))
-            (⊎_elim (λ d. Contains-append_left (get_or lists k []) (place ∷ []) j (subst (λ x. Contains (get_or lists x []) j) e d))
-            (λ s. subst (λ x. Contains (get_or lists k [] ++ place ∷ []) x) (sym s.0) (Contains-push (get_or lists k []) place)) h))
-            (λ n. subst (λ xs. Contains xs j) (sym (get_or-set_other lists k r (get_or lists k [] ++ place ∷ []) [] n))
-            (⊎_elim (λ d. d) (λ s. absurd (one_rank ranks rising r k name (f ∙ ap Some s.1) is n)) h)) (cases_eq r k)
+  pub added_at : IsRising bytes_cmp ranks → (k : ℕ) → slice_get ranks k ≡ Some name → (r : ℕ) (q : List ℕ) → slice_get ranks r ≡ Some q → (j : ℕ)
+      → Contains (get_or (with_item lists k place) r []) j ↔ (Contains (get_or lists r []) j ⊎ ((j ≡ place) × (q ≡ name)))
+  added_at rising k is r q f j = (
+    λ c. ⊎_elim inl (λ s. inr (s.1, same_Some q name (sym f ∙ ap (slice_get ranks) s.0 ∙ is))) ((both r j).0 c),
+    λ h. (both r j).1 (⊎_elim inl (λ s. inr (one_place bytes_cmp nat_list_cmp_total ranks rising r k name (f ∙ ap Some s.1) is, s.0)) h),
+  )
+    where
+      both : (r j : ℕ) → Contains (get_or (with_item lists k place) r []) j ↔ (Contains (get_or lists r []) j ⊎ ((r ≡ k) × (j ≡ place)))
+      both = pushed lists k place (let l = slice_get_within ranks k name is in omega (arith, size, l))
 
   pub added_nowhere : (Contains ranks name → ⊥) → (r : ℕ) (q : List ℕ) → slice_get ranks r ≡ Some q → (j : ℕ)
       → Contains (get_or lists r []) j ↔ (Contains (get_or lists r []) j ⊎ ((j ≡ place) × (q ≡ name)))
@@ -79,7 +54,7 @@ names_more items i place j item q {New} {Old} {First} h e one before = (to, from
         (λ s. ⊎_elim (λ c. one.1 (inl (before.1 (inr (s.0, c))))) (λ t. one.1 (inr (s.0, sym t))) (Contains-push_cases (names_of (take i items)) item.name q (subst (λ xs. Contains xs q) more s.1))) g
 
 pub no_names : (items : List Declaration) (place j : ℕ) (q : List ℕ) {First : Type 0} → First ↔ (First ⊎ ((j ≡ place) × Contains (names_of (take 0 items)) q))
-no_names items place j q = (inl, λ h. ⊎_elim (λ f. f) (λ s. absurd (no_element q s.1)) h)
+no_names items place j q = (inl, λ h. ⊎_elim (λ f. f) (λ s. no_member q s.1) h)
 
 pub all_names_in : (items : List Declaration) (i place j : ℕ) (q : List ℕ) {New First : Type 0} → length items ≤ i
     → New ↔ (First ⊎ ((j ≡ place) × Contains (names_of (take i items)) q)) → New ↔ (First ⊎ ((j ≡ place) × Contains (names_of items) q))
@@ -89,7 +64,7 @@ all_names_in items i place j q {New} {First} h e = subst (λ (xs : List Declarat
 
 module _ (members : List (List Declaration)) (q : List ℕ) (j : ℕ) where
   pub none_yet : (list : List ℕ) → list ≡ [] → Contains list j ↔ ((j < 0) × Contains (names_of (get_or members j [])) q)
-  none_yet list e = (λ c. absurd (no_element j (subst (λ xs. Contains xs j) e c)), λ s. absurd (let h = s.0 in omega arith))
+  none_yet list e = (λ c. no_member j (subst (λ xs. Contains xs j) e c), λ s. absurd (let h = s.0 in omega arith))
 
   pub members_more : (i : ℕ) (names : List (List ℕ)) {New Old : Type 0} → names ≡ names_of (get_or members i [])
       → (New ↔ (Old ⊎ ((j ≡ i) × Contains names q))) → (Old ↔ ((j < i) × Contains (names_of (get_or members j [])) q))
@@ -117,7 +92,7 @@ module _ (members : List (List Declaration)) (q : List ℕ) (j : ℕ) where
 
       below : Contains (names_of (get_or members j [])) q → j < i
       below c =
-          ⊎_elim (λ l. there j (length members) i l h) (λ l. absurd (no_element q (subst (λ (xs : List Declaration). Contains (names_of xs) q) (get_or_past members j [] l) c))) (cases_lt j (length members))
+          ⊎_elim (λ l. there j (length members) i l h) (λ l. no_member q (subst (λ (xs : List Declaration). Contains (names_of xs) q) (get_or_past members j [] l) c)) (cases_lt j (length members))
 
 pub gathered_more : (members : List (List Declaration)) (all new names : List (List ℕ)) (i : ℕ) → new ≡ all ++ names → names ≡ names_of (get_or members i [])
     → ((j : ℕ) (q : List ℕ) → j < i → Contains (names_of (get_or members j [])) q → Contains all q)
@@ -126,22 +101,11 @@ gathered_more members all new names i e n before j q h c =
     subst (λ xs. Contains xs q) (sym e)
     (⊎_elim (λ k. Contains-append_right all names q (subst (λ xs. Contains xs q) (ap (λ x. names_of (get_or members x [])) k ∙ sym n) c))
     (λ k. Contains-append_left all names q (before j q (below j i h k) c)) (cases_eq j i))
-  where
-    below : (j i : ℕ) → j < i + 1 → (j ≡ i → ⊥) → j < i
-    below j i h n = omega arith
 
 pub all_gathered : (members : List (List Declaration)) (all : List (List ℕ)) (i : ℕ) → length members ≤ i
     → ((j : ℕ) (q : List ℕ) → j < i → Contains (names_of (get_or members j [])) q → Contains all q) → (j : ℕ) (q : List ℕ) → Contains (names_of (get_or members j [])) q → Contains all q
 all_gathered members all i h before j q c =
-    ⊎_elim (λ l. before j q (there j (length members) i l h) c) (λ l. absurd (no_element q (subst (λ (xs : List Declaration). Contains (names_of xs) q) (get_or_past members j [] l) c))) (cases_lt j (length members))
+    ⊎_elim (λ l. before j q (there j (length members) i l h) c) (λ l. no_member q (subst (λ (xs : List Declaration). Contains (names_of xs) q) (get_or_past members j [] l) c)) (cases_lt j (length members))
   where
     there : (k n m : ℕ) → k < n → n ≤ m → k < m
     there k n m h g = omega arith
-
--- ---- lists without places
-
-pub still_empty : (lists : List (List ℕ)) → ((r : ℕ) → get_or lists r [] ≡ []) → (r : ℕ) → get_or (lists ++ [] ∷ []) r [] ≡ []
-still_empty [] none zero = refl
-still_empty [] none (suc r) = refl
-still_empty (x ∷ lists) none zero = none 0
-still_empty (x ∷ lists) none (suc r) = still_empty lists (λ k. none (suc k)) r

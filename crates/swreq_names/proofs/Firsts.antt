@@ -2,52 +2,28 @@
 use Rattle.std.proofs.Common.{◌≡◌, ℕ, zero, suc, ◌+◌, ◌-◌, ◌<◌, ◌≤◌, ⊎_elim, Bool, true, false, cond, List, [], ◌∷◌, length, get_or, set, drop, replicate, slice_get, Option, None, Some, Contains, refl, sym, ap, ◌∙◌, arith}
 use Rattle.std.specs.List.{position_from}
 use Rattle.std.specs.Str.{bytes_eq}
-use Rattle.std.specs.declared.cmp.Ordering.TheVariants.{Less, Equal}
-use Rattle.std.specs.Ordering.{nat_cmp}
-use Rattle.std.specs.Cmp.Lexicographic.{slice_cmp}
-use Rattle.std.proofs.lemmas.Cmp.{nat_list_cmp_total, tied_itself}
-use Rattle.std.proofs.lemmas.Bool.{cases_eq, cases_lt}
+use Rattle.std.proofs.lemmas.Cmp.{nat_list_cmp_total}
+use Rattle.std.proofs.lemmas.Bool.{cases_eq, false_from_ne_true}
 use Rattle.std.proofs.lemmas.List.{at_drop_more, get_or-set_same, get_or-set_other, get_or-map, length-map}
-use Rattle.std.proofs.lemmas.Option.{slice_get_within, get_or_from_slice_get}
+use Rattle.std.proofs.lemmas.Option.{slice_get_within, get_or_from_slice_get, same_Some}
 use Rattle.std.proofs.lemmas.List.Elements.{Contains-append_right}
 use Rattle.std.proofs.lemmas.Slice.Eq.{bytes_eq-Decides}
 use Rattle.swreq_names.specs.declared.directory.Declaration.{Declaration}
 use Rattle.swreq_names.specs.Directories.{names_of}
-use Rattle.swreq_names.specs.Rising.{IsRising}
+use Rattle.swreq_rank.specs.Ranks.{bytes_cmp}
+use Rattle.swreq_rank.proofs.Pushed.{all_alike}
+use Rattle.swreq_rank.proofs.Rising.{IsRising, one_place}
 
 pub same_true : (q name : List ℕ) → q ≡ name → bytes_eq q name ≡ true
 same_true q name e = (bytes_eq-Decides q name).1 e
 
 pub same_false : (q name : List ℕ) → (q ≡ name → ⊥) → bytes_eq q name ≡ false
-same_false q name n = by (bytes_eq q name) refl
-  where
-    by : (b : Bool) → bytes_eq q name ≡ b → bytes_eq q name ≡ false
-    by true e = absurd (n ((bytes_eq-Decides q name).0 e))
-    by false e = e
-
--- ---- ranks
-
-module _ (ranks : List (List ℕ)) (rising : IsRising ranks) where
-  no_two : (i j : ℕ) (name : List ℕ) → slice_get ranks i ≡ Some name → slice_get ranks j ≡ Some name → i < j → ⊥
-  no_two i j name e f h =
-      let less = rising i j h (slice_get_within ranks j name f) in
-      let same = ap (λ x. slice_cmp nat_cmp x (get_or ranks j [])) (get_or_from_slice_get ranks i name [] e) ∙ ap (slice_cmp nat_cmp name) (get_or_from_slice_get ranks j name [] f) ∙ tied_itself nat_list_cmp_total name in
-      let clash : Less ≡ Equal = sym less ∙ same in
-      absurd cc
-
-  pub one_rank : (i j : ℕ) (name : List ℕ) → slice_get ranks i ≡ Some name → slice_get ranks j ≡ Some name → (i ≡ j → ⊥) → ⊥
-  one_rank i j name e f n = ⊎_elim (no_two i j name e f) (λ h. no_two j i name f e (above i j h n)) (cases_lt i j)
-    where
-      above : (i j : ℕ) → j ≤ i → (i ≡ j → ⊥) → j < i
-      above i j h n = omega arith
-
-some_same : (q name : List ℕ) → Some q ≡ Some name → q ≡ name
-some_same q name e = cc
+same_false q name n = false_from_ne_true (bytes_eq q name) (λ e. n ((bytes_eq-Decides q name).0 e))
 
 -- ---- a place is noted
 
 module _ (ranks : List (List ℕ)) (firsts : List (Option ℕ)) (size : length firsts ≡ length ranks) (at : ℕ) (name : List ℕ) where
-  pub noted_at : IsRising ranks → (k : ℕ) → slice_get ranks k ≡ Some name → (r : ℕ) (q : List ℕ) → slice_get ranks r ≡ Some q
+  pub noted_at : IsRising bytes_cmp ranks → (k : ℕ) → slice_get ranks k ≡ Some name → (r : ℕ) (q : List ℕ) → slice_get ranks r ≡ Some q
       → get_or (set firsts k (Some at)) r None ≡ cond (bytes_eq q name) (Some at) (get_or firsts r None)
   noted_at rising k e r q f = ⊎_elim here there (cases_eq r k)
     where
@@ -58,12 +34,12 @@ module _ (ranks : List (List ℕ)) (firsts : List (Option ℕ)) (size : length f
       here s =
           ap (λ x. get_or (set firsts k (Some at)) x None) s
           ∙ get_or-set_same firsts k (Some at) None (within (length firsts) (length ranks) k size (slice_get_within ranks k name e))
-          ∙ ap (λ b. cond b (Some at) (get_or firsts r None)) (sym (same_true q name (some_same q name (sym f ∙ ap (slice_get ranks) s ∙ e))))
+          ∙ ap (λ b. cond b (Some at) (get_or firsts r None)) (sym (same_true q name (same_Some q name (sym f ∙ ap (slice_get ranks) s ∙ e))))
 
       there : (r ≡ k → ⊥) → get_or (set firsts k (Some at)) r None ≡ cond (bytes_eq q name) (Some at) (get_or firsts r None)
       there n =
           get_or-set_other firsts k r (Some at) None n
-          ∙ ap (λ b. cond b (Some at) (get_or firsts r None)) (sym (same_false q name (λ s. one_rank ranks rising r k name (f ∙ ap Some s) e n)))
+          ∙ ap (λ b. cond b (Some at) (get_or firsts r None)) (sym (same_false q name (λ s. n (one_place bytes_cmp nat_list_cmp_total ranks rising r k name (f ∙ ap Some s) e))))
 
   pub not_noted : (Contains ranks name → ⊥) → (r : ℕ) (q : List ℕ) → slice_get ranks r ≡ Some q → get_or firsts r None ≡ cond (bytes_eq q name) (Some at) (get_or firsts r None)
   not_noted none r q f =
@@ -83,13 +59,8 @@ one_back names i name q old new p h e u o =
     ∙ sym (at_drop_more (position_from (bytes_eq q) (i - 1)) names (i - 1) name lt)
 
 pub none_noted : (n r i : ℕ) (names : List (List ℕ)) (q : List ℕ) → length names ≤ i → get_or (replicate n None) r None ≡ position_from (bytes_eq q) i (drop i names)
-none_noted n r i names q h = nothing n r ∙ sym (past names i h i)
+none_noted n r i names q h = all_alike n r None ∙ sym (past names i h i)
   where
-    nothing : (n r : ℕ) → get_or {A = Option ℕ} (replicate n None) r None ≡ None
-    nothing zero r = refl
-    nothing (suc n) zero = refl
-    nothing (suc n) (suc r) = nothing n r
-
     past : (xs : List (List ℕ)) (k : ℕ) → length xs ≤ k → (s : ℕ) → position_from (bytes_eq q) s (drop k xs) ≡ None
     past [] zero h s = refl
     past [] (suc k) h s = refl

@@ -1,6 +1,3 @@
-pub mod Booleans
-pub mod Search
-pub mod Made
 pub mod Firsts
 pub mod Pieces
 pub mod Declaring

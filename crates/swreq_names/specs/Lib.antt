@@ -1,5 +1,4 @@
 pub mod Spaces
-pub mod Rising
 pub mod Directories
 pub mod Inheritance
 pub mod Names

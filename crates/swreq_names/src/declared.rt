@@ -3,14 +3,14 @@ ghost use Rattle.std.specs.Prelude.{◌≡◌, ◌↔◌, ℕ, [], map, slice_in
 ghost use Rattle.swreq_names.specs.Spaces.{spaces, declarations, of_params, protocol_of, struct_of, function_of, signature_of, nested_in, nested_of, outer_params, own_params, param_of, declares};
 ghost use Rattle.swreq_names.specs.Directories.{names_of};
 
-use crate::declarers::{Places, all_names, list_at, lists_of};
+use crate::declarers::{all_names, lists_of};
 use crate::directory::Directory;
 use crate::signature::{Param, Signature};
-use crate::sorted::Ranks;
 use crate::words::{Named, declarations};
 use std::alloc::{AllocError, Global};
 use std::marker::Model;
 use swreq_decl::{FunctionDecl, ProtocolDecl, Skeleton, StructDecl};
+use swreq_rank::{Lists, Ranks};
 use swreq_text::Seq;
 
 /// The names that a text declares, in their spaces.
@@ -27,7 +27,7 @@ pub struct Declared {
     params: Vec<Directory>,
     /// All names of associated types, and of each the protocols that declare it.
     ranks: Ranks,
-    declarers: Vec<Places>,
+    declarers: Lists<usize>,
     /// What stands for a list of declarations that is not there.
     empty: Directory,
 }
@@ -51,7 +51,7 @@ impl Model for Declared {
       params = d.params.items;
     } };
 
-    ghost invariant = { λ d. AreDeclarers d.members.items d.ranks d.declarers.items × (d.empty ≡ []) };
+    ghost invariant = { λ d. AreDeclarers d.members.items d.ranks d.declarers × (d.empty ≡ []) };
 }
 
 impl Declared {
@@ -71,7 +71,7 @@ impl Declared {
         let nested_params = nested_params(alloc, text, ts)?;
         let functions = directory_of(alloc, text, fs)?;
         let params = params(alloc, text, fs)?;
-        let ranks = Ranks::of(alloc, all_names(alloc, &members)?)?;
+        let ranks = Ranks::of(all_names(alloc, &members)?);
         let declarers = lists_of(alloc, &ranks, &members)?;
         let empty = Directory::of(alloc, Vec::new(alloc))?;
         Ok(Declared {
@@ -234,7 +234,7 @@ impl Declared {
         ensures { (j : ℕ) → Contains result.now j ↔ Contains (names_of (slice_index_or self.now.members j [])) name.now }
     {
         match self.ranks.find(name) {
-            Some(rank) => list_at(&self.declarers, rank),
+            Some(rank) => self.declarers.at(rank),
             None => &[],
         }
     }

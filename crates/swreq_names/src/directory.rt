@@ -4,9 +4,9 @@ ghost use Rattle.std.specs.Str.{bytes_eq};
 ghost use Rattle.swreq_names.specs.Spaces.{place, is_declared, offset_of, is_declared_before, refers_to};
 ghost use Rattle.swreq_names.specs.Directories.{names_of};
 
-use crate::sorted::Ranks;
 use std::alloc::{AllocError, Global};
 use std::marker::Model;
+use swreq_rank::Ranks;
 use swreq_text::Seq;
 
 /// A declared name, and its offset in bytes.
@@ -41,7 +41,7 @@ impl Directory {
     pub fn of(alloc: Global, items: Vec<Declaration>) -> Result<Self, AllocError>
         ensures { IfOk result (λ d. d ≡ items.items) }
     {
-        let ranks = Ranks::of(alloc, names(alloc, &items)?)?;
+        let ranks = Ranks::of(names(alloc, &items)?);
         let firsts = first_places(alloc, &items, &ranks)?;
         Ok(Directory {
             items,

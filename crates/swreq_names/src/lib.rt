@@ -9,7 +9,6 @@ pub mod laws;
 mod lookups;
 mod mentioned;
 mod signature;
-mod sorted;
 mod words;
 
 pub use declared::Declared;
@@ -17,5 +16,4 @@ pub use directory::{Declaration, Directory};
 pub use lookups::{Names, has_member};
 pub use mentioned::member_names;
 pub use signature::{Param, Signature};
-pub use sorted::Ranks;
 pub use words::word;

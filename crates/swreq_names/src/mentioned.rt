@@ -5,13 +5,13 @@ ghost use Rattle.std.specs.List.{flat_map};
 ghost use Rattle.swreq_names.specs.Spaces.{word};
 ghost use Rattle.swreq_names.specs.Mentioned.{member_of, in_step, in_type, in_entity, in_bounds, in_requirement, in_clause, in_member, in_protocol, in_param, in_function, in_struct, in_ask, in_query, mentioned};
 
-use crate::sorted::Ranks;
 use crate::words::word;
 use std::alloc::{AllocError, Global};
 use swreq_decl::{
     Ask, AssocDecl, Entity, FunctionDecl, ParamDecl, ProtocolDecl, QueryDecl, ReqDecl, Skeleton,
     Span, StepDecl, StructDecl, TypeDecl,
 };
+use swreq_rank::Ranks;
 use swreq_text::Seq;
 
 /// A part of a skeleton, which mentions names.
@@ -279,5 +279,5 @@ pub fn member_names(alloc: Global, text: &[u8], s: &Skeleton) -> Result<Ranks, A
     ensures { IfOk result (λ ranks. (name : List ℕ) → Contains ranks name ↔ Contains (mentioned text.now s.now) name) }
 {
     let names = all_mentioned(alloc, text, s)?;
-    Ranks::of(alloc, names)
+    Ok(Ranks::of(names))
 }

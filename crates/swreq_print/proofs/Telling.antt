@@ -13,24 +13,22 @@ use Rattle.swreq_lex.specs.Slices.{IsSpelled, IsSpelledWord}
 use Rattle.swreq_decl.specs.declared.skeleton.AssocDecl.{AssocDecl}
 use Rattle.swreq_decl.specs.declared.skeleton.ProtocolDecl.{ProtocolDecl}
 use Rattle.swreq_decl.specs.declared.skeleton.Skeleton.{Skeleton}
-use Rattle.swreq_names.proofs.Declaring.{no_element}
 use Rattle.swreq_names.specs.Mentioned.{mentioned}
 use Rattle.swreq_names.specs.Spaces.{word}
 use Rattle.swreq_param.specs.declared.ids.NameId.{NameId}
 use Rattle.swreq_param.specs.declared.ids.ProtoId.{ProtoId}
 use Rattle.swreq_lexicon.specs.declared.pair.ProtocolName.{ProtocolName}
 use Rattle.swreq_lexicon.specs.Lexicons.{name_by, pair, proto_by}
-use Rattle.swreq_lexicon.specs.Ranks.{bytes_cmp, rank}
+use Rattle.swreq_rank.specs.Ranks.{bytes_cmp, rank}
 use Rattle.swreq_lexicon.specs.Texts.{IsLexiconOf, declared_by, declared_in, protocol_names}
 use Rattle.swreq_lexicon.specs.Views.{LexiconView, IsName, IsProtocol, assoc_cmp, inherits}
 use Rattle.swreq_lexicon.proofs.Declared.{from_pieces, named_within}
-use Rattle.swreq_lexicon.proofs.Passing.{one_of}
 use Rattle.swreq_lexicon.proofs.RankLaws.{assoc_total, rank_is}
-use Rattle.swreq_lexicon.proofs.Rising.{one_place, rising_from_sorted}
+use Rattle.swreq_rank.proofs.Rising.{one_place, rising_from_sorted}
 use Rattle.swreq_names.specs.WordBytes.{HasWordBytes, in_word}
 use Rattle.swreq_print.specs.Names.{Text, name_text, pair_at, protocol_name}
 use Rattle.swreq_print.specs.Reading.{IsPair, IsProper, TellsApart, in_name}
-use Rattle.swreq_orders.proofs.Members.{contains_map}
+use Rattle.swreq_orders.proofs.Members.{contains_map, no_member, member_cases}
 
 -- ---- bytes
 
@@ -72,8 +70,8 @@ one_rank cmp total xs sorted i j d l m e =
 
 -- What holds of each item under a map holds of all that the mapped list has.
 of_mapped : {A B : Type 0} (f : A → B) (P : B → Type 0) → ((a : A) → P (f a)) → (xs : List A) (y : B) → Contains (map f xs) y → P y
-of_mapped f P all [] y c = absurd (no_element y c)
-of_mapped f P all (x ∷ xs) y c = ⊎_elim (λ e. subst P e (all x)) (λ d. of_mapped f P all xs y d) (one_of (f x) (map f xs) y c)
+of_mapped f P all [] y c = no_member y c
+of_mapped f P all (x ∷ xs) y c = ⊎_elim (λ e. subst P (sym e) (all x)) (λ d. of_mapped f P all xs y d) (member_cases (f x) y (map f xs) c)
 
 module _ (text : Text) (s : Skeleton) (x : LexiconView) (is : IsLexiconOf text s x) where
   ranked : (p : ProtocolDecl) → Contains s.protocols p → rank x.protocols (word text p.name) < length x.protocols

@@ -3,6 +3,7 @@ use Rattle.std.proofs.Common.{◌≡◌, ℕ, zero, suc, ◌<◌, ◌≤◌, ◌
 use Rattle.std.proofs.lemmas.Bool.{cases_lt, cases_eq}
 use Rattle.std.proofs.lemmas.List.{length-map}
 use Rattle.std.proofs.lemmas.Option.{slice_get_cases}
+use Rattle.swreq_rank.proofs.Tests.{same_bool}
 use Rattle.swreq_closure.specs.Chains.{leads}
 use Rattle.swreq_closure.proofs.Marks.{begins_within}
 use Rattle.swreq_decl.specs.declared.skeleton.ProtocolDecl.{ProtocolDecl}
@@ -18,7 +19,6 @@ use Rattle.swreq_names.specs.Inheritance.{direct, inheritance, Tells, Inherits}
 use Rattle.swreq_resolve.specs.Cycles.{HasNoLoop, IsLoopAt}
 use Rattle.swreq_names.specs.Names.{NamesView, HasDeclared}
 use Rattle.swreq_resolve.specs.Resolving.{HasNames, Resolve, Refuses, RefusesName, RefusesCycle, IsFirstCycle}
-use Rattle.swreq_names.proofs.Booleans.{same_bool}
 use Rattle.swreq_resolve.proofs.Order.{none_refused, least_is_first, one_first}
 
 no_element : {A : Type 0} (x : A) → Contains [] x → ⊥

@@ -1,13 +1,13 @@
 -- The order of refusals, and the first of several.
 use Rattle.std.proofs.Common.{◌≡◌, ℕ, zero, suc, ◌+◌, ◌*◌, ◌<◌, ◌≤◌, ◌⊎◌, inl, inr, ⊎_elim, Bool, true, false, cond, ◌&&◌, ◌||◌, List, [], ◌∷◌, length, get_or, None, Some, Contains, refl, sym, ap, subst, ◌∙◌, arith, true≢false}
 use Rattle.std.specs.Prelude.{nat_lt, nat_eq}
-use Rattle.std.proofs.lemmas.Bool.{ltb-true, lt-ltb, eqb-true, eq-eqb, cases_lt}
+use Rattle.std.proofs.lemmas.Bool.{ltb-true, lt-ltb, eqb-true, eq-eqb, cases_lt, and_from, and_parts, or_cases, or_left, or_right}
 use Rattle.std.proofs.lemmas.List.Elements.{Contains-append_right, Contains-get_or}
+use Rattle.swreq_orders.proofs.Members.{first_member, later_member, member_cases}
 use Rattle.swreq_resolve.specs.declared.refusal.Fault.{Fault}
 use Rattle.swreq_resolve.specs.declared.refusal.Fault.TheVariants.{Duplicate, NotAProtocol, ConcreteType, NoSuchMember, UnknownSignature, WrongArity}
 use Rattle.swreq_resolve.specs.declared.refusal.Refusal.{Refusal}
 use Rattle.swreq_resolve.specs.First.{rank, precedes, earlier, least, IsFirst}
-use Rattle.swreq_names.proofs.Booleans.{or_cases, or_left, or_right, and_both, and_first, and_second}
 
 -- ---- a number for each refusal
 
@@ -30,8 +30,8 @@ both_lt a b x y e p = ⊎_elim first second (or_cases (nat_lt a b) (nat_eq a b &
 
     second : (nat_eq a b && nat_lt x y) ≡ true → a * 6 + x < b * 6 + y
     second h =
-        let s = eqb-true a b (and_first (nat_eq a b) (nat_lt x y) h) in
-        let l = ltb-true x y (and_second (nat_eq a b) (nat_lt x y) h) in
+        let s = eqb-true a b (and_parts (nat_eq a b) (nat_lt x y) h).0 in
+        let l = ltb-true x y (and_parts (nat_eq a b) (nat_lt x y) h).1 in
         omega (arith, s, l)
 
 from_lt : (a b x y : ℕ) → x < 6 → y < 6 → a * 6 + x < b * 6 + y → (nat_lt a b || (nat_eq a b && nat_lt x y)) ≡ true
@@ -44,7 +44,7 @@ from_lt a b x y p q h = ⊎_elim first second (cases_lt a b)
     second l =
         let s : a ≡ b = omega arith in
         let m : x < y = omega arith in
-        or_right (nat_lt a b) (nat_eq a b && nat_lt x y) (and_both (nat_eq a b) (nat_lt x y) (eq-eqb a b s) (lt-ltb x y m))
+        or_right (nat_lt a b) (nat_eq a b && nat_lt x y) (and_from (nat_eq a b) (nat_lt x y) (eq-eqb a b s) (lt-ltb x y m))
 
 precedes_to : (q r : Refusal) → precedes q r ≡ true → key q < key r
 precedes_to q r e = both_lt q.at r.at (rank q.fault) (rank r.fault) e (rank_below q.fault)
@@ -111,21 +111,11 @@ pub none_refused : (rs : List Refusal) → least None rs ≡ None → rs ≡ []
 none_refused [] e = refl
 none_refused (x ∷ rs) e = let k = some_least x rs in absurd (let s = sym e ∙ k.1 in cc)
 
-one_of : {A : Type 0} (x : A) (xs : List A) (q : A) → Contains (x ∷ xs) q → (x ≡ q) ⊎ Contains xs q
-one_of x xs q h = by h.0 h.1 h.2
-  where
-    by : (k : ℕ) → k < length (x ∷ xs) → get_or (x ∷ xs) k q ≡ q → (x ≡ q) ⊎ Contains xs q
-    by zero l e = inl e
-    by (suc k) l e = let m : k < length xs = omega arith in inr (k, m, e)
-
 -- r is b or one of the others, and none of them has a lesser number
 record HasLeast (b : Refusal) (rs : List Refusal) (r : Refusal) : Type 0 where
   one : (r ≡ b) ⊎ Contains rs r
   start : key r ≤ key b
   others : (q : Refusal) → Contains rs q → key r ≤ key q
-
-at_front : (x : Refusal) (rs : List Refusal) (r : Refusal) → r ≡ x → Contains (x ∷ rs) r
-at_front x rs r e = subst (λ y. Contains (x ∷ rs) y) (sym e) (Contains-get_or (x ∷ rs) 0 x (omega arith))
 
 has_least_by : (b x : Refusal) (rs : List Refusal) (r : Refusal) (t : Bool) → precedes x b ≡ t → least (earlier (Some b) x) rs ≡ Some r
     → (least (Some x) rs ≡ Some r → HasLeast x rs r) → (least (Some b) rs ≡ Some r → HasLeast b rs r) → HasLeast b (x ∷ rs) r
@@ -134,9 +124,9 @@ has_least_by b x rs r true h e here kept =
     let lt : key x < key b = precedes_to x b h in
     let s = k.start in
     record {
-      one = ⊎_elim (λ c. inr (at_front x rs r c)) (λ c. inr (Contains-append_right (x ∷ []) rs r c)) k.one;
+      one = ⊎_elim (λ c. inr (subst (λ y. Contains (x ∷ rs) y) (sym c) (first_member x rs))) (λ c. inr (later_member x r rs c)) k.one;
       start = omega (arith, lt, s);
-      others = λ q c. ⊎_elim (λ d. subst (λ (y : Refusal). key r ≤ key y) d s) (k.others q) (one_of x rs q c);
+      others = λ q c. ⊎_elim (λ d. subst (λ (y : Refusal). key r ≤ key y) (sym d) s) (k.others q) (member_cases x q rs c);
     }
 has_least_by b x rs r false h e here kept =
     let k = kept (sym (ap (λ t. least (cond t (Some x) (Some b)) rs) h) ∙ e) in
@@ -145,7 +135,7 @@ has_least_by b x rs r false h e here kept =
     record {
       one = ⊎_elim inl (λ c. inr (Contains-append_right (x ∷ []) rs r c)) k.one;
       start = s;
-      others = λ q c. ⊎_elim (λ d. subst (λ (y : Refusal). key r ≤ key y) d (omega (arith, le, s))) (k.others q) (one_of x rs q c);
+      others = λ q c. ⊎_elim (λ d. subst (λ (y : Refusal). key r ≤ key y) (sym d) (omega (arith, le, s))) (k.others q) (member_cases x q rs c);
     }
 
 has_least : (b : Refusal) (rs : List Refusal) (r : Refusal) → least (Some b) rs ≡ Some r → HasLeast b rs r
@@ -158,6 +148,6 @@ pub least_is_first : (rs : List Refusal) (r : Refusal) → least None rs ≡ Som
 least_is_first [] r e = absurd cc
 least_is_first (x ∷ rs) r e =
     let k = has_least x rs r e in record {
-      is = ⊎_elim (λ c. at_front x rs r c) (λ c. Contains-append_right (x ∷ []) rs r c) k.one;
-      first = λ q c. not_precedes_from q r (⊎_elim (λ d. subst (λ (y : Refusal). key r ≤ key y) d k.start) (k.others q) (one_of x rs q c));
+      is = ⊎_elim (λ c. subst (λ y. Contains (x ∷ rs) y) (sym c) (first_member x rs)) (λ c. later_member x r rs c) k.one;
+      first = λ q c. not_precedes_from q r (⊎_elim (λ d. subst (λ (y : Refusal). key r ≤ key y) (sym d) k.start) (k.others q) (member_cases x q rs c));
     }

@@ -2,10 +2,9 @@
 use Rattle.std.proofs.Common.{◌≡◌, ◌≢◌, ◌⊎◌, ◌∙◌, inl, inr, refl, sym, ap, subst, ℕ, ◌<◌, ◌&&◌, Bool, true, false, cond, nat_eq, List, [], ◌∷◌, ◌++◌, ◌+◌, append-nil, Vec, Option, Some, None, get_or, set, take, length, map, All, Contains, arith, eq-eqb, ne_eqb}
 use Rattle.std.specs.List.{filter}
 use Rattle.std.specs.declared.alloc.Global.{Global}
-use Rattle.std.proofs.lemmas.Bool.{cases_eq, eqb-true}
+use Rattle.std.proofs.lemmas.Bool.{cases_eq, eqb-true, and_from, and_parts}
 use Rattle.std.proofs.lemmas.List.{get_or-set_other, get_or-set_same, length-set, take_more}
 use Rattle.std.proofs.lemmas.List.Elements.{All-contains, All-contains_itself, All-filter, All-get_or, filter-append, filter_passes}
-use Rattle.swreq_names.proofs.Booleans.{and_both, and_first, and_second}
 use Rattle.swreq_param.specs.Terms.{Term}
 use Rattle.swreq_words.specs.declared.command.Command.{Command}
 use Rattle.swreq_words.specs.declared.command.Command.TheVariants as command
@@ -97,7 +96,7 @@ module _ (terms : List Term) (c : Command) (qs : List Query) (count : ℕ) (grou
         → (get_or (set groups at more) k d).items ≡ filter (test k) (qs ++ q ∷ [])
     group_of k d below (inl e) =
         let within : at < length groups = omega (arith, h.counted, l) in
-        let keeps : test k q ≡ true = and_both (by_machine c (query_by terms q)) (nat_eq (signature_of (query_by terms q)).place k) answered
+        let keeps : test k q ≡ true = and_from (by_machine c (query_by terms q)) (nat_eq (signature_of (query_by terms q)).place k) answered
         (eq-eqb _ _ (same_place ∙ sym e)) in
         ap (λ (n : ℕ). (get_or (set groups at more) n d).items) e ∙ ap (λ (g : Vec Query Global). g.items) (get_or-set_same groups at more d within)
         ∙ pushed
@@ -134,10 +133,10 @@ not_of_types terms (queries.Same g t u) f is = absurd (let clash : (let o : Opti
 -- a query at a place of such a list asks the signature at it
 pub asks_at : (c : Command) (f : FuncId) (q : TermQuery) → by_machine_at c f.place q ≡ true → signature_of q ≡ f
 asks_at c f q h = ap (λ (n : ℕ). let g : FuncId = record { place = n } in g)
-    (eqb-true (signature_of q).place f.place (and_second (by_machine c q) (nat_eq (signature_of q).place f.place) h))
+    (eqb-true (signature_of q).place f.place (and_parts (by_machine c q) (nat_eq (signature_of q).place f.place) h).1)
 
 pub answered_by : (c : Command) (f : FuncId) (q : TermQuery) → by_machine_at c f.place q ≡ true → by_machine c q ≡ true
-answered_by c f q h = and_first (by_machine c q) (nat_eq (signature_of q).place f.place) h
+answered_by c f q h = (and_parts (by_machine c q) (nat_eq (signature_of q).place f.place) h).0
 
 -- and its line is that of what it asks
 pub types_line : (w : TextWorld) (q : TermQuery) (line : Text) → is_of_types q ≡ true → AnswersByTypes true w q line → IsLineOf true w q line

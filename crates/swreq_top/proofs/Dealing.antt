@@ -2,11 +2,10 @@
 use Rattle.std.proofs.Common.{◌≡◌, ◌≢◌, ◌⊎◌, ◌∙◌, inl, inr, refl, sym, ap, subst, ℕ, zero, suc, ◌+◌, ◌<◌, ◌&&◌, Bool, true, false, cond, nat_eq, List, [], ◌∷◌, ◌++◌, Vec, Option, Some, None, IfSome, get_or, set, length, option_map, replicate, slice_get, take, arith, eq-eqb, ne_eqb}
 use Rattle.std.specs.List.{filter}
 use Rattle.std.specs.declared.alloc.Global.{Global}
-use Rattle.std.proofs.lemmas.Bool.{cases_eq}
+use Rattle.std.proofs.lemmas.Bool.{cases_eq, and_from}
 use Rattle.std.proofs.lemmas.List.{get_or-replicate, get_or_default, get_or-set_other, get_or-set_same, length-append, length-replicate, length-set, take_more}
 use Rattle.std.proofs.lemmas.Option.{get_or_from_slice_get, same_Some, slice_get-get_or, slice_get-map, slice_get_within}
 use Rattle.std.proofs.lemmas.List.Elements.{Contains-get_or}
-use Rattle.swreq_names.proofs.Booleans.{and_both}
 use Rattle.swreq_param.specs.Terms.{Term}
 use Rattle.swreq_print.specs.Names.{Text}
 use Rattle.swreq_words.specs.declared.command.Command.TheVariants as command
@@ -104,7 +103,7 @@ module _ (w : TextWorld) (count : ℕ) (next : List ℕ) where
           → get_or (set next at place) k 0 ≡ length (filter (test k) (take (asked + 1) w.queries))
       moved k below (inl e) =
           let within : at < length next = omega (arith, h.counted, l) in
-          let keeps : test k q ≡ true = and_both (is_of_types q) (nat_eq at k) kept (eq-eqb at k (sym e)) in
+          let keeps : test k q ≡ true = and_from (is_of_types q) (nat_eq at k) kept (eq-eqb at k (sym e)) in
           let longer : length (filter (test k) (take (asked + 1) w.queries)) ≡ length (filter (test k) (take asked w.queries)) + 1 =
           ap (λ (qs : List TermQuery). length (filter (test k) qs)) (take_at w.queries asked q is)
           ∙ ap length (filter_kept (test k) (take asked w.queries) q keeps) ∙ length-append (filter (test k) (take asked w.queries)) (q ∷ []) in
@@ -126,7 +125,7 @@ module _ (w : TextWorld) (count : ℕ) (next : List ℕ) where
       next_line is_at =
           let of : AreLines (IsLineOf true w) (filter (test at) w.queries) lines.items =
           subst (λ (v : Vec Text Global). AreLines (IsLineOf true w) (filter (test at) w.queries) v.items) (sym is_at) (answers at lines (omega (arith, l, counted))) in
-          let here = line_of_kept (IsLineOf true w) (test at) d w.queries lines.items asked q of is (and_both (is_of_types q) (nat_eq at at) kept (eq-eqb at at refl)) in
+          let here = line_of_kept (IsLineOf true w) (test at) d w.queries lines.items asked q of is (and_from (is_of_types q) (nat_eq at at) kept (eq-eqb at at refl)) in
           subst (λ (n : ℕ). IsLineOf true w q (get_or lines.items n d) × (n < length lines.items)) (sym (h.each at l)) here
 
 -- ---- of the queries of a world over ids

@@ -5,10 +5,11 @@ use Rattle.std.specs.Cmp.{IsTotalOrder}
 use Rattle.std.specs.Ordering.{nat_cmp, ordering_then}
 use Rattle.std.proofs.lemmas.Cmp.{back_total, nat_cmp_total, nat_list_cmp_total, on_total, then_total}
 use Rattle.std.proofs.lemmas.Option.{same_Some, slice_get-get_or}
+use Rattle.std.proofs.lemmas.Bool.{and_from, and_parts, or_cases, or_left, or_right}
+use Rattle.swreq_rank.proofs.Tests.{same_bool}
 use Rattle.swreq_decl.specs.declared.skeleton.Skeleton.{Skeleton}
 use Rattle.swreq_decl.specs.declared.skeleton.ProtocolDecl.{ProtocolDecl}
 use Rattle.swreq_orders.proofs.Members.{first_member, later_member, member_cases, no_member}
-use Rattle.swreq_names.proofs.Booleans.{and_both, and_first, and_second, or_cases, or_left, or_right, same_bool}
 use Rattle.swreq_names.specs.Inheritance.{Inherits}
 use Rattle.swreq_names.specs.Mentioned.{mentioned}
 use Rattle.swreq_names.specs.Spaces.{Spaces, word}
@@ -16,7 +17,7 @@ use Rattle.swreq_param.specs.declared.ids.ProtoId.{ProtoId}
 use Rattle.swreq_lexicon.specs.declared.pair.ProtocolName.{ProtocolName}
 use Rattle.swreq_lexicon.specs.Associated as over
 use Rattle.swreq_lexicon.specs.Lexicons.{pair, proto_by}
-use Rattle.swreq_lexicon.specs.Ranks.{Bytes, bytes_cmp}
+use Rattle.swreq_rank.specs.Ranks.{Bytes, bytes_cmp}
 use Rattle.swreq_lexicon.specs.Texts.{IsLexiconOf, declared_in, protocol_names}
 use Rattle.swreq_print.specs.Rules.{trace_text}
 use Rattle.swreq_lexicon.specs.Views.{HasMember, IsProtocol, LexiconView, assoc_cmp, inherits, place_of, symbol_cmp}
@@ -120,11 +121,11 @@ module _ (text : Bytes) (s : Skeleton) (x y : LexiconView) (of_x : IsLexiconOf t
         → over.is_root (inherits x) x.associated d ≡ over.is_root (inherits y) y.associated d
     same_root d c = ap not (same_bool (list_any (inherits_it x d) x.associated) (list_any (inherits_it y d) y.associated)
         (λ h. let e = any_of (inherits_it x d) x.associated h in any_in (inherits_it y d) y.associated e.0 (to_member e.0 e.1)
-        (and_both (nat_eq d.name.rank e.0.name.rank) (inherits y d.proto e.0.proto) (and_first (nat_eq d.name.rank e.0.name.rank) (inherits x d.proto e.0.proto) e.2)
-        (sym (same_inherits d.proto e.0.proto (is_protocol d c) (is_protocol e.0 e.1)) ∙ and_second (nat_eq d.name.rank e.0.name.rank) (inherits x d.proto e.0.proto) e.2)))
+        (and_from (nat_eq d.name.rank e.0.name.rank) (inherits y d.proto e.0.proto) (and_parts (nat_eq d.name.rank e.0.name.rank) (inherits x d.proto e.0.proto) e.2).0
+        (sym (same_inherits d.proto e.0.proto (is_protocol d c) (is_protocol e.0 e.1)) ∙ (and_parts (nat_eq d.name.rank e.0.name.rank) (inherits x d.proto e.0.proto) e.2).1)))
         (λ h. let e = any_of (inherits_it y d) y.associated h in any_in (inherits_it x d) x.associated e.0 (from_member e.0 e.1)
-        (and_both (nat_eq d.name.rank e.0.name.rank) (inherits x d.proto e.0.proto) (and_first (nat_eq d.name.rank e.0.name.rank) (inherits y d.proto e.0.proto) e.2)
-        (same_inherits d.proto e.0.proto (is_protocol d c) (is_protocol e.0 (from_member e.0 e.1)) ∙ and_second (nat_eq d.name.rank e.0.name.rank) (inherits y d.proto e.0.proto) e.2))))
+        (and_from (nat_eq d.name.rank e.0.name.rank) (inherits x d.proto e.0.proto) (and_parts (nat_eq d.name.rank e.0.name.rank) (inherits y d.proto e.0.proto) e.2).0
+        (same_inherits d.proto e.0.proto (is_protocol d c) (is_protocol e.0 (from_member e.0 e.1)) ∙ (and_parts (nat_eq d.name.rank e.0.name.rank) (inherits y d.proto e.0.proto) e.2).1))))
 
     same_associated : x.associated ≡ y.associated
     same_associated =

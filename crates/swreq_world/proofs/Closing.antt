@@ -16,13 +16,12 @@ use Rattle.swreq_param.specs.declared.ids.ProtoId.{ProtoId}
 use Rattle.swreq_lexicon.specs.declared.pair.ProtocolName.{ProtocolName}
 use Rattle.swreq_lexicon.specs.Associated.{is_root, depth, order_cmp}
 use Rattle.swreq_lexicon.specs.Lexicons.{pair, proto_by, name_by}
-use Rattle.swreq_lexicon.specs.Ranks.{Bytes}
+use Rattle.swreq_rank.specs.Ranks.{Bytes}
 use Rattle.swreq_lexicon.specs.Texts.{IsLexiconOf, protocol_names, declared_by}
 use Rattle.swreq_lexicon.specs.Views.{LexiconView, IsProtocol, place_of, inherits, assoc_cmp, symbol_cmp}
 use Rattle.swreq_lexicon.proofs.Declared.{from_pieces, named_within}
-use Rattle.swreq_lexicon.proofs.Places.{there}
 use Rattle.swreq_lexicon.proofs.RankLaws.{one_to_one, assoc_total, by_name, written_at, written_protocol, written_once}
-use Rattle.swreq_lexicon.proofs.Rising.{rising_from_sorted, one_place}
+use Rattle.swreq_rank.proofs.Rising.{rising_from_sorted, one_place}
 use Rattle.swreq_lowering.specs.Signatures.{in_order}
 use Rattle.swreq_world.specs.Closed.{IsClosed, AreIds, IsOfProtocol, HasOwn, HasOuter, IsQueryOf}
 use Rattle.swreq_world.specs.Text.{requirements_named, signature_in, signatures}
@@ -36,7 +35,7 @@ use Rattle.swreq_world.proofs.OnceDeclared.{protocols_differ}
 use Rattle.swreq_world.proofs.ProtocolOffsets.{AreRising, name_start}
 use Rattle.swreq_world.proofs.Resolving.{protocol_is, resolved}
 use Rattle.swreq_world.proofs.Standing.{outer_within}
-use Rattle.swreq_orders.proofs.Elements.{contains_get}
+use Rattle.swreq_orders.proofs.Elements.{contains_get, get_contains}
 
 module _ (text : Bytes) (s : Skeleton) (x : LexiconView) (is : IsLexiconOf text s x) where
   order_total : IsTotalOrder (order_cmp (inherits x) (length x.protocols))
@@ -59,7 +58,7 @@ module _ (text : Bytes) (s : Skeleton) (x : LexiconView) (is : IsLexiconOf text 
   ids distinct = record {
     written_order = λ p. (
       λ c. let k = contains_get x.written_order p c in written_protocol text s x is k.0 p k.1,
-      λ h. there x.written_order (place_of x p) p (written_at text s x is p h),
+      λ h. get_contains x.written_order (place_of x p) p (written_at text s x is p h),
     );
     each_once = written_once text s x is distinct;
     associated = λ d c. (declares_it d c, named_within text s x.protocols x.names is.names d ((is.associated.same d).0 c));

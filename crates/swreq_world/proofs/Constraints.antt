@@ -19,7 +19,7 @@ use Rattle.swreq_names.specs.Spaces.{word, protocol_of, declares}
 use Rattle.swreq_param.specs.declared.ids.ParamId.{ParamId}
 use Rattle.swreq_param.specs.Terms.{Term, head, with_steps}
 use Rattle.swreq_param.specs.Terms.Term.{Member}
-use Rattle.swreq_lexicon.specs.Ranks.{Bytes}
+use Rattle.swreq_rank.specs.Ranks.{Bytes}
 use Rattle.swreq_lexicon.specs.Views.{IsProtocol, IsName}
 use Rattle.swreq_lowering.specs.declared.scope.Scope.{Scope}
 use Rattle.swreq_lowering.specs.Heads.{IsOver}

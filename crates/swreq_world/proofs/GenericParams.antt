@@ -5,6 +5,7 @@ use Rattle.std.proofs.lemmas.List.{length-map}
 use Rattle.std.proofs.lemmas.List.Elements.{Contains-append_left, Contains-append_right, Contains-append_cases}
 use Rattle.std.specs.List.{Contains}
 use Rattle.std.specs.Option.{option_map}
+use Rattle.swreq_orders.proofs.Members.{no_member}
 use Rattle.swreq_decl.specs.declared.skeleton.FunctionDecl.{FunctionDecl}
 use Rattle.swreq_decl.specs.declared.skeleton.ParamDecl.{ParamDecl}
 use Rattle.swreq_decl.specs.declared.skeleton.Skeleton.{Skeleton}
@@ -17,10 +18,9 @@ use Rattle.swreq_names.specs.declared.signature.Signature.{Signature}
 use Rattle.swreq_names.specs.declared.signature.Signature.TheVariants.{Struct, Function, Nested}
 use Rattle.swreq_names.specs.Spaces.{Spaces, spaces, declaration, of_params, param_of}
 use Rattle.swreq_names.specs.Spaces as declarations
-use Rattle.swreq_names.proofs.Declaring.{no_element}
 use Rattle.swreq_param.specs.declared.ids.ParamId.{ParamId}
 use Rattle.swreq_param.specs.Terms.{self_param}
-use Rattle.swreq_lexicon.specs.Ranks.{Bytes}
+use Rattle.swreq_rank.specs.Ranks.{Bytes}
 use Rattle.swreq_lowering.specs.Signatures.{params_of_struct, params_of_function, functions_of, outer_params, own_params, depth_within, own_depth, counts, params_of}
 use Rattle.swreq_lowering.specs.Types.{param_id, param_named}
 use Rattle.swreq_lowering.specs.Words.{WordsView, declared}
@@ -55,10 +55,10 @@ own_is (g ∷ gs) own k h =
 
 -- The generic parameters of a struct are those of its functions too.
 pub of_struct_too : (outer own : List ParamDecl) (g : ParamId) → IsParamOf (counts [] outer) g → IsParamOf (counts outer own) g
-of_struct_too [] own g h = absurd (no_element g h)
+of_struct_too [] own g h = no_member g h
 of_struct_too (p ∷ ps) own g h =
     let all = params_of_depth 0 (length (p ∷ ps)) in
-    ⊎_elim (λ c. Contains-append_left all (params_of_depth 1 (length own)) g c) (λ c. absurd (no_element g c)) (Contains-append_cases all [] g h)
+    ⊎_elim (λ c. Contains-append_left all (params_of_depth 1 (length own)) g c) (λ c. no_member g c) (Contains-append_cases all [] g h)
 
 -- ---- as they are declared
 

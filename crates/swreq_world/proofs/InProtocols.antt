@@ -13,7 +13,7 @@ use Rattle.swreq_names.specs.Spaces.{self_bytes, word, protocol_of, has_member}
 use Rattle.swreq_resolve.specs.Refusals as refusals
 use Rattle.swreq_param.specs.declared.ids.ParamId.{ParamId}
 use Rattle.swreq_param.specs.Terms.{self, self_param, head}
-use Rattle.swreq_lexicon.specs.Ranks.{Bytes}
+use Rattle.swreq_rank.specs.Ranks.{Bytes}
 use Rattle.swreq_lowering.specs.declared.scope.Scope.TheVariants.{Protocol}
 use Rattle.swreq_lowering.specs.Requirements.{in_bounds, in_clause, in_member, in_members, in_protocol}
 use Rattle.swreq_lowering.specs.Types.{member_named, protocol_head}

@@ -20,7 +20,7 @@ use Rattle.swreq_names.specs.Mentioned as names
 use Rattle.swreq_resolve.specs.Refusals.{begins_in_signature, of_named, of_type, of_entity, of_protocol_name, of_ask, of_asked, of_nested_query, of_query_in, of_query}
 use Rattle.swreq_names.specs.Spaces.{Spaces, spaces, word, declarations, place, protocol_of, struct_of, function_of, signature_of, nested_in}
 use Rattle.swreq_param.specs.Terms.{Term, head}
-use Rattle.swreq_lexicon.specs.Ranks.{Bytes}
+use Rattle.swreq_rank.specs.Ranks.{Bytes}
 use Rattle.swreq_lowering.specs.declared.ids.FuncId.{FuncId}
 use Rattle.swreq_lowering.specs.declared.scope.Scope.TheVariants as scopes
 use Rattle.swreq_lowering.specs.Requirements.{PlacedRequirement}

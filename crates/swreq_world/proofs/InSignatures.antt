@@ -21,7 +21,7 @@ use Rattle.swreq_names.specs.Spaces as declarations
 use Rattle.swreq_param.specs.declared.ids.ParamId.{ParamId}
 use Rattle.swreq_param.specs.Terms.{head}
 use Rattle.swreq_param.specs.Terms.Term.{Generic}
-use Rattle.swreq_lexicon.specs.Ranks.{Bytes}
+use Rattle.swreq_rank.specs.Ranks.{Bytes}
 use Rattle.swreq_lowering.specs.declared.scope.Scope.TheVariants as scopes
 use Rattle.swreq_lowering.specs.Heads.{IsOver}
 use Rattle.swreq_lowering.specs.Requirements.{PlacedRequirement, in_clause, in_param, in_params, in_signature, in_struct, in_nested}

@@ -1,6 +1,6 @@
 -- Where the names of a text resolve, the names of its protocols differ.
 use Rattle.std.proofs.Common.{◌≡◌, ℕ, ◌≤◌, ◌<◌, ⊎_elim, true, false, List, ◌++◌, length, get_or, map, slice_get, Some, None, nat_lt, sym, ap, subst, ◌∙◌, arith}
-use Rattle.std.proofs.lemmas.Bool.{cases_lt, lt-ltb}
+use Rattle.std.proofs.lemmas.Bool.{cases_lt, lt-ltb, false_from_ne_true}
 use Rattle.std.proofs.lemmas.Iterator.Adapters.{position_from-zero}
 use Rattle.std.proofs.lemmas.List.Elements.{All-nil}
 use Rattle.std.proofs.lemmas.List.Quantifiers.{position-Some}
@@ -9,6 +9,7 @@ use Rattle.std.proofs.lemmas.Option.{slice_get-get_or, get_or_from_slice_get}
 use Rattle.std.proofs.lemmas.Slice.Eq.{bytes_eq-Decides}
 use Rattle.std.specs.List.{All, IsDistinct, flat_map, position_from}
 use Rattle.std.specs.Str.{bytes_eq}
+use Rattle.swreq_orders.proofs.Elements.{get_contains}
 use Rattle.swreq_decl.specs.declared.skeleton.ProtocolDecl.{ProtocolDecl}
 use Rattle.swreq_decl.specs.declared.skeleton.Skeleton.{Skeleton}
 use Rattle.swreq_names.specs.declared.directory.Declaration.{Declaration}
@@ -18,10 +19,9 @@ use Rattle.swreq_resolve.specs.First.{when}
 use Rattle.swreq_resolve.specs.Resolving.{HasNames}
 use Rattle.swreq_resolve.specs.Refusals.{duplicate_of, duplicates, of_space, of_spaces, of_protocol, of_signatures, of_query, by_place}
 use Rattle.swreq_names.specs.Spaces.{word, declaration, declarations, place, offset_of, is_declared_before, spaces}
-use Rattle.swreq_lexicon.specs.Ranks.{Bytes}
+use Rattle.swreq_rank.specs.Ranks.{Bytes}
 use Rattle.swreq_lexicon.specs.Texts.{protocol_names}
-use Rattle.swreq_lexicon.proofs.Places.{declared_names, some_place, there}
-use Rattle.swreq_lexicon.proofs.Positions.{fails}
+use Rattle.swreq_lexicon.proofs.Places.{declared_names, some_place}
 use Rattle.swreq_world.proofs.Everywhere.{all_left, all_at, each_piece, stands_mapped, mapped_from}
 use Rattle.swreq_world.proofs.ProtocolOffsets.{AreRising, starts_before, name_start}
 use Rattle.swreq_world.proofs.Resolving.{Never, refused, declared_at}
@@ -64,7 +64,7 @@ module _ (text : Bytes) (ps : List ProtocolDecl) where
 
         first : (k : ℕ) × (place declared (name_of q) ≡ Some k)
         first =
-            let k = some_place names (name_of q) (there names i (name_of q) named) in
+            let k = some_place names (name_of q) (get_contains names i (name_of q) named) in
             (k.0, ap (position_from (bytes_eq (name_of q)) 0) (declared_names text ps) ∙ k.1)
 
         no_later : first.0 ≤ i
@@ -86,7 +86,7 @@ module _ (text : Bytes) (ps : List ProtocolDecl) where
             all_at (λ d. All Never (duplicate_of declared d)) declared j (declaration text q.name) each (stands j q f)
 
     distinct : IsDistinct bytes_eq names
-    distinct = IsDistinct-from_apart bytes_eq names (λ i j d h l. fails (bytes_eq (get_or names i d) (get_or names j d)) (apart i j d h l))
+    distinct = IsDistinct-from_apart bytes_eq names (λ i j d h l. false_from_ne_true (bytes_eq (get_or names i d) (get_or names j d)) (apart i j d h l))
       where
         apart : (i j : ℕ) (d : Bytes) → i < j → j < length names → bytes_eq (get_or names i d) (get_or names j d) ≡ true → ⊥
         apart i j d h l t =

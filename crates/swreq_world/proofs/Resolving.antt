@@ -7,6 +7,8 @@ use Rattle.std.proofs.lemmas.Option.{slice_get-get_or, slice_get_within, same_So
 use Rattle.std.proofs.lemmas.Slice.Eq.{bytes_eq-Decides}
 use Rattle.std.specs.List.{All, Contains, flat_map}
 use Rattle.std.specs.Str.{bytes_eq}
+use Rattle.std.proofs.lemmas.Bool.{and_parts, or_cases}
+use Rattle.swreq_orders.proofs.Elements.{get_contains}
 use Rattle.swreq_decl.specs.declared.skeleton.AssocDecl.{AssocDecl}
 use Rattle.swreq_decl.specs.declared.skeleton.FunctionDecl.{FunctionDecl}
 use Rattle.swreq_decl.specs.declared.skeleton.ProtocolDecl.{ProtocolDecl}
@@ -22,14 +24,12 @@ use Rattle.swreq_names.specs.Mentioned as names
 use Rattle.swreq_resolve.specs.Resolving.{HasNames}
 use Rattle.swreq_resolve.specs.Refusals.{duplicates, of_spaces, of_protocol, of_primaries, primary_of, of_entity, of_requirement, of_members, begins_in_protocol, of_struct, of_function, of_query, refusals_in, by_place}
 use Rattle.swreq_names.specs.Spaces.{Spaces, spaces, word, declaration, declarations, place, offset_of, is_declared, is_declared_before, refers_to, protocol_of, declares, has_member, any_below}
-use Rattle.swreq_names.proofs.Booleans.{or_cases, and_second}
 use Rattle.swreq_lexicon.specs.declared.pair.ProtocolName.{ProtocolName}
 use Rattle.swreq_lexicon.specs.Lexicons.{pair, proto_by, name_by, assoc_by}
-use Rattle.swreq_lexicon.specs.Ranks.{Bytes, rank}
+use Rattle.swreq_rank.specs.Ranks.{Bytes, rank}
 use Rattle.swreq_lexicon.specs.Texts.{IsLexiconOf, protocol_names, declared_by, declared_in}
 use Rattle.swreq_lexicon.specs.Views.{LexiconView, IsProtocol, IsName}
 use Rattle.swreq_lexicon.proofs.Declared.{in_pieces, named_within}
-use Rattle.swreq_lexicon.proofs.Places.{there}
 use Rattle.swreq_lexicon.proofs.RankLaws.{rank_is, assoc_is}
 use Rattle.swreq_lowering.specs.Words.{WordsView, declared, proto_of, name_of, primaries_of, primaries_at, primaries_named}
 use Rattle.swreq_world.proofs.Everywhere.{all_left, all_right, all_at, each_mapped, each_piece, placed_piece, at_mapped, past_mapped, stands_mapped, mapped_from}
@@ -88,7 +88,7 @@ some_below test (suc n) e = ⊎_elim (λ h. (n, h)) (λ h. some_below test n h) 
 declared_somewhere : (d : Spaces) (inherits : ℕ → ℕ → Bool) (k : ℕ) (name : Bytes) → has_member d inherits k name ≡ true → (j : ℕ) × (declares d j name ≡ true)
 declared_somewhere d inherits k name e =
     ⊎_elim (λ h. (k, h))
-    (λ h. let s = some_below (λ j. inherits k j && declares d j name) (length d.members) h in (s.0, and_second (inherits k s.0) (declares d s.0 name) s.1))
+    (λ h. let s = some_below (λ j. inherits k j && declares d j name) (length d.members) h in (s.0, (and_parts (inherits k s.0) (declares d s.0 name) s.1).1))
     (or_cases (declares d k name) (any_below (λ j. inherits k j && declares d j name) (length d.members)) e)
 
 -- ---- where the names of a text resolve
@@ -130,7 +130,7 @@ module _ (text : Bytes) (s : Skeleton) (x : LexiconView) (is : IsLexiconOf text 
   pub protocol_is : (k : ℕ) (p : ProtocolDecl) → slice_get s.protocols k ≡ Some p → IsProtocol x (proto_by x.protocols (word text p.name))
   protocol_is k p e =
       let name = word text p.name in
-      let c = there (protocol_names text s.protocols) k name (stands_mapped (λ (q : ProtocolDecl). word text q.name) s.protocols k p e) in
+      let c = get_contains (protocol_names text s.protocols) k name (stands_mapped (λ (q : ProtocolDecl). word text q.name) s.protocols k p e) in
       slice_get_within x.protocols (rank x.protocols name) name (rank_is (Contains (protocol_names text s.protocols)) x.protocols is.protocols name c)
 
   named_is : (name : Bytes) (k : ℕ) → protocol_of (declared words) name ≡ Some k → IsProtocol x (proto_by x.protocols name)
@@ -157,10 +157,10 @@ module _ (text : Bytes) (s : Skeleton) (x : LexiconView) (is : IsLexiconOf text 
           let f : is_declared (members_of p) name ≡ true = subst (λ ds. is_declared ds name ≡ true) (at_mapped members_of s.protocols k p [] n) h in
           let j = some_of (place (members_of p) name) f in
           let m = declared_at text (λ (m : AssocDecl). m.name) p.members name j.0 j.1 in
-          let c = there (map (pair_of p) p.members) j.0 (pair_of p m.0) (stands_mapped (pair_of p) p.members j.0 m.0 m.1) in (
+          let c = get_contains (map (pair_of p) p.members) j.0 (pair_of p m.0) (stands_mapped (pair_of p) p.members j.0 m.0 m.1) in (
             p,
             n,
-            in_pieces (declared_by text x.protocols x.names) s.protocols p (pair (proto_by x.protocols (word text p.name)) (name_by x.names name)) (there s.protocols k p n)
+            in_pieces (declared_by text x.protocols x.names) s.protocols p (pair (proto_by x.protocols (word text p.name)) (name_by x.names name)) (get_contains s.protocols k p n)
                 (subst (λ b. Contains (map (pair_of p) p.members) (pair (proto_by x.protocols (word text p.name)) (name_by x.names b))) m.2 c),
           )
 

@@ -1,6 +1,6 @@
 -- Each signature of a text stands at its place in written order.
 use Rattle.std.proofs.Common.{◌≡◌, ℕ, zero, suc, ◌+◌, ◌-◌, ◌<◌, ◌≤◌, ◌⊎◌, inl, inr, ⊎_elim, true, List, [], ◌∷◌, ◌++◌, Option, Some, None, unwrap_or, length, get_or, drop, slice_get, nat_eq, refl, sym, ap, subst, ◌∙◌, arith, eqb-true, eq-eqb}
-use Rattle.std.proofs.lemmas.Bool.{cases_lt}
+use Rattle.std.proofs.lemmas.Bool.{cases_lt, and_parts}
 use Rattle.std.proofs.lemmas.Iterator.Adapters.{position_from-zero}
 use Rattle.std.proofs.lemmas.List.Elements.{Contains-append_left, Contains-append_right}
 use Rattle.std.proofs.lemmas.List.Quantifiers.{position-Some}
@@ -12,16 +12,15 @@ use Rattle.swreq_decl.specs.declared.skeleton.StructDecl.{StructDecl}
 use Rattle.swreq_decl.specs.Signatures.{stands_before}
 use Rattle.swreq_names.specs.declared.signature.Signature.{Signature}
 use Rattle.swreq_names.specs.declared.signature.Signature.TheVariants.{Struct, Function, Nested}
-use Rattle.swreq_names.proofs.Booleans.{and_first, and_second}
 use Rattle.swreq_lexicon.proofs.Positions.{fails_all}
-use Rattle.swreq_lexicon.proofs.SymbolPlaces.{get_left, get_right}
+use Rattle.swreq_lexicon.proofs.SymbolPlaces.{get_left}
 use Rattle.swreq_lowering.specs.Signatures.{nested_from, functions_from, with_nested, merged, in_order, is_signature, place_in, func_id}
 use Rattle.swreq_lowering.specs.declared.ids.FuncId.{FuncId}
 use Rattle.swreq_lowering.proofs.Referring.{from_below}
 use Rattle.swreq_lowering.proofs.Shorter.{nested_count}
 use Rattle.swreq_world.specs.Text.{outer_of}
 use Rattle.swreq_world.proofs.WrittenOrder.{length_rest}
-use Rattle.swreq_orders.proofs.Elements.{get_either}
+use Rattle.swreq_orders.proofs.Elements.{get_either, get_after}
 
 -- The signature is of the text.
 abbrev pub IsIn : Skeleton → Signature → Type 0
@@ -46,7 +45,7 @@ same_signature (Function i) (Function k) e = ap Function (same_number i k e)
 same_signature (Function i) (Nested k l) e = absurd cc
 same_signature (Nested i j) (Struct k) e = absurd cc
 same_signature (Nested i j) (Function k) e = absurd cc
-same_signature (Nested i j) (Nested k l) e = λ n. Nested (same_number i k (and_first (nat_eq i k) (nat_eq j l) e) n) (same_number j l (and_second (nat_eq i k) (nat_eq j l) e) n)
+same_signature (Nested i j) (Nested k l) e = λ n. Nested (same_number i k (and_parts (nat_eq i k) (nat_eq j l) e).0 n) (same_number j l (and_parts (nat_eq i k) (nat_eq j l) e).1 n)
 
 place_of : (order : List Signature) (g : Signature) → is_signature g g ≡ true → Contains order g → (k : ℕ) × (place_in order g ≡ Some k) × (slice_get order k ≡ Some g)
 place_of order g s c = by (place_in order g) refl
@@ -141,7 +140,7 @@ module _ (i : ℕ) (s : StructDecl) (ss : List StructDecl) (before later : List 
         functions = λ j l.
             let at : p + (1 + j) ≡ length before + suc j = omega (arith, a) in
             let within : j < length nested = omega (arith, l, count) in
-            ap (slice_get all) at ∙ get_right before (own ++ later) (suc j) ∙ get_left nested later j within
+            ap (slice_get all) at ∙ get_after before (own ++ later) (suc j) ∙ get_left nested later j within
             ∙ nested_at i 0 (length s.functions) j j l (omega arith) ∙ ap (λ b. Some (Nested b j)) same;
       }
   here (suc q) a h = absurd (no_struct_within i 0 (length s.functions) m q h)
@@ -156,7 +155,7 @@ module _ (i : ℕ) (s : StructDecl) (ss : List StructDecl) (before later : List 
         stands = ap (slice_get (s ∷ ss)) next ∙ f.stands;
         functions = λ j g.
             let at : p + (1 + j) ≡ length before + (length own + (r + (1 + j))) = omega (arith, a, b) in
-            ap (slice_get all) at ∙ get_right before (own ++ later) (length own + (r + (1 + j))) ∙ get_right own later (r + (1 + j)) ∙ f.functions j g;
+            ap (slice_get all) at ∙ get_after before (own ++ later) (length own + (r + (1 + j))) ∙ get_after own later (r + (1 + j)) ∙ f.functions j g;
       }
 
   first_or_later : ((r : ℕ) → slice_get later r ≡ Some (Struct m) → IsFollowed later (i + 1) ss m r) → (slice_get before p ≡ Some (Struct m) → ⊥) → slice_get all p ≡ Some (Struct m)

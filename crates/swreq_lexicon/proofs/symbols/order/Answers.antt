@@ -2,7 +2,7 @@ use Rattle.std.proofs.Common.{◌∙◌, ◌≤◌, ◌<◌, ◌↔◌, List, le
 use Rattle.swreq_param.specs.declared.ids.ProtoId.{ProtoId}
 use Rattle.swreq_lexicon.specs.declared.symbols.OrderKey.{OrderKey}
 use Rattle.swreq_lexicon.specs.Associated.{order_cmp}
-use Rattle.swreq_lexicon.specs.Ranks.{IsRanking}
+use Rattle.swreq_rank.specs.Ranks.{IsRanking}
 use Rattle.swreq_lexicon.specs.Views.{inherits_by}
 use Rattle.swreq_lexicon.proofs.OrderKeys.{order_ranking, order_few}
 use Rattle.swreq_lexicon.proofs.symbols.order.Goals as goal

@@ -2,7 +2,7 @@ use Rattle.std.proofs.Common.{Some, Contains, position, sym, ap, subst, ◌∙�
 use Rattle.std.specs.Option.{option_map}
 use Rattle.swreq_lexicon.specs.Lexicons.{is_pair, assoc_at}
 use Rattle.swreq_lexicon.specs.contracts.associated.AssocKeyOrd.TheImpl.{cmp-value}
-use Rattle.swreq_lexicon.proofs.Rising.{rising_from_sorted}
+use Rattle.swreq_rank.proofs.Rising.{rising_from_sorted}
 use Rattle.swreq_lexicon.proofs.PairKeys.{root_at, other_at, nowhere}
 use Rattle.swreq_lexicon.proofs.associated.Associated.find.Goals as goal
 

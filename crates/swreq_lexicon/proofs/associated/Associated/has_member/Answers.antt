@@ -12,6 +12,5 @@ returns c =
     let inherits = inherits_by c.args.protocols.now.places c.args.protocols.now.resolved.inherits in
     let test = λ (q : ProtoId). nat_eq c.args.p.rank q.rank || inherits c.args.p q in
     c.has_name.ensures
-    ∙ ap (λ (ls : List (List ProtoId)). list_any test (get_or ls c.args.a.rank [])) c.deref.ensures.value
-    ∙ any_declarer (map pair_of c.self.inside.ranked) c.self.inside.declarers.items c.self.invariant.0 test c.args.a
+    ∙ any_declarer (map pair_of c.self.inside.ranked) c.self.inside.declarers c.self.invariant.0 test c.args.a
     ∙ ap (λ ds. has_member inherits ds c.args.p c.args.a) c.self.view_is

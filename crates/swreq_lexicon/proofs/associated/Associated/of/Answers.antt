@@ -48,9 +48,9 @@ returns-clause-sorted c =
 pub invariant_of-result : goal.invariant_of-result
 invariant_of-result c =
     let inherits = inherits_by c.args.protocols.now.places c.args.protocols.now.resolved.inherits in (
-      same_declarers c.args.pairs.items (map pair_of c.in_ok-ranked.ranked) c.in_ok-declarers.declarers.items
+      same_declarers c.args.pairs.items (map pair_of c.in_ok-ranked.ranked) c.in_ok-declarers.declarers
           (ranked_pairs inherits c.args.pairs.items c.in_ok-ranked.ranked
           (same_keys inherits c.args.pairs.items c.deref-3.result.now c.in_ok-keys.field-0.items c.in_ok-ranked.ranked c.deref-3.ensures.value c.in_ok-keys.ensures c.in_ok-ranked.ensures.same))
-          (subst (λ (xs : List ProtocolName). AreDeclarers xs c.in_ok-declarers.declarers.items) c.deref.ensures.value c.in_ok-declarers.ensures),
+          (subst (λ (xs : List ProtocolName). AreDeclarers xs c.in_ok-declarers.declarers) c.deref.ensures.value c.in_ok-declarers.ensures),
       few_keys inherits c.args.pairs.items c.deref-3.result.now c.in_ok-keys.field-0.items c.in_ok-ranked.ranked c.deref-3.ensures.value c.in_ok-keys.ensures c.in_ok-ranked.ensures.count c.requires.few,
     )

@@ -6,7 +6,7 @@ use Rattle.swreq_names.specs.Names.{HasDeclared}
 use Rattle.swreq_names.specs.Spaces.{word}
 use Rattle.swreq_param.specs.declared.ids.ProtoId.{ProtoId}
 use Rattle.swreq_lexicon.specs.Lexicons.{proto_by}
-use Rattle.swreq_lexicon.specs.Ranks.{Bytes, IsRanking, bytes_cmp}
+use Rattle.swreq_rank.specs.Ranks.{Bytes, IsRanking, bytes_cmp}
 use Rattle.swreq_lexicon.specs.Symbols.{has_member, AreStarts}
 use Rattle.swreq_lexicon.specs.Texts.{protocol_names}
 use Rattle.swreq_lexicon.specs.Views.{place_by, inherits_by}

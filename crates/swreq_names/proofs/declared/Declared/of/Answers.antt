@@ -24,7 +24,7 @@ invariant_of-result c = (
         (c.in_ok-ranks.ensures name).1
         (c.in_ok-all_names.ensures j name (subst (λ (members : List (List Declaration)). Contains (names_of (get_or members j [])) name) (sym c.deref.ensures.value) h));
     listed = λ r name is j.
-        subst (λ (members : List (List Declaration)). Contains (get_or c.in_ok-declarers.declarers.items r []) j ↔ Contains (names_of (get_or members j [])) name) c.deref-2.ensures.value
+        subst (λ (members : List (List Declaration)). Contains (get_or c.in_ok-declarers.declarers r []) j ↔ Contains (names_of (get_or members j [])) name) c.deref-2.ensures.value
         (c.in_ok-declarers.ensures r name is j);
   },
   c.in_ok-empty.ensures ∙ c.new.ensures.items,

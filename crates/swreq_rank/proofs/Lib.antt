@@ -1,0 +1,5 @@
+pub mod Rising
+pub mod Names
+pub mod Pushed
+pub mod Tests
+mod Search
