@@ -1,5 +1,5 @@
 // The protocols of a text by rank.
-ghost use Rattle.std.specs.Prelude.{◌≡◌, ◌<◌, ◌≤◌, ◌+◌, ◌++◌, ◌∷◌, [], ◌↔◌, ℕ, List, length, map, cond, slice_get, slice_index, slice_index_or, Some, MatchOption, IfOk, Contains};
+ghost use Rattle.std.specs.Prelude.{◌≡◌, ◌<◌, ◌≤◌, ◌+◌, ◌++◌, ◌∷◌, [], ◌↔◌, ℕ, List, length, map, cond, slice_get, slice_index, slice_index_or, unwrap_or, Some, MatchOption, IfOk, Contains};
 ghost use Rattle.std.specs.List.{position_from};
 ghost use Rattle.std.specs.Str.{bytes_eq};
 ghost use Rattle.swreq_names.specs.Spaces.{word, declarations, place};

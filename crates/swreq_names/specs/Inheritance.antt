@@ -1,9 +1,9 @@
 -- Which protocols a protocol inherits. A protocol is its place among the protocols in written order.
-use Rattle.std.specs.Prelude.{◌≡◌, ℕ, ◌<◌, ◌↔◌, Bool, cond, true, false, ◌&&◌, List, [], ◌∷◌, ◌++◌, Option, Some, None, map, length, slice_get, IsTrue}
+use Rattle.std.specs.Prelude.{ℕ, ◌↔◌, Bool, cond, true, false, ◌&&◌, List, [], ◌∷◌, ◌++◌, Option, None, map, IsTrue}
 use Rattle.std.specs.List.{flat_map}
 use Rattle.std.specs.Option.{option_to_list}
 use Rattle.std.specs.Str.{bytes_eq}
-use Rattle.swreq_closure.specs.Chains.{Leads, Rows, leads}
+use Rattle.swreq_closure.specs.Chains.{Leads}
 use Rattle.swreq_decl.specs.declared.skeleton.Entity.{Entity}
 use Rattle.swreq_decl.specs.declared.skeleton.ReqDecl.{ReqDecl}
 use Rattle.swreq_decl.specs.declared.skeleton.ReqDecl.TheVariants as requirements

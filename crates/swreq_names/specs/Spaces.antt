@@ -1,5 +1,5 @@
 -- The names that a text declares, in their spaces, and what a name refers to.
-use Rattle.std.specs.Prelude.{ℕ, nat_lt, Bool, true, false, cond, ◌||◌, ◌&&◌, zero, suc, List, [], ◌∷◌, Option, Some, None, map, length, is_some, slice_range, slice_get, slice_index_or}
+use Rattle.std.specs.Prelude.{ℕ, nat_lt, Bool, false, cond, ◌||◌, ◌&&◌, zero, suc, List, [], ◌∷◌, Option, Some, None, map, length, is_some, slice_range, slice_get, slice_index_or}
 use Rattle.std.specs.List.{position_from}
 use Rattle.std.specs.Option.{option_map}
 use Rattle.std.specs.Str.{bytes_eq}

@@ -20,7 +20,10 @@ fn add_name(
 {
     let _count = ranks.len();
     match ranks.find(name) {
-        Some(rank) => lists.push(rank, place),
+        Some(rank) => {
+            lists.push(rank, place)?;
+            Ok(())
+        }
         None => Ok(()),
     }
 }

@@ -1,4 +1,4 @@
-use Rattle.std.proofs.Common.{◌≡◌, ◌∙◌, ◌⊎◌, ◌↔◌, List, [], ap, get_or, Contains, subst}
+use Rattle.std.proofs.Common.{◌≡◌, ◌∙◌, ◌⊎◌, ◌↔◌, List, [], length, ap, get_or, Contains, subst}
 use Rattle.std.proofs.lemmas.List.{get_or_default, length-replicate}
 use Rattle.swreq_rank.proofs.Pushed.{all_alike}
 use Rattle.swreq_names.specs.declared.directory.Declaration.{Declaration}

@@ -1,4 +1,4 @@
-use Rattle.std.proofs.Common.{◌∙◌, ◌↔◌, ℕ, List, [], get_or, Contains, subst, sym}
+use Rattle.std.proofs.Common.{◌↔◌, ℕ, List, [], get_or, Contains, subst, sym}
 use Rattle.swreq_names.specs.Spaces.{Spaces}
 use Rattle.swreq_names.specs.Directories.{names_of}
 use Rattle.swreq_orders.proofs.Members.{no_member}

@@ -21,7 +21,7 @@ pub invariant_of-result : goal.invariant_of-result
 invariant_of-result c = (
   record {
     all = λ j name h.
-        (c.in_ok-ranks.ensures name).1
+        (c.of-ranks.ensures.same name).1
         (c.in_ok-all_names.ensures j name (subst (λ (members : List (List Declaration)). Contains (names_of (get_or members j [])) name) (sym c.deref.ensures.value) h));
     listed = λ r name is j.
         subst (λ (members : List (List Declaration)). Contains (get_or c.in_ok-declarers.declarers r []) j ↔ Contains (names_of (get_or members j [])) name) c.deref-2.ensures.value
