@@ -3,31 +3,88 @@ ghost use Rattle.std.specs.Prelude.{◌≡◌, ◌↔◌, ℕ, [], map, slice_in
 ghost use Rattle.swreq_names.specs.Spaces.{spaces, declarations, of_params, protocol_of, struct_of, function_of, signature_of, nested_in, nested_of, outer_params, own_params, param_of, declares};
 ghost use Rattle.swreq_names.specs.Directories.{names_of};
 
-use crate::declarers::{all_names, lists_of};
+use crate::declarers::Declarers;
 use crate::directory::Directory;
 use crate::signature::{Param, Signature};
 use crate::words::{Named, declarations};
 use std::alloc::{AllocError, Global};
 use std::marker::Model;
 use swreq_decl::{FunctionDecl, ProtocolDecl, Skeleton, StructDecl};
-use swreq_rank::{Lists, Ranks};
 use swreq_text::Seq;
+
+/// The names of the protocols, and of what stands in each.
+#[derive(Drop)]
+struct OfProtocols {
+    names: Directory,
+    members: Vec<Directory>,
+    primaries: Vec<Directory>,
+}
+
+impl OfProtocols {
+    fn of(alloc: Global, text: &[u8], protocols: &[ProtocolDecl]) -> Result<Self, AllocError>
+        ensures names { IfOk result (λ d. d.names ≡ declarations text.now (map (λ p. p.name) protocols.now)) }
+        ensures members { IfOk result (λ d. d.members.items ≡ map (λ p. declarations text.now (map (λ m. m.name) p.members)) protocols.now) }
+        ensures primaries { IfOk result (λ d. d.primaries.items ≡ map (λ p. declarations text.now p.primaries) protocols.now) }
+    {
+        Ok(OfProtocols {
+            names: directory_of(alloc, text, protocols)?,
+            members: members(alloc, text, protocols)?,
+            primaries: primaries(alloc, text, protocols)?,
+        })
+    }
+}
+
+/// The names of the structs, and of what stands in each.
+#[derive(Drop)]
+struct OfStructs {
+    names: Directory,
+    params: Vec<Directory>,
+    nested: Vec<Directory>,
+    nested_params: Vec<Seq<Directory>>,
+}
+
+impl OfStructs {
+    fn of(alloc: Global, text: &[u8], structs: &[StructDecl]) -> Result<Self, AllocError>
+        ensures names { IfOk result (λ d. d.names ≡ declarations text.now (map (λ t. t.name) structs.now)) }
+        ensures params { IfOk result (λ d. d.params.items ≡ map (λ t. of_params text.now t.params) structs.now) }
+        ensures nested { IfOk result (λ d. d.nested.items ≡ map (λ t. declarations text.now (map (λ f. f.name) t.functions)) structs.now) }
+        ensures nested_params { IfOk result (λ d. d.nested_params.items ≡ map (λ t. map (λ f. of_params text.now f.params) t.functions) structs.now) }
+    {
+        Ok(OfStructs {
+            names: directory_of(alloc, text, structs)?,
+            params: struct_params(alloc, text, structs)?,
+            nested: nested(alloc, text, structs)?,
+            nested_params: nested_params(alloc, text, structs)?,
+        })
+    }
+}
+
+/// The names of the functions at the top, and of their generic parameters.
+#[derive(Drop)]
+struct OfFunctions {
+    names: Directory,
+    params: Vec<Directory>,
+}
+
+impl OfFunctions {
+    fn of(alloc: Global, text: &[u8], functions: &[FunctionDecl]) -> Result<Self, AllocError>
+        ensures names { IfOk result (λ d. d.names ≡ declarations text.now (map (λ f. f.name) functions.now)) }
+        ensures params { IfOk result (λ d. d.params.items ≡ map (λ f. of_params text.now f.params) functions.now) }
+    {
+        Ok(OfFunctions {
+            names: directory_of(alloc, text, functions)?,
+            params: params(alloc, text, functions)?,
+        })
+    }
+}
 
 /// The names that a text declares, in their spaces.
 #[derive(Drop)]
 pub struct Declared {
-    protocols: Directory,
-    members: Vec<Directory>,
-    primaries: Vec<Directory>,
-    structs: Directory,
-    struct_params: Vec<Directory>,
-    nested: Vec<Directory>,
-    nested_params: Vec<Seq<Directory>>,
-    functions: Directory,
-    params: Vec<Directory>,
-    /// All names of associated types, and of each the protocols that declare it.
-    ranks: Ranks,
-    declarers: Lists<usize>,
+    protocols: OfProtocols,
+    structs: OfStructs,
+    functions: OfFunctions,
+    declarers: Declarers,
     /// What stands for a list of declarations that is not there.
     empty: Directory,
 }
@@ -40,18 +97,18 @@ impl Model for Declared {
     ghost Value = { Spaces };
 
     ghost view = { λ d. record {
-      protocols = d.protocols;
-      members = d.members.items;
-      primaries = d.primaries.items;
-      structs = d.structs;
-      struct_params = d.struct_params.items;
-      nested = d.nested.items;
-      nested_params = d.nested_params.items;
-      functions = d.functions;
-      params = d.params.items;
+      protocols = d.protocols.names;
+      members = d.protocols.members.items;
+      primaries = d.protocols.primaries.items;
+      structs = d.structs.names;
+      struct_params = d.structs.params.items;
+      nested = d.structs.nested.items;
+      nested_params = d.structs.nested_params.items;
+      functions = d.functions.names;
+      params = d.functions.params.items;
     } };
 
-    ghost invariant = { λ d. AreDeclarers d.members.items d.ranks d.declarers × (d.empty ≡ []) };
+    ghost invariant = { λ d. AreDeclarers d.protocols.members.items d.declarers.ranks d.declarers.lists × (d.empty ≡ []) };
 }
 
 impl Declared {
@@ -59,32 +116,15 @@ impl Declared {
     pub fn of(alloc: Global, text: &[u8], s: &Skeleton) -> Result<Self, AllocError>
         ensures { IfOk result (λ d. d ≡ spaces text.now s.now) }
     {
-        let ps = s.protocols.items();
-        let ts = s.structs.items();
-        let fs = s.functions.items();
-        let protocols = directory_of(alloc, text, ps)?;
-        let members = members(alloc, text, ps)?;
-        let primaries = primaries(alloc, text, ps)?;
-        let structs = directory_of(alloc, text, ts)?;
-        let struct_params = struct_params(alloc, text, ts)?;
-        let nested = nested(alloc, text, ts)?;
-        let nested_params = nested_params(alloc, text, ts)?;
-        let functions = directory_of(alloc, text, fs)?;
-        let params = params(alloc, text, fs)?;
-        let ranks = Ranks::of(all_names(alloc, &members)?);
-        let declarers = lists_of(alloc, &ranks, &members)?;
+        let protocols = OfProtocols::of(alloc, text, s.protocols.items())?;
+        let structs = OfStructs::of(alloc, text, s.structs.items())?;
+        let functions = OfFunctions::of(alloc, text, s.functions.items())?;
+        let declarers = Declarers::of(alloc, &protocols.members)?;
         let empty = Directory::of(alloc, Vec::new(alloc))?;
         Ok(Declared {
             protocols,
-            members,
-            primaries,
             structs,
-            struct_params,
-            nested,
-            nested_params,
             functions,
-            params,
-            ranks,
             declarers,
             empty,
         })
@@ -94,63 +134,63 @@ impl Declared {
     pub fn protocols(&self) -> &Directory
         ensures { result.now ≡ self.now.protocols }
     {
-        &self.protocols
+        &self.protocols.names
     }
 
     /// The names of the structs.
     pub fn structs(&self) -> &Directory
         ensures { result.now ≡ self.now.structs }
     {
-        &self.structs
+        &self.structs.names
     }
 
     /// The names of the functions at the top.
     pub fn functions(&self) -> &Directory
         ensures { result.now ≡ self.now.functions }
     {
-        &self.functions
+        &self.functions.names
     }
 
     /// The names of the associated types of a protocol.
     pub fn members(&self, protocol: usize) -> &Directory
         ensures { result.now ≡ slice_index_or self.now.members protocol [] }
     {
-        at(&self.members, protocol, &self.empty)
+        at(&self.protocols.members, protocol, &self.empty)
     }
 
     /// The primary names of a protocol.
     pub fn primaries(&self, protocol: usize) -> &Directory
         ensures { result.now ≡ slice_index_or self.now.primaries protocol [] }
     {
-        at(&self.primaries, protocol, &self.empty)
+        at(&self.protocols.primaries, protocol, &self.empty)
     }
 
     /// The names of the functions of a struct.
     pub fn nested(&self, outer: usize) -> &Directory
         ensures { result.now ≡ slice_index_or self.now.nested outer [] }
     {
-        at(&self.nested, outer, &self.empty)
+        at(&self.structs.nested, outer, &self.empty)
     }
 
     /// The protocol that a name refers to.
     pub fn protocol_of(&self, name: &[u8]) -> Option<usize>
         ensures { result ≡ protocol_of self.now name.now }
     {
-        self.protocols.refers_to(&self.structs, name)
+        self.protocols().refers_to(self.structs(), name)
     }
 
     /// The struct that a name refers to, where a signature is asked.
     pub fn struct_of(&self, name: &[u8]) -> Option<usize>
         ensures { result ≡ struct_of self.now name.now }
     {
-        self.structs.refers_to(&self.functions, name)
+        self.structs().refers_to(self.functions(), name)
     }
 
     /// The function at the top that a name refers to.
     fn function_of(&self, name: &[u8]) -> Option<usize>
         ensures { result ≡ function_of self.now name.now }
     {
-        self.functions.refers_to(&self.structs, name)
+        self.functions().refers_to(self.structs(), name)
     }
 
     /// The struct, or the function at the top, that a name refers to.
@@ -191,7 +231,7 @@ impl Declared {
         ensures { result.now ≡ outer_params self.now signature }
     {
         match signature {
-            Signature::Nested { outer, .. } => at(&self.struct_params, outer, &self.empty),
+            Signature::Nested { outer, .. } => at(&self.structs.params, outer, &self.empty),
             _ => &self.empty,
         }
     }
@@ -201,10 +241,14 @@ impl Declared {
         ensures { result.now ≡ own_params self.now signature }
     {
         match signature {
-            Signature::Struct(place) => at(&self.struct_params, place, &self.empty),
-            Signature::Function(place) => at(&self.params, place, &self.empty),
+            Signature::Struct(place) => at(&self.structs.params, place, &self.empty),
+            Signature::Function(place) => at(&self.functions.params, place, &self.empty),
             Signature::Nested { outer, function } => {
-                at(list_of(&self.nested_params, outer), function, &self.empty)
+                at(
+                    list_of(&self.structs.nested_params, outer),
+                    function,
+                    &self.empty,
+                )
             }
         }
     }
@@ -233,10 +277,7 @@ impl Declared {
     pub fn declarers(&self, name: &[u8]) -> &[usize]
         ensures { (j : ℕ) → Contains result.now j ↔ Contains (names_of (slice_index_or self.now.members j [])) name.now }
     {
-        match self.ranks.find(name) {
-            Some(rank) => self.declarers.at(rank),
-            None => &[],
-        }
+        self.declarers.of_name(name)
     }
 }
 

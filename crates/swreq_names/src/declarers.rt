@@ -1,11 +1,41 @@
 // Which protocols declare a name, by their places in written order.
 ghost use Rattle.std.specs.Prelude.{◌≡◌, ◌⊎◌, ◌↔◌, ◌++◌, ℕ, [], List, length, Some, slice_get, slice_index_or, Contains, IfOk, OnOk};
-ghost use Rattle.swreq_names.specs.Directories.{names_of};
+ghost use Rattle.swreq_names.specs.declared.directory.Declaration.{Declaration};
+ghost use Rattle.swreq_names.specs.Directories.{names_of, AreDeclarers};
 
 use crate::directory::{Declaration, Directory};
 use std::alloc::{AllocError, Global};
 use swreq_rank::{Lists, Ranks};
 use swreq_text::Seq;
+
+/// All names of associated types that protocols declare, and of each the protocols that declare it.
+#[derive(Drop)]
+pub struct Declarers {
+    pub ranks: Ranks,
+    pub lists: Lists<usize>,
+}
+
+impl Declarers {
+    /// The declarers of the names in these directories, one for each protocol.
+    pub fn of(alloc: Global, members: &[Directory]) -> Result<Self, AllocError>
+        ensures { IfOk result (λ d. AreDeclarers members.now d.ranks d.lists) }
+    {
+        let ranks = Ranks::of(all_names(alloc, members)?);
+        let lists = lists_of(alloc, &ranks, members)?;
+        Ok(Declarers { ranks, lists })
+    }
+
+    /// The protocols that declare the name.
+    pub fn of_name(&self, name: &[u8]) -> &[usize]
+        ensures { (members : List (List Declaration)) → AreDeclarers members self.now.ranks self.now.lists
+            → (j : ℕ) → Contains result.now j ↔ Contains (names_of (slice_index_or members j [])) name.now }
+    {
+        match self.ranks.find(name) {
+            Some(rank) => self.lists.at(rank),
+            None => &[],
+        }
+    }
+}
 
 fn add_name(
     ranks: &Ranks,
@@ -46,11 +76,7 @@ fn add_names(
 }
 
 /// For each rank the protocols that declare its name.
-pub fn lists_of(
-    alloc: Global,
-    ranks: &Ranks,
-    members: &[Directory],
-) -> Result<Lists<usize>, AllocError>
+fn lists_of(alloc: Global, ranks: &Ranks, members: &[Directory]) -> Result<Lists<usize>, AllocError>
     ensures { IfOk result (λ lists. (r : ℕ) (q : List ℕ) → slice_get ranks.now r ≡ Some q → (j : ℕ)
         → Contains (slice_index_or lists r []) j ↔ Contains (names_of (slice_index_or members.now j [])) q) }
 {
@@ -75,7 +101,7 @@ fn add_copies(
 }
 
 /// All names that protocols declare.
-pub fn all_names(alloc: Global, members: &[Directory]) -> Result<Vec<Seq<u8>>, AllocError>
+fn all_names(alloc: Global, members: &[Directory]) -> Result<Vec<Seq<u8>>, AllocError>
     ensures { IfOk result (λ all. (j : ℕ) (q : List ℕ) → Contains (names_of (slice_index_or members.now j [])) q → Contains all.items q) }
 {
     let mut all = Vec::new(alloc);
