@@ -1,6 +1,6 @@
 // The names that a text declares.
 ghost use Rattle.std.specs.Prelude.{◌≡◌, ◌↔◌, ℕ, [], map, slice_index_or, Contains, IfOk};
-ghost use Rattle.swreq_names.specs.Spaces.{spaces, declarations, of_params, protocol_of, struct_of, function_of, signature_of, nested_in, nested_of, outer_params, own_params, param_of, declares};
+ghost use Rattle.swreq_names.specs.Spaces.{spaces, declarations, of_params, protocol_of, struct_of, signature_of, nested_in, nested_of, outer_params, own_params, param_of, declares};
 ghost use Rattle.swreq_names.specs.Directories.{names_of};
 
 use crate::declarers::Declarers;
@@ -186,20 +186,13 @@ impl Declared {
         self.structs().refers_to(self.functions(), name)
     }
 
-    /// The function at the top that a name refers to.
-    fn function_of(&self, name: &[u8]) -> Option<usize>
-        ensures { result ≡ function_of self.now name.now }
-    {
-        self.functions().refers_to(self.structs(), name)
-    }
-
     /// The struct, or the function at the top, that a name refers to.
     pub fn signature_of(&self, name: &[u8]) -> Option<Signature>
         ensures { result ≡ signature_of self.now name.now }
     {
         match self.struct_of(name) {
             Some(place) => Some(Signature::Struct(place)),
-            None => match self.function_of(name) {
+            None => match self.functions().refers_to(self.structs(), name) {
                 Some(place) => Some(Signature::Function(place)),
                 None => None,
             },
