@@ -7,10 +7,11 @@ use Rattle.swreq_lex.specs.declared.token.Token as lexed
 use Rattle.swreq_lex.specs.Slices.{AreSlices, next}
 use Rattle.swreq_grammar.specs.Grammar.{Matches, Parts, mapped, sequence, repetition, unlimited, labelled}
 use Rattle.swreq_decl.specs.declared.terminal.Terminal.{Terminal}
-use Rattle.swreq_decl.specs.declared.terminal.Terminal.TheVariants.{Func, Struct, OpenBrace, CloseBrace, OpenParenthesis, CloseParenthesis}
+use Rattle.swreq_decl.specs.declared.terminal.Terminal.TheVariants.{Func, Protocol, Struct, OpenBrace, CloseBrace, OpenParenthesis, CloseParenthesis}
 use Rattle.swreq_decl.specs.declared.kind.Kind.TheVariants.{Parameters}
 use Rattle.swreq_decl.specs.declared.skeleton.Span.{Span}
 use Rattle.swreq_decl.specs.declared.skeleton.FunctionDecl.{FunctionDecl}
+use Rattle.swreq_decl.specs.declared.skeleton.ProtocolDecl.{ProtocolDecl}
 use Rattle.swreq_decl.specs.declared.skeleton.StructDecl.{StructDecl}
 use Rattle.swreq_decl.specs.declared.skeleton.Item.{Item}
 use Rattle.swreq_decl.specs.declared.skeleton.Item.TheVariants as items
@@ -44,16 +45,16 @@ slices_ordered text from (t ∷ ts) (next a b c d e s) =
     ((a, above_less from t.end (omega arith) (with_terminals text ts) r.0), (above_less (suc t.start) t.end (omega arith) (with_terminals text ts) r.0, r.1))
 
 -- a token starts there
-abbrev Starts : ℕ → Tokens → Type 0
+abbrev pub Starts : ℕ → Tokens → Type 0
 Starts n [] = ⊥
 Starts n (t ∷ ts) = (n ≡ t.start) ⊎ Starts n ts
 
-starts_left : (n : ℕ) (xs ys : Tokens) → Starts n xs → Starts n (xs ++ ys)
+pub starts_left : (n : ℕ) (xs ys : Tokens) → Starts n xs → Starts n (xs ++ ys)
 starts_left n [] ys h = absurd h
 starts_left n (t ∷ xs) ys (inl e) = inl e
 starts_left n (t ∷ xs) ys (inr h) = inr (starts_left n xs ys h)
 
-starts_right : (n : ℕ) (xs ys : Tokens) → Starts n ys → Starts n (xs ++ ys)
+pub starts_right : (n : ℕ) (xs ys : Tokens) → Starts n ys → Starts n (xs ++ ys)
 starts_right n [] ys h = h
 starts_right n (t ∷ xs) ys h = inr (starts_right n xs ys h)
 
@@ -97,28 +98,36 @@ structure_starts ts s m =
     named_starts Struct (sequence lines.params (sequence lines.conditions (after (mark OpenBrace) (before (repetition unlimited lines.inner_function) (mark CloseBrace)))))
     (λ p. record { name = p.0; params = p.1.0; clause = p.1.1.0; functions = p.1.1.1 }) (λ (r : StructDecl). r.name) (λ p. refl) ts s m
 
--- the name of a struct or function at the top is one of the tokens
-abbrev Stands : Item → Tokens → Type 0
+protocol_starts : (ts : Tokens) (p : ProtocolDecl) → Matches number lines.protocol ts p → Starts p.name.start ts
+unfolding lines.protocol
+protocol_starts ts p m =
+    named_starts Protocol
+    (sequence lines.primary_names
+    (sequence lines.inherits (sequence lines.conditions (after (mark OpenBrace) (before (repetition unlimited lines.member) (mark CloseBrace))))))
+    (λ p. record { name = p.0; primaries = p.1.0; inherits = p.1.1.0; clause = p.1.1.1.0; members = p.1.1.1.1 }) (λ (q : ProtocolDecl). q.name) (λ p. refl) ts p m
+
+-- the name of a protocol, or of a struct or function at the top, is one of the tokens
+abbrev pub Stands : Item → Tokens → Type 0
 Stands (items.Struct s) ts = Starts s.name.start ts
 Stands (items.Function f) ts = Starts f.name.start ts
-Stands (items.Protocol p) ts = Unit {0}
+Stands (items.Protocol p) ts = Starts p.name.start ts
 Stands (items.Query q) ts = Unit {0}
 
 stands_left : (v : Item) (xs ys : Tokens) → Stands v xs → Stands v (xs ++ ys)
 stands_left (items.Struct s) xs ys h = starts_left s.name.start xs ys h
 stands_left (items.Function f) xs ys h = starts_left f.name.start xs ys h
-stands_left (items.Protocol p) xs ys h = tt
+stands_left (items.Protocol p) xs ys h = starts_left p.name.start xs ys h
 stands_left (items.Query q) xs ys h = tt
 
 stands_right : (v : Item) (xs ys : Tokens) → Stands v ys → Stands v (xs ++ ys)
 stands_right (items.Struct s) xs ys h = starts_right s.name.start xs ys h
 stands_right (items.Function f) xs ys h = starts_right f.name.start xs ys h
-stands_right (items.Protocol p) xs ys h = tt
+stands_right (items.Protocol p) xs ys h = starts_right p.name.start xs ys h
 stands_right (items.Query q) xs ys h = tt
 
 declaration_stands : (ts : Tokens) (v : Item) → Matches number lines.declaration ts v → Stands v ts
 unfolding lines.declaration
-declaration_stands ts v (inl (p, m, e)) = subst (λ x. Stands x ts) e tt
+declaration_stands ts v (inl (p, m, e)) = subst (λ x. Stands x ts) e (protocol_starts ts p m)
 declaration_stands ts v (inr (inl (f, m, e))) = subst (λ x. Stands x ts) e (function_starts ts f m)
 declaration_stands ts v (inr (inr (s, m, e))) = subst (λ x. Stands x ts) e (structure_starts ts s m)
 
@@ -128,7 +137,7 @@ bare_item_stands ts v (inl (w, (a, b, s, m, n), e)) = subst (λ x. Stands x ts) 
 bare_item_stands ts v (inr (inl m)) = declaration_stands ts v m
 bare_item_stands ts v (inr (inr (q, m, e))) = subst (λ x. Stands x ts) e tt
 
-item_stands : (ts : Tokens) (v : Item) → Matches number lines.item ts v → Stands v ts
+pub item_stands : (ts : Tokens) (v : Item) → Matches number lines.item ts v → Stands v ts
 unfolding lines.item
 item_stands ts v (w, (a, b, s, m, n), e) = subst (λ x. Stands x ts) e (subst (λ us. Stands w.0 us) (sym s) (stands_left w.0 a b (bare_item_stands a w.0 m)))
 

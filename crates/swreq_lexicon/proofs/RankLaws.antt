@@ -16,6 +16,7 @@ use Rattle.std.proofs.lemmas.List.Elements.{Contains-append_right}
 use Rattle.std.proofs.lemmas.List.Quantifiers.{position-Some}
 use Rattle.std.proofs.lemmas.Option.{slice_get-get_or, slice_get-map, slice_get_within, get_or_from_slice_get, same_Some}
 use Rattle.std.proofs.lemmas.Slice.Eq.{bytes_eq-Decides}
+use Rattle.swreq_orders.proofs.Numbers.{above}
 use Rattle.swreq_orders.proofs.Elements.{get_contains}
 use Rattle.swreq_orders.proofs.Members.{no_member, member_cases}
 use Rattle.swreq_decl.specs.declared.skeleton.ProtocolDecl.{ProtocolDecl}
@@ -126,11 +127,8 @@ greater_name m n h =
 pub by_name : (rest : ProtocolName → ProtocolName → Ordering) (ds : List ProtocolName) → IsStrictlySortedBy (then_cmp (on (λ d. d.name.rank) nat_cmp) rest) ds
     → (i j : ℕ) (d e : ProtocolName) → slice_get ds i ≡ Some d → slice_get ds j ≡ Some e → d.name.rank < e.name.rank → i < j
 by_name rest ds sorted i j d e f g h =
-    ⊎_elim (λ l. l) (λ l. ⊎_elim (λ s. absurd (not_itself s)) (λ n. absurd (not_after (after i j l n))) (cases_eq i j)) (cases_lt i j)
+    ⊎_elim (λ l. l) (λ l. ⊎_elim (λ s. absurd (not_itself s)) (λ n. absurd (not_after (above i j l n))) (cases_eq i j)) (cases_lt i j)
   where
-    after : (i j : ℕ) → j ≤ i → (i ≡ j → ⊥) → j < i
-    after i j l n = omega arith
-
     not_itself : i ≡ j → ⊥
     not_itself s = let r = ap (λ (x : ProtocolName). x.name.rank) (same_Some d e (sym f ∙ ap (slice_get ds) s ∙ g)) in omega (arith, r, h)
 

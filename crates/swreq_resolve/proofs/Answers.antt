@@ -3,6 +3,8 @@ use Rattle.std.proofs.Common.{◌≡◌, ℕ, zero, suc, ◌<◌, ◌≤◌, ◌
 use Rattle.std.proofs.lemmas.Bool.{cases_lt, cases_eq}
 use Rattle.std.proofs.lemmas.List.{length-map}
 use Rattle.std.proofs.lemmas.Option.{slice_get_cases}
+use Rattle.swreq_orders.proofs.Members.{no_member}
+use Rattle.swreq_orders.proofs.Numbers.{above}
 use Rattle.swreq_rank.proofs.Tests.{same_bool}
 use Rattle.swreq_closure.specs.Chains.{leads}
 use Rattle.swreq_closure.proofs.Marks.{begins_within}
@@ -20,9 +22,6 @@ use Rattle.swreq_resolve.specs.Cycles.{HasNoLoop, IsLoopAt}
 use Rattle.swreq_names.specs.Names.{NamesView, HasDeclared}
 use Rattle.swreq_resolve.specs.Resolving.{HasNames, Resolve, Refuses, RefusesName, RefusesCycle, IsFirstCycle}
 use Rattle.swreq_resolve.proofs.Order.{none_refused, least_is_first, one_first}
-
-no_element : {A : Type 0} (x : A) → Contains [] x → ⊥
-no_element x c = let h = c.1 in omega arith
 
 -- what inherits a protocol is a protocol of the text
 inherits_within : (text : List ℕ) (s : Skeleton) (i : ℕ) → Inherits text s i i → i < length s.protocols
@@ -71,16 +70,13 @@ module _ (text : List ℕ) (s : Skeleton) where
   first_with r t a n = subst (λ (u : ℕ → ℕ → Bool). IsFirst (refusals text u s) r) (one_table text s n.inherits t n.tells a) n.first
 
   no_refused_name : (r : Refusal) → HasNames text s → RefusesName text s r → ⊥
-  no_refused_name r h n = no_element r (subst (λ (rs : List Refusal). Contains rs r) h.none (first_with r h.inherits h.tells n).is)
+  no_refused_name r h n = no_member r (subst (λ (rs : List Refusal). Contains rs r) h.none (first_with r h.inherits h.tells n).is)
 
   one_name : (r q : Refusal) → RefusesName text s r → RefusesName text s q → r ≡ q
   one_name r q n m = one_first (refusals text m.inherits s) r q (first_with r m.inherits m.tells n) m.first
 
   one_place : (i j : ℕ) → IsFirstCycle text s i → IsFirstCycle text s j → i ≡ j
-  one_place i j c d = ⊎_elim (λ l. absurd (d.first i l c.itself)) (λ l. ⊎_elim (λ e. e) (λ n. absurd (c.first j (below i j l n) d.itself)) (cases_eq i j)) (cases_lt i j)
-    where
-      below : (i j : ℕ) → j ≤ i → (i ≡ j → ⊥) → j < i
-      below i j l n = omega arith
+  one_place i j c d = ⊎_elim (λ l. absurd (d.first i l c.itself)) (λ l. ⊎_elim (λ e. e) (λ n. absurd (c.first j (above i j l n) d.itself)) (cases_eq i j)) (cases_lt i j)
 
   one_cycle : (at other : ℕ) → RefusesCycle text s at → RefusesCycle text s other → at ≡ other
   one_cycle at other c d =

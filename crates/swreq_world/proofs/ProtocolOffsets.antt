@@ -18,6 +18,7 @@ use Rattle.swreq_decl.specs.Terminals.{number, with_terminals}
 use Rattle.swreq_decl.specs.Source as lines
 use Rattle.swreq_decl.specs.Skeletons.{StandsFor, protocol_of}
 use Rattle.swreq_decl.proofs.SameTexts.{Tokens}
+use Rattle.swreq_decl.proofs.WrittenOrder.{Starts, item_stands}
 
 -- ---- rising offsets
 
@@ -60,20 +61,6 @@ slices_rising text from [] s = tt
 slices_rising text from (t ∷ ts) (next a b c d e s) =
     (a, rising_sooner start_of (suc t.start) t.end (omega arith) (with_terminals text ts) (slices_rising text t.end ts s))
 
--- a token starts there
-abbrev Starts : ℕ → Tokens → Type 0
-Starts n [] = ⊥
-Starts n (t ∷ ts) = (n ≡ t.start) ⊎ Starts n ts
-
-starts_left : (n : ℕ) (xs ys : Tokens) → Starts n xs → Starts n (xs ++ ys)
-starts_left n [] ys h = absurd h
-starts_left n (t ∷ xs) ys (inl e) = inl e
-starts_left n (t ∷ xs) ys (inr h) = inr (starts_left n xs ys h)
-
-starts_right : (n : ℕ) (xs ys : Tokens) → Starts n ys → Starts n (xs ++ ys)
-starts_right n [] ys h = h
-starts_right n (t ∷ xs) ys h = inr (starts_right n xs ys h)
-
 -- What comes after tokens starts after each of them.
 rising_past : (from n : ℕ) (xs ys : Tokens) → AreRising start_of from (xs ++ ys) → Starts n xs → (from ≤ n) × AreRising start_of (suc n) ys
 rising_past from n [] ys r h = absurd h
@@ -82,44 +69,6 @@ rising_past from n (t ∷ xs) ys r (inl e) =
     (omega arith, rising_sooner start_of (suc n) (suc t.start) (omega arith) ys (rising_after start_of (suc t.start) xs ys r.1))
 rising_past from n (t ∷ xs) ys r (inr h) =
     let k = r.0 in let p = rising_past (suc t.start) n xs ys r.1 h in let l = p.0 in (omega arith, p.1)
-
--- ---- the name of a protocol is one of its tokens
-
-name_starts : (ts : Tokens) (s : Span) → Matches number lines.name ts s → Starts s.start ts
-unfolding lines.name
-name_starts ts s (t, (e, h), k) = subst (Starts s.start) (sym e) (inl (sym (ap (λ (x : Span). x.start) k)))
-
-protocol_starts : (ts : Tokens) (p : ProtocolDecl) → Matches number lines.protocol ts p → Starts p.name.start ts
-unfolding lines.protocol
-protocol_starts ts p (v, (q, (a, b, s, m, (c, d, r, n, l)), e), k) =
-    let name = q.1.0 in
-    let here : Starts name.start (a ++ (c ++ d)) = starts_right name.start a (c ++ d) (starts_left name.start c d (name_starts c name n)) in
-    let whole : a ++ (c ++ d) ≡ ts = sym (s ∙ ap (λ (us : Tokens). a ++ us) r) in
-    let is : name ≡ p.name = ap (λ x. x.0) e ∙ ap (λ (x : ProtocolDecl). x.name) k in
-    subst (Starts p.name.start) whole (subst (λ (x : Span). Starts x.start (a ++ (c ++ d))) is here)
-
--- where the part is a protocol, its name is one of the tokens
-abbrev Stands : Item → Tokens → Type 0
-Stands v ts = (p : ProtocolDecl) → protocol_of v ≡ Some p → Starts p.name.start ts
-
-declaration_stands : (ts : Tokens) (v : Item) → Matches number lines.declaration ts v → Stands v ts
-unfolding lines.declaration
-declaration_stands ts v (inl (p, m, e)) =
-    subst (λ x. Stands x ts) e (λ q f. subst (λ (r : ProtocolDecl). Starts r.name.start ts) (same_Some p q f) (protocol_starts ts p m))
-declaration_stands ts v (inr (inl (f, m, e))) = subst (λ x. Stands x ts) e (λ p n. absurd cc)
-declaration_stands ts v (inr (inr (s, m, e))) = subst (λ x. Stands x ts) e (λ p n. absurd cc)
-
-bare_item_stands : (ts : Tokens) (v : Item) → Matches number lines.bare_item ts v → Stands v ts
-unfolding lines.bare_item
-bare_item_stands ts v (inl (w, (a, b, s, m, n), e)) =
-    subst (λ x. Stands x ts) e (subst (λ us. Stands w.1 us) (sym s) (λ p f. starts_right p.name.start a b (declaration_stands b w.1 n p f)))
-bare_item_stands ts v (inr (inl m)) = declaration_stands ts v m
-bare_item_stands ts v (inr (inr (q, m, e))) = subst (λ x. Stands x ts) e (λ p n. absurd cc)
-
-item_stands : (ts : Tokens) (v : Item) → Matches number lines.item ts v → Stands v ts
-unfolding lines.item
-item_stands ts v (w, (a, b, s, m, n), e) =
-    subst (λ x. Stands x ts) e (subst (λ us. Stands w.0 us) (sym s) (λ p f. starts_left p.name.start a b (bare_item_stands a w.0 m p f)))
 
 -- ---- the protocols of a text
 
@@ -133,7 +82,7 @@ parts_rising : (from : ℕ) (vs : List Item) (ts : Tokens) → Parts (Matches nu
     → AreRising name_start from (filter_map protocol_of vs)
 parts_rising from [] ts e r = tt
 parts_rising from (items.Protocol p ∷ vs) ts (a, b, s, m, ms) r =
-    let q = rising_past from p.name.start a b (subst (AreRising start_of from) s r) (item_stands a (items.Protocol p) m p refl) in
+    let q = rising_past from p.name.start a b (subst (AreRising start_of from) s r) (item_stands a (items.Protocol p) m) in
     (q.0, parts_rising (suc p.name.start) vs b ms q.1)
 parts_rising from (items.Struct t ∷ vs) ts (a, b, s, m, ms) r = parts_rising from vs b ms (rising_rest from ts a b s r)
 parts_rising from (items.Function f ∷ vs) ts (a, b, s, m, ms) r = parts_rising from vs b ms (rising_rest from ts a b s r)
