@@ -1,5 +1,5 @@
 -- The first refusal of parts that stand one after another.
-use Rattle.std.proofs.Common.{◌≡◌, ℕ, List, [], ◌∷◌, ◌++◌, refl, sym, ap, ◌∙◌, Option, Some, None, ◌<◌, ◌≤◌, ◌+◌, length, get_or, drop}
+use Rattle.std.proofs.Common.{◌≡◌, ℕ, List, [], ◌∷◌, ◌++◌, refl, sym, ap, ◌∙◌, Option, ◌<◌, ◌≤◌, ◌+◌, length, get_or, drop}
 use Rattle.std.specs.List.{flat_map, fold}
 use Rattle.std.proofs.lemmas.List.{at_drop_more, at_drop_all}
 use Rattle.swreq_resolve.specs.declared.refusal.Refusal.{Refusal}

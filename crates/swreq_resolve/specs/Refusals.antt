@@ -1,5 +1,5 @@
 -- Which names of a skeleton are refused, one line a rule.
-use Rattle.std.specs.Prelude.{ℕ, nat_eq, Bool, true, false, cond, not, ◌&&◌, ◌||◌, List, [], ◌∷◌, ◌++◌, Option, Some, None, is_some, slice_index_or, length, ◌+◌}
+use Rattle.std.specs.Prelude.{ℕ, nat_eq, Bool, true, cond, not, ◌||◌, List, [], ◌∷◌, ◌++◌, Option, Some, None, is_some, slice_index_or, length, ◌+◌}
 use Rattle.std.specs.List.{flat_map}
 use Rattle.std.specs.Str.{bytes_eq}
 use Rattle.swreq_decl.specs.declared.skeleton.Span.{Span}

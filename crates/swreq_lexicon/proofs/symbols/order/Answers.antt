@@ -13,8 +13,8 @@ returns-clause-ranking c =
     let n = length c.args.protocols.now.protocols in
     subst (λ (ps : List ProtoId). IsRanking (order_cmp inherits n) (λ p. p.rank < n) ps)
     (sym (c.in_ok-order.ensures ∙ ap (λ (ks : List OrderKey). map (λ k. k.proto) ks) c.items.ensures.items))
-    (order_ranking inherits n c.in_ok-ranked.ranked
-    (subst (λ (ks : List OrderKey). (k : OrderKey) → Contains c.in_ok-ranked.ranked k ↔ Contains ks k) c.in_ok-keys.ensures c.in_ok-ranked.ensures.same)
+    (order_ranking inherits n c.of-ranked.result
+    (subst (λ (ks : List OrderKey). (k : OrderKey) → Contains c.of-ranked.result k ↔ Contains ks k) c.in_ok-keys.ensures c.of-ranked.ensures.same)
     c.items.ensures.sorted)
 
 pub returns-clause-few : goal.returns-clause-few
@@ -22,10 +22,10 @@ returns-clause-few c =
     let inherits = inherits_by c.args.protocols.now.places c.args.protocols.now.resolved.inherits in
     let n = length c.args.protocols.now.protocols in
     let small : n ≤ 1048576 = let e = c.len-count.ensures.is in let s = c.len-count.ensures.small in omega (arith, e, s) in
-    let count : length c.in_ok-ranked.ranked ≤ length c.in_ok-keys.field-0.items = c.in_ok-ranked.ensures.count in
+    let count : length c.of-ranked.result ≤ length c.in_ok-keys.field-0.items = c.of-ranked.ensures.count in
     subst (λ (ps : List ProtoId). length ps ≤ 1048576)
     (sym (c.in_ok-order.ensures ∙ ap (λ (ks : List OrderKey). map (λ k. k.proto) ks) c.items.ensures.items))
-    (order_few inherits n c.in_ok-ranked.ranked
-    (subst (λ (ks : List OrderKey). (k : OrderKey) → Contains c.in_ok-ranked.ranked k ↔ Contains ks k) c.in_ok-keys.ensures c.in_ok-ranked.ensures.same)
+    (order_few inherits n c.of-ranked.result
+    (subst (λ (ks : List OrderKey). (k : OrderKey) → Contains c.of-ranked.result k ↔ Contains ks k) c.in_ok-keys.ensures c.of-ranked.ensures.same)
     c.items.ensures.sorted
-    (subst (λ (ks : List OrderKey). length c.in_ok-ranked.ranked ≤ length ks) c.in_ok-keys.ensures count) small)
+    (subst (λ (ks : List OrderKey). length c.of-ranked.result ≤ length ks) c.in_ok-keys.ensures count) small)

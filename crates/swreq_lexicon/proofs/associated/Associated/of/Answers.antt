@@ -21,36 +21,36 @@ module _ (inherits : ProtoId → ProtoId → Bool) (pairs given : List ProtocolN
       let n = ap length (f ∙ ap (λ ds. map (key inherits ds) ds) e) ∙ length-map pairs (key inherits pairs) in
       omega (arith, n, few, small)
 
-pub of-requires : goal.of-requires
-of-requires c = keys_apart
+pub of-ranked-requires : goal.of-ranked-requires
+of-ranked-requires c = keys_apart
 
 pub declarers_of-requires : goal.declarers_of-requires
 declarers_of-requires c = subst (λ (xs : List ProtocolName). (d : ProtocolName) → Contains xs d → d.name.rank < c.args.names) (sym c.deref.ensures.value) c.requires.within
 
 pub keys-requires : goal.keys-requires
 keys-requires c =
-    subst (λ (xs : List ProtocolName). AreDeclarers xs c.deref-2.result.now) (c.deref.ensures.value ∙ sym c.deref-3.ensures.value)
-    (subst (λ (ls : List (List ProtoId)). AreDeclarers c.deref.result.now ls) (sym c.deref-2.ensures.value) c.in_ok-declarers.ensures)
+    subst (λ (xs : List ProtocolName). AreDeclarers xs c.in_ok-declarers.declarers) (c.deref.ensures.value ∙ sym c.deref-2.ensures.value)
+    c.in_ok-declarers.ensures
 
 pub returns-clause-same : goal.returns-clause-same
 returns-clause-same c =
     let inherits = inherits_by c.args.protocols.now.places c.args.protocols.now.resolved.inherits in
-    ranked_pairs inherits c.args.pairs.items c.in_ok-ranked.ranked
-    (same_keys inherits c.args.pairs.items c.deref-3.result.now c.in_ok-keys.field-0.items c.in_ok-ranked.ranked c.deref-3.ensures.value c.in_ok-keys.ensures c.in_ok-ranked.ensures.same)
+    ranked_pairs inherits c.args.pairs.items c.of-ranked.result
+    (same_keys inherits c.args.pairs.items c.deref-2.result.now c.in_ok-keys.field-0.items c.of-ranked.result c.deref-2.ensures.value c.in_ok-keys.ensures c.of-ranked.ensures.same)
 
 pub returns-clause-sorted : goal.returns-clause-sorted
 returns-clause-sorted c =
     let inherits = inherits_by c.args.protocols.now.places c.args.protocols.now.resolved.inherits in
-    ranked_sorted inherits c.args.pairs.items c.in_ok-ranked.ranked
-    (same_keys inherits c.args.pairs.items c.deref-3.result.now c.in_ok-keys.field-0.items c.in_ok-ranked.ranked c.deref-3.ensures.value c.in_ok-keys.ensures c.in_ok-ranked.ensures.same)
+    ranked_sorted inherits c.args.pairs.items c.of-ranked.result
+    (same_keys inherits c.args.pairs.items c.deref-2.result.now c.in_ok-keys.field-0.items c.of-ranked.result c.deref-2.ensures.value c.in_ok-keys.ensures c.of-ranked.ensures.same)
     c.items-sorted.ensures.sorted
 
 pub invariant_of-result : goal.invariant_of-result
 invariant_of-result c =
     let inherits = inherits_by c.args.protocols.now.places c.args.protocols.now.resolved.inherits in (
-      same_declarers c.args.pairs.items (map pair_of c.in_ok-ranked.ranked) c.in_ok-declarers.declarers
-          (ranked_pairs inherits c.args.pairs.items c.in_ok-ranked.ranked
-          (same_keys inherits c.args.pairs.items c.deref-3.result.now c.in_ok-keys.field-0.items c.in_ok-ranked.ranked c.deref-3.ensures.value c.in_ok-keys.ensures c.in_ok-ranked.ensures.same))
+      same_declarers c.args.pairs.items (map pair_of c.of-ranked.result) c.in_ok-declarers.declarers
+          (ranked_pairs inherits c.args.pairs.items c.of-ranked.result
+          (same_keys inherits c.args.pairs.items c.deref-2.result.now c.in_ok-keys.field-0.items c.of-ranked.result c.deref-2.ensures.value c.in_ok-keys.ensures c.of-ranked.ensures.same))
           (subst (λ (xs : List ProtocolName). AreDeclarers xs c.in_ok-declarers.declarers) c.deref.ensures.value c.in_ok-declarers.ensures),
-      few_keys inherits c.args.pairs.items c.deref-3.result.now c.in_ok-keys.field-0.items c.in_ok-ranked.ranked c.deref-3.ensures.value c.in_ok-keys.ensures c.in_ok-ranked.ensures.count c.requires.few,
+      few_keys inherits c.args.pairs.items c.deref-2.result.now c.in_ok-keys.field-0.items c.of-ranked.result c.deref-2.ensures.value c.in_ok-keys.ensures c.of-ranked.ensures.count c.requires.few,
     )
