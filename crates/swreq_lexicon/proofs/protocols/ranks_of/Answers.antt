@@ -1,4 +1,4 @@
-use Rattle.std.proofs.Common.{◌≤◌, ◌↔◌, List, length, Contains, ap, subst, arith}
+use Rattle.std.proofs.Common.{◌↔◌, List, length, Contains, ap, subst, arith}
 use Rattle.swreq_rank.specs.Ranks.{Bytes}
 use Rattle.swreq_lexicon.proofs.Places.{names_length}
 use Rattle.swreq_lexicon.proofs.protocols.ranks_of.Goals as goal

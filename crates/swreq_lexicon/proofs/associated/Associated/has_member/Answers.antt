@@ -1,5 +1,4 @@
-use Rattle.std.proofs.Common.{◌∙◌, ◌||◌, nat_eq, List, map, [], get_or, ap}
-use Rattle.std.specs.List.{list_any}
+use Rattle.std.proofs.Common.{◌∙◌, ◌||◌, nat_eq, map, ap}
 use Rattle.swreq_param.specs.declared.ids.ProtoId.{ProtoId}
 use Rattle.swreq_lexicon.specs.Keys.{pair_of}
 use Rattle.swreq_lexicon.specs.Symbols.{has_member}
