@@ -20,8 +20,8 @@ use Rattle.swreq_word.specs.declared.symbols.Symbol.TheVariants.{Member as Membe
 use Rattle.swreq_word.proofs.Chains.{joined}
 use Rattle.swreq_correspondence.specs.Equations.{UsableEquation}
 use Rattle.swreq_correspondence.specs.Readings.{CanRead}
-use Rattle.swreq_correspondence.specs.Symbols.{AreOfText, AreSymbolsOf, IsInText, Symbols, Word, name_of}
-use Rattle.swreq_correspondence.specs.Types.{AreRanked, HasFirsts, IsFirstFor}
+use Rattle.swreq_correspondence.specs.Symbols.{Symbols, Word, name_of}
+use Rattle.swreq_correspondence.specs.Types.{HasFirsts, IsFirstFor}
 use Rattle.swreq_correspondence.proofs.Chained.{turn_all}
 use Rattle.swreq_correspondence.proofs.Readings.{sides_of, valid_bound}
 use Rattle.swreq_canonical.specs.Canonical.{IsCanonical, principal}
@@ -38,17 +38,17 @@ use Rattle.swreq_candidates.proofs.Ends.{single_factors}
 use Rattle.swreq_candidates.proofs.Parts.{conformance}
 use Rattle.swreq_candidates.proofs.SameTypes.{first_settled}
 use Rattle.swreq_candidates.proofs.Searches.{assocs_decided, both_decided, least_below, names_decided}
-use Rattle.swreq_candidates.proofs.Settled.{IsSettled, conformance_settled, equal_spells, layout_settled, least_word, not_least, one_reduced, reduce, stands_for}
+use Rattle.swreq_candidates.proofs.Settled.{IsOverText, IsSettled, conformance_settled, equal_spells, layout_settled, least_word, not_least, one_reduced, reduce, stands_for}
 use Rattle.swreq_candidates.proofs.ShorterTypes.{principal_follows}
 
-module _ (m : Symbols) (f : TermFacts) (ps : List ParamId) (list : List TermRequirement) (fit : AreSymbolsOf m f) (ranges : AreOfText m f)
-    (n : IsInText m (Written ps list)) (ranked : AreRanked m f) (named : AreMembersNamed m f) (cuts : (w : Word) → IsWordOfText m w → Cut m f (Written ps list) Outside w)
+module _ (m : Symbols) (f : TermFacts) (ps : List ParamId) (list : List TermRequirement) (text : IsOverText m f ps list)
+    (named : AreMembersNamed m f) (cuts : (w : Word) → IsWordOfText m w → Cut m f (Written ps list) Outside w)
     (least : HasLeastWords (UsableEquation m f (Written ps list))) (firsts : HasFirsts f (Written ps list)) where
   abbrev L : Source
   L = Written ps list
 
   abbrev Settled : TermRequirement → Type 0
-  Settled = IsSettled m f ps list fit ranges n ranked named cuts least firsts
+  Settled = IsSettled m f ps list text named cuts least firsts
 
   -- ---- a same-type requirement of a bound member
 
@@ -66,12 +66,12 @@ module _ (m : Symbols) (f : TermFacts) (ps : List ParamId) (list : List TermRequ
     with_first : (r z : Term) (p : ProtoId) (a : NameId) (d : AssocId) → Declares f p a d → Derivable f L (Requires (Conforms r p)) → IsReduced f L r → IsFirstFor f L r a d
         → IsCanonical f L (Equals z (Member r (Bound d))) → Settled (Equals z (Member r (Bound d)))
     with_first r z p a d h c b i can =
-        let w = fit p a d h in
+        let w = text.symbols p a d h in
         let cr : CanRead m f L r (MemberSymbol (m.rank_of d))
         = (w.0, subst (λ x. Derivable f L (Requires (Conforms r x))) (sym w.1) c, (p, d, c, subst (λ x. Declares f p x d) (sym w.2) h)) in
         let (k, ck, e, none) = least_symbol r a (m.rank_of d) cr w.2 in
-        let (u, hu, lu) = least_word m f ps list fit ranges n ranked least firsts r b in
-        first_settled m f ps list fit ranges n ranked least firsts r z d k (subst (λ x. IsFirstFor f L r x d) (sym e) i) ck b can.1.2
+        let (u, hu, lu) = least_word m f ps list text least firsts r b in
+        first_settled m f ps list text least firsts r z d k (subst (λ x. IsFirstFor f L r x d) (sym e) i) ck b can.1.2
         (λ j g x y. none j g x (y ∙ e)) u hu lu named cuts (not_itself can.1.2 can.1.1)
 
     -- with another one: it follows from the conformances, and where the first one is not reduced from its same-type requirement
@@ -89,8 +89,8 @@ module _ (m : Symbols) (f : TermFacts) (ps : List ParamId) (list : List TermRequ
         let to : Follows f ps S (Requires (Equals (Member r (Bound d)) (Member r (Bound g))))
         = by_two f ps S (conforms p c) (conforms i.proto i.conforms) (λ rs x y. trans (assoc_bind x h) (symm (assoc_bind y i.declares))) in
         let equal : Derivable f L (Requires (Equals (Member r (Bound d)) (Member r (Bound g)))) = trans (assoc_bind c h) (symm (assoc_bind i.conforms i.declares)) in
-        let (y, yo) = reduce m f ps list fit ranges n ranked least firsts (Member r (Bound g)) (assoc_decl i.conforms i.declares) in
-        let yz : y ≡ z = one_reduced m f ps list fit ranges n ranked (Member r (Bound g)) (Member r (Bound d)) y z yo can.1.2 (symm equal) in
+        let (y, yo) = reduce m f ps list text least firsts (Member r (Bound g)) (assoc_decl i.conforms i.declares) in
+        let yz : y ≡ z = one_reduced m f ps list text (Member r (Bound g)) (Member r (Bound d)) y z yo can.1.2 (symm equal) in
         let last : Follows f ps S (Requires (Equals (Member r (Bound g)) y))
         = principal_follows f ps list S (Member r (Bound g)) y (λ x j. (j.0, transitive (principal x) (Member r (Bound g)) (Member r (Bound d)) j.1 before)) (λ j. (j, before)) yo b
         (by_one f ps S (conforms i.proto i.conforms) (λ rs x. assoc_decl x i.declares)) in
@@ -100,17 +100,17 @@ module _ (m : Symbols) (f : TermFacts) (ps : List ParamId) (list : List TermRequ
 
     same_type_settled : (z v : Term) → IsCanonical f L (Equals z v) → Settled (Equals z v)
     same_type_settled z (Generic g) can =
-        let (y, hy, ly) = least_word m f ps list fit ranges n ranked least firsts z (result_reduced can.1.2) in
+        let (y, hy, ly) = least_word m f ps list text least firsts z (result_reduced can.1.2) in
         let differ : Generic g ≡ z → ⊥ = not_itself can.1.2 can.1.1 in
         inl (
           ParamSymbol g.depth g.index ∷ [],
           y,
           (
             record {
-              not_least = not_least m f ps list fit ranges n ranked (Generic g) z (ParamSymbol g.depth g.index ∷ []) refl can.1.2 differ;
+              not_least = not_least m f ps list text (Generic g) z (ParamSymbol g.depth g.index ∷ []) refl can.1.2 differ;
               factors = single_factors (UsableEquation m f L) (ParamSymbol g.depth g.index);
             },
-            joined (equal_spells m f ps list fit ranges n ranked (Generic g) z can.1.2.equal []) (turn_all (stands_for m f ps list fit ranges n ranked z y hy)),
+            joined (equal_spells m f ps list text (Generic g) z can.1.2.equal []) (turn_all (stands_for m f ps list text z y hy)),
             ly,
           ),
           ((sides_of can.1.2.equal).1, (sides_of can.1.2.equal).0, (λ h. differ (sym h)), hy, refl),
@@ -125,8 +125,8 @@ module _ (m : Symbols) (f : TermFacts) (ps : List ParamId) (list : List TermRequ
     same_type_settled z (Member r (Name a)) can = absurd can.1.0
 
     pub settled : (r : TermRequirement) → IsCanonical f L r → IsCandidate m f L r ⊎ Follows f ps (IsOfEarlierType f ps list (principal r)) (Requires r)
-    settled (Conforms t p) c = conformance_settled m f ps list fit ranges n ranked named cuts least firsts t p c.1 c.0
-    settled (IsAnyObject t) c = layout_settled m f ps list fit ranges n ranked named cuts least firsts t c.1 c.0
+    settled (Conforms t p) c = conformance_settled m f ps list text named cuts least firsts t p c.1 c.0
+    settled (IsAnyObject t) c = layout_settled m f ps list text named cuts least firsts t c.1 c.0
     settled (Equals z v) c = same_type_settled z v c
 
     pub generator_is_candidate : (r : TermRequirement) → IsGenerator f ps list r → IsCandidate m f L r

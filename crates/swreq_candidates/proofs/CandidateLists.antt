@@ -36,7 +36,7 @@ use Rattle.swreq_canonical.proofs.Sorting.{some_sorted}
 use Rattle.swreq_orders.proofs.Elements.{contains_get, get_contains}
 use Rattle.swreq_candidates.specs.Candidates.{IsCandidate, IsCandidateList, IsNamed, IsReadOff, IsReducedRule, SpeaksOf}
 use Rattle.swreq_candidates.specs.Completed.{IsCompleted}
-use Rattle.swreq_candidates.proofs.Completions.{canonical_here, firsts_here, param_decided, reads_here}
+use Rattle.swreq_candidates.proofs.Completions.{canonical_here, firsts_here, over_text, param_decided, reads_here}
 use Rattle.swreq_candidates.proofs.Deciding.{has_name}
 use Rattle.std.proofs.lemmas.List.{same_from_push}
 use Rattle.swreq_candidates.proofs.ReadOff.{not_empty, one_name, one_read_off, one_spoken, typed_read}
@@ -102,7 +102,7 @@ module _ (m : Symbols) (f : TermFacts) (ps : List ParamId) (list : List TermRequ
   type_decided w l = elim (reading_decided w) [
     | yes h ↦ (let (t, i, e) = has_type m f ps list ended.symbols ended.of_text ended.in_text ended.ranked (firsts_here m f ps list ended) w h l in
         yes (t, i, (sides_of e).1))
-    | no n ↦ no (λ h. let (t, i, v) = h in n (typed_read m f ps list ended.symbols ended.of_text ended.in_text ended.ranked t w v i).0)
+    | no n ↦ no (λ h. let (t, i, v) = h in n (typed_read m f ps list (over_text m f ps list ended) t w v i).0)
   ]
 
   -- a valid type parameter is spoken of by a minimal word, or none is

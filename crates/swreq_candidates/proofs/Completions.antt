@@ -28,11 +28,14 @@ use Rattle.swreq_candidates.proofs.AllSettled.{generator_is_candidate, settled}
 use Rattle.swreq_candidates.proofs.Deciding.{derivable, firsts, least_of_self, reads}
 use Rattle.swreq_candidates.proofs.ReadOff.{candidate_is_canonical, candidates_are_enough}
 use Rattle.swreq_candidates.proofs.Searches.{params_decided, some_member}
-use Rattle.swreq_candidates.proofs.Settled.{reduce}
+use Rattle.swreq_candidates.proofs.Settled.{IsOverText, reduce}
 
 module _ (m : Symbols) (f : TermFacts) (ps : List ParamId) (list : List TermRequirement) (ended : IsCompleted m f ps list) where
   abbrev L : Source
   L = Written ps list
+
+  pub over_text : IsOverText m f ps list
+  over_text = record { symbols = ended.symbols; of_text = ended.of_text; in_text = ended.in_text; ranked = ended.ranked }
 
   pub derivable_here : (st : TermStatement) → Dec (Derivable f L st)
   derivable_here = derivable m f L ended.symbols ended.of_text ended.in_text ended.of_list
@@ -44,7 +47,7 @@ module _ (m : Symbols) (f : TermFacts) (ps : List ParamId) (list : List TermRequ
   firsts_here = firsts m f L ended.symbols ended.of_text ended.in_text ended.of_list
 
   pub reduced_here : HasReducedTypes f L
-  reduced_here = reduce m f ps list ended.symbols ended.of_text ended.in_text ended.ranked ended.of_list firsts_here
+  reduced_here = reduce m f ps list over_text ended.of_list firsts_here
 
   -- ---- words of the text are cut
 
@@ -108,16 +111,16 @@ module _ (m : Symbols) (f : TermFacts) (ps : List ParamId) (list : List TermRequ
   -- ---- candidates
 
   settled_here : (r : TermRequirement) → IsCanonical f L r → IsCandidate m f L r ⊎ Follows f ps (IsOfEarlierType f ps list (principal r)) (Requires r)
-  settled_here = settled m f ps list ended.symbols ended.of_text ended.in_text ended.ranked ended.named cuts ended.of_list firsts_here reads_here
+  settled_here = settled m f ps list over_text ended.named cuts ended.of_list firsts_here reads_here
 
   pub generator_here : (r : TermRequirement) → IsGenerator f ps list r → IsCandidate m f L r
-  generator_here = generator_is_candidate m f ps list ended.symbols ended.of_text ended.in_text ended.ranked ended.named cuts ended.of_list firsts_here reads_here
+  generator_here = generator_is_candidate m f ps list over_text ended.named cuts ended.of_list firsts_here reads_here
 
   pub canonical_here : (r : TermRequirement) → IsCandidate m f L r → IsCanonical f L r
-  canonical_here = candidate_is_canonical m f ps list ended.symbols ended.of_text ended.in_text ended.ranked
+  canonical_here = candidate_is_canonical m f ps list over_text
 
   pub enough_here : (candidates : List TermRequirement) → IsCandidateList m f L candidates → AreEnough f ps list candidates
-  enough_here candidates all = candidates_are_enough m f ps list ended.symbols ended.of_text ended.in_text ended.ranked candidates all settled_here
+  enough_here candidates all = candidates_are_enough m f ps list over_text candidates all settled_here
 
   -- ---- going through the list of candidates
 

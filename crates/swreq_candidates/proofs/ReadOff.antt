@@ -20,8 +20,8 @@ use Rattle.swreq_word.specs.Least.{IsLeast}
 use Rattle.swreq_word.proofs.Chains.{joined}
 use Rattle.swreq_correspondence.specs.Equations.{AreCongruent}
 use Rattle.swreq_correspondence.specs.Readings.{CanRead, HasName, HasReading, after, first, reading}
-use Rattle.swreq_correspondence.specs.Symbols.{AreOfText, AreSymbolsOf, IsInText, Symbols, Word, spell}
-use Rattle.swreq_correspondence.specs.Types.{AreRanked, IsFirstFor, IsTypeOf}
+use Rattle.swreq_correspondence.specs.Symbols.{Symbols, Word, spell}
+use Rattle.swreq_correspondence.specs.Types.{IsFirstFor, IsTypeOf}
 use Rattle.swreq_correspondence.proofs.Chained.{turn_all}
 use Rattle.swreq_correspondence.proofs.Correspondence.{chain_leads, conforming_words, layout_words, word_is_read}
 use Rattle.swreq_correspondence.proofs.OneType.{one_first, one_param, one_type, typed_length}
@@ -34,7 +34,7 @@ use Rattle.swreq_canonical.proofs.ReducedLemmas.{not_reduced}
 use Rattle.swreq_canonical.proofs.Sides.{IsOfEarlierType}
 use Rattle.swreq_candidates.specs.Candidates.{IsCandidate, IsCandidateList, IsNamed, IsReadOff, IsReducedRule, SpeaksOf}
 use Rattle.swreq_candidates.proofs.Parts.{last_read, read_on-push}
-use Rattle.swreq_candidates.proofs.Settled.{stands, stands_for}
+use Rattle.swreq_candidates.proofs.Settled.{IsOverText, stands, stands_for}
 
 reading-push : (m : Symbols) (f : TermFacts) (s : Source) (w : Word) (x : Symbol) → HasReading m f s w → HasReading m f s (w ++ (x ∷ []))
     → CanRead m f s (reading m w) x × (reading m (w ++ (x ∷ [])) ≡ after m (reading m w) x)
@@ -51,8 +51,7 @@ named_member m f s t LayoutSymbol a e c = absurd e
 
 -- ---- what is read off is canonical
 
-module _ (m : Symbols) (f : TermFacts) (ps : List ParamId) (list : List TermRequirement) (fit : AreSymbolsOf m f) (ranges : AreOfText m f)
-    (n : IsInText m (Written ps list)) (ranked : AreRanked m f) where
+module _ (m : Symbols) (f : TermFacts) (ps : List ParamId) (list : List TermRequirement) (text : IsOverText m f ps list) where
   abbrev L : Source
   L = Written ps list
 
@@ -60,16 +59,16 @@ module _ (m : Symbols) (f : TermFacts) (ps : List ParamId) (list : List TermRequ
   C = AreCongruent m f L
 
   typed_reduced : (t : Term) (u : Word) → Derivable f L (IsValid t) → IsTypeOf m f L u t → IsLeast C u → IsReduced f L t
-  typed_reduced t u v h l = type_is_reduced m f ps list fit ranges n ranked t t u v (turn_all (stands_for m f ps list fit ranges n ranked t u h)) l h
+  typed_reduced t u v h l = type_is_reduced m f ps list text.symbols text.of_text text.in_text text.ranked t t u v (turn_all (stands_for m f ps list text t u h)) l h
 
   read_equal : (t : Term) (w : Word) → Derivable f L (IsValid t) → C (spell m L t []) w → HasReading m f L w × Derivable f L (Requires (Equals t (reading m w)))
   read_equal t w v c =
-      let (h, e) = word_is_read m f fit L t v in
-      let (k, g) = chain_leads m f fit L c h in
+      let (h, e) = word_is_read m f text.symbols L t v in
+      let (k, g) = chain_leads m f text.symbols L c h in
       (k, trans e g)
 
   pub typed_read : (t : Term) (w : Word) → Derivable f L (IsValid t) → IsTypeOf m f L w t → HasReading m f L w × Derivable f L (Requires (Equals t (reading m w)))
-  typed_read t w v h = read_equal t w v (turn_all (stands_for m f ps list fit ranges n ranked t w h))
+  typed_read t w v h = read_equal t w v (turn_all (stands_for m f ps list text t w h))
 
   -- the left side is read as a type that equals the one of which it speaks
   spoken_equal : (v u : Term) (l r : Word) → Derivable f L (IsValid v) → Derivable f L (IsValid u) → IsReducedRule C l r → IsTypeOf m f L r u → SpeaksOf m f L v l
@@ -84,7 +83,7 @@ module _ (m : Symbols) (f : TermFacts) (ps : List ParamId) (list : List TermRequ
       let lw : IsLeast C w = left.factors [] w (x ∷ []) e (let j = ap length e in omega (arith, length-append w (x ∷ []))) in
       let (rw', q) = typed_read t w vt hw in
       let (rr, p) = typed_read u r vu h in
-      let (rl, g) = chain_leads m f fit L (turn_all c) rr in
+      let (rl, g) = chain_leads m f text.symbols L (turn_all c) rr in
       let (cx, z) = reading-push m f L w x rw' (subst (λ y. HasReading m f L y) e rl) in
       let (_, y) = named_member m f L (reading m w) x a na cx in
       let le : reading m l ≡ Member (reading m w) (Name a) = ap (reading m) e ∙ (z ∙ y) in
@@ -95,15 +94,15 @@ module _ (m : Symbols) (f : TermFacts) (ps : List ParamId) (list : List TermRequ
 
   pub candidate_is_canonical : (r : TermRequirement) → IsCandidate m f L r → IsCanonical f L r
   candidate_is_canonical (Conforms t p) (l, u, (left, c, k), (v, h, e)) = (
-    (conforming_words m f fit L ranges n t p v).1
-        (joined (turn_all (stands m f ps list fit ranges n ranked t u h (ProtoSymbol p.rank ∷ [])))
-        (joined (subst (λ x. C x u) e c) (stands_for m f ps list fit ranges n ranked t u h))),
+    (conforming_words m f text.symbols L text.of_text text.in_text t p v).1
+        (joined (turn_all (stands m f ps list text t u h (ProtoSymbol p.rank ∷ [])))
+        (joined (subst (λ x. C x u) e c) (stands_for m f ps list text t u h))),
     typed_reduced t u v h k,
   )
   candidate_is_canonical (IsAnyObject t) (l, u, (left, c, k), (v, h, e)) = (
-    (layout_words m f fit L ranges n t v).1
-        (joined (turn_all (stands m f ps list fit ranges n ranked t u h (LayoutSymbol ∷ [])))
-        (joined (subst (λ x. C x u) e c) (stands_for m f ps list fit ranges n ranked t u h))),
+    (layout_words m f text.symbols L text.of_text text.in_text t v).1
+        (joined (turn_all (stands m f ps list text t u h (LayoutSymbol ∷ [])))
+        (joined (subst (λ x. C x u) e c) (stands_for m f ps list text t u h))),
     typed_reduced t u v h k,
   )
   candidate_is_canonical (Equals u v) (l, r, k, (vu, vv, differ, h, s)) =

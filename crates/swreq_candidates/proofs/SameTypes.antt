@@ -27,8 +27,8 @@ use Rattle.swreq_word.proofs.Chains.{joined}
 use Rattle.swreq_word.proofs.Comparing.{by_symbols, less_before, less_cases, less_trans}
 use Rattle.swreq_correspondence.specs.Equations.{AreCongruent, UsableEquation}
 use Rattle.swreq_correspondence.specs.Readings.{CanRead, CanReadAll, HasName, HasReading, after, read_on}
-use Rattle.swreq_correspondence.specs.Symbols.{AreOfText, AreSymbolsOf, IsInText, Symbols, Word, name_of, proto_of, spell}
-use Rattle.swreq_correspondence.specs.Types.{AreRanked, BeginsAs, HasFirsts, IsFirstFor, IsTypeOf}
+use Rattle.swreq_correspondence.specs.Symbols.{Symbols, Word, name_of, proto_of, spell}
+use Rattle.swreq_correspondence.specs.Types.{BeginsAs, HasFirsts, IsFirstFor, IsTypeOf}
 use Rattle.swreq_correspondence.proofs.Chained.{chained_usable, turn_all}
 use Rattle.swreq_correspondence.proofs.Correspondence.{chain_leads, to_self}
 use Rattle.swreq_correspondence.proofs.Orders.{Stands, as_name, conf_chain, front, none_less, type_order}
@@ -48,7 +48,7 @@ use Rattle.swreq_candidates.proofs.LessParts.{SymbolsLess, less_at, symbols_in_p
 use Rattle.swreq_candidates.proofs.Parts.{HasTypeAt, Leads, conformance, last_read, leads_longer, part_reduced, read_on-for_self, read_on-push, reads_as, type_of_part}
 use Rattle.swreq_candidates.proofs.ReadOver.{chain_over, read_behind}
 use Rattle.swreq_candidates.proofs.Searches.{same_name_id}
-use Rattle.swreq_candidates.proofs.Settled.{IsSettled, equal_spells, leads_of_text, least_word, leasts, member_of_text, minimal_read, not_least, one_reduced, push_of_text, reduce, stands_for}
+use Rattle.swreq_candidates.proofs.Settled.{IsOverText, IsSettled, equal_spells, leads_of_text, least_word, leasts, member_of_text, minimal_read, not_least, one_reduced, push_of_text, reduce, stands_for}
 use Rattle.swreq_candidates.proofs.ShorterTypes.{principal_follows, shorter_reduces}
 
 -- a word is empty or has a last symbol
@@ -64,8 +64,13 @@ no_more_members m t (ParamSymbol d i ∷ w) = let h = no_more_members m t w in o
 no_more_members m t (NameSymbol a ∷ w) = let h = no_more_members m (Member t (Name (record { rank = a }))) w in omega arith
 no_more_members m t (LayoutSymbol ∷ w) = let h = no_more_members m t w in omega arith
 
-module _ (m : Symbols) (f : TermFacts) (ps : List ParamId) (list : List TermRequirement) (fit : AreSymbolsOf m f) (ranges : AreOfText m f)
-    (n : IsInText m (Written ps list)) (ranked : AreRanked m f) where
+-- a word that goes on begins as it did
+pub begins_on : (m : Symbols) (f : TermFacts) (s : Source) (t : Term) (rest y u : Word) → BeginsAs m f s t rest u → BeginsAs m f s t (rest ++ y) (u ++ y)
+begins_on m f s (Generic g) rest y u h = ap (λ w. w ++ y) h
+begins_on m f s (Member t (Bound d)) rest y u (k, c, i, h) = (k, c, i, begins_on m f s t (MemberSymbol k ∷ rest) y u h)
+begins_on m f s (Member t (Name a)) rest y u h = absurd h
+
+module _ (m : Symbols) (f : TermFacts) (ps : List ParamId) (list : List TermRequirement) (text : IsOverText m f ps list) where
   abbrev L : Source
   L = Written ps list
 
@@ -75,20 +80,15 @@ module _ (m : Symbols) (f : TermFacts) (ps : List ParamId) (list : List TermRequ
   -- the word of what is read
   read_spelled : (t : Term) (w : Word) → CanReadAll m f L t w → (z : Word) → C (spell m L t (w ++ z)) (spell m L (read_on m t w) z)
   read_spelled t [] c z = done
-  read_spelled t (ProtoSymbol q ∷ w) c z = joined (conf_chain m f ps list fit ranges n ranked t (record { rank = q }) c.0 (w ++ z)) (read_spelled t w c.1 z)
-  read_spelled t (MemberSymbol k ∷ w) c z = joined (as_name m f ps list fit ranges n ranked t k c.0 (w ++ z)) (read_spelled (Member t (Name (name_of m k))) w c.1 z)
+  read_spelled t (ProtoSymbol q ∷ w) c z = joined (conf_chain m f ps list text.symbols text.of_text text.in_text text.ranked t (record { rank = q }) c.0 (w ++ z)) (read_spelled t w c.1 z)
+  read_spelled t (MemberSymbol k ∷ w) c z = joined (as_name m f ps list text.symbols text.of_text text.in_text text.ranked t k c.0 (w ++ z)) (read_spelled (Member t (Name (name_of m k))) w c.1 z)
   read_spelled t (ParamSymbol d i ∷ w) c z = absurd c.0
   read_spelled t (NameSymbol a ∷ w) c z = read_spelled (Member t (Name (record { rank = a }))) w c.1 z
-  read_spelled t (LayoutSymbol ∷ w) c z = joined ((chained_usable m fit ranges n c.0).1 (w ++ z)) (read_spelled t w c.1 z)
-
-  begins_longer : (t : Term) (rest y u : Word) → BeginsAs m f L t rest u → BeginsAs m f L t (rest ++ y) (u ++ y)
-  begins_longer (Generic g) rest y u h = ap (λ w. w ++ y) h
-  begins_longer (Member t (Bound d)) rest y u (k, c, i, h) = (k, c, i, begins_longer t (MemberSymbol k ∷ rest) y u h)
-  begins_longer (Member t (Name a)) rest y u h = absurd h
+  read_spelled t (LayoutSymbol ∷ w) c z = joined ((chained_usable m text.symbols text.of_text text.in_text c.0).1 (w ++ z)) (read_spelled t w c.1 z)
 
   module _ (least : HasLeastWords (UsableEquation m f L)) (firsts : HasFirsts f L) where
     reduced_type : HasReducedTypes f L
-    reduced_type = reduce m f ps list fit ranges n ranked least firsts
+    reduced_type = reduce m f ps list text least firsts
 
     -- Let r be a reduced type and u its least word, k the least member symbol of some name that is read behind r, v the bound member of r with
     -- the first associated type of that name, and z the reduced type of v.
@@ -119,7 +119,7 @@ module _ (m : Symbols) (f : TermFacts) (ps : List ParamId) (list : List TermRequ
       shorter_case : (t : Term) → Derivable f L (IsValid t) → member_count t < size → Derivable f L (Requires (Equals v t)) → Earlier (Requires (Equals t z))
       shorter_case t o l e =
           let (w, p, g) = shorter_reduces f ps list reduced_type size t o l in
-          subst (λ y. Earlier (Requires (Equals t y))) (one_reduced m f ps list fit ranges n ranked t v w z p q (symm e)) (earlier g)
+          subst (λ y. Earlier (Requires (Equals t y))) (one_reduced m f ps list text t v w z p q (symm e)) (earlier g)
 
       -- a member by name, where the bound member of the base's reduced type comes before v
       name_case : (t : Term) (a : NameId) → Derivable f L (IsValid t) → HasName f L t a → member_count t < size → Derivable f L (Requires (Equals v (Member t (Name a))))
@@ -135,7 +135,7 @@ module _ (m : Symbols) (f : TermFacts) (ps : List ParamId) (list : List TermRequ
           let before : TermBefore (Member w (Bound e)) v = claim w e p ie in
           let to : Derivable f L (Requires (Equals (Member t (Name a)) (Member w (Bound e))))
           = trans (same_name ie.conforms p.equal ie.declares) (symm (assoc_bind ie.conforms ie.declares)) in
-          let same_z : y ≡ z = one_reduced m f ps list fit ranges n ranked (Member w (Bound e)) v y z yo q (symm (trans s to)) in
+          let same_z : y ≡ z = one_reduced m f ps list text (Member w (Bound e)) v y z yo q (symm (trans s to)) in
           let last : Earlier (Requires (Equals (Member w (Bound e)) y))
           = principal_follows f ps list IsEarlierType (Member w (Bound e)) y (λ x j. (j.0, transitive (principal x) (Member w (Bound e)) v j.1 before)) (λ j. (j, before))
           yo bw (by_one f ps IsEarlierType cw (λ rs x. assoc_decl x ie.declares)) in
@@ -148,31 +148,31 @@ module _ (m : Symbols) (f : TermFacts) (ps : List ParamId) (list : List TermRequ
           → (w : Term) → IsReducedTypeOf f L (read_on m x s) w → TermBefore w r
       unfolding Stands
       less_word x e s hx len less rd w o =
-          let (pre, eu, st) = front m f ps list fit ranges n ranked x e u hx in
+          let (pre, eu, st) = front m f ps list text.symbols text.of_text text.in_text text.ranked x e u hx in
           let c0 : C (pre ++ s) (spell m L (read_on m x s) [])
           = joined (st s) (subst (λ y. C (spell m L x y) (spell m L (read_on m x s) [])) (append-nil s) (read_spelled x s rd [])) in
-          let c1 : C (pre ++ s) (spell m L w []) = joined c0 (equal_spells m f ps list fit ranges n ranked (read_on m x s) w o.equal []) in
+          let c1 : C (pre ++ s) (spell m L w []) = joined c0 (equal_spells m f ps list text (read_on m x s) w o.equal []) in
           let l : WordLess (pre ++ s) u = subst (λ y. WordLess (pre ++ s) y) (sym eu) (less_before pre s e (by_symbols s e len less)) in
           elim (total w r) [
             | inl h ↦ h
             | inr (inl j) ↦ absurd (none_less C u (pre ++ s) lu
-                (joined (stands_for m f ps list fit ranges n ranked r u hu) (turn_all (subst (λ y. C (pre ++ s) (spell m L y [])) j c1))) l)
-            | inr (inr j) ↦ (let (y, hy, ly) = least_word m f ps list fit ranges n ranked least firsts w (result_reduced o) in
-                absurd (none_less C y (pre ++ s) ly (joined (stands_for m f ps list fit ranges n ranked w y hy) (turn_all c1))
-                (less_trans (pre ++ s) u y l (type_order m f ps list fit ranges n ranked r w u y hu hy lu ly j))))
+                (joined (stands_for m f ps list text r u hu) (turn_all (subst (λ y. C (pre ++ s) (spell m L y [])) j c1))) l)
+            | inr (inr j) ↦ (let (y, hy, ly) = least_word m f ps list text least firsts w (result_reduced o) in
+                absurd (none_less C y (pre ++ s) ly (joined (stands_for m f ps list text w y hy) (turn_all c1))
+                (less_trans (pre ++ s) u y l (type_order m f ps list text.symbols text.of_text text.in_text text.ranked r w u y hu hy lu ly j))))
           ]
 
       -- a lesser member symbol that is read behind r has an earlier name
       less_symbol : (t : Term) (j : ℕ) → j < k → CanRead m f L t (MemberSymbol j) → Derivable f L (Requires (Equals t r))
           → (w : Term) (e : AssocId) → IsReducedTypeOf f L t w → IsFirstFor f L w (name_of m j) e → TermBefore (Member w (Bound e)) v
       less_symbol t j l cj s w e o ie =
-          let wr : w ≡ r = one_reduced m f ps list fit ranges n ranked t r w r o b s in
+          let wr : w ≡ r = one_reduced m f ps list text t r w r o b s in
           let neq : (name_of m j).rank ≡ (name_of m k).rank → ⊥ = λ h. none j l (read_same m f L t r (MemberSymbol j) s cj).0 (same_name_id h) in
-          let le : (name_of m j).rank ≤ (name_of m k).rank = ranked.symbols j k l c.0 in
+          let le : (name_of m j).rank ≤ (name_of m k).rank = text.ranked.symbols j k l c.0 in
           let not_after : d.rank < e.rank → ⊥ = λ h.
-          let y : (name_of m k).rank ≤ (name_of m j).rank = ranked.assocs i.proto (name_of m k) d ie.proto (name_of m j) e i.declares ie.declares h in neq (omega arith) in
+          let y : (name_of m k).rank ≤ (name_of m j).rank = text.ranked.assocs i.proto (name_of m k) d ie.proto (name_of m j) e i.declares ie.declares h in neq (omega arith) in
           let not_same : e.rank ≡ d.rank → ⊥ = λ h. neq (ap (λ (y : NameId). y.rank)
-          (ranked.one_name ie.proto (name_of m j) i.proto (name_of m k) d (subst (λ y. Declares f ie.proto (name_of m j) y) (one_assoc h) ie.declares) i.declares)) in
+          (text.ranked.one_name ie.proto (name_of m j) i.proto (name_of m k) d (subst (λ y. Declares f ie.proto (name_of m j) y) (one_assoc h) ie.declares) i.declares)) in
           let before : e.rank < d.rank = omega arith in
           subst (λ y. TermBefore (Member y (Bound e)) v) (sym wr) (inr (refl, inr (refl, before)))
 
@@ -233,18 +233,18 @@ module _ (m : Symbols) (f : TermFacts) (ps : List ParamId) (list : List TermRequ
             let whole : Word = e ++ (MemberSymbol k ∷ []) in
             let P : ProtoId = proto_of m j in
             let of_text : IsWordOfText m whole
-            = push_of_text m e (MemberSymbol k) (leads_of_text m f ps list fit ranges n ranked x r e lead) (member_of_text m f ps list fit ranges n ranked r k c) in
+            = push_of_text m e (MemberSymbol k) (leads_of_text m f ps list text x r e lead) (member_of_text m f ps list text r k c) in
             let rd : HasReading m f (SelfOf P) whole
-            = subst (λ y. HasReading m f (SelfOf P) y) (sym eq) (minimal_read m f ps list fit ranges n ranked named cuts j w
+            = subst (λ y. HasReading m f (SelfOf P) y) (sym eq) (minimal_read m f ps list text named cuts j w
             (subst (λ y. IsWordOfText m y) eq of_text) (subst (λ y. IsMinimal C y) eq minimal)) in
             let (s, c0, ls) = least whole in
             let less : WordLess s whole = elim (ls whole (turn_all c0)) [ inl h ↦ absurd (minimal.not_least (subst (IsLeast C) (sym h) ls)) | inr h ↦ h ] in
-            let (rs, g) = chain_leads m f fit (SelfOf P) (chain_over m f ps list fit P c0 rd) rd in
-            let (_, _, a1) = to_self m f P fit whole rd in
-            let (_, rs1, a2) = to_self m f P fit s rs in
+            let (rs, g) = chain_leads m f text.symbols (SelfOf P) (chain_over m f ps list text.symbols P c0 rd) rd in
+            let (_, _, a1) = to_self m f P text.symbols whole rd in
+            let (_, rs1, a2) = to_self m f P text.symbols s rs in
             let gs : Derivable f (SelfOf P) (Requires (Equals (read_on m self whole) (read_on m self s)))
             = subst₂ (λ y y'. Derivable f (SelfOf P) (Requires (Equals y y'))) a1 a2 g in
-            let rx : CanReadAll m f L x s = read_behind m f ps list fit x P cj.1 self s rs1 in
+            let rx : CanReadAll m f L x s = read_behind m f ps list text.symbols x P cj.1 self s rs1 in
             let al : Shorter (Requires (Equals (read_on m x e) r))
             = reads_as m f ps list size x r x e lead b (omega arith) (by_one f ps (IsShorter f ps list size) (valid_by_shorter f ps list size x bx (omega arith)) (λ rs v. reflex v)) in
             let t0 : read_on m x whole ≡ Member (read_on m x e) (Name (name_of m k)) = read_on-push m x e (MemberSymbol k) in
@@ -272,18 +272,18 @@ module _ (m : Symbols) (f : TermFacts) (ps : List ParamId) (list : List TermRequ
             ]
 
         -- [z == v] is read off a rule, or follows
-        pub first_settled : (v ≡ z → ⊥) → IsSettled m f ps list fit ranges n ranked named cuts least firsts (Equals z v)
+        pub first_settled : (v ≡ z → ⊥) → IsSettled m f ps list text named cuts least firsts (Equals z v)
         unfolding Leads
-        first_settled differ = elim (minimal_end (UsableEquation m f L) (leasts m f ps list fit ranges n ranked least firsts) (MemberSymbol k) u lu) [
-          | inl h ↦ absurd (not_least m f ps list fit ranges n ranked v z (u ++ (MemberSymbol k ∷ [])) typed q differ h)
+        first_settled differ = elim (minimal_end (UsableEquation m f L) (leasts m f ps list text least firsts) (MemberSymbol k) u lu) [
+          | inl h ↦ absurd (not_least m f ps list text v z (u ++ (MemberSymbol k ∷ [])) typed q differ h)
           | inr (before, e, h, l) ↦ by_front before e h l
         ]
           where
             typed : IsTypeOf m f L (u ++ (MemberSymbol k ∷ [])) v
-            typed = (k, c, i, begins_longer r [] (MemberSymbol k ∷ []) u hu)
+            typed = (k, c, i, begins_on m f L r [] (MemberSymbol k ∷ []) u hu)
 
             at_symbol : (x : Symbol) (e : Word) → IsMinimal C ((x ∷ e) ++ (MemberSymbol k ∷ [])) → HasTypeAt m f ps list r u (x ∷ e)
-                → IsSettled m f ps list fit ranges n ranked named cuts least firsts (Equals z v)
+                → IsSettled m f ps list text named cuts least firsts (Equals z v)
             at_symbol (MemberSymbol j) e l (t, ht, ld) =
                 inr (end_follows t (MemberSymbol j ∷ e) j (e ++ (MemberSymbol k ∷ [])) ht ld refl ld.1 (part_reduced m f ps list t r (MemberSymbol j ∷ e) ld b) l)
             at_symbol (ProtoSymbol j) e l (t, ht, ld) = absurd ld
@@ -292,16 +292,16 @@ module _ (m : Symbols) (f : TermFacts) (ps : List ParamId) (list : List TermRequ
             at_symbol LayoutSymbol e l (t, ht, ld) = absurd ld
 
             by_front : (before e : Word) → u ≡ before ++ e → IsMinimal C (e ++ (MemberSymbol k ∷ []))
-                → IsSettled m f ps list fit ranges n ranked named cuts least firsts (Equals z v)
+                → IsSettled m f ps list text named cuts least firsts (Equals z v)
             by_front [] e h l =
-                let (y, hy, ly) = least_word m f ps list fit ranges n ranked least firsts z (result_reduced q) in
+                let (y, hy, ly) = least_word m f ps list text least firsts z (result_reduced q) in
                 inl (
                   u ++ (MemberSymbol k ∷ []),
                   y,
                   (
                     subst (λ w. IsMinimal C (w ++ (MemberSymbol k ∷ []))) (sym h) l,
-                    joined (stands_for m f ps list fit ranges n ranked v (u ++ (MemberSymbol k ∷ [])) typed)
-                        (joined (equal_spells m f ps list fit ranges n ranked v z q.equal []) (turn_all (stands_for m f ps list fit ranges n ranked z y hy))),
+                    joined (stands_for m f ps list text v (u ++ (MemberSymbol k ∷ [])) typed)
+                        (joined (equal_spells m f ps list text v z q.equal []) (turn_all (stands_for m f ps list text z y hy))),
                     ly,
                   ),
                   ((sides_of q.equal).1, (sides_of q.equal).0, (λ e. differ (sym e)), hy, (u, MemberSymbol k, name_of m k, refl, hu, (c.0, refl), i)),

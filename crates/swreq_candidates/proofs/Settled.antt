@@ -42,8 +42,14 @@ pub push_of_text : (m : Symbols) (w : Word) (x : Symbol) → IsWordOfText m w �
 push_of_text m [] x h i = (i, tt)
 push_of_text m (y ∷ w) x h i = (h.0, push_of_text m w x h.1 i)
 
-module _ (m : Symbols) (f : TermFacts) (ps : List ParamId) (list : List TermRequirement) (fit : AreSymbolsOf m f) (ranges : AreOfText m f)
-    (n : IsInText m (Written ps list)) (ranked : AreRanked m f) where
+-- The symbols are those of the protocols of the text, and the list speaks of no others.
+pub record IsOverText (m : Symbols) (f : TermFacts) (ps : List ParamId) (list : List TermRequirement) : Type 0 where
+  pub symbols : AreSymbolsOf m f
+  pub of_text : AreOfText m f
+  pub in_text : IsInText m (Written ps list)
+  pub ranked : AreRanked m f
+
+module _ (m : Symbols) (f : TermFacts) (ps : List ParamId) (list : List TermRequirement) (text : IsOverText m f ps list) where
   abbrev L : Source
   L = Written ps list
 
@@ -56,14 +62,14 @@ module _ (m : Symbols) (f : TermFacts) (ps : List ParamId) (list : List TermRequ
   pub stands : (t : Term) (u : Word) → IsTypeOf m f L u t → (z : Word) → C (u ++ z) (spell m L t z)
   unfolding Stands
   stands t u h z =
-      let (pre, e, w) = front m f ps list fit ranges n ranked t [] u h in
+      let (pre, e, w) = front m f ps list text.symbols text.of_text text.in_text text.ranked t [] u h in
       subst (λ x. C (x ++ z) (spell m L t z)) (sym (e ∙ append-nil pre)) (w z)
 
   pub stands_for : (t : Term) (u : Word) → IsTypeOf m f L u t → C u (spell m L t [])
   stands_for t u h = subst (λ x. C x (spell m L t [])) (append-nil u) (stands t u h [])
 
   pub equal_spells : (t u : Term) → Derivable f L (Requires (Equals t u)) → (y : Word) → C (spell m L t y) (spell m L u y)
-  equal_spells t u e y = (chained_usable m fit ranges n e).2 y
+  equal_spells t u e y = (chained_usable m text.symbols text.of_text text.in_text e).2 y
 
   pub one_reduced : (t u r z : Term) → IsReducedTypeOf f L t r → IsReducedTypeOf f L u z → Derivable f L (Requires (Equals t u)) → r ≡ z
   one_reduced t u r z o q s =
@@ -72,10 +78,10 @@ module _ (m : Symbols) (f : TermFacts) (ps : List ParamId) (list : List TermRequ
   -- a word of a type that is not reduced is not least
   pub not_least : (v r : Term) (w : Word) → IsTypeOf m f L w v → IsReducedTypeOf f L v r → (v ≡ r → ⊥) → IsLeast C w → ⊥
   not_least v r w h q d l =
-      d (reduced_is_one f L v v r (type_is_reduced m f ps list fit ranges n ranked v v w (sides_of q.equal).0 (turn_all (stands_for v w h)) l h) q)
+      d (reduced_is_one f L v v r (type_is_reduced m f ps list text.symbols text.of_text text.in_text text.ranked v v w (sides_of q.equal).0 (turn_all (stands_for v w h)) l h) q)
 
   pub member_of_text : (t : Term) (k : ℕ) → CanRead m f L t (MemberSymbol k) → IsSymbolOfText m (MemberSymbol k)
-  member_of_text t k c = (c.0, (chained_usable m fit ranges n c.1).0)
+  member_of_text t k c = (c.0, (chained_usable m text.symbols text.of_text text.in_text c.1).0)
 
   pub leads_of_text : (x z : Term) (w : Word) → Leads m f ps list x w z → IsWordOfText m w
   unfolding Leads
@@ -98,8 +104,8 @@ module _ (m : Symbols) (f : TermFacts) (ps : List ParamId) (list : List TermRequ
     type_of : (t : Term) → Derivable f L (IsValid t) → (r : Term) × IsReducedTypeOf f L t r × ((v : Word) × IsTypeOf m f L v r × IsLeast C v)
     type_of t e =
         let (v, c, l) = least (spell m L t []) in
-        let (r, h) = some_type m f ps list fit ranges n ranked firsts t v e c l in
-        (r, type_is_reduced m f ps list fit ranges n ranked t r v e c l h, (v, h, l))
+        let (r, h) = some_type m f ps list text.symbols text.of_text text.in_text text.ranked firsts t v e c l in
+        (r, type_is_reduced m f ps list text.symbols text.of_text text.in_text text.ranked t r v e c l h, (v, h, l))
 
     pub reduce : HasReducedTypes f L
     reduce t e = let (r, h, v) = type_of t e in (r, h)
@@ -130,7 +136,7 @@ module _ (m : Symbols) (f : TermFacts) (ps : List ParamId) (list : List TermRequ
         → HasReading m f (SelfOf (proto_of m k)) (MemberSymbol k ∷ w)
     minimal_read k w h l =
         let c : Cut m f L Outside (MemberSymbol k ∷ w) = cuts (MemberSymbol k ∷ w) h in
-        one_block_read k w h.0.0 c (one_block m f ps list fit named (MemberSymbol k ∷ w) c l)
+        one_block_read k w h.0.0 c (one_block m f ps list text.symbols named (MemberSymbol k ∷ w) c l)
 
     module _ (least : HasLeastWords (UsableEquation m f L)) (firsts : HasFirsts f L) where
       abbrev pub IsSettled : TermRequirement → Type 0
@@ -151,7 +157,7 @@ module _ (m : Symbols) (f : TermFacts) (ps : List ParamId) (list : List TermRequ
           at_symbol (MemberSymbol k) i l (t, g, d) =
               let c : HasReading m f (SelfOf (proto_of m k)) (MemberSymbol k ∷ (e ++ (x ∷ [])))
               = minimal_read k (e ++ (x ∷ [])) (push_of_text m (MemberSymbol k ∷ e) x (leads_of_text t r (MemberSymbol k ∷ e) d) o) l in
-              (before, e, k, i, some, (to_self m f (proto_of m k) fit (MemberSymbol k ∷ (e ++ (x ∷ []))) c).1)
+              (before, e, k, i, some, (to_self m f (proto_of m k) text.symbols (MemberSymbol k ∷ (e ++ (x ∷ []))) c).1)
           at_symbol (ProtoSymbol k) i l (t, g, d) = absurd d
           at_symbol (ParamSymbol k j) i l (t, g, d) = absurd d
           at_symbol (NameSymbol k) i l (t, g, d) = absurd d
@@ -173,8 +179,8 @@ module _ (m : Symbols) (f : TermFacts) (ps : List ParamId) (list : List TermRequ
       conformance_settled r p c d =
           let (u, h, l) = least_word least firsts r c in
           let q : C (u ++ (ProtoSymbol p.rank ∷ [])) u
-          = joined (stands r u h (ProtoSymbol p.rank ∷ [])) (joined (conf_chain m f ps list fit ranges n ranked r p d []) (turn_all (stands_for r u h))) in
-          elim (vanishes (ProtoSymbol p.rank) r u (chained_usable m fit ranges n d).0 (proto_least m f ps list p) h l q) [
+          = joined (stands r u h (ProtoSymbol p.rank ∷ [])) (joined (conf_chain m f ps list text.symbols text.of_text text.in_text text.ranked r p d []) (turn_all (stands_for r u h))) in
+          elim (vanishes (ProtoSymbol p.rank) r u (chained_usable m text.symbols text.of_text text.in_text d).0 (proto_least m f ps list p) h l q) [
             | inl k ↦ inl (u ++ (ProtoSymbol p.rank ∷ []), u, (k, q, l), (sides_of d, h, refl))
             | inr (before, w, k, i, some, s) ↦ inr (shorter_is_earlier f ps list r (member_count r) (omega arith) (conformance_follows m f ps list r p u before w k c h i some s))
           ]
@@ -182,7 +188,7 @@ module _ (m : Symbols) (f : TermFacts) (ps : List ParamId) (list : List TermRequ
       pub layout_settled : (r : Term) → IsReduced f L r → Derivable f L (Requires (IsAnyObject r)) → IsSettled (IsAnyObject r)
       layout_settled r c d =
           let (u, h, l) = least_word least firsts r c in
-          let q : C (u ++ (LayoutSymbol ∷ [])) u = joined (stands r u h (LayoutSymbol ∷ [])) (joined ((chained_usable m fit ranges n d).1 []) (turn_all (stands_for r u h))) in
+          let q : C (u ++ (LayoutSymbol ∷ [])) u = joined (stands r u h (LayoutSymbol ∷ [])) (joined ((chained_usable m text.symbols text.of_text text.in_text d).1 []) (turn_all (stands_for r u h))) in
           elim (vanishes LayoutSymbol r u tt (layout_least m f ps list) h l q) [
             | inl k ↦ inl (u ++ (LayoutSymbol ∷ []), u, (k, q, l), (sides_of d, h, refl))
             | inr (before, w, k, i, some, s) ↦ inr (shorter_is_earlier f ps list r (member_count r) (omega arith) (layout_follows m f ps list r u before w k c h i some s))

@@ -5,6 +5,7 @@ use Rattle.swreq_param.specs.declared.ids.AssocId.{AssocId}
 use Rattle.swreq_param.specs.declared.ids.ProtoId.{ProtoId}
 use Rattle.swreq_word.specs.declared.symbols.Symbol.{Symbol}
 use Rattle.swreq_word.specs.declared.symbols.Symbol.TheVariants.{Proto, Member as MemberSymbol}
+use Rattle.swreq_word.proofs.SameSymbols.{same_members}
 use Rattle.swreq_rule.specs.declared.rules.Rule.{Rule}
 use Rattle.swreq_lexicon.specs.declared.pair.ProtocolName.{ProtocolName}
 use Rattle.swreq_lexicon.specs.Views.{LexiconView}
@@ -15,16 +16,13 @@ use Rattle.swreq_map.specs.Properties.{Vanishes}
 use Rattle.swreq_symbols.specs.Vanishing.{IsFirstBehind, IsGiven}
 use Rattle.swreq_minimal.specs.Typed.{IsMemberBehind}
 
-same_ranks : {k j : ℕ} → MemberSymbol k ≡ MemberSymbol j → k ≡ j
-same_ranks e = cc
-
 module _ (x : LexiconView) (rules : List Rule) (w : Word) where
   pub no_symbol : (y : Symbol) → ((k : ℕ) → y ≡ MemberSymbol k → ⊥) → (d : AssocId) → IsMemberBehind x rules w y d → ⊥
   no_symbol y n d (k, e, r, v, f) = n k e
 
   pub no_rank : (rank : ℕ) → length x.symbols ≤ rank → (d : AssocId) → IsMemberBehind x rules w (MemberSymbol rank) d → ⊥
   no_rank rank l d (k, e, r, v, f) =
-      let same = same_ranks e in
+      let same = same_members e in
       let few : k < length x.symbols = subst (λ n. k < n) (length-map x.symbols member_name) r in
       omega (arith, same, few, l)
 
@@ -38,13 +36,13 @@ module _ (x : LexiconView) (rules : List Rule) (w : Word) where
     pub not_vanishing : (Vanishes rules w (Proto s.proto.rank) → ⊥) → (d : AssocId) → IsMemberBehind x rules w (MemberSymbol rank) d → ⊥
     not_vanishing n d (k, e, r, v, f) =
         n (subst (λ (p : ProtoId). Vanishes rules w (Proto p.rank)) proto_is
-        (subst (λ j. Vanishes rules w (Proto (proto_of (symbols_of x) j).rank)) (sym (same_ranks e)) v))
+        (subst (λ j. Vanishes rules w (Proto (proto_of (symbols_of x) j).rank)) (sym (same_members e)) v))
 
     pub member_given : Vanishes rules w (Proto s.proto.rank) → (o : Option AssocId)
         → MatchOption o ((d : AssocId) → IsGiven x rules w s.name d → ⊥) (IsFirstBehind x rules w s.name)
         → MatchOption o ((d : AssocId) → IsMemberBehind x rules w (MemberSymbol rank) d → ⊥) (IsMemberBehind x rules w (MemberSymbol rank))
     member_given v None n = λ d h. let (k, e, r, u, f) = h in
-        n d (subst (λ a. IsGiven x rules w a d) name_is (subst (λ j. IsGiven x rules w (name_of (symbols_of x) j) d) (sym (same_ranks e)) f.given))
+        n d (subst (λ a. IsGiven x rules w a d) name_is (subst (λ j. IsGiven x rules w (name_of (symbols_of x) j) d) (sym (same_members e)) f.given))
     member_given v (Some d) f = (
       rank,
       refl,

@@ -12,6 +12,7 @@ use Rattle.swreq_derive.specs.declared.requirements.Requirement.{Requirement}
 use Rattle.swreq_derive.specs.declared.requirements.Requirement.TheVariants.{Conf, Layout, Same}
 use Rattle.swreq_derive.specs.Derivation.{Source, TermFacts, TermRequirement}
 use Rattle.swreq_derive.specs.Facts.{requirement_of}
+use Rattle.swreq_orders.proofs.Elements.{same_heads}
 use Rattle.swreq_orders.proofs.Members.{first_member, later_member, member_cases, no_member}
 use Rattle.swreq_lowering.specs.ByTable.{HasIdsOf}
 use Rattle.swreq_canonical.specs.Canonical.{IsCanonical, principal}
@@ -95,9 +96,6 @@ module _ (terms : List Term) (found : List Requirement) (r : Requirement) where
     ];
   }
 
-  heads : {x y : Requirement} {u v : List Requirement} → x ∷ u ≡ y ∷ v → x ≡ y
-  heads e = cc
-
   pub belongs_here : (k : ℕ) (d : Requirement) → k < length found → NoneYet (take k found)
       → RequirementBefore (requirement_of terms r) (requirement_of terms (get_or found k d)) → BelongsAt terms found r k
   belongs_here k d l none b = record {
@@ -107,7 +105,7 @@ module _ (terms : List Term) (found : List Requirement) (r : Requirement) where
     place_is = length-take-le k found (omega (arith, l));
     not_same = none.not_same;
     not_later = none.not_later;
-    next = λ q rest e. subst (λ z. RequirementBefore (requirement_of terms r) (requirement_of terms z)) (heads (sym (drop-cons found k d l) ∙ e)) b;
+    next = λ q rest e. subst (λ z. RequirementBefore (requirement_of terms r) (requirement_of terms z)) (same_heads (sym (drop-cons found k d l) ∙ e)) b;
   }
 
   pub belongs_last : (k n : ℕ) → length found ≤ k → n ≡ length found → NoneYet (take k found) → BelongsAt terms found r n

@@ -1,7 +1,8 @@
 -- What the rules of a machine say is what is read off them.
-use Rattle.std.proofs.Common.{◌≡◌, ◌∙◌, refl, sym, ap, subst, List, [], ◌∷◌, ◌++◌, append_assoc}
+use Rattle.std.proofs.Common.{◌≡◌, ◌↔◌, ◌∙◌, refl, sym, ap, subst, List, [], ◌∷◌, ◌++◌, append_assoc}
 use Rattle.swreq_param.specs.declared.ids.AssocId.{AssocId}
 use Rattle.swreq_param.specs.declared.ids.NameId.{NameId}
+use Rattle.swreq_param.specs.declared.ids.ParamId.{ParamId}
 use Rattle.swreq_param.specs.declared.ids.ProtoId.{ProtoId}
 use Rattle.swreq_param.specs.declared.ids.Step.TheVariants.{Bound, Name}
 use Rattle.swreq_param.specs.Terms.{Term}
@@ -13,17 +14,16 @@ use Rattle.swreq_derive.specs.Derivation.TermRequirement.{Conforms, IsAnyObject,
 use Rattle.swreq_derive.specs.Derivation.TermStatement.{IsValid, Requires}
 use Rattle.swreq_derive.specs.Facts.{generic_params}
 use Rattle.swreq_word.specs.declared.symbols.Symbol.TheVariants.{Proto, Member as MemberSymbol, Param}
-use Rattle.swreq_word.proofs.Chains.{joined}
 use Rattle.swreq_rule.specs.declared.rules.Rule.{Rule}
 use Rattle.swreq_correspondence.specs.Equations.{AreCongruent}
 use Rattle.swreq_correspondence.specs.Symbols.{Symbols, Word, name_of, proto_of, spell}
 use Rattle.swreq_correspondence.specs.Types.{BeginsAs, IsFirstFor, IsTypeOf}
-use Rattle.swreq_correspondence.proofs.Chained.{chained_usable, turn_all}
-use Rattle.swreq_correspondence.proofs.Correspondence.{conforming_words}
+use Rattle.swreq_correspondence.proofs.Chained.{chained_usable}
 use Rattle.swreq_correspondence.proofs.Readings.{valid_base, valid_generic}
 use Rattle.swreq_lexicon.specs.Views.{IsProtocol}
 use Rattle.swreq_candidates.specs.Candidates.{IsReadOff, SpeaksOf}
-use Rattle.swreq_candidates.proofs.Settled.{stands, stands_for}
+use Rattle.swreq_candidates.proofs.SameTypes.{begins_on}
+use Rattle.swreq_candidates.proofs.Settled.{stands}
 use Rattle.swreq_symbols.specs.Meaning.{facts_of, symbols_of}
 use Rattle.swreq_symbols.proofs.Symbols.{ranks_law, symbols_law, text_law}
 use Rattle.swreq_map.specs.Properties.{Vanishes}
@@ -32,21 +32,17 @@ use Rattle.swreq_world.specs.Worlds.{TextWorld}
 use Rattle.swreq_valid.specs.Machines.{IsMachineOf, MachineView}
 use Rattle.swreq_valid.specs.Rounds.{last_rules}
 use Rattle.swreq_symbols.specs.Vanishing.{IsFirstBehind}
+use Rattle.swreq_valid.proofs.Reducing.{first_behind, vanishing}
 use Rattle.swreq_minimal.specs.Typed.{IsTypeBy, SaysBy, SpeaksBy}
 
 -- ---- the fronts of words of a type
 
 module _ (m : Symbols) (f : TermFacts) (s : Source) where
-  begins_on : (t : Term) (rest u z : Word) → BeginsAs m f s t rest u → BeginsAs m f s t (rest ++ z) (u ++ z)
-  begins_on (Generic g) rest u z h = ap (λ x. x ++ z) h
-  begins_on (Member t (Bound d)) rest u z (k, c, i, h) = (k, c, i, begins_on t (MemberSymbol k ∷ rest) u z h)
-  begins_on (Member t (Name a)) rest u z h = absurd h
-
   begins_front : (t : Term) (rest u : Word) → BeginsAs m f s t rest u → (front : Word) × (u ≡ front ++ rest) × IsTypeOf m f s front t
   begins_front (Generic g) rest u h = (Param g.depth g.index ∷ [], h, refl)
   begins_front (Member t (Bound d)) rest u (k, c, i, h) =
       let (front, e, j) = begins_front t (MemberSymbol k ∷ rest) u h in
-      (front ++ MemberSymbol k ∷ [], e ∙ sym (append_assoc front (MemberSymbol k ∷ []) rest), (k, c, i, begins_on t [] front (MemberSymbol k ∷ []) j))
+      (front ++ MemberSymbol k ∷ [], e ∙ sym (append_assoc front (MemberSymbol k ∷ []) rest), (k, c, i, begins_on m f s t [] (MemberSymbol k ∷ []) front j))
   begins_front (Member t (Name a)) rest u h = absurd h
 
 module _ (w : TextWorld) (closed : IsClosed w) (machine : MachineView) (list : List TermRequirement) (is : IsMachineOf w list machine) where
@@ -56,47 +52,28 @@ module _ (w : TextWorld) (closed : IsClosed w) (machine : MachineView) (list : L
   abbrev f : TermFacts
   f = facts_of w
 
+  abbrev ps : List ParamId
+  ps = generic_params machine.params
+
   abbrev L : Source
-  L = Written (generic_params machine.params) list
+  L = Written ps list
 
   abbrev rules : List Rule
   rules = last_rules machine.rounds
 
-  abbrev C : Word → Word → Type 0
-  C u v = AreCongruent m f L u v
+  -- what follows a word of the type T, may as well follow the word of T
+  behind : (t : Term) (u : Word) → IsTypeOf m f L u t → (z : Word) → AreCongruent m f L (u ++ z) (spell m L t z)
+  behind =
+      stands m f ps list
+      (record { symbols = symbols_law w closed; of_text = text_law w closed; in_text = is.in_text; ranked = ranks_law w closed })
 
-  -- ---- behind a word of the type T just those protocols vanish to which T conforms
-
+  -- so behind it just those protocols vanish to which T conforms
   module _ (t : Term) (u : Word) (h : IsTypeOf m f L u t) (v : Derivable f L (IsValid t)) where
-    behind : (z : Word) → C (u ++ z) (spell m L t z)
-    behind = stands m f (generic_params machine.params) list (symbols_law w closed) (text_law w closed) is.in_text (ranks_law w closed) t u h
+    conforming : (p : ProtoId) → Derivable f L (Requires (Conforms t p)) ↔ Vanishes rules u (Proto p.rank)
+    conforming = vanishing w closed machine list is u t (behind t u h) v
 
-    alone : C u (spell m L t [])
-    alone = stands_for m f (generic_params machine.params) list (symbols_law w closed) (text_law w closed) is.in_text (ranks_law w closed) t u h
-
-    to_vanish : (p : ProtoId) → Derivable f L (Requires (Conforms t p)) → Vanishes rules u (Proto p.rank)
-    to_vanish p e =
-        let law = conforming_words m f (symbols_law w closed) L (text_law w closed) is.in_text t p v in
-        (is.rules (u ++ Proto p.rank ∷ []) u).1 (joined (behind (Proto p.rank ∷ [])) (joined (law.0 e) (turn_all alone)))
-
-    from_vanish : (p : ProtoId) → Vanishes rules u (Proto p.rank) → Derivable f L (Requires (Conforms t p))
-    from_vanish p l =
-        let law = conforming_words m f (symbols_law w closed) L (text_law w closed) is.in_text t p v in
-        law.1 (joined (turn_all (behind (Proto p.rank ∷ []))) (joined ((is.rules (u ++ Proto p.rank ∷ []) u).0 l) alone))
-
-    to_given : (a : NameId) (d : AssocId) → IsFirstFor f L t a d → IsFirstBehind w.lexicon rules u a d
-    to_given a d i = record {
-      given = (i.proto, i.declares, to_vanish i.proto i.conforms);
-      first = λ e g. i.first g.0 e g.1 (from_vanish g.0 g.2);
-    }
-
-    from_given : (a : NameId) (d : AssocId) → IsFirstBehind w.lexicon rules u a d → IsFirstFor f L t a d
-    from_given a d i = record {
-      proto = i.given.0;
-      declares = i.given.1;
-      conforms = from_vanish i.given.0 i.given.2;
-      first = λ p e c k. i.first e (p, c, to_vanish p k);
-    }
+    firsts : (a : NameId) (d : AssocId) → IsFirstFor f L t a d ↔ IsFirstBehind w.lexicon rules u a d
+    firsts = first_behind w closed machine list is u t (behind t u h) v
 
   -- ---- types
 
@@ -105,21 +82,21 @@ module _ (w : TextWorld) (closed : IsClosed w) (machine : MachineView) (list : L
   to_type (Member t (Bound d)) u v (k, c, i, h) =
       let (front, e, j) = begins_front m f L t (MemberSymbol k ∷ []) u h in
       let b = valid_base (Bound d) v in
-      (front, MemberSymbol k, e, to_type t front b j, (k, refl, c.0, to_vanish t front j b (proto_of m k) c.1, to_given t front j b (name_of m k) d i))
+      (front, MemberSymbol k, e, to_type t front b j, (k, refl, c.0, (conforming t front j b (proto_of m k)).0 c.1, (firsts t front j b (name_of m k) d).0 i))
   to_type (Member t (Name a)) u v h = absurd h
 
   from_type : (t : Term) (u : Word) → IsTypeBy w.lexicon rules machine.params u t → Derivable f L (IsValid t) × IsTypeOf m f L u t
   from_type (Generic g) u (c, e) = (generic c, e)
   from_type (Member t (Bound d)) u (front, y, e, h, (k, s, r, l, i)) =
       let (b, j) = from_type t front h in
-      let o = from_given t front j b (name_of m k) d i in
+      let o = (firsts t front j b (name_of m k) d).1 i in
       let ends : u ≡ front ++ MemberSymbol k ∷ [] = e ∙ ap (λ z. front ++ z ∷ []) s in (
         assoc_decl o.conforms o.declares,
         (
           k,
-          (r, from_vanish t front j b (proto_of m k) l, (o.proto, d, o.conforms, o.declares)),
+          (r, (conforming t front j b (proto_of m k)).1 l, (o.proto, d, o.conforms, o.declares)),
           o,
-          subst (BeginsAs m f L t (MemberSymbol k ∷ [])) (sym ends) (begins_on m f L t [] front (MemberSymbol k ∷ []) j),
+          subst (BeginsAs m f L t (MemberSymbol k ∷ [])) (sym ends) (begins_on m f L t [] (MemberSymbol k ∷ []) front j),
         ),
       )
   from_type (Member t (Name a)) u h = absurd h
@@ -128,25 +105,25 @@ module _ (w : TextWorld) (closed : IsClosed w) (machine : MachineView) (list : L
   to_spoken (Generic g) l v h = (valid_generic v, h)
   to_spoken (Member t (Bound d)) l v (u, x, a, e, h, n, i) =
       let b = valid_base (Bound d) v in
-      (u, x, a, e, to_type t u b h, n, to_given t u h b a d i)
+      (u, x, a, e, to_type t u b h, n, (firsts t u h b a d).0 i)
   to_spoken (Member t (Name a)) l v h = absurd h
 
   from_spoken : (v : Term) (l : Word) → SpeaksBy w.lexicon rules machine.params l v → Derivable f L (IsValid v) × SpeaksOf m f L v l
   from_spoken (Generic g) l (c, e) = (generic c, e)
   from_spoken (Member t (Bound d)) l (u, x, a, e, h, n, i) =
       let (b, j) = from_type t u h in
-      let o = from_given t u j b a d i in
+      let o = (firsts t u j b a d).1 i in
       (assoc_decl o.conforms o.declares, (u, x, a, e, j, n, o))
   from_spoken (Member t (Name a)) l h = absurd h
 
   -- ---- what a rule says
 
-  module _ (l r : Word) (rule : C l r) where
+  module _ (l r : Word) (rule : AreCongruent m f L l r) where
     -- the protocol of a conformance that is read off is of the text
     of_text : (t : Term) (p : ProtoId) → Derivable f L (IsValid t) → IsTypeOf m f L r t → l ≡ r ++ Proto p.rank ∷ [] → IsProtocol w.lexicon p
     of_text t p v h e =
-        let vanishes = (is.rules (r ++ Proto p.rank ∷ []) r).1 (subst (λ z. C z r) e rule) in
-        let shown = chained_usable m (symbols_law w closed) (text_law w closed) is.in_text (from_vanish t r h v p vanishes) in
+        let vanishes = (is.rules (r ++ Proto p.rank ∷ []) r).1 (subst (λ z. AreCongruent m f L z r) e rule) in
+        let shown = chained_usable m (symbols_law w closed) (text_law w closed) is.in_text ((conforming t r h v p).1 vanishes) in
         (closed.ids.written_order p).0 shown.0
 
     pub to_said : (q : TermRequirement) → IsReadOff m f L l r q → SaysBy w.lexicon rules machine.params l r q

@@ -4,6 +4,7 @@ use Rattle.std.specs.Prelude.{insert, remove}
 use Rattle.std.proofs.Math.Seq.{drop-append_seam, take-append_seam}
 use Rattle.std.proofs.lemmas.List.{drop_all, length-map, map-append, map_more, take-append-drop, take_all, take_more}
 use Rattle.std.proofs.lemmas.List.Elements.{Contains-append_cases, Contains-append_left, Contains-append_right}
+use Rattle.swreq_orders.proofs.Elements.{same_heads, same_tails}
 use Rattle.swreq_orders.proofs.Members.{later_member}
 use Rattle.std.proofs.lemmas.List.Edits.{remove-append_right}
 use Rattle.swreq_param.specs.declared.ids.ParamId.{ParamId}
@@ -112,12 +113,6 @@ module _ {X : Type 0} where
   pub parted : (xs : List X) (k : ℕ) (d : X) → k < length xs → xs ≡ take k xs ++ get_or xs k d ∷ drop (suc k) xs
   parted xs k d l = sym (take-append-drop k xs) ∙ ap (λ z. take k xs ++ z) (drop-cons xs k d l)
 
-  heads : {x y : X} {u v : List X} → x ∷ u ≡ y ∷ v → x ≡ y
-  heads e = cc
-
-  tails : {x y : X} {u v : List X} → x ∷ u ≡ y ∷ v → u ≡ v
-  tails e = cc
-
 module _ (terms : List Term) (now : List Requirement) (k : ℕ) (d : Requirement) (l : k < length now) where
   abbrev one : Requirement
   one = get_or now k d
@@ -144,11 +139,11 @@ module _ (terms : List Term) (now : List Requirement) (k : ℕ) (d : Requirement
         (length-map (take k now) (requirement_of terms) ∙ (own_length ∙ sym e))
 
     pub one_is : requirement_of terms one ≡ r
-    one_is = heads cut.1
+    one_is = same_heads cut.1
 
     pub others_are : listed terms (remove now k) ≡ front ++ out
     others_are =
-        ap (listed terms) without ∙ (map-append (requirement_of terms) (take k now) (drop (suc k) now) ∙ ap₂ ◌++◌ cut.0 (tails cut.1))
+        ap (listed terms) without ∙ (map-append (requirement_of terms) (take k now) (drop (suc k) now) ∙ ap₂ ◌++◌ cut.0 (same_tails cut.1))
 
 -- what is dropped, and what is kept
 module _ (f : TermFacts) (ps : List ParamId) (terms : List Term) (now : List Requirement) (k : ℕ) (d : Requirement) (l : k < length now) where
@@ -177,21 +172,46 @@ module _ (f : TermFacts) (ps : List ParamId) (terms : List Term) (now : List Req
             (subst (λ z. Derivable f (Written ps (front ++ out)) (Requires z)) (sym (one_is terms now k d l front out r is e)) h))),
       )
 
--- ---- the next one to be dropped
+-- ---- the next one to be dropped, the last of so many that were not gone through
 
-module _ (f : TermFacts) (ps : List ParamId) (terms : List Term) (all : List TermRequirement) (now : List Requirement) (k : ℕ) (d : TermRequirement) (l : k < length all)
-    (left : IsLeftFrom f ps (k + 1) all (listed terms now)) where
+module _ (f : TermFacts) (ps : List ParamId) (terms : List Term) (all : List TermRequirement) (now : List Requirement) (count : ℕ) (any : Requirement) (some : 0 < count)
+    (within : count ≤ length all) (left : IsLeftFrom f ps count all (listed terms now)) where
+  abbrev k : ℕ
+  k = count - 1
+
+  abbrev d : TermRequirement
+  d = requirement_of terms any
+
+  place_within : k < length all
+  place_within = omega (arith, some, within)
+
+  left_on : IsLeftFrom f ps (k + 1) all (listed terms now)
+  left_on = subst (λ n. IsLeftFrom f ps n all (listed terms now)) (let e : count ≡ k + 1 = omega (arith, some) in e) left
+
+  front_is : length (take k all) ≡ k
+  front_is = front_length f ps all (listed terms now) k d place_within left_on
+
+  list_is : listed terms now ≡ take k all ++ get_or all k d ∷ left_on.0
+  list_is = now_is f ps all (listed terms now) k d place_within left_on
+
   -- it is there
   pub within_now : k < length now
   within_now =
-      let e = ap length (now_is f ps all (listed terms now) k d l left) in
+      let e = ap length list_is in
       let n = length-map now (requirement_of terms) in
-      let a = length-append (take k all) (get_or all k d ∷ left.0) in
-      let b = front_length f ps all (listed terms now) k d l left in
+      let a = length-append (take k all) (get_or all k d ∷ left_on.0) in
+      let b = front_is in
       omega (arith, e, n, a, b)
 
-  -- and this is left without it
-  pub is_without : (one : Requirement) → IsLeftWithout f ps all (listed terms (remove now k))
-  is_without one =
-      left_without f ps all (listed terms now) k d l left (listed terms (remove now k))
-      (others_are terms now k one within_now (take k all) left.0 (get_or all k d) (now_is f ps all (listed terms now) k d l left) (front_length f ps all (listed terms now) k d l left))
+  -- this is left without it
+  pub is_without : IsLeftWithout f ps all (listed terms (remove now k))
+  is_without =
+      left_without f ps all (listed terms now) k d place_within left_on (listed terms (remove now k))
+      (others_are terms now k any within_now (take k all) left_on.0 (get_or all k d) list_is front_is)
+
+  -- and then it was gone through
+  pub passed_on : (new : List Requirement) → LeavesNow f ps terms now k any within_now new → IsLeftFrom f ps k all (listed terms new)
+  passed_on new leaves =
+      let (more, e, h) = leaves (take k all) (drop (k + 1) all) left_on.0 (get_or all k d) list_is front_is
+      (leaves_behind f ps all (listed terms now) k d place_within left_on) in
+      next_left f ps all (listed terms now) k d place_within left_on (listed terms new) more e h

@@ -22,7 +22,9 @@ use Rattle.swreq_rule.specs.declared.rules.Rule.{Rule}
 use Rattle.swreq_lexicon.specs.Views.{IsProtocol, LexiconView}
 use Rattle.swreq_correspondence.specs.Symbols.{Word}
 use Rattle.swreq_candidates.specs.Candidates.{IsNamed}
-use Rattle.swreq_candidates.proofs.ReadOff.{one_name}
+use Rattle.std.proofs.lemmas.List.{same_from_push}
+use Rattle.swreq_symbols.proofs.LeastWords.{one_first}
+use Rattle.swreq_candidates.proofs.ReadOff.{not_empty, one_name}
 use Rattle.swreq_symbols.specs.Known.{IsRequirementIn}
 use Rattle.swreq_symbols.specs.Meaning.{symbols_of}
 use Rattle.swreq_world.specs.Closed.{IsTermOf}
@@ -30,7 +32,7 @@ use Rattle.swreq_lowering.proofs.Growing.{of_stays}
 use Rattle.swreq_symbols.specs.Vanishing.{IsFirstBehind, IsGiven}
 use Rattle.swreq_minimal.specs.Typed.{Finds, Identifies, IsTypeBy, SaysBy, SpeaksBy}
 use Rattle.swreq_minimal.proofs.Passing.{parted}
-use Rattle.swreq_minimal.proofs.Typing.{given_of_text, none_of_nothing, not_empty, nothing_before, one_first, one_type, type_of_text}
+use Rattle.swreq_minimal.proofs.Typing.{given_of_text, none_of_nothing, nothing_before, one_type, type_of_text}
 
 -- ---- the last symbol of a word
 

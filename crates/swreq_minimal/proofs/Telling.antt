@@ -89,6 +89,17 @@ module _ (limits : Limits) (plan : List TermRequirement → Plan) where
     pub failure_of : (old new : Option (List Event)) (failed : Failed) → TellsFailure limits plan P old new failed → TellsFailure limits plan Q old new failed
     failure_of old new failed (a, p, g) = (a, fails_of a failed p, g)
 
+  -- one of these lists more
+  module _ (P : List TermRequirement → Type 0) (list : List TermRequirement) (one : P list) (old mid new : Option (List Event)) (before : TellsParts limits plan P old mid) where
+    is_one : (l : List TermRequirement) → l ≡ list → P l
+    is_one l e = subst P (sym e) one
+
+    pub tells_next : TellsParts limits plan (λ l. l ≡ list) mid new → TellsParts limits plan P old new
+    tells_next h = tells_on P old mid new before (tells_of (λ l. l ≡ list) P is_one mid new h)
+
+    pub fails_next : (failed : Failed) → TellsFailure limits plan (λ l. l ≡ list) mid new failed → TellsFailure limits plan P old new failed
+    fails_next failed h = fails_after P old mid new before failed (failure_of (λ l. l ≡ list) P is_one mid new failed h)
+
   -- the rounds of one list
   module _ (list : List TermRequirement) where
     abbrev IsIt : List TermRequirement → Type 0

@@ -1,6 +1,6 @@
 -- The type of a word, symbol by symbol.
-use Rattle.std.proofs.Common.{◌≡◌, ◌∙◌, inl, inr, refl, sym, ap, subst, ◌<◌, ◌+◌, arith, ℕ, List, [], ◌∷◌, ◌++◌, Option, Some, None, MatchOption, Contains, length, take, drop, get_or}
-use Rattle.std.proofs.lemmas.List.{take_more, take-append-drop, same_from_push}
+use Rattle.std.proofs.Common.{◌≡◌, ◌∙◌, refl, sym, ap, subst, ◌<◌, arith, ℕ, List, [], ◌∷◌, ◌++◌, Option, Some, None, MatchOption, Contains, length, take, drop, get_or}
+use Rattle.std.proofs.lemmas.List.{same_from_push, take-append-drop}
 use Rattle.std.proofs.lemmas.Option.{slice_get_within}
 use Rattle.swreq_param.specs.declared.ids.AssocId.{AssocId}
 use Rattle.swreq_param.specs.declared.ids.NameId.{NameId}
@@ -13,17 +13,19 @@ use Rattle.swreq_param.specs.Terms.Term.{Generic, Member}
 use Rattle.swreq_derive.specs.declared.known.Params.{Params}
 use Rattle.swreq_derive.specs.Facts.{generic_params}
 use Rattle.swreq_word.specs.declared.symbols.Symbol.{Symbol}
-use Rattle.swreq_word.specs.declared.symbols.Symbol.TheVariants.{Member as MemberSymbol, Param}
-use Rattle.swreq_word.specs.Order.{WordLess}
-use Rattle.swreq_word.proofs.Comparing.{less_after, not_below_itself, not_both_below, trichotomy}
+use Rattle.swreq_word.specs.declared.symbols.Symbol.TheVariants.{Param}
+use Rattle.swreq_word.proofs.SameSymbols.{same_members}
 use Rattle.swreq_rule.specs.declared.rules.Rule.{Rule}
-use Rattle.swreq_rule.proofs.Context.{Linked-after}
+use Rattle.swreq_orders.proofs.Elements.{same_heads}
+use Rattle.swreq_correspondence.proofs.OneType.{one_param}
 use Rattle.swreq_symbols.specs.Vanishing.{IsFirstBehind, IsLeastBy}
 use Rattle.swreq_lexicon.specs.Lexicons.{pair}
 use Rattle.swreq_lexicon.specs.Views.{LexiconView}
 use Rattle.swreq_correspondence.specs.Symbols.{Word, name_of}
+use Rattle.swreq_candidates.proofs.ReadOff.{not_empty}
 use Rattle.swreq_symbols.specs.Meaning.{symbols_of}
 use Rattle.swreq_symbols.proofs.Declared.{at_rank}
+use Rattle.swreq_symbols.proofs.LeastWords.{one_first, prefix_least}
 use Rattle.swreq_world.specs.Closed.{IsTermOf}
 use Rattle.swreq_minimal.specs.Typed.{Identifies, IsMemberBehind, IsTypeBy}
 
@@ -32,60 +34,21 @@ use Rattle.swreq_minimal.specs.Typed.{Identifies, IsMemberBehind, IsTypeBy}
 -- the part of a least word before a place is least
 pub part_least : (rules : List Rule) (w : Word) (k : ℕ) → IsLeastBy rules w → IsLeastBy rules (take k w)
 part_least rules w k least = prefix_least rules (take k w) (drop k w) (subst (IsLeastBy rules) (sym (take-append-drop k w)) least)
-  where
-    prefix_least : (all : List Rule) (front rest : Word) → IsLeastBy all (front ++ rest) → IsLeastBy all front
-    prefix_least all front rest least v l = elim (trichotomy v front) [
-      | inl below ↦ absurd (elim (least (v ++ rest) (Linked-after rest l)) [
-        | inl e ↦ not_below_itself (v ++ rest) (subst (λ z. WordLess (v ++ rest) z) (sym e) (less_after rest v front below))
-        | inr h ↦ not_both_below (front ++ rest) (v ++ rest) h (less_after rest v front below)
-      ])
-      | inr k ↦ elim k [ inl e ↦ inl e | inr above ↦ inr above ]
-    ]
-
--- the next symbol
-pub one_longer : (w : Word) (k : ℕ) (d : Symbol) → k < length w → take (k + 1) w ≡ take k w ++ get_or w k d ∷ []
-one_longer w k d l = take_more w k d l
 
 pub one_taken : (w : Word) (d : Symbol) → 0 < length w → take 1 w ≡ get_or w 0 d ∷ []
 one_taken [] d l = absurd (omega arith)
 one_taken (y ∷ w) d l = refl
 
-pub not_empty : (u : Word) (y : Symbol) → [] ≡ u ++ y ∷ [] → ⊥
-not_empty [] y e = cc
-not_empty (x ∷ u) y e = cc
-
 -- a word of one symbol has nothing before it
 pub nothing_before : (z y : Symbol) (front : Word) → z ∷ [] ≡ front ++ y ∷ [] → (front ≡ []) × (z ≡ y)
 nothing_before z y front e = let (f, s) = same_from_push [] front z y e in (sym f, s)
 
-same_params : (g h : ParamId) → Param g.depth g.index ≡ Param h.depth h.index → g ≡ h
-same_params g h e = λ i. record { depth = depths e i; index = indices e i }
-  where
-    depths : Param g.depth g.index ≡ Param h.depth h.index → g.depth ≡ h.depth
-    depths e = cc
-
-    indices : Param g.depth g.index ≡ Param h.depth h.index → g.index ≡ h.index
-    indices e = cc
-
-same_heads : {x y : Symbol} {u v : Word} → x ∷ u ≡ y ∷ v → x ≡ y
-same_heads e = cc
-
-same_ranks : {k j : ℕ} → MemberSymbol k ≡ MemberSymbol j → k ≡ j
-same_ranks e = cc
-
 module _ (x : LexiconView) (rules : List Rule) where
   -- ---- the member behind a word is one
 
-  pub one_first : (w : Word) (a : NameId) (d e : AssocId) → IsFirstBehind x rules w a d → IsFirstBehind x rules w a e → d ≡ e
-  one_first w a d e h k =
-      let l = h.first e k.given in
-      let r = k.first d h.given in
-      let same : d.rank ≡ e.rank = omega (arith, l, r) in
-      λ i. record { rank = same i }
-
   pub one_member : (w : Word) (y : Symbol) (d e : AssocId) → IsMemberBehind x rules w y d → IsMemberBehind x rules w y e → d ≡ e
   one_member w y d e (k, p, r, v, f) (j, q, s, u, g) =
-      one_first w (name_of (symbols_of x) k) d e f (subst (λ n. IsFirstBehind x rules w (name_of (symbols_of x) n) e) (same_ranks (sym q ∙ p)) g)
+      one_first x rules w (name_of (symbols_of x) k) d e f (subst (λ n. IsFirstBehind x rules w (name_of (symbols_of x) n) e) (same_members (sym q ∙ p)) g)
 
   module _ (params : Params) where
     -- ---- words of no symbol, and of one
@@ -107,7 +70,7 @@ module _ (x : LexiconView) (rules : List Rule) where
     pub not_of_these : (g : ParamId) → (Contains (generic_params params) g → ⊥) → (t : Term) → IsTypeBy x rules params (Param g.depth g.index ∷ []) t → ⊥
     not_of_these g n t h =
         let (k, e, i, c) = of_one (Param g.depth g.index) t h in
-        n (subst (Contains (generic_params params)) (sym (same_params g k i)) c)
+        n (subst (Contains (generic_params params)) (sym (one_param {g = g} {h = k} i)) c)
 
     pub is_generic : (terms : List Term) (g : ParamId) (id : TermId) → Contains (generic_params params) g → IsOf terms id → term_at terms id ≡ Generic g
         → Identifies (IsTypeBy x rules params (Param g.depth g.index ∷ [])) terms (Some id)
@@ -124,7 +87,7 @@ module _ (x : LexiconView) (rules : List Rule) where
         none_of_nothing t (subst (λ u. IsTypeBy x rules params u t) (nothing_before (Param g.depth g.index) y front e).0 h)
 
     pub one_type : (t z : Term) (u : Word) → IsTypeBy x rules params u t → IsTypeBy x rules params u z → t ≡ z
-    one_type (Generic g) (Generic h) u (c, e) (d, k) = ap Generic (same_params g h (same_heads (sym e ∙ k)))
+    one_type (Generic g) (Generic h) u (c, e) (d, k) = ap Generic (one_param {g = g} {h = h} (same_heads (sym e ∙ k)))
     one_type (Generic g) (Member z (Bound d)) u (c, e) (front, y, k, h, m) = absurd (generic_or_longer g front y z (sym e ∙ k) h)
     one_type (Member t (Bound d)) (Generic g) u (front, y, k, h, m) (c, e) = absurd (generic_or_longer g front y t (sym e ∙ k) h)
     one_type (Member t (Bound d)) (Member z (Bound b)) u (front, y, e, h, m) (other, s, k, j, n) =

@@ -35,10 +35,20 @@ use Rattle.swreq_minimal.proofs.Completing.{completed}
 use Rattle.swreq_minimal.proofs.Growing.{world_stays}
 use Rattle.swreq_minimal.proofs.Telling.{failure_of, tells_of}
 
-module _ (old new : List Term) (w : IdWorld) (text : IsTextOver old w) (more : Extends old new)
-    (written : IsInheritanceWritten (world_by old w))
-    (protocols : List Rule) (complete : IsComplete protocols) (rules : AreRulesOf (world_by old w) protocols)
-    (machine : MachineView) (complete_too : IsComplete (last_rules machine.rounds)) (list : List TermRequirement) (is : IsMachineOf (world_by old w) list machine) where
+-- A machine of a list over a table that grew since, and the candidates that were read off it.
+pub record IsReadOffMachine (old new : List Term) (w : IdWorld) (protocols : List Rule) (machine : MachineView) (list found : List TermRequirement) : Type 0 where
+  pub text : IsTextOver old w
+  pub more : Extends old new
+  pub written : IsInheritanceWritten (world_by old w)
+  pub complete : IsComplete protocols
+  pub rules : AreRulesOf (world_by old w) protocols
+  pub complete_too : IsComplete (last_rules machine.rounds)
+  pub is : IsMachineOf (world_by old w) list machine
+  pub candidates : IsCompleted (symbols_of w.lexicon) (facts_of (world_by old w)) (generic_params machine.params) list
+      → IsCandidateList (symbols_of w.lexicon) (facts_of (world_by old w)) (Written (generic_params machine.params) list) found
+
+module _ (old new : List Term) (w : IdWorld) (protocols : List Rule) (machine : MachineView) (list found : List TermRequirement)
+    (read : IsReadOffMachine old new w protocols machine list found) where
   abbrev m : Symbols
   m = symbols_of w.lexicon
 
@@ -48,53 +58,55 @@ module _ (old new : List Term) (w : IdWorld) (text : IsTextOver old w) (more : E
   abbrev ps : List ParamId
   ps = generic_params machine.params
 
-  pub ended : IsCompleted m f ps list
-  ended = completed (world_by old w) text.closed written protocols complete rules list machine complete_too is
+  ended : IsCompleted m f ps list
+  ended = completed (world_by old w) read.text.closed read.written protocols read.complete read.rules list machine read.complete_too read.is
+
+  candidates : IsCandidateList m f (Written ps list) found
+  candidates = read.candidates ended
 
   same_world : world_by new w ≡ world_by old w
-  same_world = world_stays old new more w text.table
+  same_world = world_stays old new read.more w read.text.table
 
-  module _ (found : List TermRequirement) (candidates : IsCandidateList m f (Written ps list) found) where
-    enough : AreEnough f ps list found
-    enough = enough_here m f ps list ended found candidates
+  enough : AreEnough f ps list found
+  enough = enough_here m f ps list ended found candidates
 
-    module _ (out : List TermRequirement) (sifted : IsSifted (facts_of (world_by new w)) ps found out) where
-      here : IsSifted f ps found out
-      here = subst (λ (z : TextWorld). IsSifted (facts_of z) ps found out) same_world sifted
+  module _ (out : List TermRequirement) (sifted : IsSifted (facts_of (world_by new w)) ps found out) where
+    here : IsSifted f ps found out
+    here = subst (λ (z : TextWorld). IsSifted (facts_of z) ps found out) same_world sifted
 
-      pub is_minimised : IsMinimised f ps list out
-      is_minimised = record {
-        generators = here.generators;
-        are_generators = generator_list f ps list found here.generators enough here.takes;
-        leaves = here.leaves;
-      }
+    pub is_minimised : IsMinimised f ps list out
+    is_minimised = record {
+      generators = here.generators;
+      are_generators = generator_list f ps list found here.generators enough here.takes;
+      leaves = here.leaves;
+    }
 
-      pub is_same : AreEquivalent f ps list out
-      is_same = minimised_same f ps list out (reduced_here m f ps list ended) (generators_told f ps list found here.generators enough here.takes) is_minimised
+    pub is_same : AreEquivalent f ps list out
+    is_same = minimised_same f ps list out (reduced_here m f ps list ended) (generators_told f ps list found here.generators enough here.takes) is_minimised
 
-      pub is_independent : IsIndependent f ps out
-      is_independent = minimised_independent f ps list out is_minimised
+    pub is_independent : IsIndependent f ps out
+    is_independent = minimised_independent f ps list out is_minimised
 
-      pub is_canonical : (r : TermRequirement) → Contains out r → IsCanonical f (Written ps list) r
-      is_canonical = minimised_canonical f ps list out is_minimised
+    pub is_canonical : (r : TermRequirement) → Contains out r → IsCanonical f (Written ps list) r
+    is_canonical = minimised_canonical f ps list out is_minimised
 
-      pub is_sorted : IsStrictlySorted out
-      is_sorted = minimised_sorted f ps list out is_minimised
+    pub is_sorted : IsStrictlySorted out
+    is_sorted = minimised_sorted f ps list out is_minimised
 
-    -- ---- what is told
+  -- ---- what is told
 
-    passed : (l : List TermRequirement) → IsPassed (facts_of (world_by new w)) ps found l → IsPassedOf m f ps list l
-    passed l h = (found, candidates, subst (λ (z : TextWorld). IsPassed (facts_of z) ps found l) same_world h)
+  passed : (l : List TermRequirement) → IsPassed (facts_of (world_by new w)) ps found l → IsPassedOf m f ps list l
+  passed l h = (found, candidates, subst (λ (z : TextWorld). IsPassed (facts_of z) ps found l) same_world h)
 
-    module _ (limits : Limits) (a b : Option (List Event)) where
-      pub tells : TellsParts limits (list_of (world_by new w) protocols machine.params) (IsPassed (facts_of (world_by new w)) ps found) a b
-          → TellsParts limits (list_of (world_by old w) protocols machine.params) (IsPassedOf m f ps list) a b
-      tells h =
-          tells_of limits (list_of (world_by old w) protocols machine.params) (IsPassed (facts_of (world_by new w)) ps found) (IsPassedOf m f ps list) passed a b
-          (subst (λ (z : TextWorld). TellsParts limits (list_of z protocols machine.params) (IsPassed (facts_of (world_by new w)) ps found) a b) same_world h)
+  module _ (limits : Limits) (a b : Option (List Event)) where
+    pub tells : TellsParts limits (list_of (world_by new w) protocols machine.params) (IsPassed (facts_of (world_by new w)) ps found) a b
+        → TellsParts limits (list_of (world_by old w) protocols machine.params) (IsPassedOf m f ps list) a b
+    tells h =
+        tells_of limits (list_of (world_by old w) protocols machine.params) (IsPassed (facts_of (world_by new w)) ps found) (IsPassedOf m f ps list) passed a b
+        (subst (λ (z : TextWorld). TellsParts limits (list_of z protocols machine.params) (IsPassed (facts_of (world_by new w)) ps found) a b) same_world h)
 
-      pub fails : (failed : Failed) → TellsFailure limits (list_of (world_by new w) protocols machine.params) (IsPassed (facts_of (world_by new w)) ps found) a b failed
-          → TellsFailure limits (list_of (world_by old w) protocols machine.params) (IsPassedOf m f ps list) a b failed
-      fails failed h =
-          failure_of limits (list_of (world_by old w) protocols machine.params) (IsPassed (facts_of (world_by new w)) ps found) (IsPassedOf m f ps list) passed a b failed
-          (subst (λ (z : TextWorld). TellsFailure limits (list_of z protocols machine.params) (IsPassed (facts_of (world_by new w)) ps found) a b failed) same_world h)
+    pub fails : (failed : Failed) → TellsFailure limits (list_of (world_by new w) protocols machine.params) (IsPassed (facts_of (world_by new w)) ps found) a b failed
+        → TellsFailure limits (list_of (world_by old w) protocols machine.params) (IsPassedOf m f ps list) a b failed
+    fails failed h =
+        failure_of limits (list_of (world_by old w) protocols machine.params) (IsPassed (facts_of (world_by new w)) ps found) (IsPassedOf m f ps list) passed a b failed
+        (subst (λ (z : TextWorld). TellsFailure limits (list_of z protocols machine.params) (IsPassed (facts_of (world_by new w)) ps found) a b failed) same_world h)

@@ -1,13 +1,12 @@
 //! Whether a requirement is derivable from the list of a machine.
 ghost use Rattle.std.specs.Prelude.{◌≡◌, ◌↔◌, IfOk, IsTrue, List};
-ghost use Rattle.swreq_param.specs.Tables.{term_at};
 ghost use Rattle.swreq_derive.specs.Derivation.{Derivable, TermRequirement};
 ghost use Rattle.swreq_derive.specs.Derivation.Source.{Written};
 ghost use Rattle.swreq_derive.specs.Derivation.TermStatement.{Requires};
 ghost use Rattle.swreq_derive.specs.Facts.{generic_params, requirement_of};
-ghost use Rattle.swreq_correspondence.specs.Shown.{ShowsUsable, ShowsValid};
+ghost use Rattle.swreq_correspondence.specs.Shown.{ShowsUsable};
 ghost use Rattle.swreq_symbols.specs.declared.over.Over.TheVariants.{Signature};
-ghost use Rattle.swreq_symbols.specs.Known.{IsRequirementIn, IsTextOver, IsTypeIn};
+ghost use Rattle.swreq_symbols.specs.Known.{IsRequirementIn, IsTextOver};
 ghost use Rattle.swreq_symbols.specs.Meaning.{facts_of, symbols_of};
 ghost use Rattle.swreq_symbols.specs.Overs.{source_of};
 ghost use Rattle.swreq_symbols.specs.Vanishing.{IsLeastBy, Links};
@@ -18,38 +17,11 @@ ghost use Rattle.swreq_valid.specs.Rounds.{last_rules};
 use std::alloc::{AllocError, Global};
 use swreq_complete::CompleteRules;
 use swreq_derive::Requirement;
-use swreq_param::{ParamTable, TermId};
-use swreq_symbols::{Over, equation, least_word};
-use swreq_valid::Machine;
+use swreq_param::ParamTable;
+use swreq_symbols::{Over, equation};
+use swreq_valid::{Machine, is_usable};
 use swreq_word::{Symbol, Word, are_same};
 use swreq_world::World;
-
-/// Whether the rules of the machine show that a type parameter is valid.
-fn is_valid(
-    alloc: Global,
-    world: &World,
-    table: &ParamTable,
-    machine: &Machine,
-    t: TermId,
-) -> Result<bool, AllocError>
-    requires text { IsTextOver table.now world.now }
-    requires t { IsTypeIn table.now world.now.lexicon t }
-    ensures { IfOk result (λ b. IsTrue b ↔ ShowsValid (symbols_of world.now.lexicon) (facts_of (world_by table.now world.now))
-        (source_of (Signature machine.now.params)) (Links (last_rules machine.now.rounds)) (term_at table.now t)) }
-{
-    let room = table.members(t).checked_add(2).ok_or(AllocError)?;
-    let mut word: Vec<Symbol> = Vec::with_capacity(alloc, room)?;
-    let mut test: Vec<Symbol> = Vec::with_capacity(alloc, room)?;
-    Ok(least_word(
-        world,
-        table,
-        machine.rules(),
-        Over::Signature(machine.params()),
-        t,
-        &mut word,
-        &mut test,
-    ))
-}
 
 /// Whether the rules of the machine show that the type parameters of a requirement are valid.
 fn has_valid_sides(
@@ -64,17 +36,8 @@ fn has_valid_sides(
     ensures { IfOk result (λ b. IsTrue b ↔ ShowsUsable (symbols_of world.now.lexicon) (facts_of (world_by table.now world.now))
         (source_of (Signature machine.now.params)) (Links (last_rules machine.now.rounds)) (requirement_of table.now r)) }
 {
-    match r {
-        Requirement::Conf { subject, .. } => is_valid(alloc, world, table, machine, subject),
-        Requirement::Layout { subject } => is_valid(alloc, world, table, machine, subject),
-        Requirement::Same { left, right } => {
-            if is_valid(alloc, world, table, machine, left)? {
-                is_valid(alloc, world, table, machine, right)
-            } else {
-                Ok(false)
-            }
-        }
-    }
+    let over = Over::Signature(machine.params());
+    is_usable(alloc, world, table, machine.rules(), over, r)
 }
 
 /// The least word that the rules link to a word.

@@ -10,7 +10,7 @@ ghost use Rattle.swreq_param.specs.Terms.Term.{Member};
 ghost use Rattle.swreq_derive.specs.declared.known.Params.{Params};
 ghost use Rattle.swreq_derive.specs.declared.requirements.Requirement.TheVariants.{Conf, Layout as LayoutOf, Same};
 ghost use Rattle.swreq_word.specs.declared.symbols.Symbol.{Symbol};
-ghost use Rattle.swreq_word.specs.declared.symbols.Symbol.TheVariants.{Proto, Layout, Member as MemberSymbol};
+ghost use Rattle.swreq_word.specs.declared.symbols.Symbol.TheVariants.{Proto, Layout};
 ghost use Rattle.swreq_word.specs.Least.{IsMinimal};
 ghost use Rattle.swreq_candidates.specs.Candidates.{IsNamed};
 ghost use Rattle.swreq_lexicon.specs.Views.{IsProtocol};
@@ -23,23 +23,9 @@ use std::alloc::{AllocError, Global};
 use swreq_complete::CompleteRules;
 use swreq_derive::{Params, Requirement};
 use swreq_param::{AssocId, NameId, ParamTable, ProtoId, TermId};
-use swreq_symbols::first_behind;
+use swreq_symbols::{first_behind, name_at};
 use swreq_word::{Symbol, are_same};
 use swreq_world::World;
-
-/// The name of the member symbol with this rank, or None where there is none.
-fn name_at(world: &World, rank: u64) -> Option<NameId>
-    ensures { MatchOption result
-        ((a : NameId) → IsNamed (symbols_of world.now.lexicon) (MemberSymbol rank) a → ⊥)
-        (IsNamed (symbols_of world.now.lexicon) (MemberSymbol rank)) }
-{
-    if rank < world.members() {
-        let symbol = world.member_at(rank);
-        Some(symbol.name)
-    } else {
-        None
-    }
-}
 
 /// The name for which a symbol stands, or None where it stands for none.
 fn name_of(world: &World, symbol: Symbol) -> Option<NameId>

@@ -1,5 +1,5 @@
 -- From what rules show to what is derivable.
-use Rattle.std.proofs.Common.{◌≡◌, sym, subst, Bool, true, false, List, [], ◌∷◌}
+use Rattle.std.proofs.Common.{◌≡◌, ◌↔◌, sym, subst, Bool, true, false, List, [], ◌∷◌}
 use Rattle.std.specs.Bool.{Decides, OnTrue}
 use Rattle.swreq_param.specs.declared.ids.ProtoId.{ProtoId}
 use Rattle.swreq_param.specs.Terms.{Term}
@@ -11,10 +11,12 @@ use Rattle.swreq_derive.specs.Derivation.TermRequirement.{Conforms, IsAnyObject,
 use Rattle.swreq_derive.specs.Derivation.TermStatement.{IsValid, Requires}
 use Rattle.swreq_derive.specs.Derivation.Source.{Written}
 use Rattle.swreq_derive.specs.Facts.{generic_params}
+use Rattle.swreq_derive.specs.WellFormed.{HasValidSides}
 use Rattle.swreq_derive.proofs.Substitution.{valid_sides}
 use Rattle.swreq_rule.specs.declared.rules.Rule.{Rule}
+use Rattle.swreq_correspondence.specs.Equations.{AreCongruent}
 use Rattle.swreq_correspondence.specs.Shown.{ShowsValid}
-use Rattle.swreq_correspondence.specs.Symbols.{Symbols, Word, spell, word_of}
+use Rattle.swreq_correspondence.specs.Symbols.{Symbols, Word, left_side, right_side, word_of}
 use Rattle.swreq_correspondence.proofs.Correspondence.{conforming_words, equal_words, layout_words}
 use Rattle.swreq_correspondence.proofs.Shown.{shown_by_params}
 use Rattle.swreq_correspondence.proofs.Spelling.{spell-append}
@@ -35,6 +37,14 @@ use Rattle.swreq_valid.proofs.Valid.{list_derivable, list_shown}
 pub both_true : (P Q : Type 0) (b : Bool) → OnTrue b P → OnTrue b Q → OnTrue b (P × Q)
 both_true P Q true h k = (h, k)
 both_true P Q false h k = tt
+
+-- words are linked where their least words are the same
+pub linked_by_least : (rules : List Rule) (u v a b : Word) (r : Bool) → Links rules u a → Links rules v b → IsLeastBy rules a → IsLeastBy rules b
+    → Decides r (a ≡ b) → Decides r (Links rules u v)
+linked_by_least rules u v a b r p q l n d = (
+  (λ e. linked_on p (linked_back (subst (λ z. Links rules v z) (sym (d.0 e)) q))),
+  λ k. d.1 (one_least rules a b l n (linked_on (linked_back p) (linked_on k q))),
+)
 
 module _ (w : TextWorld) (closed : IsClosed w) (machine : MachineView) (list : List TermRequirement) (is : IsMachineOf w list machine) where
   abbrev m : Symbols
@@ -62,36 +72,31 @@ module _ (w : TextWorld) (closed : IsClosed w) (machine : MachineView) (list : L
   pub valid_answer : (t : Term) (r : Bool) → Decides r (Shown t) → Decides r (IsDerivable w machine list (IsValid t))
   valid_answer t r d = ((λ h. shown_derivable t (d.0 h)), λ e. d.1 (derivable_shown t e))
 
+  -- of valid type parameters it is derivable where the two sides of its equation are linked
+  pub by_sides : (r : TermRequirement) → HasValidSides f s r → IsDerivable w machine list (Requires r) ↔ Links rules (left_side m s r) (right_side m s r)
+  by_sides r v = let both = is.rules (left_side m s r) (right_side m s r) in let law = congruent r v in ((λ e. both.1 (law.0 e)), λ l. law.1 (both.0 l))
+    where
+      congruent : (r : TermRequirement) → HasValidSides f s r → IsDerivable w machine list (Requires r) ↔ AreCongruent m f s (left_side m s r) (right_side m s r)
+      congruent (Conforms t p) v = conforming_words m f (symbols_law w closed) s (text_law w closed) is.in_text t p v
+      congruent (IsAnyObject t) v = layout_words m f (symbols_law w closed) s (text_law w closed) is.in_text t v
+      congruent (Equals t u) v = equal_words m f (symbols_law w closed) s (text_law w closed) is.in_text t u v.0 v.1
+
   pub conforms_answer : (t : Term) (p : ProtoId) (r : Bool) → Decides r (IsBehind w machine t (Proto p.rank)) → Decides r (IsDerivable w machine list (Requires (Conforms t p)))
   conforms_answer t p r d = (
     (λ h. let b = d.0 h in
-        let law = conforming_words m f (symbols_law w closed) s (text_law w closed) is.in_text t p (shown_derivable t b.0) in
-        law.1 ((is.rules (spell m s t (Proto p.rank ∷ [])) (word_of m s t)).0
-        (subst (λ z. Links rules z (word_of m s t)) (spell-append m s t [] (Proto p.rank ∷ [])) b.1))),
+        (by_sides (Conforms t p) (shown_derivable t b.0)).1 (subst (λ z. Links rules z (word_of m s t)) (spell-append m s t [] (Proto p.rank ∷ [])) b.1)),
     λ e.
         let v = valid_sides f s (Conforms t p) e in
-        let law = conforming_words m f (symbols_law w closed) s (text_law w closed) is.in_text t p v in
-        d.1 (
-          derivable_shown t v,
-          subst (λ z. Links rules z (word_of m s t)) (sym (spell-append m s t [] (Proto p.rank ∷ [])))
-              ((is.rules (spell m s t (Proto p.rank ∷ [])) (word_of m s t)).1 (law.0 e)),
-        ),
+        d.1 (derivable_shown t v, subst (λ z. Links rules z (word_of m s t)) (sym (spell-append m s t [] (Proto p.rank ∷ []))) ((by_sides (Conforms t p) v).0 e)),
   )
 
   pub layout_answer : (t : Term) (r : Bool) → Decides r (IsBehind w machine t Layout) → Decides r (IsDerivable w machine list (Requires (IsAnyObject t)))
   layout_answer t r d = (
     (λ h. let b = d.0 h in
-        let law = layout_words m f (symbols_law w closed) s (text_law w closed) is.in_text t (shown_derivable t b.0) in
-        law.1 ((is.rules (spell m s t (Layout ∷ [])) (word_of m s t)).0
-        (subst (λ z. Links rules z (word_of m s t)) (spell-append m s t [] (Layout ∷ [])) b.1))),
+        (by_sides (IsAnyObject t) (shown_derivable t b.0)).1 (subst (λ z. Links rules z (word_of m s t)) (spell-append m s t [] (Layout ∷ [])) b.1)),
     λ e.
         let v = valid_sides f s (IsAnyObject t) e in
-        let law = layout_words m f (symbols_law w closed) s (text_law w closed) is.in_text t v in
-        d.1 (
-          derivable_shown t v,
-          subst (λ z. Links rules z (word_of m s t)) (sym (spell-append m s t [] (Layout ∷ [])))
-              ((is.rules (spell m s t (Layout ∷ [])) (word_of m s t)).1 (law.0 e)),
-        ),
+        d.1 (derivable_shown t v, subst (λ z. Links rules z (word_of m s t)) (sym (spell-append m s t [] (Layout ∷ []))) ((by_sides (IsAnyObject t) v).0 e)),
   )
 
   -- where a side is not shown valid no equality is derivable
@@ -105,10 +110,9 @@ module _ (w : TextWorld) (closed : IsClosed w) (machine : MachineView) (list : L
   pub equal_answer : (t u : Term) (a b : Word) (r : Bool) → Shown t → Shown u → IsLeastBy rules a → IsLeastBy rules b
       → Links rules (word_of m s t) a → Links rules (word_of m s u) b → Decides r (a ≡ b) → Decides r (IsDerivable w machine list (Requires (Equals t u)))
   equal_answer t u a b r h k l n p q d =
-      let law = equal_words m f (symbols_law w closed) s (text_law w closed) is.in_text t u (shown_derivable t h) (shown_derivable u k) in (
-        (λ e. law.1 ((is.rules (word_of m s t) (word_of m s u)).0 (linked_on p (linked_back (subst (λ z. Links rules (word_of m s u) z) (sym (d.0 e)) q))))),
-        λ e. d.1 (one_least rules a b l n (linked_on (linked_back p) (linked_on ((is.rules (word_of m s t) (word_of m s u)).1 (law.0 e)) q))),
-      )
+      let law = by_sides (Equals t u) (shown_derivable t h, shown_derivable u k) in
+      let links = linked_by_least rules (word_of m s t) (word_of m s u) a b r p q l n d in
+      ((λ e. law.1 (links.0 e)), λ e. links.1 (law.0 e))
 
 -- what the test behind the least word tells
 pub behind_answer : (w : TextWorld) (machine : MachineView) (t : Term) (x : Symbol) (v seen : Word) (r : Bool)

@@ -1,5 +1,5 @@
 -- Where the first equations of a completion pass a limit before a pair, all of them pass it.
-use Rattle.std.proofs.Common.{◌≡◌, ◌∙◌, inl, inr, refl, sym, ap, subst, ℕ, zero, suc, ◌<◌, arith, Bool, true, IsTrue, List, [], ◌∷◌, ◌++◌, length, Some, None, Option, MatchOption, Ok, Err}
+use Rattle.std.proofs.Common.{◌≡◌, ◌∙◌, inl, inr, refl, sym, ap, subst, ℕ, zero, suc, arith, Bool, true, IsTrue, List, [], ◌∷◌, ◌++◌, length, Some, None, Option, MatchOption, Ok, Err}
 use Rattle.std.proofs.lemmas.Bool.{and_parts}
 use Rattle.std.proofs.lemmas.List.{append-nil}
 use Rattle.std.specs.List.{list_all, slice_get}

@@ -1,6 +1,6 @@
 -- The first side that fails.
-use Rattle.std.proofs.Common.{◌≡◌, ◌∙◌, refl, sym, ap, subst, ℕ, zero, suc, ◌<◌, ◌≤◌, ◌+◌, arith, List, [], ◌∷◌, ◌++◌, length, drop, get_or, slice_get, append_assoc, Contains, inl, inr, Option, Some, None, MatchOption, Result, Ok, Err, IfOk}
-use Rattle.std.proofs.lemmas.List.{append-nil, drop_more}
+use Rattle.std.proofs.Common.{◌≡◌, ◌∙◌, refl, sym, ap, subst, ℕ, ◌<◌, ◌≤◌, ◌+◌, List, [], ◌∷◌, ◌++◌, length, drop, get_or, slice_get, append_assoc, Contains, inl, inr, Option, Some, None, MatchOption, Result, Ok, Err, IfOk}
+use Rattle.std.proofs.lemmas.List.{append-nil, drop_more, drop_all}
 use Rattle.std.proofs.lemmas.List.Elements.{Contains-append_cases, Contains-append_left, Contains-append_right}
 use Rattle.std.proofs.lemmas.Option.{get_or_from_slice_get, slice_get_within}
 use Rattle.swreq_orders.proofs.Members.{first_member, later_member, member_cases, no_member, only_member}
@@ -88,12 +88,6 @@ module _ (P : Side → Type 0) {A : Type 0} (of : List A → List Side) (part : 
   cut : (xs : List A) (k : ℕ) (d : A) → k < length xs → of (drop k xs) ≡ part (get_or xs k d) ++ of (drop (k + 1) xs)
   cut xs k d l = ap of (drop_more xs k d l) ∙ one (get_or xs k d) (drop (k + 1) xs)
 
-  past : (xs : List A) (k : ℕ) → length xs ≤ k → drop k xs ≡ []
-  past [] zero h = refl
-  past [] (suc k) h = refl
-  past (y ∷ xs) zero h = absurd (omega (arith, h))
-  past (y ∷ xs) (suc k) h = past xs k (omega (arith, h))
-
   pub holds_here : (xs : List A) (k : ℕ) (d : A) (found : Option ℕ) → k < length xs → SoFar P (of xs) (of (drop k xs)) → Found P (part (get_or xs k d)) found
       → found ≡ None → SoFar P (of xs) (of (drop (k + 1) xs))
   holds_here xs k d found l f h n =
@@ -116,7 +110,7 @@ module _ (P : Side → Type 0) {A : Type 0} (of : List A → List Side) (part : 
       fails_here xs k x found at (slice_get_within xs k x e) f (subst (λ z. Found P (part z) found) (sym (get_or_from_slice_get xs k x x e)) h) n
 
   pub hold_all : (xs : List A) (k : ℕ) → length xs ≤ k → SoFar P (of xs) (of (drop k xs)) → HoldsOfEach P (of xs)
-  hold_all xs k l f = all_hold P (of xs) (subst (SoFar P (of xs)) (ap of (past xs k l) ∙ none) f)
+  hold_all xs k l f = all_hold P (of xs) (subst (SoFar P (of xs)) (ap of (drop_all k xs l) ∙ none) f)
 
 -- ---- from one property to another
 

@@ -1,5 +1,5 @@
 -- Of the associated types of a name, a machine tells the first.
-use Rattle.std.proofs.Common.{◌≡◌, ◌⊎◌, inl, inr, refl, sym, ap, subst, ◌∙◌, ℕ, zero, suc, ◌<◌, ◌+◌, arith, List, [], ◌∷◌, Option, Some, None, slice_get}
+use Rattle.std.proofs.Common.{◌≡◌, ◌⊎◌, inl, inr, refl, sym, ap, subst, ◌∙◌, ℕ, zero, suc, ◌<◌, ◌+◌, arith, List, Option, Some, None, slice_get}
 use Rattle.std.proofs.lemmas.Bool.{cases_eq, cases_lt}
 use Rattle.std.proofs.lemmas.Option.{same_Some}
 use Rattle.swreq_param.specs.declared.ids.NameId.{NameId}
@@ -11,20 +11,18 @@ use Rattle.swreq_derive.specs.Derivation.TermRequirement.{Conforms}
 use Rattle.swreq_derive.specs.Derivation.TermStatement.{IsValid, Requires}
 use Rattle.swreq_derive.specs.Facts.{generic_params}
 use Rattle.swreq_derive.proofs.Substitution.{valid_sides}
-use Rattle.swreq_word.specs.declared.symbols.Symbol.TheVariants.{Proto}
 use Rattle.swreq_complete.specs.Complete.{IsComplete}
 use Rattle.swreq_lexicon.specs.declared.pair.ProtocolName.{ProtocolName}
 use Rattle.swreq_lexicon.specs.Lexicons.{pair}
-use Rattle.swreq_correspondence.specs.Symbols.{Symbols, spell, word_of}
+use Rattle.swreq_correspondence.specs.Symbols.{left_side, right_side}
 use Rattle.swreq_correspondence.specs.Types.{HasFirsts}
-use Rattle.swreq_correspondence.proofs.Correspondence.{conforming_words}
 use Rattle.swreq_symbols.specs.Meaning.{facts_of, symbols_of}
 use Rattle.swreq_symbols.proofs.Declared.{at_rank, from_rank}
-use Rattle.swreq_symbols.proofs.Symbols.{symbols_law, text_law}
 use Rattle.swreq_world.specs.Closed.{IsClosed}
 use Rattle.swreq_world.specs.Worlds.{TextWorld}
 use Rattle.swreq_valid.specs.Machines.{IsMachineOf, MachineView}
 use Rattle.swreq_valid.specs.Rounds.{last_rules}
+use Rattle.swreq_valid.proofs.Answering.{by_sides}
 use Rattle.swreq_valid.proofs.Deciding.{links_decide}
 
 -- the least number of which P holds, or none below n
@@ -44,9 +42,6 @@ module _ (P : ℕ → Type 0) (decide : (k : ℕ) → P k ⊎ (P k → ⊥)) whe
 
 module _ (w : TextWorld) (closed : IsClosed w) (machine : MachineView) (list : List TermRequirement) (is : IsMachineOf w list machine)
     (complete : IsComplete (last_rules machine.rounds)) where
-  abbrev m : Symbols
-  m = symbols_of w.lexicon
-
   abbrev f : TermFacts
   f = facts_of w
 
@@ -56,11 +51,11 @@ module _ (w : TextWorld) (closed : IsClosed w) (machine : MachineView) (list : L
   conforms_decide : (t : Term) (p : ProtoId) → Derivable f s (IsValid t)
       → Derivable f s (Requires (Conforms t p)) ⊎ (Derivable f s (Requires (Conforms t p)) → ⊥)
   conforms_decide t p v =
-      let law = conforming_words m f (symbols_law w closed) s (text_law w closed) is.in_text t p v in
-      let u = spell m s t (Proto p.rank ∷ []) in
-      elim (links_decide (last_rules machine.rounds) complete u (word_of m s t)) [
-        | inl l ↦ inl (law.1 ((is.rules u (word_of m s t)).0 l))
-        | inr n ↦ inr (λ e. n ((is.rules u (word_of m s t)).1 (law.0 e)))
+      let law = by_sides w closed machine list is (Conforms t p) v in
+      let r = Conforms t p in
+      elim (links_decide (last_rules machine.rounds) complete (left_side (symbols_of w.lexicon) s r) (right_side (symbols_of w.lexicon) s r)) [
+        | inl l ↦ inl (law.1 l)
+        | inr n ↦ inr (λ e. n (law.0 e))
       ]
 
   -- an associated type with the name, of a protocol to which T conforms

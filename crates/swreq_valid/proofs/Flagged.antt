@@ -1,6 +1,6 @@
 -- Flags from round to round.
 use Rattle.std.proofs.lemmas.List.{drop_more}
-use Rattle.std.proofs.Common.{◌≡◌, refl, sym, ap, ap₂, drop, get_or, ◌∙◌, ℕ, ◌<◌, ◌≤◌, ◌+◌, arith, Bool, true, false, List, [], ◌∷◌, ◌++◌, length, map, Contains, IsTrue, true≢false}
+use Rattle.std.proofs.Common.{◌≡◌, refl, sym, ap, ap₂, drop, get_or, replicate, ◌∙◌, ℕ, zero, suc, ◌<◌, ◌≤◌, ◌+◌, arith, Bool, true, false, List, [], ◌∷◌, ◌++◌, length, map, Contains, IsTrue, true≢false}
 use Rattle.std.specs.Bool.{Decides, if◌then◌else◌, beq}
 use Rattle.std.specs.List.{list_all}
 use Rattle.swreq_orders.proofs.Members.{first_member, later_member}
@@ -9,9 +9,11 @@ use Rattle.swreq_rounds.specs.Rounds.Selects.{none, takes, leaves}
 use Rattle.swreq_valid.specs.Flags.{chosen, Tells, unset}
 
 module _ {A : Type 0} where
-  pub chosen_none : (xs : List A) → chosen xs [] ≡ []
-  chosen_none [] = refl
-  chosen_none (x ∷ xs) = refl
+  -- flags of which none is set choose nothing
+  pub chosen_unset : (xs : List A) (n : ℕ) → chosen xs (replicate n false) ≡ []
+  chosen_unset [] n = refl
+  chosen_unset (x ∷ xs) zero = refl
+  chosen_unset (x ∷ xs) (suc n) = chosen_unset xs n
 
   -- flags that tell of P choose just those of which P holds
   pub tells_selects : {P : A → Type 0} (xs : List A) (bs : List Bool) → Tells P xs bs → Selects P xs (chosen xs bs)
@@ -39,12 +41,6 @@ module _ {A : Type 0} where
   count_chosen (x ∷ xs) [] e = absurd (omega (arith, e))
   count_chosen (x ∷ xs) (true ∷ bs) e = let h = count_chosen xs bs (omega (arith, e)) in omega (arith, h)
   count_chosen (x ∷ xs) (false ∷ bs) e = let h = count_chosen xs bs (omega (arith, e)) in omega (arith, h)
-
-  pub chosen_more : (xs : List A) (bs : List Bool) → chosen xs (bs ++ false ∷ []) ≡ chosen xs bs
-  chosen_more [] bs = refl
-  chosen_more (x ∷ xs) [] = chosen_none xs
-  chosen_more (x ∷ xs) (true ∷ bs) = ap (λ z. x ∷ z) (chosen_more xs bs)
-  chosen_more (x ∷ xs) (false ∷ bs) = chosen_more xs bs
 
 pub tells_map : {A B : Type 0} (P : B → Type 0) (g : A → B) (xs : List A) (bs : List Bool) → Tells (λ x. P (g x)) xs bs → Tells P (map g xs) bs
 tells_map P g [] [] t = t

@@ -1,6 +1,6 @@
 -- The plan of a list, and the requirements that stand in it.
-use Rattle.std.proofs.Common.{◌≡◌, refl, sym, ap, ap₂, subst, ◌∙◌, ℕ, zero, suc, ◌<◌, ◌≤◌, ◌+◌, arith, List, [], ◌∷◌, ◌++◌, length, map, drop, get_or, append_assoc, Contains, Option, Ok}
-use Rattle.std.proofs.lemmas.List.{append-nil, drop_more}
+use Rattle.std.proofs.Common.{◌≡◌, sym, ap, ap₂, subst, ◌∙◌, ℕ, ◌<◌, ◌≤◌, ◌+◌, List, [], ◌∷◌, ◌++◌, length, map, drop, get_or, append_assoc, Contains, Option, Ok}
+use Rattle.std.proofs.lemmas.List.{append-nil, drop_more, drop_all}
 use Rattle.swreq_param.specs.Terms.{Term}
 use Rattle.swreq_derive.specs.declared.known.Params.{Params}
 use Rattle.swreq_derive.specs.declared.requirements.Requirement.{Requirement}
@@ -31,12 +31,6 @@ use Rattle.swreq_valid.proofs.Flagged.{map_map}
 
 -- ---- lists that are made item by item
 
-pub past_drop : {A : Type 0} (xs : List A) (n : ℕ) → length xs ≤ n → drop n xs ≡ []
-past_drop [] zero h = refl
-past_drop [] (suc n) h = refl
-past_drop (y ∷ xs) zero h = absurd (omega (arith, h))
-past_drop (y ∷ xs) (suc n) h = past_drop xs n (omega (arith, h))
-
 -- one more part of a list that is made front to back
 module _ {A B : Type 0} (of : List A → List B) (part : A → List B) (none : of [] ≡ []) (one : (x : A) (xs : List A) → of (x ∷ xs) ≡ part x ++ of xs) where
   pub part_more : (xs : List A) (k : ℕ) (d : A) (v w all : List B) → k < length xs → w ≡ v ++ part (get_or xs k d) → v ++ of (drop k xs) ≡ all
@@ -48,7 +42,7 @@ module _ {A B : Type 0} (of : List A → List B) (part : A → List B) (none : o
       ∙ h
 
   pub parts_all : (xs : List A) (k : ℕ) (v all : List B) → length xs ≤ k → v ++ of (drop k xs) ≡ all → v ≡ all
-  parts_all xs k v all l h = sym (append-nil v) ∙ ap (λ z. v ++ z) (sym (ap of (past_drop xs k l) ∙ none)) ∙ h
+  parts_all xs k v all l h = sym (append-nil v) ∙ ap (λ z. v ++ z) (sym (ap of (drop_all k xs l) ∙ none)) ∙ h
 
 -- ---- the plan of a list
 

@@ -1,5 +1,5 @@
 -- What building answers of a text.
-use Rattle.std.proofs.Common.{◌≡◌, refl, sym, ap, subst, Bool, List, length, Contains, Option, Result, Ok, Err, IfErr, IfOk}
+use Rattle.std.proofs.Common.{◌≡◌, refl, sym, subst, Bool, List, length, Contains, Option, Result, Ok, Err, IfOk}
 use Rattle.swreq_param.specs.Terms.{Term}
 use Rattle.swreq_derive.specs.declared.known.Params.{Params}
 use Rattle.swreq_derive.specs.declared.requirements.Requirement.{Requirement}
@@ -22,14 +22,13 @@ use Rattle.swreq_symbols.proofs.Symbols.{symbols_law, text_law}
 use Rattle.swreq_symbols.specs.Known.{IsRequirementIn}
 use Rattle.swreq_symbols.specs.Meaning.{facts_of, symbols_of}
 use Rattle.swreq_valid.specs.declared.refused.Refused.{Refused}
-use Rattle.swreq_valid.specs.declared.refused.Refused.TheVariants.{Memory}
 use Rattle.swreq_valid.specs.Answers.{Answers}
 use Rattle.swreq_valid.specs.Built.{Builds, Judges, built_rules, protocol_rules, refusal}
 use Rattle.swreq_valid.specs.Keeping.{TellEach, TellUsable, kept_facts}
 use Rattle.swreq_valid.specs.Machines.{AreRulesOf, IsMachineOf, MachineView, ProtocolsView, list_of, protocols_of}
 use Rattle.swreq_valid.specs.Plans.{AreKnown, AreWritten, bare, listed}
 use Rattle.swreq_valid.specs.Rounds.{RoundView, last_rules}
-use Rattle.swreq_valid.specs.Sides.{HoldsOfEach, IsShownSide, Side, protocol_sides, sides}
+use Rattle.swreq_valid.specs.Sides.{IsShownSide, protocol_sides, sides}
 use Rattle.swreq_valid.proofs.Building.{builds_failed, builds_judged}
 use Rattle.swreq_valid.proofs.OfKept.{kept_of_text, tell_usable}
 use Rattle.swreq_valid.proofs.Valid.{protocol_shown, protocol_valid, side_shown, side_valid}
@@ -88,11 +87,6 @@ module _ (w : TextWorld) (closed : IsClosed w) (limits : Limits) (old new : Opti
       (protocol_rules answer) old new (λ s c h. protocol_valid w closed (last_rules rounds) are s c h) (λ s c h. protocol_shown w closed (last_rules rounds) are s c h) a judged
 
 -- ---- usable requirements
-
-pub judged_or_memory : (P : Side → Type 0) (all : List Side) (rounds : List RoundView) (answer : Result ProtocolsView Refused) → IfOk answer (λ p. p.rounds ≡ rounds)
-    → IfErr answer (λ e. e ≡ Memory) → HoldsOfEach P all → Judges P all (last_rules rounds) (protocol_rules answer)
-judged_or_memory P all rounds (Ok p) same err h = (ap last_rules same, h)
-judged_or_memory P all rounds (Err e) same err h = subst (λ z. Judges P all (last_rules rounds) (Err z)) (sym err) tt
 
 pub build_usable : (w : TextWorld) → IsClosed w → (rules : List Rule) → AreRulesOf w rules → (answer : Result ProtocolsView Refused)
     → IfOk answer (λ p. TellEach w rules p.usable (length w.lexicon.protocols)) → IfOk answer (λ p. TellUsable w (facts_of w) p.usable)

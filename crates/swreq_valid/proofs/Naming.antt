@@ -2,7 +2,7 @@
 use Rattle.std.proofs.Common.{◌≡◌, ◌∙◌, refl, sym, ap, subst, inl, inr, ℕ, zero, suc, ◌+◌, ◌-◌, ◌<◌, ◌≤◌, arith, Bool, List, [], ◌∷◌, ◌++◌, append-nil, length, map, drop, slice_get, Some, Contains, ne_eqb, eq-eqb}
 use Rattle.std.specs.Bool.{if◌then◌else◌, nat_eq}
 use Rattle.std.proofs.lemmas.Bool.{cases_eq, cases_lt}
-use Rattle.std.proofs.lemmas.List.{length-map}
+use Rattle.std.proofs.lemmas.List.{length-map, drop_all}
 use Rattle.std.proofs.lemmas.Option.{slice_get_cases, slice_get_within}
 use Rattle.swreq_orders.proofs.Elements.{get_contains}
 use Rattle.swreq_param.specs.declared.ids.NameId.{NameId}
@@ -15,7 +15,6 @@ use Rattle.swreq_rounds.specs.Given.{named, named_from}
 use Rattle.swreq_symbols.specs.Meaning.{member_name}
 use Rattle.swreq_world.specs.Closed.{AreIds}
 use Rattle.swreq_valid.specs.Named.{IsNameAdded}
-use Rattle.swreq_valid.proofs.Listing.{past_drop}
 use Rattle.swreq_valid.proofs.OfProtocols.{name_more, names_all}
 
 module _ (x : LexiconView) (p : ProtoId) where
@@ -55,7 +54,7 @@ module _ (x : LexiconView) (ids : AreIds x) (p : ProtoId) where
     | inl c ↦ skip_at k all v c.0 c.2 (λ e. none c.0 (c.2, e)) h
     | inr c ↦ (let past : length (ms x p) ≤ k = omega (arith, length-map x.symbols member_name, c.0) in
         let now = names_all p (ms x p) k v all past h in
-        ap (λ z. v ++ named_from p (k + 1) z) (past_drop (ms x p) (k + 1) (omega (arith, past))) ∙ append-nil v ∙ now)
+        ap (λ z. v ++ named_from p (k + 1) z) (drop_all (k + 1) (ms x p) (omega (arith, past))) ∙ append-nil v ∙ now)
   ]
 
   skip_to : (n k : ℕ) (all v : List (Word × Word)) → ((i : ℕ) (s : ProtocolName) → IsOwn x p i s → k ≤ i → i < k + n → ⊥) → AreAll x p all v k → AreAll x p all v (k + n)

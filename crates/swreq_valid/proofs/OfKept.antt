@@ -2,7 +2,7 @@
 use Rattle.std.proofs.Common.{◌≡◌, ◌∙◌, inl, inr, refl, sym, ap, ap₂, subst, ℕ, zero, suc, ◌<◌, ◌≤◌, ◌+◌, arith, Bool, true, false, List, [], ◌∷◌, ◌++◌, length, map, take, drop, append_assoc, get_or, slice_get, Some, Contains, subst₂, Option, Result, Ok, Err, IfOk}
 use Rattle.std.specs.Bool.{Decides, if◌then◌else◌}
 use Rattle.std.proofs.lemmas.Bool.{cases_eq}
-use Rattle.std.proofs.lemmas.List.{append-nil, map-append}
+use Rattle.std.proofs.lemmas.List.{append-nil, map-append, drop_all}
 use Rattle.std.proofs.lemmas.List.Elements.{Contains-append_cases}
 use Rattle.std.proofs.lemmas.Option.{get_or_from_slice_get, slice_get-get_or, slice_get_within}
 use Rattle.swreq_orders.proofs.Elements.{take_one}
@@ -41,7 +41,6 @@ use Rattle.swreq_valid.specs.Plans.{AreWanted, bare, in_protocol, item_of, items
 use Rattle.swreq_valid.specs.Rounds.{RoundView, last_rules, rules_of}
 use Rattle.swreq_valid.proofs.Deriving.{self_derivable, self_shown}
 use Rattle.swreq_valid.proofs.Flagged.{chosen_from, chosen_map, map_map, map_one_if, tells_map, tells_one_more}
-use Rattle.swreq_valid.proofs.Listing.{past_drop}
 use Rattle.swreq_valid.proofs.OfProtocols.{drop_at, own_requirements, protocol_written}
 use Rattle.swreq_valid.proofs.Once.{flags_at, once}
 use Rattle.swreq_valid.proofs.Transfer.{usable_over, with_facts}
@@ -222,7 +221,7 @@ one_kept g xs bs k d c v w all l m f h =
     ∙ h
 
 pub all_kept : {A B : Type 0} (g : A → B) (xs : List A) (bs : List Bool) (k : ℕ) (v all : List B) → length xs ≤ k → v ++ map g (chosen (drop k xs) (drop k bs)) ≡ all → v ≡ all
-all_kept g xs bs k v all l h = sym (append-nil v) ∙ ap (λ z. v ++ map g (chosen z (drop k bs))) (sym (past_drop xs k l)) ∙ h
+all_kept g xs bs k v all l h = sym (append-nil v) ∙ ap (λ z. v ++ map g (chosen z (drop k bs))) (sym (drop_all k xs l)) ∙ h
 
 pub one_list : (w : IdWorld) (ps : List ProtoId) (ks : List (List Bool)) (k : ℕ) (p : ProtoId) (flags : List Bool) (v u all : List Wanted)
     → slice_get ps k ≡ Some p → slice_get ks k ≡ Some flags → u ≡ v ++ map (in_protocol p) (chosen (bare (requirements_of w p)) flags)
@@ -235,4 +234,4 @@ one_list w ps ks k p flags v u all e h f i =
     ∙ i
 
 pub all_lists : (w : IdWorld) (ps : List ProtoId) (ks : List (List Bool)) (k : ℕ) (v all : List Wanted) → length ps ≤ k → v ++ kept_in w (drop k ps) (drop k ks) ≡ all → v ≡ all
-all_lists w ps ks k v all l h = sym (append-nil v) ∙ ap (λ z. v ++ kept_in w z (drop k ks)) (sym (past_drop ps k l)) ∙ h
+all_lists w ps ks k v all l h = sym (append-nil v) ∙ ap (λ z. v ++ kept_in w z (drop k ks)) (sym (drop_all k ps l)) ∙ h

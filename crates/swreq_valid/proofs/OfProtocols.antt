@@ -3,7 +3,7 @@ use Rattle.std.proofs.Common.{◌≡◌, refl, sym, ap, ap₂, subst, ◌∙◌,
 use Rattle.std.specs.Bool.{if◌then◌else◌, nat_eq}
 use Rattle.std.specs.Option.{option_map}
 use Rattle.std.proofs.lemmas.Bool.{cases_lt}
-use Rattle.std.proofs.lemmas.List.{append-nil, drop_more, get_or-map, get_or_past, length-map, map-append}
+use Rattle.std.proofs.lemmas.List.{append-nil, drop_more, get_or-map, get_or_past, length-map, map-append, drop_all}
 use Rattle.std.proofs.lemmas.List.Elements.{All-contains, All-get_or, Contains-append_cases}
 use Rattle.std.proofs.lemmas.Option.{get_or_from_slice_get, slice_get-map, slice_get_within}
 use Rattle.std.specs.List.{All}
@@ -18,7 +18,7 @@ use Rattle.swreq_watch.specs.declared.events.Event.{Event}
 use Rattle.swreq_complete.specs.declared.limit.Failed.{Failed}
 use Rattle.swreq_complete.specs.declared.limit.Limits.{Limits}
 use Rattle.swreq_correspondence.specs.Symbols.{MemberName, Word}
-use Rattle.swreq_rounds.specs.Given.{basic_equations, items_of as items_from, named, named_from, of_self}
+use Rattle.swreq_rounds.specs.Given.{basic_equations, basic_of, doubled, items_of as items_from, named, named_from, of_self}
 use Rattle.swreq_rounds.proofs.LastRound.{protocols_law}
 use Rattle.swreq_lexicon.specs.declared.pair.ProtocolName.{ProtocolName}
 use Rattle.swreq_lexicon.specs.Views.{IsProtocol, LexiconView}
@@ -40,7 +40,6 @@ use Rattle.swreq_valid.specs.Rounds.{RoundView, last_rules, rules_of}
 use Rattle.swreq_valid.specs.Sides.{Side, sides}
 use Rattle.swreq_valid.proofs.FirstSide.{Found}
 use Rattle.swreq_valid.proofs.Flagged.{map_map}
-use Rattle.swreq_valid.proofs.Listing.{past_drop}
 
 -- ---- lists that are made from the items at the places of another
 
@@ -54,6 +53,15 @@ module _ {A B : Type 0} (of : List A → List B) (part : A → List B) (one : (x
       ∙ append_assoc v (part x) (of (drop (k + 1) xs))
       ∙ ap (λ z. v ++ z) (sym (one x (drop (k + 1) xs)) ∙ ap of (sym (drop_at xs k x e)))
       ∙ h
+
+-- ---- the basic equations, protocol by protocol
+
+pub basic_at : (x : LexiconView) (k : ℕ) (p : ProtoId) (v w : List (Word × Word)) → slice_get x.written_order k ≡ Some p
+    → w ≡ v ++ (doubled p ∷ named_from p 0 (symbols_of x).members)
+    → v ++ basic_of (symbols_of x) (drop k x.written_order) ≡ basic_equations (symbols_of x)
+    → w ++ basic_of (symbols_of x) (drop (k + 1) x.written_order) ≡ basic_equations (symbols_of x)
+basic_at x k p v w e f h =
+    part_at (basic_of (symbols_of x)) (λ p. doubled p ∷ named_from p 0 (symbols_of x).members) (λ p ps. refl) x.written_order k p v w (basic_equations (symbols_of x)) e f h
 
 -- ---- the equations of member names
 
@@ -79,7 +87,7 @@ name_more p symbols k s v w all e f h =
     ∙ h
 
 pub names_all : (p : ProtoId) (xs : List MemberName) (k : ℕ) (v all : List (Word × Word)) → length xs ≤ k → v ++ named_from p k (drop k xs) ≡ all → v ≡ all
-names_all p xs k v all l h = sym (append-nil v) ∙ ap (λ z. v ++ z) (sym (ap (named_from p k) (past_drop xs k l))) ∙ h
+names_all p xs k v all l h = sym (append-nil v) ∙ ap (λ z. v ++ z) (sym (ap (named_from p k) (drop_all k xs l))) ∙ h
 
 -- ---- requirements of protocols
 

@@ -1,9 +1,9 @@
 -- Each protocol stands once in written order.
-use Rattle.std.proofs.Common.{◌≡◌, ◌∙◌, inl, inr, refl, sym, ap, subst, ℕ, zero, suc, ◌<◌, arith, Bool, true, false, List, [], ◌∷◌, length, map, slice_get, Some}
+use Rattle.std.proofs.Common.{◌≡◌, ◌∙◌, inl, inr, refl, sym, ap, subst, ℕ, zero, suc, ◌<◌, arith, Bool, true, List, [], ◌∷◌, length, map, slice_get, Some, eq-eqb, ne_eqb}
 use Rattle.std.specs.Bool.{nat_eq, if◌then◌else◌}
 use Rattle.std.specs.List.{list_any}
 use Rattle.std.specs.Option.{option_map}
-use Rattle.std.proofs.lemmas.Bool.{cases_eq, eqb-true}
+use Rattle.std.proofs.lemmas.Bool.{cases_eq}
 use Rattle.std.proofs.lemmas.Bool.Decides.{Decides-eqb}
 use Rattle.std.proofs.lemmas.List.{length-map}
 use Rattle.std.proofs.lemmas.List.Folds.{list_any_at}
@@ -71,16 +71,6 @@ module _ (x : LexiconView) (ids : AreIds x) where
 
 -- ---- the flags of a protocol
 
-eq_itself : (n m : ℕ) → n ≡ m → nat_eq n m ≡ true
-eq_itself n m e = (Decides-eqb n m).1 e
-
-eq_other : (n m : ℕ) → (n ≡ m → ⊥) → nat_eq n m ≡ false
-eq_other n m d = by (nat_eq n m) refl
-  where
-    by : (b : Bool) → nat_eq n m ≡ b → nat_eq n m ≡ false
-    by true e = absurd (d (eqb-true n m e))
-    by false e = e
-
 -- where no protocol before a place is the one at it, its flags are those at the place
 pub flags_at : (ps : List ProtoId) (keep : List (List Bool)) (k : ℕ) (p : ProtoId) (flags : List Bool)
     → ((i : ℕ) (q : ProtoId) → i < k → slice_get ps i ≡ Some q → q.rank ≡ p.rank → ⊥)
@@ -90,7 +80,7 @@ flags_at (q ∷ ps) [] k p flags other e h = absurd cc
 flags_at (q ∷ ps) (f ∷ keep) zero p flags other e h =
     let same : q ≡ p = cc in
     let mine : f ≡ flags = cc in
-    ap (λ b. if b then f else flags_of ps keep p) (eq_itself q.rank p.rank (ap (λ (z : ProtoId). z.rank) same)) ∙ mine
+    ap (λ b. if b then f else flags_of ps keep p) (eq-eqb q.rank p.rank (ap (λ (z : ProtoId). z.rank) same)) ∙ mine
 flags_at (q ∷ ps) (f ∷ keep) (suc k) p flags other e h =
-    ap (λ b. if b then f else flags_of ps keep p) (eq_other q.rank p.rank (other 0 q (omega arith) refl))
+    ap (λ b. if b then f else flags_of ps keep p) (ne_eqb q.rank p.rank (other 0 q (omega arith) refl))
     ∙ flags_at ps keep k p flags (λ i r l g. other (suc i) r (omega (arith, l)) g) e h

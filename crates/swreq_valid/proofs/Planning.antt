@@ -3,7 +3,7 @@ use Rattle.std.proofs.lemmas.Option.{slice_get_read}
 use Rattle.swreq_orders.proofs.Elements.{take_one}
 use Rattle.std.proofs.Common.{◌≡◌, zero, suc, subst₂, refl, sym, ap, subst, ◌∙◌, ℕ, ◌<◌, ◌≤◌, ◌+◌, arith, Bool, List, [], ◌∷◌, ◌++◌, length, map, take, drop, get_or, append_assoc}
 use Rattle.std.specs.Bool.{if◌then◌else◌, Decides}
-use Rattle.std.proofs.lemmas.List.{append-nil, map-append}
+use Rattle.std.proofs.lemmas.List.{append-nil, drop_all, map-append}
 use Rattle.swreq_param.specs.Terms.{Term}
 use Rattle.swreq_rule.specs.declared.rules.Rule.{Rule}
 use Rattle.swreq_derive.specs.Derivation.{TermRequirement, TermFacts}
@@ -94,13 +94,7 @@ module _ (w : IdWorld) (terms : List Term) where
   -- past the end nothing is left
   pub none_left : (start : Start) (used : List Bool) (k : ℕ) (v : List (Word × Word)) → length start.all.items ≤ k → v ≡ v ++ left_from start used k
   none_left start used k v l =
-      sym (ap (λ z. v ++ map (equation_for start) (chosen z (drop k used))) (past start.all.items k l) ∙ append-nil v)
-    where
-      past : (ys : List Wanted) (n : ℕ) → length ys ≤ n → drop n ys ≡ []
-      past [] zero h = refl
-      past [] (suc n) h = refl
-      past (y ∷ ys) zero h = absurd (omega (arith, h))
-      past (y ∷ ys) (suc n) h = past ys n (omega (arith, h))
+      sym (ap (λ z. v ++ map (equation_for start) (chosen z (drop k used))) (drop_all k start.all.items l) ∙ append-nil v)
 
 -- flags of one more, and of all
 pub told_more : (P : Wanted → Type 0) (xs : List Wanted) (k : ℕ) (x : Wanted) (bs cs : List Bool) (b : Bool) → k < length xs → x ≡ get_or xs k x

@@ -1,5 +1,5 @@
 -- The reduced type is read off the least word.
-use Rattle.std.proofs.Common.{◌≡◌, sym, subst, List, [], ◌∷◌, ◌++◌}
+use Rattle.std.proofs.Common.{◌≡◌, ◌↔◌, sym, subst, List, [], ◌∷◌, ◌++◌}
 use Rattle.std.proofs.lemmas.List.{append-nil}
 use Rattle.swreq_param.specs.declared.ids.AssocId.{AssocId}
 use Rattle.swreq_param.specs.declared.ids.NameId.{NameId}
@@ -52,38 +52,40 @@ module _ (w : TextWorld) (closed : IsClosed w) (machine : MachineView) (list : L
   C u v = AreCongruent m f L u v
 
   -- behind a word that is as good as that of T, the symbols of just those protocols vanish to which T conforms
-  module _ (pre : Word) (t : Term) (stands : Stands m f (generic_params machine.params) list (symbols_law w closed) (text_law w closed) is.in_text (ranks_law w closed) pre t)
-      (v : Derivable f L (IsValid t)) where
-    as_behind : (z : Word) → C (pre ++ z) (spell m L t z)
-    unfolding Stands
-    as_behind z = stands z
+  module _ (u : Word) (t : Term) (behind : (z : Word) → C (u ++ z) (spell m L t z)) (v : Derivable f L (IsValid t)) where
+    alone : C u (spell m L t [])
+    alone = subst (λ z. C z (spell m L t [])) (append-nil u) (behind [])
 
-    alone : C pre (spell m L t [])
-    alone = subst (λ z. C z (spell m L t [])) (append-nil pre) (as_behind [])
-
-    to_vanish : (p : ProtoId) → Derivable f L (Requires (Conforms t p)) → Vanishes rules pre (Proto p.rank)
-    to_vanish p e =
+    pub vanishing : (p : ProtoId) → Derivable f L (Requires (Conforms t p)) ↔ Vanishes rules u (Proto p.rank)
+    vanishing p =
         let law = conforming_words m f (symbols_law w closed) L (text_law w closed) is.in_text t p v in
-        (is.rules (pre ++ Proto p.rank ∷ []) pre).1 (joined (as_behind (Proto p.rank ∷ [])) (joined (law.0 e) (turn_all alone)))
+        let both = is.rules (u ++ Proto p.rank ∷ []) u in (
+          (λ e. both.1 (joined (behind (Proto p.rank ∷ [])) (joined (law.0 e) (turn_all alone)))),
+          λ l. law.1 (joined (turn_all (behind (Proto p.rank ∷ []))) (joined (both.0 l) alone)),
+        )
 
-    from_vanish : (p : ProtoId) → Vanishes rules pre (Proto p.rank) → Derivable f L (Requires (Conforms t p))
-    from_vanish p l =
-        let law = conforming_words m f (symbols_law w closed) L (text_law w closed) is.in_text t p v in
-        law.1 (joined (turn_all (as_behind (Proto p.rank ∷ []))) (joined ((is.rules (pre ++ Proto p.rank ∷ []) pre).0 l) alone))
-
-    first_behind : (a : NameId) (d : AssocId) → IsFirstFor f L t a d → IsFirstBehind w.lexicon rules pre a d
-    first_behind a d i = record {
-      given = (i.proto, i.declares, to_vanish i.proto i.conforms);
-      first = λ e g. i.first g.0 e g.1 (from_vanish g.0 g.2);
-    }
+    pub first_behind : (a : NameId) (d : AssocId) → IsFirstFor f L t a d ↔ IsFirstBehind w.lexicon rules u a d
+    first_behind a d = (
+      (λ i. record {
+        given = (i.proto, i.declares, (vanishing i.proto).0 i.conforms);
+        first = λ e g. i.first g.0 e g.1 ((vanishing g.0).1 g.2);
+      }),
+      λ i. record {
+        proto = i.given.0;
+        declares = i.given.1;
+        conforms = (vanishing i.given.0).1 i.given.2;
+        first = λ p e c k. i.first e (p, c, (vanishing p).0 k);
+      },
+    )
 
   pub by_rules : (t : Term) (rest u : Word) → BeginsAs m f L t rest u → BeginsBy w.lexicon rules t rest u
+  unfolding Stands
   by_rules (Generic g) rest u h = h
   by_rules (Member t (Name a)) rest u h = h
   by_rules (Member t (Bound d)) rest u (k, c, i, h) =
       let (pre, e, stands) = front m f (generic_params machine.params) list (symbols_law w closed) (text_law w closed) is.in_text (ranks_law w closed) t (MemberSymbol k ∷ rest) u h in
       let v = valid_sides f L (Conforms t i.proto) i.conforms in
-      (k, pre, e, c.0, first_behind pre t stands v (name_of m k) d i, by_rules t (MemberSymbol k ∷ rest) u h)
+      (k, pre, e, c.0, (first_behind pre t stands v (name_of m k) d).0 i, by_rules t (MemberSymbol k ∷ rest) u h)
 
   -- ---- the least word of a valid type parameter
 

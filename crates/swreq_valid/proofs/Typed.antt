@@ -1,22 +1,25 @@
 -- The steps of the type of a least word.
 use Rattle.std.proofs.Common.{◌≡◌, ◌∙◌, inl, inr, refl, sym, ap, subst, subst₂, ℕ, suc, ◌<◌, ◌≤◌, ◌+◌, arith, List, [], ◌∷◌, ◌++◌, length, take, drop, slice_get, Some, length-append, take-append-drop}
+use Rattle.std.proofs.Math.Seq.{take-append_seam}
 use Rattle.std.proofs.lemmas.Bool.{cases_eq}
+use Rattle.swreq_orders.proofs.Elements.{same_heads}
 use Rattle.swreq_param.specs.declared.ids.AssocId.{AssocId}
-use Rattle.swreq_param.specs.declared.ids.NameId.{NameId}
 use Rattle.swreq_param.specs.declared.ids.Step.{Step}
 use Rattle.swreq_param.specs.declared.ids.Step.TheVariants.{Bound, Name}
 use Rattle.swreq_param.specs.Terms.{Term, head, with_steps}
 use Rattle.swreq_param.specs.Terms.Term.{Generic, Member}
+use Rattle.swreq_param.specs.ComparisonLaws.{with_more}
 use Rattle.swreq_word.specs.declared.symbols.Symbol.{Symbol}
 use Rattle.swreq_word.specs.declared.symbols.Symbol.TheVariants.{Member as MemberSymbol, Param}
-use Rattle.swreq_word.specs.Order.{WordLess}
-use Rattle.swreq_word.proofs.Comparing.{less_after, not_below_itself, not_both_below, trichotomy}
+use Rattle.swreq_word.proofs.Cuts.{same_cut}
+use Rattle.swreq_word.proofs.SameSymbols.{same_members}
 use Rattle.swreq_rule.specs.declared.rules.Rule.{Rule}
-use Rattle.swreq_rule.proofs.Context.{Linked-after}
 use Rattle.swreq_lexicon.specs.Views.{LexiconView}
 use Rattle.swreq_correspondence.specs.Symbols.{IsRank, Symbols, Word, name_of}
+use Rattle.swreq_correspondence.proofs.OneType.{one_param}
 use Rattle.swreq_symbols.specs.Meaning.{symbols_of}
-use Rattle.swreq_symbols.specs.Vanishing.{IsLeastBy, IsFirstBehind}
+use Rattle.swreq_symbols.specs.Vanishing.{IsFirstBehind}
+use Rattle.swreq_symbols.proofs.LeastWords.{one_first}
 use Rattle.swreq_valid.specs.LeastTypes.{BeginsBy}
 use Rattle.swreq_valid.proofs.OfProtocols.{drop_at}
 
@@ -26,26 +29,7 @@ at_front : (front : Word) (s : Symbol) (rest : Word) → slice_get (front ++ (s 
 at_front [] s rest = refl
 at_front (x ∷ front) s rest = at_front front s rest
 
-take_front : (front rest : Word) → take (length front) (front ++ rest) ≡ front
-take_front [] rest = refl
-take_front (x ∷ front) rest = ap (λ z. x ∷ z) (take_front front rest)
-
--- ---- parts of least words
-
-pub prefix_least : (rules : List Rule) (front rest : Word) → IsLeastBy rules (front ++ rest) → IsLeastBy rules front
-prefix_least rules front rest least v l = elim (trichotomy v front) [
-  | inl below ↦ absurd (elim (least (v ++ rest) (Linked-after rest l)) [
-    | inl e ↦ not_below_itself (v ++ rest) (subst (λ z. WordLess (v ++ rest) z) (sym e) (less_after rest v front below))
-    | inr h ↦ not_both_below (front ++ rest) (v ++ rest) h (less_after rest v front below)
-  ])
-  | inr k ↦ elim k [ inl e ↦ inl e | inr above ↦ inr above ]
-]
-
 -- ---- the type of a word
-
-with_one : (t : Term) (steps : List Step) (s : Step) → with_steps t (steps ++ s ∷ []) ≡ Member (with_steps t steps) s
-with_one t [] s = refl
-with_one t (x ∷ steps) s = with_one (Member t x) steps s
 
 module _ (x : LexiconView) (rules : List Rule) where
   abbrev m : Symbols
@@ -67,7 +51,7 @@ module _ (x : LexiconView) (rules : List Rule) where
       d,
       ap (λ z. slice_get z k) e ∙ ap (slice_get (front ++ (MemberSymbol j ∷ rest))) s ∙ at_front front (MemberSymbol j) rest,
       r,
-      subst (λ z. IsFirstBehind x rules z (name_of m j) d) (sym (ap (take k) e ∙ ap (λ n. take n (front ++ (MemberSymbol j ∷ rest))) s ∙ take_front front (MemberSymbol j ∷ rest))) i,
+      subst (λ z. IsFirstBehind x rules z (name_of m j) d) (sym (ap (take k) e ∙ ap (λ n. take n (front ++ (MemberSymbol j ∷ rest))) s ∙ take-append_seam front (MemberSymbol j ∷ rest))) i,
     )
     | inr n ↦ (let l : length u ≡ length front + suc (length rest) = ap length e ∙ length-append front (MemberSymbol j ∷ rest) in
         at_place t (MemberSymbol j ∷ rest) u h k a (omega (arith, l, n, b)))
@@ -75,33 +59,13 @@ module _ (x : LexiconView) (rules : List Rule) where
 
   -- ---- one type
 
-  same_front : (a b c d : Word) → length a ≡ length b → a ++ c ≡ b ++ d → (a ≡ b) × (c ≡ d)
-  same_front [] [] c d l e = (refl, e)
-  same_front [] (y ∷ b) c d l e = absurd (omega (arith, l))
-  same_front (z ∷ a) [] c d l e = absurd (omega (arith, l))
-  same_front (z ∷ a) (y ∷ b) c d l e =
-      let first : z ≡ y = cc in
-      let (p, q) = same_front a b c d (omega (arith, l)) (cc) in
-      ((λ i. first i ∷ p i), q)
-
-  pub one_first : (w : Word) (a : NameId) (d e : AssocId) → IsFirstBehind x rules w a d → IsFirstBehind x rules w a e → d ≡ e
-  one_first w a d e h k =
-      let l = h.first e k.given in
-      let n = k.first d h.given in
-      let same : d.rank ≡ e.rank = omega (arith, l, n) in
-      λ i. record { rank = same i }
-
   long : (t : Term) (rest u : Word) → BeginsBy x rules t rest u → length rest < length u
   long (Generic g) rest u e = let n : length u ≡ suc (length rest) = ap length e in omega (arith, n)
   long (Member t (Bound d)) rest u (k, front, e, r, i, b) = let n = long t (MemberSymbol k ∷ rest) u b in omega (arith, n)
   long (Member t (Name a)) rest u b = absurd b
 
   pub one_type : (t s : Term) (rest u : Word) → BeginsBy x rules t rest u → BeginsBy x rules s rest u → t ≡ s
-  one_type (Generic g) (Generic h) rest u e k =
-      let both : Param g.depth g.index ∷ rest ≡ Param h.depth h.index ∷ rest = sym e ∙ k in
-      let a : g.depth ≡ h.depth = cc in
-      let b : g.index ≡ h.index = cc in
-      ap Generic (λ i. record { depth = a i; index = b i })
+  one_type (Generic g) (Generic h) rest u e k = ap Generic (one_param {g = g} {h = h} (same_heads (sym e ∙ k)))
   one_type (Generic g) (Member s (Bound d)) rest u e (k, front, q, r, i, b) =
       let n : length u ≡ suc (length rest) = ap length e in
       let l = long s (MemberSymbol k ∷ rest) u b in
@@ -116,10 +80,10 @@ module _ (x : LexiconView) (rules : List Rule) where
   one_type (Member t (Bound d)) (Member s (Bound c)) rest u (k, front, e, r, i, b) (k', front', e', r', i', b') =
       let l : length u ≡ length front + suc (length rest) = ap length e ∙ length-append front (MemberSymbol k ∷ rest) in
       let l' : length u ≡ length front' + suc (length rest) = ap length e' ∙ length-append front' (MemberSymbol k' ∷ rest) in
-      let (p, q) = same_front front front' (MemberSymbol k ∷ rest) (MemberSymbol k' ∷ rest) (omega (arith, l, l')) (sym e ∙ e') in
-      let one : k ≡ k' = cc in
+      let (p, q) = same_cut front (MemberSymbol k ∷ rest) front' (MemberSymbol k' ∷ rest) (sym e ∙ e') (omega (arith, l, l')) in
+      let one : k ≡ k' = same_members (same_heads q) in
       let base : t ≡ s = one_type t s (MemberSymbol k ∷ rest) u b (subst (λ z. BeginsBy x rules s (MemberSymbol z ∷ rest) u) (sym one) b') in
-      let last : d ≡ c = one_first front (name_of m k) d c i (subst₂ (λ y z. IsFirstBehind x rules y (name_of m z) c) (sym p) (sym one) i') in
+      let last : d ≡ c = one_first x rules front (name_of m k) d c i (subst₂ (λ y z. IsFirstBehind x rules y (name_of m z) c) (sym p) (sym one) i') in
       λ j. Member (base j) (Bound (last j))
 
   -- ---- the steps so far
@@ -139,7 +103,7 @@ module _ (x : LexiconView) (rules : List Rule) where
       let cut : drop k u ≡ MemberSymbol j ∷ drop (k + 1) u = drop_at u k (MemberSymbol j) at in
       let whole : u ≡ take k u ++ (MemberSymbol j ∷ drop (k + 1) u) = sym (take-append-drop k u) ∙ ap (λ z. take k u ++ z) cut in
       let type : new ≡ old ++ Bound d ∷ [] = adds (MemberSymbol j) j d at refl is first in
-      subst (λ z. BeginsBy x rules z (drop (k + 1) u) u) (sym (ap (with_steps (Generic (head r))) type ∙ with_one (Generic (head r)) old (Bound d)))
+      subst (λ z. BeginsBy x rules z (drop (k + 1) u) u) (sym (ap (with_steps (Generic (head r))) type ∙ with_more (Generic (head r)) old (Bound d)))
       (j, take k u, whole, is, first, subst (λ z. BeginsBy x rules (with_steps (Generic (head r)) old) z u) cut (made r h))
 
   pub all_made : (u : Word) (k : ℕ) (steps : List Step) → drop k u ≡ [] → Made u k steps → (r : Term) → BeginsBy x rules r [] u → with_steps (Generic (head r)) steps ≡ r

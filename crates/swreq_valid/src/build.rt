@@ -1,5 +1,5 @@
 //! The rules of the protocols, and the machine of a written list, where all that is written is a type parameter.
-ghost use Rattle.std.specs.Prelude.{◌≡◌, IfErr, IfOk, List, length};
+ghost use Rattle.std.specs.Prelude.{◌≡◌, IfOk, List, length};
 ghost use Rattle.swreq_derive.specs.Derivation.{TermRequirement};
 ghost use Rattle.swreq_derive.specs.Derivation.Source.{Written as WrittenList};
 ghost use Rattle.swreq_derive.specs.Facts.{generic_params};
@@ -9,7 +9,6 @@ ghost use Rattle.swreq_symbols.specs.Meaning.{facts_of, symbols_of};
 ghost use Rattle.swreq_world.specs.ByTable.{world_by};
 ghost use Rattle.swreq_lowering.specs.ByTable.{placed};
 ghost use Rattle.swreq_rounds.specs.Presents.{AreProtocolRules};
-ghost use Rattle.swreq_valid.specs.declared.refused.Refused.TheVariants.{Memory as NoMemory};
 ghost use Rattle.swreq_valid.specs.Answers.{Answers, IsOnlyOutcome};
 ghost use Rattle.swreq_valid.specs.Keeping.{AreFlags, TellEach, TellUsable, kept_answer, kept_facts, kept_plan};
 ghost use Rattle.swreq_valid.specs.Built.{Builds, IsOnlyBuilt, Judges, built_rules, protocol_rules};
@@ -21,7 +20,7 @@ ghost use Rattle.swreq_valid.specs.Sides.{IsShownIn, list_sides, protocol_sides,
 use crate::kept::{Kept, complete_kept, usable_lists};
 use crate::machine::{Machine, core};
 use crate::protocols::{Protocols, complete_protocols};
-use crate::refused::{Refused, refusal};
+use crate::refused::Refused;
 use crate::round::Rounds;
 use crate::sides::{first_in_protocols, first_invalid};
 use std::alloc::{AllocError, Global};
@@ -60,25 +59,6 @@ fn with_usable(
     Ok(Protocols::new(rounds, usable))
 }
 
-/// The same as a refusal for want of memory.
-fn protocols_or_memory(
-    alloc: Global,
-    world: &World,
-    table: &ParamTable,
-    rounds: Rounds,
-) -> Result<Protocols, Refused>
-    requires { IsTextOver table.now world.now }
-    ensures same { IfOk result (λ p. p.rounds ≡ rounds) }
-    ensures usable { IfOk result (λ p. TellEach (world_by table.now world.now) (last_rules rounds) p.usable
-        (length world.now.lexicon.protocols)) }
-    ensures err { IfErr result (λ e. e ≡ NoMemory) }
-{
-    match with_usable(alloc, world, table, rounds) {
-        Ok(protocols) => Ok(protocols),
-        Err(_) => Err(Refused::Memory),
-    }
-}
-
 /// The rules of the protocols that these rounds found, if they show each side valid.
 fn judge_protocols(
     alloc: Global,
@@ -93,10 +73,13 @@ fn judge_protocols(
     ensures usable { IfOk result (λ p. TellEach (world_by table.now world.now) (last_rules rounds) p.usable
         (length world.now.lexicon.protocols)) }
 {
-    match first_in_protocols(alloc, world, table, rounds.last()) {
-        Err(_) => Err(Refused::Memory),
-        Ok(Some(at)) => Err(Refused::NotATypeParameter { at }),
-        Ok(None) => protocols_or_memory(alloc, world, table, rounds),
+    let found = first_in_protocols(alloc, world, table, rounds.last())?;
+    match found {
+        Some(at) => Err(Refused::NotATypeParameter { at }),
+        None => {
+            let protocols = with_usable(alloc, world, table, rounds)?;
+            Ok(protocols)
+        }
     }
 }
 
@@ -115,17 +98,11 @@ fn judge_machine(
         (built_rules result) }
     ensures same { IfOk result (λ m. m ≡ machine) }
 {
-    match first_invalid(
-        alloc,
-        world,
-        table,
-        machine.rules(),
-        Over::Signature(machine.params()),
-        written,
-    ) {
-        Err(_) => Err(Refused::Memory),
-        Ok(Some(at)) => Err(Refused::NotATypeParameter { at }),
-        Ok(None) => Ok(machine),
+    let over = Over::Signature(machine.params());
+    let found = first_invalid(alloc, world, table, machine.rules(), over, written)?;
+    match found {
+        Some(at) => Err(Refused::NotATypeParameter { at }),
+        None => Ok(machine),
     }
 }
 
@@ -154,10 +131,8 @@ impl Protocols {
         ensures rules { IfOk result (λ p. AreRulesOf (world_by table.now world.now) (last_rules p.rounds)) }
         ensures usable { IfOk result (λ p. TellUsable (world_by table.now world.now) (facts_of (world_by table.now world.now)) p.usable) }
     {
-        match complete_protocols(alloc, world, table, limits, watch) {
-            Err(failed) => Err(refusal(failed)),
-            Ok(rounds) => judge_protocols(alloc, world, table, rounds),
-        }
+        let rounds = complete_protocols(alloc, world, table, limits, watch)?;
+        judge_protocols(alloc, world, table, rounds)
     }
 }
 
@@ -186,13 +161,9 @@ impl Protocols {
         ensures usable { IfOk result (λ p. TellUsable (world_by table.now world.now) (kept_facts
             (world_by table.now world.now) keep.now.lists) p.usable) }
     {
-        match complete_kept(alloc, world, table, keep, limits, watch) {
-            Err(failed) => Err(failed),
-            Ok(rounds) => match with_usable(alloc, world, table, rounds) {
-                Ok(protocols) => Ok(protocols),
-                Err(_) => Err(Failed::Memory),
-            },
-        }
+        let rounds = complete_kept(alloc, world, table, keep, limits, watch)?;
+        let protocols = with_usable(alloc, world, table, rounds)?;
+        Ok(protocols)
     }
 }
 
@@ -227,12 +198,8 @@ impl Machine {
         ensures machine { IfOk result (IsMachineOf (world_by table.now world.now) (listed table.now (bare written.now))) }
         ensures params { IfOk result (λ m. m.params ≡ params) }
     {
-        match bare(alloc, written) {
-            Err(_) => Err(Refused::Memory),
-            Ok(list) => match core(alloc, world, table, protocols, params, &list, limits, watch) {
-                Err(failed) => Err(refusal(failed)),
-                Ok(machine) => judge_machine(alloc, world, table, machine, written),
-            },
-        }
+        let list = bare(alloc, written)?;
+        let machine = core(alloc, world, table, protocols, params, &list, limits, watch)?;
+        judge_machine(alloc, world, table, machine, written)
     }
 }

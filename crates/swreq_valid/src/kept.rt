@@ -105,23 +105,11 @@ fn run_kept<W: Watch>(
     ensures rules { IfOk result (λ rounds. AreProtocolRules (symbols_of world.now.lexicon) (kept_facts
         (world_by table.now world.now) keep.now.lists) (last_rules rounds)) }
 {
-    match basic(alloc, world) {
-        Err(_) => Err(Failed::Memory),
-        Ok(basic) => match kept_requirements(alloc, world, keep) {
-            Err(_) => Err(Failed::Memory),
-            Ok(all) => {
-                let start = Start { basic, all, limits };
-                run(
-                    alloc,
-                    world,
-                    table,
-                    &CompleteRules::empty(alloc),
-                    &start,
-                    watch,
-                )
-            }
-        },
-    }
+    let basic = basic(alloc, world)?;
+    let all = kept_requirements(alloc, world, keep)?;
+    let start = Start { basic, all, limits };
+    let none = CompleteRules::empty(alloc);
+    run(alloc, world, table, &none, &start, watch)
 }
 
 /// Runs the rounds of the protocols with the kept requirements.
@@ -166,11 +154,7 @@ fn usable_of(
     let list = world.bare_requirements(p);
     for k in 0..list.len() {
         let requirement = list[k];
-        let want = Wanted {
-            over: Over::Protocol(p),
-            requirement,
-        };
-        let shown = is_usable(alloc, world, table, rules, &want)?;
+        let shown = is_usable(alloc, world, table, rules, Over::Protocol(p), requirement)?;
         flags.push(shown)?;
     }
     Ok(flags)
@@ -190,17 +174,7 @@ pub(crate) fn usable_lists(
     for rank in 0..world.protocols() {
         let flags = usable_of(alloc, world, table, rules, ProtoId { rank })?;
         let list = Seq::new(flags);
-        put_list(&mut lists, list)?;
+        lists.push(list)?;
     }
     Ok(lists)
-}
-
-/// Puts the list last.
-fn put_list(lists: &mut Vec<Seq<bool>>, list: Seq<bool>) -> Result<(), AllocError>
-    ensures { OnOk result (lists.new.items ≡ lists.old.items ++ list ∷ []) }
-{
-    match lists.push(list) {
-        Ok(()) => Ok(()),
-        Err(_) => Err(AllocError),
-    }
 }

@@ -25,3 +25,4 @@ pub use protocols::Protocols;
 pub use refused::Refused;
 pub use round::Round;
 pub use scratch::Scratch;
+pub use usable::is_usable;

@@ -111,18 +111,9 @@ pub fn core<W: Watch>(
     ensures machine { IfOk result (IsMachineOf (world_by table.now world.now) (listed table.now list.now)) }
     ensures params { IfOk result (λ m. m.params ≡ params) }
 {
-    match in_signature(alloc, params, list) {
-        Err(_) => Err(Failed::Memory),
-        Ok(all) => {
-            let start = Start {
-                basic: Vec::new(alloc),
-                all,
-                limits,
-            };
-            match run(alloc, world, table, protocols.rules(), &start, watch) {
-                Ok(rounds) => Ok(Machine::new(params, rounds)),
-                Err(failed) => Err(failed),
-            }
-        }
-    }
+    let all = in_signature(alloc, params, list)?;
+    let basic = Vec::new(alloc);
+    let start = Start { basic, all, limits };
+    let rounds = run(alloc, world, table, protocols.rules(), &start, watch)?;
+    Ok(Machine::new(params, rounds))
 }

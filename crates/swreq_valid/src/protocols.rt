@@ -98,23 +98,11 @@ fn run_protocols<W: Watch>(
     ensures rounds { IfOk result (AreRounds limits (protocols_of (world_by table.now world.now))) }
     ensures rules { IfOk result (λ rounds. AreRulesOf (world_by table.now world.now) (last_rules rounds)) }
 {
-    match basic(alloc, world) {
-        Err(_) => Err(Failed::Memory),
-        Ok(basic) => match requirements(alloc, world) {
-            Err(_) => Err(Failed::Memory),
-            Ok(all) => {
-                let start = Start { basic, all, limits };
-                run(
-                    alloc,
-                    world,
-                    table,
-                    &CompleteRules::empty(alloc),
-                    &start,
-                    watch,
-                )
-            }
-        },
-    }
+    let basic = basic(alloc, world)?;
+    let all = requirements(alloc, world)?;
+    let start = Start { basic, all, limits };
+    let none = CompleteRules::empty(alloc);
+    run(alloc, world, table, &none, &start, watch)
 }
 
 /// Runs the rounds of the protocols.

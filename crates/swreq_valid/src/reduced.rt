@@ -22,7 +22,7 @@ use crate::machine::Machine;
 use crate::scratch::Scratch;
 use swreq_complete::CompleteRules;
 use swreq_param::{NameId, ParamId, ParamTable, Step, TermId};
-use swreq_symbols::first_behind;
+use swreq_symbols::{first_behind, name_at};
 use swreq_word::Symbol;
 use swreq_world::World;
 
@@ -35,20 +35,6 @@ fn member_name(world: &World, x: Symbol) -> Option<NameId>
     match x {
         Symbol::Member(rank) => name_at(world, rank),
         _ => None,
-    }
-}
-
-/// The name of the member symbol with this rank, or None where there is none.
-fn name_at(world: &World, rank: u64) -> Option<NameId>
-    ensures { MatchOption result
-        (IsRank (symbols_of world.now.lexicon) rank → ⊥)
-        (λ a. IsRank (symbols_of world.now.lexicon) rank × (name_of (symbols_of world.now.lexicon) rank ≡ a)) }
-{
-    if rank < world.members() {
-        let symbol = world.member_at(rank);
-        Some(symbol.name)
-    } else {
-        None
     }
 }
 

@@ -1,7 +1,5 @@
 //! Why there is no machine.
-ghost use Rattle.std.specs.Prelude.{◌≡◌};
-ghost use Rattle.swreq_valid.specs.Built.{refusal};
-
+use std::alloc::AllocError;
 use swreq_complete::{Failed, Which};
 use swreq_rule::Rule;
 use swreq_text::Seq;
@@ -17,12 +15,27 @@ pub enum Refused {
     Memory,
 }
 
-/// The refusal for a failed round.
-pub(crate) fn refusal(failed: Failed) -> Refused
-    ensures { result ≡ refusal failed }
-{
-    match failed {
-        Failed::Limit { which, trace } => Refused::Limit { which, trace },
-        Failed::Memory => Refused::Memory,
+impl From<AllocError> for Refused {
+    ghost use Rattle.std.specs.Prelude.{◌≡◌};
+    ghost use Rattle.swreq_valid.specs.declared.refused.Refused.TheVariants.{Memory};
+
+    ghost from_gives = { λ _ e. e ≡ Memory };
+
+    fn from(_e: AllocError) -> Refused {
+        Refused::Memory
+    }
+}
+
+impl From<Failed> for Refused {
+    ghost use Rattle.std.specs.Prelude.{◌≡◌};
+    ghost use Rattle.swreq_valid.specs.Built.{refusal};
+
+    ghost from_gives = { λ failed e. e ≡ refusal failed };
+
+    fn from(failed: Failed) -> Refused {
+        match failed {
+            Failed::Limit { which, trace } => Refused::Limit { which, trace },
+            Failed::Memory => Refused::Memory,
+        }
     }
 }

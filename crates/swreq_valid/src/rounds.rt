@@ -102,24 +102,17 @@ fn complete<W: Watch>(
         (items_of table.now start.now.all.items) used.now))
         (W.told watch.old) (W.told watch.new) result }
 {
-    match given_by(alloc, world, table, start, used) {
-        Err(_) => Err(Failed::Memory),
-        Ok(equations) => match base.copy(alloc) {
-            Err(_) => Err(Failed::Memory),
-            Ok(copy) => extend(alloc, copy, &equations, start.limits, watch),
-        },
-    }
+    let equations = given_by(alloc, world, table, start, used)?;
+    let copy = base.copy(alloc)?;
+    extend(alloc, copy, &equations, start.limits, watch)
 }
 
-/// So many flags, none of them set.
+/// `count` flags, none of them set.
 fn none_used(alloc: Global, count: usize) -> Result<Vec<bool>, AllocError>
     ensures len { IfOk result (λ v. vec_len v ≡ count) }
     ensures none { (xs : List Item) → IfOk result (λ v. chosen xs v.items ≡ []) }
 {
-    let mut flags = Vec::new(alloc);
-    for _ in 0..count {
-        flags.push(false)?;
-    }
+    let flags = vec![in alloc; false; count]?;
     Ok(flags)
 }
 
@@ -186,19 +179,10 @@ pub(crate) fn run<W: Watch>(
     ensures rounds { IfOk result (AreRounds start.now.limits (plan_of world.now table.now base.now start.now)) }
 {
     let mut rounds: Vec<Round> = Vec::new(alloc);
-    let mut used = match none_used(alloc, start.all.len()) {
-        Ok(flags) => flags,
-        Err(_) => return Err(Failed::Memory),
-    };
+    let mut used = none_used(alloc, start.all.len())?;
     'each: loop {
-        let rules = match complete(alloc, world, table, base, start, &used, watch) {
-            Ok(rules) => rules,
-            Err(failed) => return Err(failed),
-        };
-        let next = match next_used(alloc, world, table, start, &used, &rules) {
-            Ok(next) => next,
-            Err(_) => return Err(Failed::Memory),
-        };
+        let rules = complete(alloc, world, table, base, start, &used, watch)?;
+        let next = next_used(alloc, world, table, start, &used, &rules)?;
         match rounds.push(Round::new(used, rules)) {
             Ok(()) => {}
             Err(_) => return Err(Failed::Memory),

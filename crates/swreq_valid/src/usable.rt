@@ -13,7 +13,7 @@ ghost use Rattle.swreq_world.specs.ByTable.{world_by};
 ghost use Rattle.swreq_valid.specs.Flags.{Tells};
 ghost use Rattle.swreq_valid.specs.Plans.{AreWanted, items_of, plan_of};
 
-use crate::wanted::{Start, Wanted};
+use crate::wanted::Start;
 use std::alloc::{AllocError, Global};
 use swreq_complete::CompleteRules;
 use swreq_derive::Requirement;
@@ -43,27 +43,25 @@ pub(crate) fn is_shown(
 }
 
 /// Whether the rules show that the type parameters of a requirement are valid.
-pub(crate) fn is_usable(
+pub fn is_usable(
     alloc: Global,
     world: &World,
     table: &ParamTable,
     rules: &CompleteRules,
-    want: &Wanted,
+    over: Over,
+    r: Requirement,
 ) -> Result<bool, AllocError>
     requires text { IsTextOver table.now world.now }
-    requires want { IsRequirementIn table.now world.now.lexicon want.now.requirement }
+    requires want { IsRequirementIn table.now world.now.lexicon r }
     ensures { IfOk result (λ b. IsTrue b ↔ ShowsUsable (symbols_of world.now.lexicon) (facts_of (world_by table.now world.now))
-        (source_of want.now.over) (Links rules.now)
-        (requirement_of table.now want.now.requirement)) }
+        (source_of over) (Links rules.now) (requirement_of table.now r)) }
 {
-    match want.requirement {
-        Requirement::Conf { subject, .. } => is_shown(
-            alloc, world, table, rules, want.over, subject,
-        ),
-        Requirement::Layout { subject } => is_shown(alloc, world, table, rules, want.over, subject),
+    match r {
+        Requirement::Conf { subject, .. } => is_shown(alloc, world, table, rules, over, subject),
+        Requirement::Layout { subject } => is_shown(alloc, world, table, rules, over, subject),
         Requirement::Same { left, right } => {
-            if is_shown(alloc, world, table, rules, want.over, left)? {
-                is_shown(alloc, world, table, rules, want.over, right)
+            if is_shown(alloc, world, table, rules, over, left)? {
+                is_shown(alloc, world, table, rules, over, right)
             } else {
                 Ok(false)
             }
@@ -87,7 +85,7 @@ pub(crate) fn usable(
     let mut flags = Vec::new(alloc);
     for k in 0..start.all.len() {
         let want = &start.all[k];
-        let shown = is_usable(alloc, world, table, rules, want)?;
+        let shown = is_usable(alloc, world, table, rules, want.over, want.requirement)?;
         flags.push(shown)?;
     }
     Ok(flags)

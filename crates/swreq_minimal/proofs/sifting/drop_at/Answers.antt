@@ -1,10 +1,11 @@
-use Rattle.std.proofs.Common.{◌≡◌, ◌∙◌, ap, sym, subst, get_or}
+use Rattle.std.proofs.Common.{◌≡◌, ◌∙◌, ap, sym, subst, get_or, List}
 use Rattle.std.specs.Prelude.{insert, remove}
 use Rattle.std.proofs.lemmas.List.Elements.{Contains-get_or}
 use Rattle.std.proofs.lemmas.Result.{IfErr-weaker, on_ok_weaker}
 use Rattle.swreq_derive.specs.Derivation.{Derivable}
 use Rattle.swreq_derive.specs.Derivation.Source.{Written}
 use Rattle.swreq_derive.specs.Derivation.TermStatement.{Requires}
+use Rattle.swreq_derive.specs.declared.requirements.Requirement.{Requirement}
 use Rattle.swreq_derive.specs.Facts.{generic_params, requirement_of}
 use Rattle.swreq_symbols.specs.Known.{IsRequirementIn}
 use Rattle.swreq_symbols.specs.Meaning.{facts_of}
@@ -40,7 +41,7 @@ returns-then-derivable-clause-leaves g c =
     let f = facts_of (world_by terms c.args.world.now) in
     let ps = generic_params c.args.params in
     let now = c.args.left.now.items in
-    subst (LeavesNow f ps terms now c.args.place c.remove-one.result c.requires.place) (sym c.remove-one.ensures.items)
+    subst (LeavesNow f ps terms now c.args.place c.remove-one.result c.requires.place) (sym {A = List Requirement} c.remove-one.ensures.items)
     (one_dropped f ps terms now c.args.place c.remove-one.result c.requires.place
     (subst (λ z. Derivable f (Written ps (listed terms z)) (Requires (requirement_of terms (get_or now c.args.place c.remove-one.result)))) (c.deref.ensures.value ∙ c.remove-one.ensures.items)
     (subst (λ z. Derivable f (Written ps (listed terms c.deref.result.now)) (Requires (requirement_of terms z))) c.remove-one.ensures.value

@@ -1,4 +1,4 @@
-use Rattle.std.proofs.Common.{◌≡◌, ◌<◌, ◌+◌, ◌-◌, sym, subst, take, drop, get_or, length, arith}
+use Rattle.std.proofs.Common.{◌≡◌, ◌-◌, subst, length, arith}
 use Rattle.std.specs.Prelude.{remove}
 use Rattle.std.proofs.lemmas.List.{length-map}
 use Rattle.swreq_derive.specs.Facts.{generic_params, requirement_of}
@@ -9,8 +9,8 @@ use Rattle.swreq_valid.specs.Plans.{listed}
 use Rattle.swreq_valid.specs.Rounds.{last_rules}
 use Rattle.swreq_minimal.specs.Passed.{IsLeftWithout}
 use Rattle.swreq_minimal.proofs.Inserting.{any}
-use Rattle.swreq_minimal.proofs.Passing.{IsLeftFrom, all_passed, all_there, is_without, front_length, leaves_behind, next_left, now_is, within_now}
-use Rattle.swreq_minimal.proofs.Telling.{failure_of, fails_after, tells_none, tells_of, tells_on}
+use Rattle.swreq_minimal.proofs.Passing.{IsLeftFrom, all_passed, all_there, is_without, passed_on, within_now}
+use Rattle.swreq_minimal.proofs.Telling.{fails_next, tells_next, tells_none}
 use Rattle.swreq_minimal.proofs.sifting.drop_derivable.Goals as goal
 
 pub loop-count-init : goal.loop-count-init
@@ -29,14 +29,8 @@ loop-count-init g c =
 pub drop_at-requires-clause-place : goal.drop_at-requires-clause-place
 drop_at-requires-clause-place g c =
     let terms = c.args.table.now in
-    let f = facts_of (world_by terms c.args.world.now) in
-    let ps = generic_params c.args.params in
-    let all = listed terms c.args.left.now.items in
-    let k = c.loop-count.count - 1 in
-    let t = c.loop-count-test.true in
-    let e : c.loop-count.count ≡ k + 1 = omega (arith, t) in
-    let w = c.loop-count.invariant.within in
-    within_now f ps terms all c.loop-count.left.items k (requirement_of terms any) (let l : k < length all = omega (arith, w, e) in l) (subst (λ n. IsLeftFrom f ps n all (listed terms c.loop-count.left.items)) e c.loop-count.invariant.left)
+    within_now (facts_of (world_by terms c.args.world.now)) (generic_params c.args.params) terms (listed terms c.args.left.now.items) c.loop-count.left.items c.loop-count.count any
+    c.loop-count-test.true c.loop-count.invariant.within c.loop-count.invariant.left
 
 pub returns-in-Err-clause-failed : goal.returns-in-Err-clause-failed
 returns-in-Err-clause-failed g c =
@@ -44,19 +38,10 @@ returns-in-Err-clause-failed g c =
     let f = facts_of (world_by terms c.args.world.now) in
     let ps = generic_params c.args.params in
     let all = listed terms c.args.left.now.items in
-    let now = c.loop-count.left.items in
-    let k = c.loop-count.count - 1 in
-    let t = c.loop-count-test.true in
-    let e : c.loop-count.count ≡ k + 1 = omega (arith, t) in
-    let w = c.loop-count.invariant.within in
-    let l : k < length all = omega (arith, w, e) in
-    let left = subst (λ n. IsLeftFrom f ps n all (listed terms now)) e c.loop-count.invariant.left in
-    let plan = list_of (world_by terms c.args.world.now) (last_rules c.args.protocols.now.rounds) c.args.params in
-    let P = IsLeftWithout f ps all in
-    fails_after c.args.limits plan P (g.W.Watch.told c.args.watch.now) (g.W.Watch.told c.loop-count.watch) (g.W.Watch.told c.drop_at.new.watch) c.loop-count.invariant.told c.in-Err.failed
-    (failure_of c.args.limits plan (λ l. l ≡ listed terms (remove now k)) P
-    (λ z h. subst P (sym h) (is_without f ps terms all now k (requirement_of terms any) l left any))
-    (g.W.Watch.told c.loop-count.watch) (g.W.Watch.told c.drop_at.new.watch) c.in-Err.failed c.in-Err.ensures.failed)
+    fails_next c.args.limits (list_of (world_by terms c.args.world.now) (last_rules c.args.protocols.now.rounds) c.args.params) (IsLeftWithout f ps all)
+    (listed terms (remove c.loop-count.left.items (c.loop-count.count - 1)))
+    (is_without f ps terms all c.loop-count.left.items c.loop-count.count any c.loop-count-test.true c.loop-count.invariant.within c.loop-count.invariant.left)
+    (g.W.Watch.told c.args.watch.now) (g.W.Watch.told c.loop-count.watch) (g.W.Watch.told c.drop_at.new.watch) c.loop-count.invariant.told c.in-Err.failed c.in-Err.ensures.failed
 
 pub loop-count-preserved : goal.loop-count-preserved
 loop-count-preserved g c =
@@ -64,26 +49,16 @@ loop-count-preserved g c =
     let f = facts_of (world_by terms c.args.world.now) in
     let ps = generic_params c.args.params in
     let all = listed terms c.args.left.now.items in
-    let now = c.loop-count.left.items in
-    let k = c.loop-count.count - 1 in
-    let t = c.loop-count-test.true in
-    let e : c.loop-count.count ≡ k + 1 = omega (arith, t) in
-    let w = c.loop-count.invariant.within in
-    let l : k < length all = omega (arith, w, e) in
-    let left = subst (λ n. IsLeftFrom f ps n all (listed terms now)) e c.loop-count.invariant.left in
-    let plan = list_of (world_by terms c.args.world.now) (last_rules c.args.protocols.now.rounds) c.args.params in
-    let P = IsLeftWithout f ps all in
-    let d = requirement_of terms any in
-    let more = c.in-Ok.ensures.leaves (take k all) (drop (k + 1) all) left.0 (get_or all k d)
-    (now_is f ps all (listed terms now) k d l left) (front_length f ps all (listed terms now) k d l left) (leaves_behind f ps all (listed terms now) k d l left) in
+    let some = c.loop-count-test.true in
+    let now = c.loop-count.invariant in
     record {
-      within = omega (arith, w, e);
-      left = next_left f ps all (listed terms now) k d l left (listed terms c.drop_at.new.left.items) more.0 more.1 more.2;
+      within = let w = now.within in omega (arith, w);
+      left = passed_on f ps terms all c.loop-count.left.items c.loop-count.count any some now.within now.left c.drop_at.new.left.items c.in-Ok.ensures.leaves;
       known = c.in-Ok.ensures.known;
-      told = tells_on c.args.limits plan P (g.W.Watch.told c.args.watch.now) (g.W.Watch.told c.loop-count.watch) (g.W.Watch.told c.drop_at.new.watch) c.loop-count.invariant.told
-          (tells_of c.args.limits plan (λ l. l ≡ listed terms (remove now k)) P
-          (λ z h. subst P (sym h) (is_without f ps terms all now k d l left any))
-          (g.W.Watch.told c.loop-count.watch) (g.W.Watch.told c.drop_at.new.watch) c.in-Ok.ensures.told);
+      told = tells_next c.args.limits (list_of (world_by terms c.args.world.now) (last_rules c.args.protocols.now.rounds) c.args.params) (IsLeftWithout f ps all)
+          (listed terms (remove c.loop-count.left.items (c.loop-count.count - 1)))
+          (is_without f ps terms all c.loop-count.left.items c.loop-count.count any some now.within now.left)
+          (g.W.Watch.told c.args.watch.now) (g.W.Watch.told c.loop-count.watch) (g.W.Watch.told c.drop_at.new.watch) now.told c.in-Ok.ensures.told;
     }
 
 pub returns-clause-leaves : goal.returns-clause-leaves

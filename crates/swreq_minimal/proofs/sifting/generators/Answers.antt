@@ -1,4 +1,4 @@
-use Rattle.std.proofs.Common.{◌≡◌, [], sym, subst, take, get_or, Contains}
+use Rattle.std.proofs.Common.{[], sym, subst, take, get_or, Contains}
 use Rattle.std.proofs.lemmas.List.{take_all}
 use Rattle.std.proofs.lemmas.List.Elements.{Contains-get_or}
 use Rattle.swreq_derive.specs.Facts.{generic_params}
@@ -13,7 +13,7 @@ use Rattle.swreq_valid.specs.Rounds.{last_rules}
 use Rattle.swreq_minimal.specs.Passed.{IsTakenBefore}
 use Rattle.swreq_minimal.proofs.Inserting.{any}
 use Rattle.swreq_minimal.proofs.Passing.{next_taken, taken_before}
-use Rattle.swreq_minimal.proofs.Telling.{failure_of, fails_after, tells_none, tells_of, tells_on}
+use Rattle.swreq_minimal.proofs.Telling.{fails_next, tells_next, tells_none}
 use Rattle.swreq_minimal.proofs.sifting.generators.Goals as goal
 
 pub loop-k-init : goal.loop-k-init
@@ -34,31 +34,27 @@ returns-in-Err-clause-failed g c =
     let terms = c.args.table.now in
     let f = facts_of (world_by terms c.args.world.now) in
     let ps = generic_params c.args.params in
-    let plan = list_of (world_by terms c.args.world.now) (last_rules c.args.protocols.now.rounds) c.args.params in
-    let P = IsTakenBefore f ps (listed terms c.args.candidates.now) in
     let out = listed terms c.loop-k.taken.items in
-    fails_after c.args.limits plan P (g.W.Watch.told c.args.watch.now) (g.W.Watch.told c.loop-k.watch) (g.W.Watch.told c.take.new.watch) c.loop-k.invariant.told c.in-Err.failed
-    (failure_of c.args.limits plan (λ l. l ≡ out) P
-    (λ l e. subst P (sym e) (taken_before f ps terms c.args.candidates.now c.loop-k.k any c.loop-k-test.true out c.loop-k.invariant.takes))
-    (g.W.Watch.told c.loop-k.watch) (g.W.Watch.told c.take.new.watch) c.in-Err.failed c.in-Err.ensures.failed)
+    fails_next c.args.limits (list_of (world_by terms c.args.world.now) (last_rules c.args.protocols.now.rounds) c.args.params)
+    (IsTakenBefore f ps (listed terms c.args.candidates.now)) out
+    (taken_before f ps terms c.args.candidates.now c.loop-k.k any c.loop-k-test.true out c.loop-k.invariant.takes)
+    (g.W.Watch.told c.args.watch.now) (g.W.Watch.told c.loop-k.watch) (g.W.Watch.told c.take.new.watch) c.loop-k.invariant.told c.in-Err.failed c.in-Err.ensures.failed
 
 pub loop-k-preserved : goal.loop-k-preserved
 loop-k-preserved g c =
     let terms = c.args.table.now in
     let f = facts_of (world_by terms c.args.world.now) in
     let ps = generic_params c.args.params in
-    let plan = list_of (world_by terms c.args.world.now) (last_rules c.args.protocols.now.rounds) c.args.params in
-    let P = IsTakenBefore f ps (listed terms c.args.candidates.now) in
     let out = listed terms c.loop-k.taken.items in
     record {
       takes = next_taken f ps terms c.args.candidates.now c.loop-k.k any c.loop-k-test.true (listed terms c.take.new.taken.items)
           (c.in-Ok.ensures.takes (listed terms (take c.loop-k.k c.args.candidates.now)) c.loop-k.invariant.takes);
       known = c.in-Ok.ensures.known;
       built = c.in-Ok.ensures.built;
-      told = tells_on c.args.limits plan P (g.W.Watch.told c.args.watch.now) (g.W.Watch.told c.loop-k.watch) (g.W.Watch.told c.take.new.watch) c.loop-k.invariant.told
-          (tells_of c.args.limits plan (λ l. l ≡ out) P
-          (λ l e. subst P (sym e) (taken_before f ps terms c.args.candidates.now c.loop-k.k any c.loop-k-test.true out c.loop-k.invariant.takes))
-          (g.W.Watch.told c.loop-k.watch) (g.W.Watch.told c.take.new.watch) c.in-Ok.ensures.told);
+      told = tells_next c.args.limits (list_of (world_by terms c.args.world.now) (last_rules c.args.protocols.now.rounds) c.args.params)
+          (IsTakenBefore f ps (listed terms c.args.candidates.now)) out
+          (taken_before f ps terms c.args.candidates.now c.loop-k.k any c.loop-k-test.true out c.loop-k.invariant.takes)
+          (g.W.Watch.told c.args.watch.now) (g.W.Watch.told c.loop-k.watch) (g.W.Watch.told c.take.new.watch) c.loop-k.invariant.told c.in-Ok.ensures.told;
     }
 
 pub returns-clause-takes : goal.returns-clause-takes

@@ -1,15 +1,10 @@
-use Rattle.std.proofs.Common.{◌≡◌, ◌↔◌, subst}
-use Rattle.std.specs.Bool.{IsTrue}
-use Rattle.swreq_derive.specs.declared.known.Params.{Params}
-use Rattle.swreq_derive.specs.Derivation.{Derivable}
-use Rattle.swreq_derive.specs.Derivation.Source.{Written}
-use Rattle.swreq_derive.specs.Derivation.TermStatement.{Requires}
-use Rattle.swreq_derive.specs.Facts.{generic_params, requirement_of}
-use Rattle.swreq_symbols.specs.Meaning.{facts_of}
+use Rattle.std.proofs.Common.{◌≡◌}
+use Rattle.swreq_derive.specs.Facts.{requirement_of}
 use Rattle.swreq_world.specs.ByTable.{world_by}
 use Rattle.swreq_valid.specs.Machines.{list_of}
 use Rattle.swreq_valid.specs.Plans.{listed}
 use Rattle.swreq_valid.specs.Rounds.{last_rules}
+use Rattle.swreq_minimal.proofs.ByEquation.{built_decides}
 use Rattle.swreq_minimal.proofs.Telling.{one_failure, one_part, wants_memory}
 use Rattle.swreq_minimal.proofs.sifting.is_derivable.Goals as goal
 
@@ -20,9 +15,8 @@ returns-in-Err-clause-failed g c =
 
 pub returns-in-Ok-holds-clause-answer : goal.returns-in-Ok-holds-clause-answer
 returns-in-Ok-holds-clause-answer g c =
-    subst (λ (z : Params). IsTrue c.in-Ok-holds.derivable
-    ↔ Derivable (facts_of (world_by c.args.table.now c.args.world.now)) (Written (generic_params z) (listed c.args.table.now c.args.list.now)) (Requires (requirement_of c.args.table.now c.args.r)))
-    c.in-Ok.ensures.params (c.in-Ok-holds.ensures (listed c.args.table.now c.args.list.now) c.in-Ok.ensures.machine)
+    built_decides (world_by c.args.table.now c.args.world.now) c.args.params (listed c.args.table.now c.args.list.now) c.in-Ok.machine
+    (record { machine = c.in-Ok.ensures.machine; params_are = c.in-Ok.ensures.params }) (requirement_of c.args.table.now c.args.r) c.in-Ok-holds.derivable c.in-Ok-holds.ensures
 
 pub returns-in-Ok-holds-clause-told : goal.returns-in-Ok-holds-clause-told
 returns-in-Ok-holds-clause-told g c =

@@ -20,12 +20,11 @@ returns-in-Err-clause-failed g c =
 
 pub returns-in-Err-drop_derivable-clause-failed : goal.returns-in-Err-drop_derivable-clause-failed
 returns-in-Err-drop_derivable-clause-failed g c =
-    let terms = c.args.table.now in
-    let f = facts_of (world_by terms c.args.world.now) in
+    let f = facts_of (world_by c.args.table.now c.args.world.now) in
     let ps = generic_params c.args.params in
-    let cs = listed terms c.args.candidates.now in
-    let gs = listed terms c.in-Ok.taken.items in
-    let plan = list_of (world_by terms c.args.world.now) (last_rules c.args.protocols.now.rounds) c.args.params in
+    let cs = listed c.args.table.now c.args.candidates.now in
+    let gs = listed c.args.table.now c.in-Ok.taken.items in
+    let plan = list_of (world_by c.args.table.now c.args.world.now) (last_rules c.args.protocols.now.rounds) c.args.params in
     fails_after c.args.limits plan (IsPassed f ps cs) (g.W.Watch.told c.args.watch.now) (g.W.Watch.told c.generators.new.watch) (g.W.Watch.told c.drop_derivable.new.watch)
     (tells_of c.args.limits plan (IsTakenBefore f ps cs) (IsPassed f ps cs) (λ l h. inl h) (g.W.Watch.told c.args.watch.now) (g.W.Watch.told c.generators.new.watch) c.in-Ok.ensures.told)
     c.in-Err-drop_derivable.failed
@@ -41,12 +40,11 @@ returns-in-Ok-drop_derivable-clause-sifted g c = record {
 
 pub returns-in-Ok-drop_derivable-clause-told : goal.returns-in-Ok-drop_derivable-clause-told
 returns-in-Ok-drop_derivable-clause-told g c =
-    let terms = c.args.table.now in
-    let f = facts_of (world_by terms c.args.world.now) in
+    let f = facts_of (world_by c.args.table.now c.args.world.now) in
     let ps = generic_params c.args.params in
-    let cs = listed terms c.args.candidates.now in
-    let gs = listed terms c.in-Ok.taken.items in
-    let plan = list_of (world_by terms c.args.world.now) (last_rules c.args.protocols.now.rounds) c.args.params in
+    let cs = listed c.args.table.now c.args.candidates.now in
+    let gs = listed c.args.table.now c.in-Ok.taken.items in
+    let plan = list_of (world_by c.args.table.now c.args.world.now) (last_rules c.args.protocols.now.rounds) c.args.params in
     tells_on c.args.limits plan (IsPassed f ps cs) (g.W.Watch.told c.args.watch.now) (g.W.Watch.told c.generators.new.watch) (g.W.Watch.told c.drop_derivable.new.watch)
     (tells_of c.args.limits plan (IsTakenBefore f ps cs) (IsPassed f ps cs) (λ l h. inl h) (g.W.Watch.told c.args.watch.now) (g.W.Watch.told c.generators.new.watch) c.in-Ok.ensures.told)
     (tells_of c.args.limits plan (IsLeftWithout f ps gs) (IsPassed f ps cs) (λ l h. inr (gs, c.in-Ok.ensures.takes, h))

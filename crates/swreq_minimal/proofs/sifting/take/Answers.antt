@@ -1,11 +1,6 @@
-use Rattle.std.proofs.Common.{◌≡◌, ◌∙◌, ◌↔◌, ◌++◌, ◌∷◌, [], ap, sym, subst, inl, inr}
-use Rattle.std.specs.Bool.{IsTrue}
+use Rattle.std.proofs.Common.{◌≡◌, ◌∙◌, ◌++◌, ◌∷◌, [], ap, sym, subst, inl, inr}
 use Rattle.std.proofs.lemmas.List.{map-append}
 use Rattle.std.proofs.lemmas.List.Elements.{Contains-push_cases}
-use Rattle.swreq_derive.specs.Derivation.{Derivable}
-use Rattle.swreq_derive.specs.Derivation.Source.{Written}
-use Rattle.swreq_derive.specs.Derivation.TermStatement.{Requires}
-use Rattle.swreq_derive.specs.declared.known.Params.{Params}
 use Rattle.swreq_derive.specs.declared.requirements.Requirement.{Requirement}
 use Rattle.swreq_derive.specs.Facts.{generic_params, requirement_of}
 use Rattle.swreq_canonical.specs.Generators.{Takes}
@@ -15,8 +10,8 @@ use Rattle.swreq_world.specs.ByTable.{world_by}
 use Rattle.swreq_valid.specs.Machines.{list_of}
 use Rattle.swreq_valid.specs.Plans.{AreKnown, listed}
 use Rattle.swreq_valid.specs.Rounds.{last_rules}
-use Rattle.swreq_minimal.specs.Built.{IsBuiltFor}
 use Rattle.swreq_minimal.specs.Told.{TellsFailure}
+use Rattle.swreq_minimal.proofs.ByEquation.{built_decides}
 use Rattle.swreq_minimal.proofs.Passing.{skip_last, take_last}
 use Rattle.swreq_minimal.proofs.Telling.{failure_of, tells_of, wants_memory}
 use Rattle.swreq_minimal.proofs.sifting.take.Goals as goal
@@ -39,13 +34,11 @@ returns-in-Err-holds-clause-failed g c =
 
 pub returns-then-derivable-clause-takes : goal.returns-then-derivable-clause-takes
 returns-then-derivable-clause-takes g c before t =
-    let terms = c.args.table.now in
-    let w = world_by terms c.args.world.now in
-    let list = listed terms c.args.taken.now.items in
-    let built = subst (λ z. IsBuiltFor w c.args.params (listed terms z) c.in-Ok.machine) c.deref.ensures.value c.in-Ok.ensures.machine in
-    let answer = subst (λ (z : Params). IsTrue c.in-Ok-holds.derivable ↔ Derivable (facts_of w) (Written (generic_params z) list) (Requires (requirement_of terms c.args.candidate)))
-    built.params_are (c.in-Ok-holds.ensures list built.machine) in
-    skip_last (facts_of w) (generic_params c.args.params) (requirement_of terms c.args.candidate) t (answer.0 c.if-derivable.true)
+    let w = world_by c.args.table.now c.args.world.now in
+    let r = requirement_of c.args.table.now c.args.candidate in
+    let built = rw c.deref.ensures.value at c.in-Ok.ensures.machine in
+    let answer = built_decides w c.args.params (listed c.args.table.now c.args.taken.now.items) c.in-Ok.machine built r c.in-Ok-holds.derivable c.in-Ok-holds.ensures in
+    skip_last (facts_of w) (generic_params c.args.params) r t (answer.0 c.if-derivable.true)
 
 pub returns-then-derivable-clause-told : goal.returns-then-derivable-clause-told
 returns-then-derivable-clause-told g c =
@@ -56,16 +49,13 @@ returns-then-derivable-clause-told g c =
 
 pub returns-in-Ok-put-clause-takes : goal.returns-in-Ok-put-clause-takes
 returns-in-Ok-put-clause-takes g c before t =
-    let terms = c.args.table.now in
-    let w = world_by terms c.args.world.now in
-    let list = listed terms c.args.taken.now.items in
-    let built = subst (λ z. IsBuiltFor w c.args.params (listed terms z) c.in-Ok.machine) c.deref.ensures.value c.in-Ok.ensures.machine in
-    let answer = subst (λ (z : Params). IsTrue c.in-Ok-holds.derivable ↔ Derivable (facts_of w) (Written (generic_params z) list) (Requires (requirement_of terms c.args.candidate)))
-    built.params_are (c.in-Ok-holds.ensures list built.machine) in
-    subst (λ z. Takes (facts_of w) (generic_params c.args.params) [] (before ++ requirement_of terms c.args.candidate ∷ []) z)
-    (sym (ap (listed terms) c.in-Ok-put.ensures.put ∙ map-append (requirement_of terms) c.args.taken.now.items (c.args.candidate ∷ [])))
-    (take_last (facts_of w) (generic_params c.args.params) (requirement_of terms c.args.candidate) t
-    (λ h. let a = answer.1 h in let b = c.if-derivable.false in cc))
+    let w = world_by c.args.table.now c.args.world.now in
+    let r = requirement_of c.args.table.now c.args.candidate in
+    let built = rw c.deref.ensures.value at c.in-Ok.ensures.machine in
+    let answer = built_decides w c.args.params (listed c.args.table.now c.args.taken.now.items) c.in-Ok.machine built r c.in-Ok-holds.derivable c.in-Ok-holds.ensures in
+    subst (λ z. Takes (facts_of w) (generic_params c.args.params) [] (before ++ r ∷ []) z)
+    (sym (ap (listed c.args.table.now) c.in-Ok-put.ensures.put ∙ map-append (requirement_of c.args.table.now) c.args.taken.now.items (c.args.candidate ∷ [])))
+    (take_last (facts_of w) (generic_params c.args.params) r t (λ h. let a = answer.1 h in let b = c.if-derivable.false in cc))
 
 pub returns-in-Ok-put-clause-known : goal.returns-in-Ok-put-clause-known
 returns-in-Ok-put-clause-known g c =

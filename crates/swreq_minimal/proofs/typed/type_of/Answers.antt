@@ -1,9 +1,10 @@
 use Rattle.std.proofs.Common.{◌≤◌, ◌+◌, arith, length, take, vec_capacity, subst, sym, rules, length-take-le}
+use Rattle.std.proofs.lemmas.List.{take_more}
 use Rattle.std.proofs.lemmas.List.{take_all}
 use Rattle.swreq_param.proofs.Growing.{onward, unchanged}
 use Rattle.swreq_word.specs.declared.symbols.Symbol.TheVariants.{Proto}
 use Rattle.swreq_minimal.specs.Typed.{Identifies, IsTypeBy}
-use Rattle.swreq_minimal.proofs.Typing.{id_there, one_longer, part_least}
+use Rattle.swreq_minimal.proofs.Typing.{id_there, part_least}
 use Rattle.swreq_minimal.proofs.typed.type_of.Goals as goal
 
 pub loop-k-init : goal.loop-k-init
@@ -40,7 +41,7 @@ loop-k-preserved c =
     let m = c.go_on.ensures.room in
     record {
       typed = subst (λ z. Identifies (IsTypeBy c.args.world.now.lexicon c.args.rules.now c.args.params z) c.go_on.new.table c.in_ok-next.next)
-          (sym (one_longer c.args.word.now c.loop-k.k (Proto 0) c.loop-k-test.true))
+          (sym (take_more c.args.word.now c.loop-k.k (Proto 0) c.loop-k-test.true))
           (c.in_ok-next.ensures.typed c.args.params c.loop-k.invariant.typed);
       extends = onward c.begin.new.table c.loop-k.table c.go_on.new.table c.loop-k.invariant.extends c.go_on.ensures.extends;
       room = omega (arith, r, m);

@@ -2,14 +2,12 @@ use Rattle.std.proofs.Common.{arith, refl, ◌∷◌}
 use Rattle.swreq_rounds.specs.Given.{basic_equations, basic_of, doubled, named_from}
 use Rattle.swreq_symbols.specs.Meaning.{symbols_of}
 use Rattle.swreq_valid.proofs.Listing.{parts_all}
-use Rattle.swreq_valid.proofs.OfProtocols.{part_at}
+use Rattle.swreq_valid.proofs.OfProtocols.{basic_at}
 use Rattle.swreq_valid.proofs.basic.basic.Goals as goal
 
 pub loop-k-preserved : goal.loop-k-preserved
 loop-k-preserved c =
-    let m = symbols_of c.args.world.now.lexicon in
-    part_at (basic_of m) (λ p. doubled p ∷ named_from p 0 m.members) (λ p ps. refl) c.args.world.now.lexicon.written_order c.loop-k.k c.proto_at-p.result
-    c.loop-k.v.items c.add_protocol.new.v.items (basic_equations m) c.proto_at-p.ensures c.in_ok-add_protocol.ensures c.loop-k.invariant
+    basic_at c.args.world.now.lexicon c.loop-k.k c.proto_at-p.result _ _ c.proto_at-p.ensures c.in_ok-add_protocol.ensures c.loop-k.invariant
 
 pub returns : goal.returns
 returns c =

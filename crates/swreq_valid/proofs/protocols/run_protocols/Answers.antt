@@ -1,4 +1,5 @@
 use Rattle.std.proofs.Common.{subst, IfOk}
+use Rattle.std.proofs.lemmas.Result.{err_from_is_err_and}
 use Rattle.swreq_world.specs.ByTable.{world_by}
 use Rattle.swreq_valid.specs.Answers.{Answers, IsOnlyOutcome}
 use Rattle.swreq_valid.specs.Machines.{protocols_of}
@@ -9,24 +10,30 @@ use Rattle.swreq_valid.proofs.protocols.run_protocols.Goals as goal
 
 pub run-requires-clause-wanted : goal.run-requires-clause-wanted
 run-requires-clause-wanted g c =
-    protocols_wanted_all c.args.world.now c.args.table.now c.requires.text c.in-Ok-requirements.all.items c.in-Ok-requirements.ensures
+    protocols_wanted_all c.args.world.now c.args.table.now c.requires.text c.in_ok-all.all.items c.in_ok-all.ensures
 
-pub returns-in-Ok-requirements-clause-answer : goal.returns-in-Ok-requirements-clause-answer
-returns-in-Ok-requirements-clause-answer g c = subst (λ p. Answers c.args.limits p (g.W.Watch.told c.args.watch.now) (g.W.Watch.told c.run-in-Ok-requirements.new.watch) (rules_of c.run-in-Ok-requirements.result)) (protocols_plan_is c.args.world.now c.args.table.now c.empty.result (record { basic = c.in-Ok.basic; all = c.in-Ok-requirements.all; limits = c.args.limits }) c.empty.ensures c.in-Ok.ensures c.in-Ok-requirements.ensures) c.run-in-Ok-requirements.ensures.answer
+pub returns-clause-answer : goal.returns-clause-answer
+returns-clause-answer g c = subst (λ p. Answers c.args.limits p (g.W.Watch.told c.args.watch.now) (g.W.Watch.told c.run.new.watch) (rules_of c.run.result)) (protocols_plan_is c.args.world.now c.args.table.now c.empty-none.result (record { basic = c.in_ok-basic.basic; all = c.in_ok-all.all; limits = c.args.limits }) c.empty-none.ensures c.in_ok-basic.ensures c.in_ok-all.ensures) c.run.ensures.answer
 
-pub returns-in-Ok-requirements-clause-only : goal.returns-in-Ok-requirements-clause-only
-returns-in-Ok-requirements-clause-only g c = subst (λ p. IsOnlyOutcome c.args.limits p (rules_of c.run-in-Ok-requirements.result)) (protocols_plan_is c.args.world.now c.args.table.now c.empty.result (record { basic = c.in-Ok.basic; all = c.in-Ok-requirements.all; limits = c.args.limits }) c.empty.ensures c.in-Ok.ensures c.in-Ok-requirements.ensures) c.run-in-Ok-requirements.ensures.only
+pub returns-clause-only : goal.returns-clause-only
+returns-clause-only g c = subst (λ p. IsOnlyOutcome c.args.limits p (rules_of c.run.result)) (protocols_plan_is c.args.world.now c.args.table.now c.empty-none.result (record { basic = c.in_ok-basic.basic; all = c.in_ok-all.all; limits = c.args.limits }) c.empty-none.ensures c.in_ok-basic.ensures c.in_ok-all.ensures) c.run.ensures.only
 
-pub returns-in-Ok-requirements-clause-rounds : goal.returns-in-Ok-requirements-clause-rounds
-returns-in-Ok-requirements-clause-rounds g c = subst (λ p. IfOk c.run-in-Ok-requirements.result (AreRounds c.args.limits p)) (protocols_plan_is c.args.world.now c.args.table.now c.empty.result (record { basic = c.in-Ok.basic; all = c.in-Ok-requirements.all; limits = c.args.limits }) c.empty.ensures c.in-Ok.ensures c.in-Ok-requirements.ensures) c.run-in-Ok-requirements.ensures.rounds
+pub returns-clause-rounds : goal.returns-clause-rounds
+returns-clause-rounds g c = subst (λ p. IfOk c.run.result (AreRounds c.args.limits p)) (protocols_plan_is c.args.world.now c.args.table.now c.empty-none.result (record { basic = c.in_ok-basic.basic; all = c.in_ok-all.all; limits = c.args.limits }) c.empty-none.ensures c.in_ok-basic.ensures c.in_ok-all.ensures) c.run.ensures.rounds
 
-pub returns-in-Ok-requirements-clause-rules : goal.returns-in-Ok-requirements-clause-rules
-returns-in-Ok-requirements-clause-rules g c =
-    protocols_rules (world_by c.args.table.now c.args.world.now) c.requires.text.closed c.args.limits (g.W.Watch.told c.args.watch.now) (g.W.Watch.told c.run-in-Ok-requirements.new.watch) c.run-in-Ok-requirements.result
-    (subst (λ p. Answers c.args.limits p (g.W.Watch.told c.args.watch.now) (g.W.Watch.told c.run-in-Ok-requirements.new.watch) (rules_of c.run-in-Ok-requirements.result)) (protocols_plan_is c.args.world.now c.args.table.now c.empty.result (record { basic = c.in-Ok.basic; all = c.in-Ok-requirements.all; limits = c.args.limits }) c.empty.ensures c.in-Ok.ensures c.in-Ok-requirements.ensures) c.run-in-Ok-requirements.ensures.answer)
+pub returns-clause-rules : goal.returns-clause-rules
+returns-clause-rules g c =
+    protocols_rules (world_by c.args.table.now c.args.world.now) c.requires.text.closed c.args.limits (g.W.Watch.told c.args.watch.now) (g.W.Watch.told c.run.new.watch) c.run.result
+    (subst (λ p. Answers c.args.limits p (g.W.Watch.told c.args.watch.now) (g.W.Watch.told c.run.new.watch) (rules_of c.run.result)) (protocols_plan_is c.args.world.now c.args.table.now c.empty-none.result (record { basic = c.in_ok-basic.basic; all = c.in_ok-all.all; limits = c.args.limits }) c.empty-none.ensures c.in_ok-basic.ensures c.in_ok-all.ensures) c.run.ensures.answer)
 
-pub returns-in-Err-clause-answer : goal.returns-in-Err-clause-answer
-returns-in-Err-clause-answer g c = nothing_told c.args.limits (protocols_of (world_by c.args.table.now c.args.world.now)) (g.W.Watch.told c.args.watch.now)
+pub returns-in_err-basic-clause-answer : goal.returns-in_err-basic-clause-answer
+returns-in_err-basic-clause-answer g c =
+    let p = err_from_is_err_and c.from_residual.result c.from_residual.ensures.1 in
+    rw (p.1, p.2)
+    (nothing_told c.args.limits (protocols_of (world_by c.args.table.now c.args.world.now)) (g.W.Watch.told c.args.watch.now))
 
-pub returns-in-Err-requirements-clause-answer : goal.returns-in-Err-requirements-clause-answer
-returns-in-Err-requirements-clause-answer g c = nothing_told c.args.limits (protocols_of (world_by c.args.table.now c.args.world.now)) (g.W.Watch.told c.args.watch.now)
+pub returns-in_err-all-clause-answer : goal.returns-in_err-all-clause-answer
+returns-in_err-all-clause-answer g c =
+    let p = err_from_is_err_and c.from_residual-in_err-all.result c.from_residual-in_err-all.ensures.1 in
+    rw (p.1, p.2)
+    (nothing_told c.args.limits (protocols_of (world_by c.args.table.now c.args.world.now)) (g.W.Watch.told c.args.watch.now))

@@ -1,8 +1,9 @@
+use Rattle.std.proofs.lemmas.List.{drop_all}
 use Rattle.std.proofs.Common.{◌∙◌, arith, drop, sym, subst, take, take-append-drop}
 use Rattle.std.proofs.lemmas.Option.{get_or_from_slice_get}
 use Rattle.swreq_symbols.specs.Vanishing.{IsLeastBy}
-use Rattle.swreq_valid.proofs.Listing.{past_drop}
-use Rattle.swreq_valid.proofs.Typed.{all_made, none_made, one_made, prefix_least}
+use Rattle.swreq_symbols.proofs.LeastWords.{prefix_least}
+use Rattle.swreq_valid.proofs.Typed.{all_made, none_made, one_made}
 use Rattle.swreq_valid.proofs.reduced.read_steps.Goals as goal
 
 pub loop-k-init : goal.loop-k-init
@@ -31,4 +32,4 @@ loop-k-preserved c = record {
 pub returns-clause-steps : goal.returns-clause-steps
 returns-clause-steps c r h =
     all_made c.args.world.now.lexicon c.args.rules.now c.args.word.now c.loop-k.k c.loop-k.steps.items
-    (past_drop c.args.word.now c.loop-k.k (let t = c.loop-k-test.false in omega (arith, t))) c.loop-k.invariant.made r h
+    (drop_all c.loop-k.k c.args.word.now (let t = c.loop-k-test.false in omega (arith, t))) c.loop-k.invariant.made r h

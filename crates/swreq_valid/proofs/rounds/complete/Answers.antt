@@ -7,13 +7,13 @@ use Rattle.swreq_valid.proofs.rounds.complete.Goals as goal
 
 pub returns-clause-answer : goal.returns-clause-answer
 returns-clause-answer g c =
-    same_answer c.args.start.now.limits c.args.base.now c.in-Ok-copy.copy c.deref.result.now
+    same_answer c.args.start.now.limits c.args.base.now c.in_ok-copy.copy c.deref.result.now
     (given (plan_of c.args.world.now c.args.table.now c.args.base.now c.args.start.now) (chosen (items_of c.args.table.now c.args.start.now.all.items) c.args.used.now))
-    c.extend.result c.in-Ok-copy.ensures (c.deref.ensures.value ∙ c.in-Ok.ensures c.args.base.now) c.extend.ensures.answer
+    c.extend.result c.in_ok-copy.ensures (c.deref.ensures.value ∙ c.in_ok-equations.ensures c.args.base.now) c.extend.ensures.answer
 
 pub returns-clause-told : goal.returns-clause-told
 returns-clause-told g c =
-    same_told c.args.start.now.limits c.args.base.now c.in-Ok-copy.copy c.deref.result.now
+    same_told c.args.start.now.limits c.args.base.now c.in_ok-copy.copy c.deref.result.now
     (given (plan_of c.args.world.now c.args.table.now c.args.base.now c.args.start.now) (chosen (items_of c.args.table.now c.args.start.now.all.items) c.args.used.now))
     (g.W.Watch.told c.args.watch.now) (g.W.Watch.told c.extend.new.watch)
-    c.extend.result c.in-Ok-copy.ensures (c.deref.ensures.value ∙ c.in-Ok.ensures c.args.base.now) c.extend.ensures.told
+    c.extend.result c.in_ok-copy.ensures (c.deref.ensures.value ∙ c.in_ok-equations.ensures c.args.base.now) c.extend.ensures.told
