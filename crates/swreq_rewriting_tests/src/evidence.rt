@@ -1,37 +1,18 @@
 //! Worked rows of loops that show a rule, and of loops that show none.
 
-ghost use Rattle.std.specs.Prelude.{◌≡◌, ⊤, IfOk, OnOk, MatchOption};
+ghost use Rattle.std.specs.Prelude.{IfOk, OnOk};
 ghost use Rattle.swreq_path.specs.Paths.{IsLoop};
 ghost use Rattle.swreq_homotopy.specs.Evidence.{AreLoops};
 
-use crate::shown::{Expected, assert_steps};
+use crate::loops::loop_at;
+use crate::notation::{assert_same, put_path, rules};
 use std::alloc::{AllocError, Global};
+use std::fmt::Write;
 use std::process::Abort;
 use std::test::Fail;
-use swreq_homotopy::{Evidence, loop_of_pair, redundant};
-use swreq_pair::is_pair;
+use swreq_homotopy::{Evidence, redundant};
 use swreq_path::{Loop, compose};
 use swreq_rule::{Place, Rule};
-use swreq_sample_rules::{A, B, C, D, Sides, T, U, V, list};
-use swreq_word::Symbol;
-
-/// The loop of the pair at the place.
-fn loop_at(
-    rt: &impl Abort,
-    alloc: Global,
-    rules: &[Rule],
-    place: Place,
-) -> Result<Option<Loop>, AllocError>
-    ensures { IfOk result (λ found. MatchOption found ⊤ (IsLoop rules.now)) }
-{
-    assert!(rt; rules.len() < 100);
-    assert!(rt; 0 < place.i);
-    assert!(rt; place.i as usize <= rules.len());
-    assert!(rt; 0 < place.j);
-    assert!(rt; place.j as usize <= rules.len());
-    assert!(rt; is_pair(rules, place));
-    loop_of_pair(alloc, rules, place)
-}
 
 /// The loop, gone round twice.
 fn twice(alloc: Global, rules: &[Rule], round: &Loop) -> Result<Loop, AllocError>
@@ -52,135 +33,111 @@ fn add(rules: &[Rule], loops: &mut Vec<Loop>, round: Loop) -> Result<(), AllocEr
     Ok(())
 }
 
+/// The loop gone round twice, and then the loop itself. The first of them uses each rule twice, and so shows none.
+fn loops_of(alloc: Global, rules: &[Rule], round: Loop) -> Result<Vec<Loop>, AllocError>
+    requires { IsLoop rules.now round }
+    ensures { IfOk result (λ loops. AreLoops rules.now loops.items) }
+{
+    let mut loops = Vec::new(alloc);
+    add(rules, &mut loops, twice(alloc, rules, &round)?)?;
+    add(rules, &mut loops, round)?;
+    Ok(loops)
+}
+
+/// Rules, two of them whose pair at place 0 has a loop, the rules that are kept and those that may go, and what the loop shows: a rule,
+/// and the path without it.
+const SHOWN: &[(&str, (u32, u32), &str, &str, &str)] = &[
+    // Three rules over equal generic parameters. The step of the rule shown goes back.
+    (EQUAL, (2, 3), "123", "3", "3: V +2 +1"),
+    // It goes forward.
+    (EQUAL, (2, 3), "123", "1", "1: U -2 +3"),
+    // The first step of the loop that shows a rule.
+    (EQUAL, (2, 3), "123", "123", "2: V +3 -1"),
+    // The rule is not free to go, is not kept, or another rule of the loop is not.
+    (EQUAL, (2, 3), "123", "", "none"),
+    (EQUAL, (2, 3), "12", "3", "none"),
+    (EQUAL, (2, 3), "23", "3", "none"),
+    // A rule in a context is not shown.
+    (CONTEXT, (3, 2), "123", "12", "none"),
+    (CONTEXT, (3, 2), "123", "123", "3: CD +2D +1D"),
+];
+
+const EQUAL: &str = "U>T V>U V>T";
+
+const CONTEXT: &str = "B>A C>B CD>AD";
+
+/// Marks of three rules, by the digits of their numbers.
+fn marks(numbers: &str) -> [bool; 3] {
+    [
+        numbers.contains('1'),
+        numbers.contains('2'),
+        numbers.contains('3'),
+    ]
+}
+
+fn put_evidence(out: &mut String, found: Option<Evidence>) -> Result<(), Fail> {
+    match found {
+        Some(found) => {
+            write!(out, "{}: ", found.rule)?;
+            put_path(out, &found.path)?;
+        }
+        None => out.push_str("none")?,
+    }
+    Ok(())
+}
+
 /// What the loops show.
 fn shown(
     rt: &impl Abort,
     alloc: Global,
     rules: &[Rule],
     loops: &[Loop],
-    keep: &[bool],
-    may: &[bool],
+    keep: &str,
+    may: &str,
 ) -> Result<Option<Evidence>, AllocError>
     requires { AreLoops rules.now loops.now }
 {
-    assert_eq!(rt; keep.len(), rules.len());
-    assert_eq!(rt; may.len(), rules.len());
-    redundant(alloc, rules, loops, keep, may)
+    assert!(rt; rules.len() == 3);
+    redundant(alloc, rules, loops, &marks(keep), &marks(may))
 }
 
-fn assert_evidence(
+/// What the loop of the pair shows.
+fn shown_by_pair(
     rt: &impl Abort,
-    found: &Evidence,
-    number: u32,
-    source: &[Symbol],
-    expected: &[Expected<'_>],
-) {
-    assert_eq!(rt; found.rule, number);
-    assert_eq!(rt; found.path.source(), source);
-    assert_steps(rt, &found.path, expected);
+    alloc: Global,
+    rules: &[Rule],
+    pair: (u32, u32),
+    keep: &str,
+    may: &str,
+) -> Result<Option<Evidence>, Fail> {
+    let (i, j) = pair;
+    let round = loop_at(rt, alloc, rules, Place { i, j, at: 0 })?.ok_or("no loop")?;
+    let loops = loops_of(alloc, rules, round)?;
+    Ok(shown(rt, alloc, rules, &loops, keep, may)?)
 }
 
-/// Three rules over equal generic parameters, with a loop through each.
-const EQUAL: &[Sides<'static>] = &[(&[U], &[T]), (&[V], &[U]), (&[V], &[T])];
-
-/// Which rules may go, and the rule that the loop shows, with its evidence.
-const SHOWN: &[([bool; 3], u32, &[Symbol], &[Expected<'static>])] = &[
-    // Its step goes back.
-    (
-        [false, false, true],
-        3,
-        &[V],
-        &[(&[], 2, true, &[]), (&[], 1, true, &[])],
-    ),
-    // Its step goes forward.
-    (
-        [true, false, false],
-        1,
-        &[U],
-        &[(&[], 2, false, &[]), (&[], 3, true, &[])],
-    ),
-    // The first step of the loop that shows a rule.
-    (
-        [true, true, true],
-        2,
-        &[V],
-        &[(&[], 3, true, &[]), (&[], 1, false, &[])],
-    ),
-];
-
-/// Which rules are kept and which may go, where the loop shows none.
-const NOT_SHOWN: &[([bool; 3], [bool; 3])] = &[
-    // The rule is not free to go, is not kept, or another rule of the loop is not.
-    ([true, true, true], [false, false, false]),
-    ([true, true, false], [false, false, true]),
-    ([false, true, true], [false, false, true]),
-];
+fn put_shown(
+    rt: &impl Abort,
+    alloc: Global,
+    text: &str,
+    pair: (u32, u32),
+    keep: &str,
+    may: &str,
+    out: &mut String,
+) -> Result<(), Fail> {
+    let list = rules(alloc, text)?;
+    put_evidence(
+        out,
+        shown_by_pair(rt, alloc, list.rules(), pair, keep, may)?,
+    )
+}
 
 #[test]
-fn a_loop_shows_rules_that_are_kept_and_may_go(rt: HostRuntime) -> Result<(), Fail> {
-    let list = list(rt.alloc(), EQUAL)?;
-    let rules = list.rules();
-    let place = Place { i: 2, j: 3, at: 0 };
-    let round = loop_at(&rt, rt.alloc(), rules, place)?.ok_or("no loop")?;
-    let mut loops = Vec::new(rt.alloc());
-    add(rules, &mut loops, round)?;
-    for (may, number, source, steps) in SHOWN {
-        let found = shown(&rt, rt.alloc(), rules, &loops, &[true, true, true], may)?.ok_or("none")?;
-        assert_evidence(&rt, &found, *number, source, steps);
+fn a_loop_shows_rules_that_it_uses_bare_and_once(rt: HostRuntime) -> Result<(), Fail> {
+    for (text, pair, keep, may, wanted) in SHOWN {
+        let mut out = String::new(rt.alloc());
+        put_shown(&rt, rt.alloc(), text, *pair, keep, may, &mut out)?;
+        assert_same(&rt, &out, wanted);
     }
-    for (keep, may) in NOT_SHOWN {
-        let found = shown(&rt, rt.alloc(), rules, &loops, keep, may)?;
-        assert!(rt; found.is_none());
-    }
-    Ok(())
-}
-
-#[test]
-fn a_loop_does_not_show_a_rule_that_it_uses_in_a_context(rt: HostRuntime) -> Result<(), Fail> {
-    let list = list(
-        rt.alloc(),
-        &[(&[B], &[A]), (&[C], &[B]), (&[C, D], &[A, D])],
-    )?;
-    let rules = list.rules();
-    let place = Place { i: 3, j: 2, at: 0 };
-    let round = loop_at(&rt, rt.alloc(), rules, place)?.ok_or("no loop")?;
-    let mut loops = Vec::new(rt.alloc());
-    add(rules, &mut loops, round)?;
-    let keep = [true, true, true];
-    let none = shown(&rt, rt.alloc(), rules, &loops, &keep, &[true, true, false])?;
-    assert!(rt; none.is_none());
-    let found = shown(&rt, rt.alloc(), rules, &loops, &keep, &keep)?.ok_or("none")?;
-    assert_evidence(
-        &rt,
-        &found,
-        3,
-        &[C, D],
-        &[(&[], 2, true, &[D]), (&[], 1, true, &[D])],
-    );
-    Ok(())
-}
-
-#[test]
-fn a_loop_does_not_show_a_rule_that_it_uses_twice(rt: HostRuntime) -> Result<(), Fail> {
-    let list = list(rt.alloc(), EQUAL)?;
-    let rules = list.rules();
-    let place = Place { i: 2, j: 3, at: 0 };
-    let round = loop_at(&rt, rt.alloc(), rules, place)?.ok_or("no loop")?;
-    let double = twice(rt.alloc(), rules, &round)?;
-    let mut loops = Vec::new(rt.alloc());
-    add(rules, &mut loops, double)?;
-    let keep = [true, true, true];
-    let none = shown(&rt, rt.alloc(), rules, &loops, &keep, &keep)?;
-    assert!(rt; none.is_none());
-    // A loop that comes later shows it.
-    add(rules, &mut loops, round)?;
-    let found = shown(&rt, rt.alloc(), rules, &loops, &keep, &[false, false, true])?.ok_or("none")?;
-    assert_evidence(
-        &rt,
-        &found,
-        3,
-        &[V],
-        &[(&[], 2, true, &[]), (&[], 1, true, &[])],
-    );
     Ok(())
 }

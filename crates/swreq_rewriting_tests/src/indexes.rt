@@ -1,86 +1,111 @@
 //! The trie of the left sides of rules, against the list of rules.
 
-use crate::completions::{CONFORMING, ended, protocol};
+use crate::notation::{assert_same, put_place, rules};
+use crate::tries::put_places;
 use std::alloc::Global;
 use std::process::Abort;
 use std::test::Fail;
-use swreq_pair::pairs_up_to;
-use swreq_rule::{Birth, Rule, RuleList};
-use swreq_sample_rules::{A, B, C, D, N, N_NEXT, NEXT, rule};
-use swreq_trie::Trie;
-use swreq_watch::Quiet;
-use swreq_word::Symbol;
+use swreq_pair::{Pair, pairs_up_to};
+use swreq_rule::Rule;
+use swreq_trie::{Found, Trie};
 
-/// The places of each rule with those before it and with itself are those of its pairs.
-fn assert_same_places(
+/// The places of the rule with this number, after which its left side is stored.
+fn put_by_trie(
     rt: &impl Abort,
-    alloc: Global,
+    rule: &Rule,
+    number: u32,
+    trie: &mut Trie,
+    found: &mut Found,
+    out: &mut String,
+) -> Result<(), Fail> {
+    let left = rule.left.symbols();
+    assert!(rt; 0 < left.len());
+    trie.find_overlaps(left, number, found)?;
+    put_places(out, found.places())?;
+    trie.insert(left, number)?;
+    Ok(())
+}
+
+/// The places of each rule with those before it and with itself, by the trie, in room that is kept.
+fn put_all_by_trie(
+    rt: &impl Abort,
     rules: &[Rule],
-    index: &Trie,
+    trie: &mut Trie,
+    found: &mut Found,
+    out: &mut String,
 ) -> Result<(), Fail> {
     assert!(rt; rules.len() < 1000);
-    for (k, rule) in rules.iter().enumerate() {
-        let greater = k as u32 + 1;
-        let left = rule.left.symbols();
-        assert!(rt; 0 < left.len());
-        let places = index.overlaps(alloc, left, greater)?;
-        let pairs = pairs_up_to(alloc, rules, greater)?;
-        assert_eq!(rt; places.len(), pairs.len());
-        for (place, pair) in places.iter().zip(&pairs) {
-            assert_eq!(rt; *place, pair.place);
-        }
+    for k in 0..rules.len() {
+        put_by_trie(rt, &rules[k], k as u32 + 1, trie, found, out)?;
     }
     Ok(())
 }
 
-/// The trie and the list have the same places, where each left side is that of a rule to the empty word.
-fn assert_agreement(rt: &impl Abort, alloc: Global, lefts: &[&[Symbol]]) -> Result<(), Fail> {
-    let mut rules = RuleList::new(alloc);
-    let mut trie = Trie::new(alloc);
-    assert!(rt; lefts.len() < 1000);
-    for (k, left) in lefts.iter().enumerate() {
-        assert!(rt; 0 < left.len());
-        trie.insert(left, k as u32 + 1)?;
-        let rule = rule(alloc, &(left, &[]), Birth::Given(1))?;
-        rules.push(rule).map_err(|_| "no memory")?;
+/// The same by the list.
+fn put_all_by_list(
+    rt: &impl Abort,
+    alloc: Global,
+    rules: &[Rule],
+    out: &mut String,
+) -> Result<(), Fail> {
+    assert!(rt; rules.len() < 1000);
+    for k in 0..rules.len() {
+        put_pairs(out, &pairs_up_to(alloc, rules, k as u32 + 1)?)?;
     }
-    assert_same_places(rt, alloc, rules.rules(), &trie)
+    Ok(())
 }
 
-/// Left sides of rules.
-const LEFTS: &[&[&[Symbol]]] = &[
+fn put_pairs(out: &mut String, pairs: &[Pair]) -> Result<(), Fail> {
+    for pair in pairs {
+        out.push(' ')?;
+        put_place(out, &pair.place)?;
+    }
+    Ok(())
+}
+
+fn put_by_new_trie(
+    rt: &impl Abort,
+    alloc: Global,
+    rules: &[Rule],
+    out: &mut String,
+) -> Result<(), Fail> {
+    let mut trie = Trie::new(alloc);
+    let mut found = Found::new(alloc);
+    put_all_by_trie(rt, rules, &mut trie, &mut found, out)
+}
+
+/// The trie and the list have the same places.
+fn assert_agreement(rt: &impl Abort, alloc: Global, rules: &[Rule]) -> Result<(), Fail> {
+    let mut found = String::new(alloc);
+    put_by_new_trie(rt, alloc, rules, &mut found)?;
+    let mut wanted = String::new(alloc);
+    put_all_by_list(rt, alloc, rules, &mut wanted)?;
+    assert_same(rt, &found, &wanted);
+    Ok(())
+}
+
+/// Rules, of which some go to the empty word.
+const RULES: &[&str] = &[
     // Containments at place 0, within and at the end, of the later side in the earlier one and the other way.
-    &[&[A, B, C], &[A], &[B], &[C], &[A, B], &[B, C]],
-    &[&[A], &[B], &[C], &[A, B], &[B, C], &[A, B, C]],
+    "ABC> A> B> C> AB> BC>",
+    "A> B> C> AB> BC> ABC>",
     // A side that overlaps itself.
-    &[&[A, B, A, B, A], &[B, A, B]],
+    "ABABA> BAB>",
     // Overlaps of all but one symbol, both ways.
-    &[&[A, B, C, D], &[B, C, D, A], &[C, D, A, B]],
+    "ABCD> BCDA> CDAB>",
     // Equal prefixes, of which one is a side.
-    &[&[A, A, C], &[A, A, A], &[A, A, D], &[A, A], &[A, A, B, A]],
+    "AAC> AAA> AAD> AA> AABA>",
     // One side under two numbers.
-    &[&[A, B], &[B, A], &[A, B]],
-    &[&[D, C, B, A], &[A, B, C, D], &[D], &[A, D, C], &[B, A, D]],
+    "AB> BA> AB>",
+    "DCBA> ABCD> D> ADC> BAD>",
+    // Those of a protocol N with a member A, and of a generic parameter that conforms to it.
+    "NN>N NA>a aN>a Na>a aA>aa TN>T TA>Ta",
 ];
 
 #[test]
 fn the_trie_and_the_list_have_the_same_places(rt: HostRuntime) -> Result<(), Fail> {
-    for lefts in LEFTS {
-        assert_agreement(&rt, rt.alloc(), lefts)?;
+    for text in RULES {
+        assert_agreement(&rt, rt.alloc(), rules(rt.alloc(), text)?.rules())?;
     }
     Ok(())
-}
-
-#[test]
-fn the_index_has_the_left_sides_by_their_numbers(rt: HostRuntime) -> Result<(), Fail> {
-    let base = protocol(rt.alloc(), &mut Quiet)?;
-    let rules = ended(rt.alloc(), base, CONFORMING, &mut Quiet)?;
-    let w = [N, N_NEXT, NEXT];
-    let index = rules.index();
-    assert_eq!(rt; index.find_at(&w, 0), Some(4));
-    assert_eq!(rt; index.find_at(&w, 1), Some(5));
-    assert_eq!(rt; index.find_at(&w, 2), None);
-    assert_eq!(rt; index.find_at(&w, 3), None);
-    assert_eq!(rt; index.entries().len(), 7);
-    assert_same_places(&rt, rt.alloc(), rules.rules(), index)
 }

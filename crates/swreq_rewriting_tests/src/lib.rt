@@ -10,6 +10,8 @@ mod indexes;
 #[cfg(test)]
 mod loops;
 #[cfg(test)]
+mod notation;
+#[cfg(test)]
 mod pairs;
 #[cfg(test)]
 mod paths;
@@ -17,8 +19,6 @@ mod paths;
 mod properties;
 #[cfg(test)]
 mod rules;
-#[cfg(test)]
-mod shown;
 #[cfg(test)]
 mod tries;
 #[cfg(test)]

@@ -1,62 +1,86 @@
 //! Worked rows of paths.
 
-use crate::shown::{Expected, assert_steps};
+ghost use Rattle.swreq_path.specs.Paths.{HasTarget, IsPath};
+
+use crate::notation::{assert_same, put_path, put_word, rules, word};
+use std::alloc::Global;
+use std::process::Abort;
 use std::test::Fail;
-use swreq_path::{compose, invert, path_of};
-use swreq_sample_rules::{N, N_NEXT, NEXT, Sides, T, list};
+use swreq_path::{Path, compose, invert, path_of};
+use swreq_rule::Rule;
 
-const RULES: &[Sides<'static>] = &[
-    (&[N, N], &[N]),
-    (&[N, NEXT], &[N_NEXT]),
-    (&[N_NEXT, N], &[N_NEXT]),
-    (&[N, N_NEXT], &[N_NEXT]),
-    (&[N_NEXT, NEXT], &[N_NEXT, N_NEXT]),
-    (&[T, N], &[T]),
-    (&[T, NEXT], &[T, N_NEXT]),
+/// The rules of a protocol N with a member A, and of a generic parameter that conforms to it.
+const RULES: &str = "NN>N NA>a aN>a Na>a aA>aa TN>T TA>Ta";
+
+/// A word, and the path of its reduction, the path back, and both.
+const WAYS: &[(&str, &str)] = &[
+    (
+        "TAA",
+        "TAA +7A T+5 = Taa; Taa T-5 -7A = TAA; TAA +7A T+5 T-5 -7A = TAA; ",
+    ),
+    ("Ta", "Ta = Ta; Ta = Ta; Ta = Ta; "),
 ];
 
-/// The path of the word `T Next Next`, the path back, and both.
-const FORTH: &[Expected<'static>] = &[(&[], 7, true, &[NEXT]), (&[T], 5, true, &[])];
-
-const BACK: &[Expected<'static>] = &[(&[T], 5, false, &[]), (&[], 7, false, &[NEXT])];
-
-const BOTH: &[Expected<'static>] = &[
-    (&[], 7, true, &[NEXT]),
-    (&[T], 5, true, &[]),
-    (&[T], 5, false, &[]),
-    (&[], 7, false, &[NEXT]),
-];
-
-#[test]
-fn the_path_of_next_twice_goes_forth_and_back(rt: HostRuntime) -> Result<(), Fail> {
-    let alloc = rt.alloc();
-    let list = list(alloc, RULES)?;
-    let rules = list.rules();
-    assert_eq!(rt; rules.len(), 7);
-    let forth = path_of(alloc, rules, &[T, NEXT, NEXT])?;
-    assert_eq!(rt; forth.source(), [T, NEXT, NEXT].as_slice());
-    assert_steps(&rt, &forth, FORTH);
-    let end = forth.target(alloc, rules)?;
-    assert_eq!(rt; end.symbols(), [T, N_NEXT, N_NEXT].as_slice());
-    let back = invert(alloc, rules, &forth)?;
-    assert_eq!(rt; back.source(), [T, N_NEXT, N_NEXT].as_slice());
-    assert_steps(&rt, &back, BACK);
-    let both = compose(alloc, rules, &forth, &back)?;
-    assert_steps(&rt, &both, BOTH);
-    let home = both.target(alloc, rules)?;
-    assert_eq!(rt; home.symbols(), [T, NEXT, NEXT].as_slice());
+/// The path, and the word to which it leads.
+pub(crate) fn put_way(
+    alloc: Global,
+    rules: &[Rule],
+    path: &Path,
+    out: &mut String,
+) -> Result<(), Fail>
+    requires { IsPath rules.now path.now }
+{
+    put_path(out, path)?;
+    out.push_str(" = ")?;
+    put_word(out, path.target(alloc, rules)?.symbols())?;
+    out.push_str("; ")?;
     Ok(())
 }
 
+/// Both paths, one after the other.
+fn put_both(
+    alloc: Global,
+    rules: &[Rule],
+    forth: &Path,
+    back: &Path,
+    out: &mut String,
+) -> Result<(), Fail>
+    requires first { HasTarget rules.now forth.now back.now.start }
+    requires second { IsPath rules.now back.now }
+{
+    put_way(alloc, rules, &compose(alloc, rules, forth, back)?, out)
+}
+
+/// The path back, and both.
+fn put_back(alloc: Global, rules: &[Rule], forth: &Path, out: &mut String) -> Result<(), Fail>
+    requires { IsPath rules.now forth.now }
+{
+    let back = invert(alloc, rules, forth)?;
+    put_way(alloc, rules, &back, out)?;
+    put_both(alloc, rules, forth, &back, out)
+}
+
+/// The path of the reduction of the word, the path back, and both.
+fn put_ways(
+    rt: &impl Abort,
+    alloc: Global,
+    rules: &[Rule],
+    letters: &str,
+    out: &mut String,
+) -> Result<(), Fail> {
+    assert!(rt; rules.len() < 1000);
+    let forth = path_of(alloc, rules, &word(alloc, letters)?)?;
+    put_way(alloc, rules, &forth, out)?;
+    put_back(alloc, rules, &forth, out)
+}
+
 #[test]
-fn the_path_of_an_irreducible_word_has_no_steps(rt: HostRuntime) -> Result<(), Fail> {
-    let alloc = rt.alloc();
-    let list = list(alloc, &[(&[N, N], &[N])])?;
-    let rules = list.rules();
-    assert_eq!(rt; rules.len(), 1);
-    let path = path_of(alloc, rules, &[T, N])?;
-    assert_steps(&rt, &path, &[]);
-    let end = path.target(alloc, rules)?;
-    assert_eq!(rt; end.symbols(), [T, N].as_slice());
+fn paths_of_reduction_go_forth_and_back(rt: HostRuntime) -> Result<(), Fail> {
+    let list = rules(rt.alloc(), RULES)?;
+    for (letters, wanted) in WAYS {
+        let mut out = String::new(rt.alloc());
+        put_ways(&rt, rt.alloc(), list.rules(), letters, &mut out)?;
+        assert_same(&rt, &out, wanted);
+    }
     Ok(())
 }

@@ -1,112 +1,105 @@
-//! Worked rows of reduction, and the calls of lists and rules.
+//! Worked rows of reduction, and of where words meet.
 
+use crate::notation::{assert_same, put_word, rules, word};
 use std::alloc::{AllocError, Global};
+use std::fmt::Write;
 use std::test::Fail;
-use swreq_rule::{Birth, Redex, RuleList, contains, first_redex, overlaps};
-use swreq_sample_rules::{A, B, C, D, N, N_NEXT, NEXT, Sides, T, list, word};
-use swreq_word::Symbol;
+use swreq_rule::{Redex, RuleList, contains, first_redex, overlaps};
 
-fn reduced(alloc: Global, rules: &RuleList, w: &[Symbol]) -> Result<Vec<Symbol>, AllocError> {
-    let mut symbols = Vec::from_slice(alloc, w)?;
-    rules.reduce(&mut symbols);
-    Ok(symbols)
-}
+/// The rules of a protocol N with a member A, and of a generic parameter that conforms to it.
+const CONFORMING: &str = "NN>N Na>a NA>a aN>a aA>aa TN>T TA>Ta";
 
-/// The rules of a protocol N with a member Next, and of a generic parameter that conforms to it.
-const CONFORMING: &[Sides<'static>] = &[
-    (&[N, N], &[N]),
-    (&[N, N_NEXT], &[N_NEXT]),
-    (&[N, NEXT], &[N_NEXT]),
-    (&[N_NEXT, N], &[N_NEXT]),
-    (&[N_NEXT, NEXT], &[N_NEXT, N_NEXT]),
-    (&[T, N], &[T]),
-    (&[T, NEXT], &[T, N_NEXT]),
+const RULES: &str = "ABC>AA B>A CD>C CD>D CDD>D";
+
+/// Rules, a word, the number of the rule whose left side stands first in it, with its place, and the word to which it reduces.
+const REDUCED: &[(&str, &str, &str)] = &[
+    (CONFORMING, "TAA", "7 at 0, Taa"),
+    (RULES, "", "none, "),
+    (RULES, "DC", "none, DC"),
+    // The left side that begins first, though a shorter one stands within it.
+    (RULES, "ABC", "1 at 0, AA"),
+    // The step at the first place, which makes a left side begin there.
+    (RULES, "BBC", "2 at 0, AA"),
+    // Of two with one left side, the one with the least number.
+    (RULES, "CD", "3 at 0, C"),
+    // A shorter left side at the same place, though a longer one begins there too.
+    (RULES, "CDD", "3 at 0, C"),
+    (RULES, "DCD", "3 at 1, DC"),
+    (RULES, "DDB", "2 at 2, DDA"),
+    (RULES, "BCDD", "2 at 0, AC"),
+    (RULES, "ACDD", "3 at 1, AC"),
 ];
 
-#[test]
-fn next_twice_reduces_to_bound_members(rt: HostRuntime) -> Result<(), Fail> {
-    let rules = list(rt.alloc(), CONFORMING)?;
-    let w = reduced(rt.alloc(), &rules, &[T, NEXT, NEXT])?;
-    assert_eq!(rt; w.as_slice(), [T, N_NEXT, N_NEXT].as_slice());
+fn put_redex(out: &mut String, redex: Option<Redex>) -> Result<(), Fail> {
+    match redex {
+        Some(redex) => write!(out, "{} at {}, ", redex.number, redex.at)?,
+        None => out.push_str("none, ")?,
+    }
     Ok(())
 }
 
-const RULES: &[Sides<'static>] = &[
-    (&[A, B, C], &[A, A]),
-    (&[B], &[A]),
-    (&[C, D], &[C]),
-    (&[C, D], &[D]),
-    (&[C, D, D], &[D]),
-];
+/// The first redex of the word, and the word to which it reduces.
+fn put_reduced(
+    alloc: Global,
+    list: &RuleList,
+    letters: &str,
+    out: &mut String,
+) -> Result<(), Fail> {
+    let mut w = word(alloc, letters)?;
+    put_redex(out, first_redex(list.rules(), &w))?;
+    list.reduce(&mut w);
+    put_word(out, &w)?;
+    Ok(())
+}
 
-/// Words, and what they reduce to by those rules.
-const REDUCED: &[Sides<'static>] = &[
-    (&[], &[]),
-    (&[D, C], &[D, C]),
-    // The left side that begins first, though a shorter one stands within it.
-    (&[A, B, C], &[A, A]),
-    // The step at the first place, which makes a left side begin there.
-    (&[B, B, C], &[A, A]),
-    // Of two with one left side, the one with the least number.
-    (&[C, D], &[C]),
-    // A shorter left side at the same place, though a longer one begins there too.
-    (&[C, D, D], &[C]),
-    (&[D, C, D], &[D, C]),
-];
-
-/// Words, and where the first left side stands in them.
-const REDEXES: &[(&[Symbol], Redex)] = &[
-    (&[D, D, B], Redex { at: 2, number: 2 }),
-    (&[B, C, D, D], Redex { at: 0, number: 2 }),
-    (&[A, C, D, D], Redex { at: 1, number: 3 }),
-];
+fn put_reduced_by(alloc: Global, text: &str, letters: &str, out: &mut String) -> Result<(), Fail> {
+    put_reduced(alloc, &rules(alloc, text)?, letters, out)
+}
 
 #[test]
 fn reduction_takes_the_earliest_place_and_there_the_shortest_left_side(
     rt: HostRuntime,
 ) -> Result<(), Fail> {
-    let rules = list(rt.alloc(), RULES)?;
-    for (w, expected) in REDUCED {
-        let result = reduced(rt.alloc(), &rules, w)?;
-        assert_eq!(rt; result.as_slice(), *expected);
-        assert_eq!(rt; first_redex(rules.rules(), &result), None);
-    }
-    for (w, expected) in REDEXES {
-        assert_eq!(rt; first_redex(rules.rules(), w), Some(*expected));
+    for (text, letters, wanted) in REDUCED {
+        let mut out = String::new(rt.alloc());
+        put_reduced_by(rt.alloc(), text, letters, &mut out)?;
+        assert_same(&rt, &out, wanted);
     }
     Ok(())
 }
 
-#[test]
-fn a_list_grows_and_gives_back_its_last_rule(rt: HostRuntime) -> Result<(), Fail> {
-    let mut rules = list(rt.alloc(), &[(&[B], &[A]), (&[C], &[A])])?;
-    assert_eq!(rt; rules.rules().len(), 2);
-    let last = rules.pop().ok_or("no rule")?;
-    let copy = last.clone()?;
-    assert!(rt; copy.left == word(rt.alloc(), &[C])?);
-    assert!(rt; copy.right == last.right);
-    assert_eq!(rt; copy.birth, Birth::Given(1));
-    assert_eq!(rt; rules.rules().len(), 1);
-    Ok(())
-}
-
-/// Two left sides and a place in the first; whether the second overlaps it from there, and whether it stands in it there.
-const PLACES: &[(&[Symbol], &[Symbol], usize, bool, bool)] = &[
-    (&[A, B, C], &[B, C, D], 1, true, false),
-    (&[A, B, C], &[C, D], 2, true, false),
-    (&[A, B, C], &[B], 1, false, true),
-    (&[A, B, C], &[B, C], 1, false, true),
-    (&[A, B], &[A, B], 0, false, true),
-    (&[A, B], &[A, B, C], 0, false, false),
-    (&[A, B], &[], 2, false, true),
-    (&[A, B], &[C], 2, false, false),
-    (&[A, B], &[A], 3, false, false),
+/// Two left sides and a place in the first, and how the second stands to the first there.
+const PLACES: &[(&str, &str, usize, &str)] = &[
+    ("ABC", "BCD", 1, "overlap"),
+    ("ABC", "CD", 2, "overlap"),
+    ("ABC", "B", 1, "containment"),
+    ("ABC", "BC", 1, "containment"),
+    ("AB", "AB", 0, "containment"),
+    ("AB", "ABC", 0, "neither"),
+    ("AB", "", 2, "containment"),
+    ("AB", "C", 2, "neither"),
+    ("AB", "A", 3, "neither"),
 ];
 
-#[test]
-fn words_overlap_or_stand_in_each_other(rt: HostRuntime) {
-    for (l, m, at, overlap, containment) in PLACES {
-        assert_eq!(rt; overlaps(l, m, *at), *overlap);
-        assert_eq!(rt; contains(l, m, *at), *containment);
+fn kind(overlap: bool, containment: bool) -> &'static str {
+    match (overlap, containment) {
+        (true, false) => "overlap",
+        (false, true) => "containment",
+        (false, false) => "neither",
+        (true, true) => "both",
     }
+}
+
+fn meeting(alloc: Global, l: &str, m: &str, at: usize) -> Result<&'static str, AllocError> {
+    let l = word(alloc, l)?;
+    let m = word(alloc, m)?;
+    Ok(kind(overlaps(&l, &m, at), contains(&l, &m, at)))
+}
+
+#[test]
+fn words_overlap_or_stand_in_each_other(rt: HostRuntime) -> Result<(), Fail> {
+    for (l, m, at, wanted) in PLACES {
+        assert_same(&rt, meeting(rt.alloc(), l, m, *at)?, wanted);
+    }
+    Ok(())
 }

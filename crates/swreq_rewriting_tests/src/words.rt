@@ -1,10 +1,12 @@
 //! Worked rows of the order of words and of the table, and the impls of `Word` through their bounds.
 
+use crate::notation::{assert_same, put_word, word};
 use indexmap::IndexSet;
+use std::alloc::{AllocError, Global};
 use std::cmp::Ordering;
+use std::fmt::Write;
 use std::test::Fail;
-use swreq_sample_rules::{N, N_NEXT, NEXT, T, word};
-use swreq_word::{Symbol, WordTable, compare};
+use swreq_word::{Symbol, Word, WordTable, compare};
 
 const ASCENDING: &[Symbol] = &[
     Symbol::Proto(0),
@@ -23,52 +25,88 @@ const ASCENDING: &[Symbol] = &[
 fn symbols_go_by_kind_and_then_by_number(rt: HostRuntime) {
     for (i, a) in ASCENDING.iter().enumerate() {
         for (j, b) in ASCENDING.iter().enumerate() {
-            assert_eq!(rt; a.cmp(b), i.cmp(&j));
+            assert!(rt; a.cmp(b) == i.cmp(&j));
         }
     }
 }
 
 /// Two words, and how they compare.
-const ORDERED: &[(&[Symbol], &[Symbol], Ordering)] = &[
-    (&[], &[], Ordering::Equal),
-    (&[], &[N], Ordering::Less),
-    (&[Symbol::Layout], &[N, N], Ordering::Less),
-    (&[N, N], &[Symbol::Layout], Ordering::Greater),
-    (&[T, N], &[T, NEXT], Ordering::Less),
-    (&[NEXT, N], &[T, Symbol::Layout], Ordering::Greater),
-    (&[T, N_NEXT, NEXT], &[T, N_NEXT, NEXT], Ordering::Equal),
+const ORDERED: &[(&str, &str, &str)] = &[
+    ("", "", "equal"),
+    ("", "N", "less"),
+    ("L", "NN", "less"),
+    ("NN", "L", "greater"),
+    ("TN", "TA", "less"),
+    ("AN", "TL", "greater"),
+    ("TaA", "TaA", "equal"),
 ];
 
-#[test]
-fn shorter_words_come_before_longer_ones(rt: HostRuntime) {
-    for (a, b, order) in ORDERED {
-        assert_eq!(rt; compare(a, b), *order);
+fn compared(alloc: Global, a: &str, b: &str) -> Result<&'static str, Fail> {
+    match compare(&word(alloc, a)?, &word(alloc, b)?) {
+        Ordering::Less => Ok("less"),
+        Ordering::Equal => Ok("equal"),
+        Ordering::Greater => Ok("greater"),
     }
 }
 
-/// Words, each to have its place as its id.
-const INTERNED: &[&[Symbol]] = &[
-    &[N, N],
-    &[N, N_NEXT],
-    &[N, NEXT],
-    &[N_NEXT, N],
-    &[N_NEXT, NEXT],
-    &[T, N],
-    &[T, NEXT],
-];
+#[test]
+fn shorter_words_come_before_longer_ones(rt: HostRuntime) -> Result<(), Fail> {
+    for (a, b, wanted) in ORDERED {
+        assert_same(&rt, compared(rt.alloc(), a, b)?, wanted);
+    }
+    Ok(())
+}
+
+/// The place that the word takes in the table, and the word that stands there.
+fn put_interned(out: &mut String, table: &mut WordTable, w: &[Symbol]) -> Result<(), Fail> {
+    let id = table.intern(w)?;
+    write!(out, "{}:", id.place)?;
+    put_word(out, table.word(id))?;
+    out.push(' ')?;
+    Ok(())
+}
+
+/// The place of the word in the table.
+fn put_found(
+    alloc: Global,
+    table: &WordTable,
+    letters: &str,
+    out: &mut String,
+) -> Result<(), Fail> {
+    match table.find(&word(alloc, letters)?) {
+        Some(id) => write!(out, "{} ", id.place)?,
+        None => out.push_str("none ")?,
+    }
+    Ok(())
+}
+
+/// The same of each of the words.
+fn put_all(
+    alloc: Global,
+    words: &[&str],
+    table: &mut WordTable,
+    out: &mut String,
+) -> Result<(), Fail> {
+    for letters in words {
+        put_interned(out, table, &word(alloc, letters)?)?;
+    }
+    Ok(())
+}
+
+/// The same in a new table, and then the places of a word that it lacks and of one that it has.
+fn put_table(alloc: Global, words: &[&str], out: &mut String) -> Result<(), Fail> {
+    let mut table = WordTable::new(alloc);
+    put_all(alloc, words, &mut table, out)?;
+    put_found(alloc, &table, "T", out)?;
+    put_found(alloc, &table, "TN", out)
+}
 
 #[test]
 fn words_interned_twice_keep_their_ids(rt: HostRuntime) -> Result<(), Fail> {
-    let mut table = WordTable::new(rt.alloc());
-    for _ in 0..2 {
-        for (place, w) in INTERNED.iter().enumerate() {
-            let id = table.intern(w)?;
-            assert_eq!(rt; id.place, place);
-            assert_eq!(rt; table.word(id), *w);
-        }
-    }
-    assert_eq!(rt; table.find(&[T, N]).map(|id| id.place), Some(5));
-    assert_eq!(rt; table.find(&[T]), None);
+    let mut out = String::new(rt.alloc());
+    let words = ["NN", "Na", "TN", "NN", "TN", "TA", "Na"];
+    put_table(rt.alloc(), &words, &mut out)?;
+    assert_same(&rt, &out, "0:NN 1:Na 2:TN 0:NN 2:TN 3:TA 1:Na none 2 ");
     Ok(())
 }
 
@@ -76,23 +114,31 @@ fn smaller<O: Ord + Drop>(a: O, b: O) -> O {
     if a < b { a } else { b }
 }
 
-#[test]
-fn words_compare_by_their_symbols(rt: HostRuntime) -> Result<(), Fail> {
-    let short = word(rt.alloc(), &[Symbol::Layout])?;
-    let copy = short.clone()?;
-    assert!(rt; short == copy);
-    assert!(rt; short != word(rt.alloc(), &[N])?);
-    assert_eq!(rt; short.partial_cmp(&copy), Some(Ordering::Equal));
-    let long = word(rt.alloc(), &[N, N])?;
-    assert!(rt; smaller(long, short) == copy);
-    Ok(())
+fn smaller_word(alloc: Global, a: &str, b: &str) -> Result<Word, AllocError> {
+    Ok(smaller(Word::new(word(alloc, a)?), Word::new(word(alloc, b)?)))
+}
+
+/// Whether the word is in the set.
+fn has(alloc: Global, words: &IndexSet<Word>, letters: &str) -> Result<bool, AllocError> {
+    let w = Word::new(word(alloc, letters)?);
+    Ok(words.contains(&w.clone()?))
+}
+
+/// The set of the smaller word.
+fn set_of_smaller(alloc: Global, a: &str, b: &str) -> Result<IndexSet<Word>, AllocError> {
+    let mut words = IndexSet::new(alloc);
+    words.insert(smaller_word(alloc, a, b)?)?;
+    Ok(words)
+}
+
+/// Whether the word is in the set of the smaller one of two words.
+fn is_smaller(alloc: Global, letters: &str) -> Result<bool, AllocError> {
+    has(alloc, &set_of_smaller(alloc, "NN", "L")?, letters)
 }
 
 #[test]
-fn words_hash_by_their_symbols(rt: HostRuntime) -> Result<(), Fail> {
-    let mut words = IndexSet::new(rt.alloc());
-    words.insert(word(rt.alloc(), &[Symbol::Layout])?)?;
-    assert!(rt; words.contains(&word(rt.alloc(), &[Symbol::Layout])?));
-    assert!(rt; !words.contains(&word(rt.alloc(), &[N, N])?));
+fn words_compare_and_hash_by_their_symbols(rt: HostRuntime) -> Result<(), Fail> {
+    assert!(rt; is_smaller(rt.alloc(), "L")?);
+    assert!(rt; !is_smaller(rt.alloc(), "NN")?);
     Ok(())
 }
