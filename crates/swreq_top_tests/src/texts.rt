@@ -185,6 +185,11 @@ protocol P { associatedtype A: P associatedtype B: P where A.B.A == B.A.B }
 error: rule longer than 4 symbols
 ====
 $ answer
+protocol P { associatedtype A: P associatedtype B: P where A.B.A == B.A.B }
+---- 3
+error: rule longer than 64 symbols
+====
+$ answer
 protocol N { associatedtype A: N }
 func f<T: N>() where T.A.A.A.A.A.A.A.A.A.A.A.A.A.A.A.A.A.A.A.A.A.A.A.A.A.A.A.A.A.A.A.A.A.A.A.A.A.A.A.A.A.A.A.A.A.A.A.A.A.A.A.A.A.A.A.A.A.A.A.A.A.A.A.A.A.A.A.A.A.A.A.A == T
 func g<T>() where T.A == T
