@@ -116,6 +116,32 @@ f: 7 rules
   τ_0_0.[N] => τ_0_0
   τ_0_0.Next => τ_0_0.[N:Next]
 ====
+$ rules --max-rules 7
+protocol N { associatedtype Next: N }
+func f<T: N>()
+---- 0
+f: 7 rules
+  [N].[N] => [N]
+  [N].[N:Next] => [N:Next]
+  [N].Next => [N:Next]
+  [N:Next].[N] => [N:Next]
+  [N:Next].Next => [N:Next].[N:Next]
+  τ_0_0.[N] => τ_0_0
+  τ_0_0.Next => τ_0_0.[N:Next]
+====
+$ rules --max-length 2
+protocol N { associatedtype Next: N }
+func f<T: N>()
+---- 0
+f: 7 rules
+  [N].[N] => [N]
+  [N].[N:Next] => [N:Next]
+  [N].Next => [N:Next]
+  [N:Next].[N] => [N:Next]
+  [N:Next].Next => [N:Next].[N:Next]
+  τ_0_0.[N] => τ_0_0
+  τ_0_0.Next => τ_0_0.[N:Next]
+====
 $ answer --max-rules 7
 protocol N { associatedtype Next: N }
 func f<T: N>()
@@ -178,6 +204,12 @@ query f(T.Next.Next)
 query f()
 ---- 3
 error: rule longer than 1 symbols
+====
+$ answer --max-rules 1
+protocol P: AnyObject { associatedtype A where A.A == Self }
+func f<T: P, U: AnyObject>() where T.A == U
+---- 3
+error: more than 1 rules
 ====
 $ answer --max-length 4
 protocol P { associatedtype A: P associatedtype B: P where A.B.A == B.A.B }
@@ -254,6 +286,10 @@ query g(T.[Q]A : P)
 query g(T.[Q]A == T)
 query g(T.[Q]A : AnyObject)
 query g(T.A)
+query f(T : AnyObject)
+query g(T.[Q]A == T.A)
+query g(T.A == T.[Q]A)
+query g()
 ---- 0
 yes
 τ_0_0.[P]A
@@ -263,6 +299,10 @@ invalid
 invalid
 invalid
 τ_0_0.[P]A
+no
+invalid
+invalid
+<τ_0_0 where τ_0_0 : P>
 ====
 $ answer
 protocol Late { associatedtype Next: Late }
@@ -299,6 +339,23 @@ query g()
 ---- 0
 <τ_0_0, τ_0_1 where τ_0_0 == τ_0_1>
 <τ_0_0 where τ_0_0 : Derived>
+====
+$ signatures
+protocol N { associatedtype Next: N }
+func f<T: N, U: N>()
+---- 0
+f: <τ_0_0, τ_0_1 where τ_0_0 : N, τ_0_1 : N>
+====
+$ signatures
+protocol P { associatedtype A }
+protocol Q { }
+func f<T, U>() where T: P, U: P, T.A == U.A, T.A: Q, U.A: AnyObject
+func g<T, U>() where U.A: AnyObject, T.A: Q, T.A == U.A, U: P, T: P
+func h<T, U>() where T.A: Q, U: P, U.A: AnyObject, T: P, T.A == U.A
+---- 0
+f: <τ_0_0, τ_0_1 where τ_0_0 : P, τ_0_1 : P, τ_0_0.[P]A : Q, τ_0_0.[P]A : AnyObject, τ_0_0.[P]A == τ_0_1.[P]A>
+g: <τ_0_0, τ_0_1 where τ_0_0 : P, τ_0_1 : P, τ_0_0.[P]A : Q, τ_0_0.[P]A : AnyObject, τ_0_0.[P]A == τ_0_1.[P]A>
+h: <τ_0_0, τ_0_1 where τ_0_0 : P, τ_0_1 : P, τ_0_0.[P]A : Q, τ_0_0.[P]A : AnyObject, τ_0_0.[P]A == τ_0_1.[P]A>
 ====
 $ signatures --trace
 func f<T, U, V>() where T == U, U == V, T == V
@@ -342,12 +399,14 @@ query g()
 query g(U)
 query g(U : AnyObject)
 query h(U : AnyObject)
+query g(U : P)
 ---- 0
 yes
 <τ_0_0, τ_0_1 where τ_0_0 : P, τ_0_0 == τ_0_1>
 <τ_0_0, τ_0_1 where τ_0_0 : AnyObject, τ_0_0 == τ_0_1>
 τ_0_0
 yes
+no
 no
 ====
 $ answer
@@ -362,6 +421,9 @@ query S.g()
 query S()
 query S.f(U)
 query S(T.A)
+query S.f(U.A == T.A)
+query S.g(T.A)
+query S(T : P)
 ---- 0
 τ_0_0.[P]A
 <τ_0_0, τ_1_0 where τ_0_0 : P, τ_1_0 : P, τ_0_0.[P]A == τ_1_0.[P]A>
@@ -369,6 +431,9 @@ query S(T.A)
 <τ_0_0 where τ_0_0 : P>
 τ_1_0
 τ_0_0.[P]A
+yes
+τ_0_0.[P]A
+yes
 ====
 $ signatures
 protocol P { associatedtype A }
@@ -399,11 +464,13 @@ query f()
 query g()
 query f(S.Element)
 query g(E == S.Element)
+query g(S.Element)
 ---- 0
 <τ_0_0, τ_0_1 where τ_0_0 : Sequence, τ_0_1 == τ_0_0.[Sequence]Element>
 <τ_0_0, τ_0_1 where τ_0_0 : Sequence, τ_0_1 == τ_0_0.[Sequence]Element>
 τ_0_1
 yes
+τ_0_1
 ====
 $ gen 3
 this text is not read
