@@ -83,9 +83,13 @@ fn a_chain_of_80_protocols_is_within_the_limits(rt: HostRuntime) -> Result<(), F
 }
 
 #[test]
-fn a_chain_of_100_protocols_wants_more_rules(rt: HostRuntime) -> Result<(), Fail> {
+fn a_chain_of_100_protocols_passes_the_limit_of_rules(rt: HostRuntime) -> Result<(), Fail> {
     let error = "error: more than 4000 rules\n";
-    chain_gives(&rt, rt.alloc(), 99, "answer", "3", error)?;
+    chain_gives(&rt, rt.alloc(), 99, "answer", "3", error)
+}
+
+#[test]
+fn a_chain_of_100_protocols_is_within_more_rules(rt: HostRuntime) -> Result<(), Fail> {
     chain_gives(&rt, rt.alloc(), 99, "answer --max-rules 5150", "0", "yes\n")
 }
 
