@@ -109,3 +109,15 @@ fn the_largest_generated_text_is_within_the_limits(rt: HostRuntime) -> Result<()
     let setting = undisturbed("gen 100", b"");
     runs(&rt, rt.alloc(), setting, "0", COUNTS.as_bytes())
 }
+
+/// Over its two members the equation has no finite system.
+const BRAID: &[u8] = b"\
+protocol P { associatedtype A: P associatedtype B: P where A.B.A == B.A.B }
+";
+
+#[test]
+fn an_endless_completion_passes_the_limit_of_length(rt: HostRuntime) -> Result<(), Fail> {
+    let setting = undisturbed("answer", BRAID);
+    let line = b"error: rule longer than 64 symbols\n";
+    runs(&rt, rt.alloc(), setting, "3", line)
+}

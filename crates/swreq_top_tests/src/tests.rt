@@ -1,6 +1,6 @@
 //! Texts, and the words they are run with.
 use crate::running::{runs, undisturbed};
-use crate::texts::{ENDLESS, TEXTS};
+use crate::texts::{ANSWERS, ENDLESS, LIMITS, REFUSALS};
 use std::alloc::Global;
 use std::process::Abort;
 use std::test::Fail;
@@ -26,12 +26,27 @@ fn gives(rt: &impl Abort, alloc: Global, written: &str) -> Result<(), Fail> {
     }
 }
 
-#[test]
-fn texts_are_answered_or_refused(rt: HostRuntime) -> Result<(), Fail> {
-    for written in TEXTS.split("====\n") {
-        gives(&rt, rt.alloc(), written)?;
+/// Each row is given.
+fn all_give(rt: &impl Abort, alloc: Global, rows: &str) -> Result<(), Fail> {
+    for written in rows.split("====\n") {
+        gives(rt, alloc, written)?;
     }
     Ok(())
+}
+
+#[test]
+fn texts_are_answered(rt: HostRuntime) -> Result<(), Fail> {
+    all_give(&rt, rt.alloc(), ANSWERS)
+}
+
+#[test]
+fn limits_are_kept_or_passed(rt: HostRuntime) -> Result<(), Fail> {
+    all_give(&rt, rt.alloc(), LIMITS)
+}
+
+#[test]
+fn texts_are_refused(rt: HostRuntime) -> Result<(), Fail> {
+    all_give(&rt, rt.alloc(), REFUSALS)
 }
 
 #[test]
