@@ -4,7 +4,7 @@ use std::alloc::Global;
 use std::process::Abort;
 use std::test::Fail;
 use swreq_decl::Skeleton;
-use swreq_names::{Names, Ranks, Signature, member_names};
+use swreq_names::{Names, Signature, member_names};
 use swreq_resolve::resolve_names;
 use swreq_samples::skeleton_of;
 
@@ -21,7 +21,7 @@ fn has_verdict(rt: &impl Abort, alloc: Global, text: &str, want: &str) -> Result
     assert!(rt; text.len() <= 1_048_576);
     let skeleton = skeleton_of(alloc, text.as_bytes())?;
     let found = refusal(alloc, text.as_bytes(), &skeleton)?;
-    assert_eq!(rt; found.as_str(), want, "{text}");
+    assert_eq!(rt; found.as_str(), want, "of {text}");
     Ok(())
 }
 
@@ -195,23 +195,39 @@ const NESTED: Signature = Signature::Nested {
     function: 0,
 };
 
-/// A line for each word, with the protocol of that name, the signature, the function of S, the generic parameter of that function,
-/// whether Q declares such a member and has one, and its rank among the names of members. At the end are a function of g, whether Q
-/// inherits P and P inherits Q, and how many names of members there are.
+/// A line for some words, with the rank among the names of members, and how many these are. Then there is a line for each word, with the
+/// protocol of that name, the signature, the function of S, the generic parameter of that function, and whether Q declares such a member
+/// and has one. At the end are a function of g, and whether Q inherits P and P inherits Q.
 const FOUND: &str = "\
-P Some(0) None None None false false None
-Q Some(1) None None None false false None
-S None Some(Struct(0)) None None false false None
-f None None Some(Nested { outer: 0, function: 0 }) None false false None
-g None Some(Function(0)) None None false false None
-T None None None Some(Outer(0)) false false None
-U None None None Some(Own(0)) false false None
-V None None None None false false None
-A None None None None true true Some(0)
-B None None None None false true Some(1)
-C None None None None false false Some(2)
-None true false 3
+A Some(0)
+B Some(1)
+C Some(2)
+V None
+3
+P Some(0) None None None false false
+Q Some(1) None None None false false
+S None Some(Struct(0)) None None false false
+f None None Some(Nested { outer: 0, function: 0 }) None false false
+g None Some(Function(0)) None None false false
+T None None None Some(Outer(0)) false false
+U None None None Some(Own(0)) false false
+V None None None None false false
+A None None None None true true
+B None None None None false true
+C None None None None false false
+None true false
 ";
+
+/// The ranks of the names of members.
+fn ranks(alloc: Global, text: &[u8], skeleton: &Skeleton) -> Result<String, Fail> {
+    let members = member_names(alloc, text, skeleton)?;
+    let mut out = String::new(alloc);
+    for word in "A B C V".split(' ') {
+        write!(out, "{word} {:?}\n", members.find(word.as_bytes()))?;
+    }
+    write!(out, "{}\n", members.len())?;
+    Ok(out)
+}
 
 /// Appends what has this name.
 fn add_named(names: &Names, word: &str, out: &mut String) -> Result<(), Fail> {
@@ -226,35 +242,30 @@ fn add_named(names: &Names, word: &str, out: &mut String) -> Result<(), Fail> {
     )?)
 }
 
-/// Appends whether it is the name of a member of Q, and its rank.
-fn add_member(names: &Names, members: &Ranks, word: &str, out: &mut String) -> Result<(), Fail> {
-    let name = word.as_bytes();
-    let declares = names.declares(1, name);
-    let has = names.has_member(1, name);
-    let rank = members.find(name);
-    Ok(write!(out, " {declares} {has} {rank:?}\n")?)
-}
-
-fn lines_of(alloc: Global, names: &Names, members: &Ranks) -> Result<String, Fail> {
-    let mut out = String::new(alloc);
+fn add_lines(names: &Names, out: &mut String) -> Result<(), Fail> {
     for word in "P Q S f g T U V A B C".split(' ') {
-        add_named(names, word, &mut out)?;
-        add_member(names, members, word, &mut out)?;
+        add_named(names, word, out)?;
+        let declares = names.declares(1, word.as_bytes());
+        write!(
+            out,
+            " {declares} {}\n",
+            names.has_member(1, word.as_bytes())
+        )?;
     }
     let nested = names.find_nested(b"g", b"f");
     let up = names.inherits(1, 0);
     let down = names.inherits(0, 1);
-    write!(out, "{nested:?} {up} {down} {}\n", members.len())?;
-    Ok(out)
+    Ok(write!(out, "{nested:?} {up} {down}\n")?)
 }
 
 /// What is found in the names of a skeleton.
 fn found(alloc: Global, text: &[u8], skeleton: &Skeleton) -> Result<String, Fail> {
-    let members = member_names(alloc, text, skeleton)?;
+    let mut out = ranks(alloc, text, skeleton)?;
     match resolve_names(alloc, text, skeleton) {
-        Ok(names) => lines_of(alloc, &names, &members),
-        Err(_) => Err("a refusal of names".into()),
+        Ok(names) => add_lines(&names, &mut out)?,
+        Err(_) => return Err("a refusal of names".into()),
     }
+    Ok(out)
 }
 
 #[test]

@@ -335,14 +335,25 @@ fn world_of(
     }
 }
 
+/// The lines of the world of a text.
+fn lines_of_text(rt: &impl Abort, alloc: Global, text: &[u8]) -> Result<Vec<u8>, Fail> {
+    let mut table = ParamTable::new(alloc);
+    let world = world_of(rt, alloc, text, &mut table)?;
+    Ok(lines_of(alloc, &world, &table)?)
+}
+
+/// The text has the world with these lines.
+fn has_world(rt: &impl Abort, alloc: Global, text: &str, lines: &str) -> Result<(), Fail> {
+    let text = with_collections(alloc, text)?;
+    let found = lines_of_text(rt, alloc, text.as_bytes())?;
+    assert_eq!(rt; found.as_slice(), lines.as_bytes());
+    Ok(())
+}
+
 #[test]
 fn texts_have_their_worlds(rt: HostRuntime) -> Result<(), Fail> {
     for (text, lines) in WORLDS {
-        let text = with_collections(rt.alloc(), text)?;
-        let mut table = ParamTable::new(rt.alloc());
-        let world = world_of(&rt, rt.alloc(), text.as_bytes(), &mut table)?;
-        let found = lines_of(rt.alloc(), &world, &table)?;
-        assert!(&rt; found.as_slice() == lines.as_bytes());
+        has_world(&rt, rt.alloc(), text, lines)?;
     }
     Ok(())
 }
@@ -428,11 +439,16 @@ fn found(rt: &impl Abort, alloc: Global, world: &World) -> Result<String, Fail> 
     Ok(out)
 }
 
+/// What is found in the world of a text.
+fn found_of(rt: &impl Abort, alloc: Global, text: &[u8]) -> Result<String, Fail> {
+    let mut table = ParamTable::new(alloc);
+    let world = world_of(rt, alloc, text, &mut table)?;
+    found(rt, alloc, &world)
+}
+
 #[test]
 fn names_are_found(rt: HostRuntime) -> Result<(), Fail> {
-    let mut table = ParamTable::new(rt.alloc());
-    let world = world_of(&rt, rt.alloc(), TWO, &mut table)?;
-    let lines = found(&rt, rt.alloc(), &world)?;
+    let lines = found_of(&rt, rt.alloc(), TWO)?;
     assert_eq!(rt; lines.as_str(), FOUND);
     Ok(())
 }
