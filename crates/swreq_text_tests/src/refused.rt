@@ -16,11 +16,16 @@ fn refusal(alloc: Global, text: &[u8], skeleton: &Skeleton) -> Result<String, Fa
     }
 }
 
+/// The refusal of the names of a text as one line, or `ok`.
+fn verdict(rt: &impl Abort, alloc: Global, text: &[u8]) -> Result<String, Fail> {
+    assert!(rt; text.len() <= 1_048_576);
+    let skeleton = skeleton_of(alloc, text)?;
+    refusal(alloc, text, &skeleton)
+}
+
 /// The names of a text are refused as one line says, or `ok`.
 fn has_verdict(rt: &impl Abort, alloc: Global, text: &str, want: &str) -> Result<(), Fail> {
-    assert!(rt; text.len() <= 1_048_576);
-    let skeleton = skeleton_of(alloc, text.as_bytes())?;
-    let found = refusal(alloc, text.as_bytes(), &skeleton)?;
+    let found = verdict(rt, alloc, text.as_bytes())?;
     assert_eq!(rt; found.as_str(), want, "of {text}");
     Ok(())
 }
