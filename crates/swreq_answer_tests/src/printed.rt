@@ -227,17 +227,13 @@ Self == Self.[Größe]Länge
 <τ_0_0, τ_1_0 where τ_0_0 : Größe, τ_1_0 : Größe, τ_0_0.[Größe]Länge == τ_1_0.[Größe]Länge>
 ";
 
-fn lines_of(
-    rt: &impl Abort,
-    alloc: Global,
-    names: &Lexicon,
-    table: &ParamTable,
-) -> Result<Vec<u8>, AllocError> {
+fn lines_of(rt: &impl Abort, alloc: Global, names: &Lexicon) -> Result<Vec<u8>, AllocError> {
+    let table = table_of(alloc)?;
     let mut out = Vec::new(alloc);
-    add_types(alloc, names, table, &mut out)?;
-    add_requirements(rt, alloc, names, table, &mut out)?;
+    add_types(alloc, names, &table, &mut out)?;
+    add_requirements(rt, alloc, names, &table, &mut out)?;
     add_steps(alloc, names, &mut out)?;
-    add_signatures(rt, alloc, names, table, &mut out)?;
+    add_signatures(rt, alloc, names, &table, &mut out)?;
     Ok(out)
 }
 
@@ -245,8 +241,7 @@ fn lines_of(
 fn types_requirements_and_signatures_have_names_beyond_ascii(rt: HostRuntime) -> Result<(), Fail> {
     let text = "protocol Größe { associatedtype Länge }";
     let names = lexicon_of(rt.alloc(), text.as_bytes())?;
-    let table = table_of(rt.alloc())?;
-    let out = lines_of(&rt, rt.alloc(), &names, &table)?;
+    let out = lines_of(&rt, rt.alloc(), &names)?;
     assert_eq!(rt; out.as_slice(), LINES.as_bytes());
     Ok(())
 }
@@ -274,13 +269,14 @@ fn rules(alloc: Global) -> Result<Vec<Rule>, Fail> {
 }
 
 /// A line for each rule alone, and then those of a trace of them.
-fn rule_lines(alloc: Global, names: &Lexicon, rules: &[Rule]) -> Result<Vec<u8>, Fail> {
+fn rule_lines(alloc: Global, names: &Lexicon) -> Result<Vec<u8>, Fail> {
+    let rules = rules(alloc)?;
     let mut out = Vec::new(alloc);
-    for rule in rules {
+    for rule in &rules {
         rule_text(alloc, names, rule, &mut out)?;
         out.push(b'\n')?;
     }
-    trace_text(alloc, names, rules, &mut out)?;
+    trace_text(alloc, names, &rules, &mut out)?;
     Ok(out)
 }
 
@@ -306,8 +302,7 @@ const RULE_LINES: &str = "\
 #[test]
 fn rules_stand_alone_and_in_traces(rt: HostRuntime) -> Result<(), Fail> {
     let names = lexicon_of(rt.alloc(), b"protocol N { associatedtype Next: N }")?;
-    let rules = rules(rt.alloc())?;
-    let out = rule_lines(rt.alloc(), &names, &rules)?;
+    let out = rule_lines(rt.alloc(), &names)?;
     assert_eq!(rt; out.as_slice(), RULE_LINES.as_bytes());
     Ok(())
 }
