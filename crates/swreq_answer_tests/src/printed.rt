@@ -43,16 +43,12 @@ const V: TermId = TermId { place: 4 };
 /// The table of `τ_0_0`, `τ_0_0.[P]A`, `τ_1_0`, `τ_1_0.[P]A` and `τ_0_1`.
 fn table_of(alloc: Global) -> Result<ParamTable, AllocError> {
     let mut table = ParamTable::new(alloc);
-    add_both(&mut table, 0)?;
-    add_both(&mut table, 1)?;
+    for depth in 0..2 {
+        let g = table.param(ParamId { depth, index: 0 })?;
+        table.member(g, Step::Bound(P_A))?;
+    }
     table.param(ParamId { depth: 0, index: 1 })?;
     Ok(table)
-}
-
-/// Adds the first generic parameter of a depth, and its member.
-fn add_both(table: &mut ParamTable, depth: u32) -> Result<TermId, AllocError> {
-    let g = table.param(ParamId { depth, index: 0 })?;
-    table.member(g, Step::Bound(P_A))
 }
 
 fn is_over(table: &ParamTable, r: &Requirement) -> bool
@@ -133,19 +129,86 @@ fn add_requirements(
     Ok(())
 }
 
-const REQUIREMENTS: &[Requirement] = &[
-    Requirement::Conf {
-        subject: T,
-        proto: P,
-    },
-    Requirement::Layout { subject: T_P_A },
-    Requirement::Same {
-        left: T,
-        right: T_P_A,
-    },
+const T_CONFORMS: Requirement = Requirement::Conf {
+    subject: T,
+    proto: P,
+};
+
+const U_CONFORMS: Requirement = Requirement::Conf {
+    subject: U,
+    proto: P,
+};
+
+const MEMBER_IS_OBJECT: Requirement = Requirement::Layout { subject: T_P_A };
+
+const MEMBER_IS_SELF: Requirement = Requirement::Same {
+    left: T,
+    right: T_P_A,
+};
+
+const PARAMS_ARE_EQUAL: Requirement = Requirement::Same { left: T, right: V };
+
+const MEMBERS_ARE_EQUAL: Requirement = Requirement::Same {
+    left: T_P_A,
+    right: U_P_A,
+};
+
+const REQUIREMENTS: &[Requirement] = &[T_CONFORMS, MEMBER_IS_OBJECT, MEMBER_IS_SELF];
+
+fn add_steps(alloc: Global, names: &Lexicon, out: &mut Vec<u8>) -> Result<(), AllocError> {
+    let head = ParamId {
+        depth: 1,
+        index: 20,
+    };
+    steps_text(alloc, names, head, &[Step::Bound(P_A), Step::Name(A)], out)?;
+    Ok(out.push(b'\n')?)
+}
+
+// ---- signatures
+
+/// How many generic parameters have depth 0 and depth 1, and a list.
+const SIGNATURES: &[(u32, u32, &[Requirement])] = &[
+    (1, 0, &[]),
+    (0, 0, &[]),
+    (2, 0, &[T_CONFORMS, PARAMS_ARE_EQUAL]),
+    (1, 1, &[T_CONFORMS, U_CONFORMS, MEMBERS_ARE_EQUAL]),
 ];
 
-const TYPES: &str = "\
+fn add_signature(
+    rt: &impl Abort,
+    alloc: Global,
+    names: &Lexicon,
+    table: &ParamTable,
+    params: Params,
+    list: &[Requirement],
+    out: &mut Vec<u8>,
+) -> Result<(), AllocError> {
+    assert!(rt; are_over(table, list));
+    signature_text(alloc, names, table, params, list, out)?;
+    Ok(out.push(b'\n')?)
+}
+
+/// A line for each signature.
+fn add_signatures(
+    rt: &impl Abort,
+    alloc: Global,
+    names: &Lexicon,
+    table: &ParamTable,
+    out: &mut Vec<u8>,
+) -> Result<(), AllocError> {
+    for (outer, inner, list) in SIGNATURES {
+        let params = Params {
+            outer: *outer,
+            inner: *inner,
+        };
+        add_signature(rt, alloc, names, table, params, list, out)?;
+    }
+    Ok(())
+}
+
+// ---- all of these
+
+const LINES: &str = "\
 τ_0_0
 τ_0_0.[Größe]Länge
 τ_1_0
@@ -157,172 +220,67 @@ Self : Größe
 Self.[Größe]Länge : AnyObject
 τ_0_0 == τ_0_0.[Größe]Länge
 Self == Self.[Größe]Länge
-τ_1_20.[Größe]Länge.Länge";
+τ_1_20.[Größe]Länge.Länge
+<τ_0_0>
+<>
+<τ_0_0, τ_0_1 where τ_0_0 : Größe, τ_0_0 == τ_0_1>
+<τ_0_0, τ_1_0 where τ_0_0 : Größe, τ_1_0 : Größe, τ_0_0.[Größe]Länge == τ_1_0.[Größe]Länge>
+";
 
-fn add_steps(alloc: Global, names: &Lexicon, out: &mut Vec<u8>) -> Result<(), AllocError> {
-    let head = ParamId {
-        depth: 1,
-        index: 20,
-    };
-    steps_text(alloc, names, head, &[Step::Bound(P_A), Step::Name(A)], out)
-}
-
-fn types(rt: &impl Abort, alloc: Global, names: &Lexicon) -> Result<Vec<u8>, AllocError> {
+fn lines_of(rt: &impl Abort, alloc: Global, names: &Lexicon) -> Result<Vec<u8>, AllocError> {
     let table = table_of(alloc)?;
     let mut out = Vec::new(alloc);
     add_types(alloc, names, &table, &mut out)?;
     add_requirements(rt, alloc, names, &table, &mut out)?;
     add_steps(alloc, names, &mut out)?;
+    add_signatures(rt, alloc, names, &table, &mut out)?;
     Ok(out)
 }
 
 #[test]
-fn types_and_requirements_have_names_beyond_ascii(rt: HostRuntime) -> Result<(), Fail> {
-    let names = lexicon_of(
-        rt.alloc(),
-        "protocol Größe { associatedtype Länge }".as_bytes(),
-    )?;
-    let out = types(&rt, rt.alloc(), &names)?;
-    assert!(&rt; out.as_slice() == TYPES.as_bytes());
-    Ok(())
-}
-
-// ---- signatures
-
-struct Row {
-    params: Params,
-    list: &'static [Requirement],
-}
-
-const ROWS: &[Row] = &[
-    Row {
-        params: Params { outer: 1, inner: 0 },
-        list: &[],
-    },
-    Row {
-        params: Params { outer: 0, inner: 0 },
-        list: &[],
-    },
-    Row {
-        params: Params { outer: 2, inner: 0 },
-        list: &[
-            Requirement::Conf {
-                subject: T,
-                proto: P,
-            },
-            Requirement::Same { left: T, right: V },
-        ],
-    },
-    Row {
-        params: Params { outer: 1, inner: 1 },
-        list: &[
-            Requirement::Conf {
-                subject: T,
-                proto: P,
-            },
-            Requirement::Conf {
-                subject: U,
-                proto: P,
-            },
-            Requirement::Same {
-                left: T_P_A,
-                right: U_P_A,
-            },
-        ],
-    },
-];
-
-const SIGNATURES: &str = "\
-<τ_0_0>
-<>
-<τ_0_0, τ_0_1 where τ_0_0 : P, τ_0_0 == τ_0_1>
-<τ_0_0, τ_1_0 where τ_0_0 : P, τ_1_0 : P, τ_0_0.[P]A == τ_1_0.[P]A>
-";
-
-fn add_signature(
-    rt: &impl Abort,
-    alloc: Global,
-    names: &Lexicon,
-    table: &ParamTable,
-    row: &Row,
-    out: &mut Vec<u8>,
-) -> Result<(), AllocError> {
-    assert!(rt; are_over(table, row.list));
-    signature_text(alloc, names, table, row.params, row.list, out)?;
-    Ok(out.push(b'\n')?)
-}
-
-/// A line for each row.
-fn signatures(rt: &impl Abort, alloc: Global, names: &Lexicon) -> Result<Vec<u8>, AllocError> {
-    let table = table_of(alloc)?;
-    let mut out = Vec::new(alloc);
-    for row in ROWS {
-        add_signature(rt, alloc, names, &table, row, &mut out)?;
-    }
-    Ok(out)
-}
-
-#[test]
-fn signatures_list_generic_parameters_and_requirements(rt: HostRuntime) -> Result<(), Fail> {
-    let names = lexicon_of(rt.alloc(), b"protocol P { associatedtype A }")?;
-    let out = signatures(&rt, rt.alloc(), &names)?;
-    assert!(&rt; out.as_slice() == SIGNATURES.as_bytes());
+fn types_requirements_and_signatures_have_names_beyond_ascii(rt: HostRuntime) -> Result<(), Fail> {
+    let text = "protocol Größe { associatedtype Länge }";
+    let names = lexicon_of(rt.alloc(), text.as_bytes())?;
+    let out = lines_of(&rt, rt.alloc(), &names)?;
+    assert_eq!(rt; out.as_slice(), LINES.as_bytes());
     Ok(())
 }
 
 // ---- rules and traces
 
 /// Rules over `[N]`, `[N:Next]`, `Next` and `τ_0_0`, each by its sides and its birth.
-const TRACE: &[(Sides<'static>, Birth)] = &[
+const RULES: &[(Sides<'static>, Birth)] = &[
     ((&[N, N], &[N]), Birth::Given(1)),
     ((&[N, NEXT], &[N_NEXT]), Birth::Given(2)),
     ((&[N_NEXT, N], &[N_NEXT]), Birth::Given(3)),
     ((&[N, N_NEXT], &[N_NEXT]), Birth::Pair(1, 2, 1)),
-];
-
-const OTHERS: &[(Sides<'static>, Birth)] = &[
     ((&[N_NEXT, NEXT], &[N_NEXT, N_NEXT]), Birth::Pair(3, 2, 1)),
     ((&[TAU, N], &[TAU]), Birth::Given(4)),
     ((&[TAU, NEXT], &[TAU, N_NEXT]), Birth::Pair(6, 2, 1)),
     ((&[TAU, Symbol::Layout], &[TAU]), Birth::Given(5)),
 ];
 
-fn rules(alloc: Global, all: &[(Sides<'_>, Birth)]) -> Result<Vec<Rule>, Fail> {
+fn rules(alloc: Global) -> Result<Vec<Rule>, Fail> {
     let mut rules = Vec::new(alloc);
-    for (sides, birth) in all {
+    for (sides, birth) in RULES {
         rules.push(rule(alloc, sides, *birth)?)?;
     }
     Ok(rules)
 }
 
-/// A line for each rule.
-fn add_rules(
-    alloc: Global,
-    names: &Lexicon,
-    all: &[(Sides<'_>, Birth)],
-    out: &mut Vec<u8>,
-) -> Result<(), Fail> {
-    for (sides, birth) in all {
-        rule_text(alloc, names, &rule(alloc, sides, *birth)?, out)?;
+/// A line for each rule alone, and then those of a trace of them.
+fn rule_lines(alloc: Global, names: &Lexicon) -> Result<Vec<u8>, Fail> {
+    let rules = rules(alloc)?;
+    let mut out = Vec::new(alloc);
+    for rule in &rules {
+        rule_text(alloc, names, rule, &mut out)?;
         out.push(b'\n')?;
     }
-    Ok(())
-}
-
-fn add_trace(alloc: Global, names: &Lexicon, out: &mut Vec<u8>) -> Result<(), Fail> {
-    let trace = rules(alloc, TRACE)?;
-    Ok(trace_text(alloc, names, &trace, out)?)
-}
-
-fn rule_lines(alloc: Global, names: &Lexicon) -> Result<Vec<u8>, Fail> {
-    let mut out = Vec::new(alloc);
-    add_rules(alloc, names, TRACE, &mut out)?;
-    add_rules(alloc, names, OTHERS, &mut out)?;
-    add_trace(alloc, names, &mut out)?;
+    trace_text(alloc, names, &rules, &mut out)?;
     Ok(out)
 }
 
-const RULES: &str = "\
+const RULE_LINES: &str = "\
 [N].[N] => [N]
 [N].Next => [N:Next]
 [N:Next].[N] => [N:Next]
@@ -335,13 +293,17 @@ const RULES: &str = "\
   2: [N].Next => [N:Next] (given 2)
   3: [N:Next].[N] => [N:Next] (given 3)
   4: [N].[N:Next] => [N:Next] (pair 1 2 1)
+  5: [N:Next].Next => [N:Next].[N:Next] (pair 3 2 1)
+  6: τ_0_0.[N] => τ_0_0 (given 4)
+  7: τ_0_0.Next => τ_0_0.[N:Next] (pair 6 2 1)
+  8: τ_0_0.[layout: AnyObject] => τ_0_0 (given 5)
 ";
 
 #[test]
 fn rules_stand_alone_and_in_traces(rt: HostRuntime) -> Result<(), Fail> {
     let names = lexicon_of(rt.alloc(), b"protocol N { associatedtype Next: N }")?;
     let out = rule_lines(rt.alloc(), &names)?;
-    assert!(&rt; out.as_slice() == RULES.as_bytes());
+    assert_eq!(rt; out.as_slice(), RULE_LINES.as_bytes());
     Ok(())
 }
 
@@ -372,7 +334,7 @@ const REFUSALS: &[RefusalKind] = &[
     RefusalKind::Usage,
 ];
 
-const LINES: &str = "error: text longer than 1048576 bytes
+const REFUSAL_LINES: &str = "error: text longer than 1048576 bytes
 error: not UTF-8 at 0
 error: bad character at 1
 error: open comment at 2
@@ -399,6 +361,6 @@ fn each_refusal_has_its_line(rt: HostRuntime) -> Result<(), Fail> {
     for refusal in REFUSALS {
         refusal_text(rt.alloc(), refusal, &mut out)?;
     }
-    assert_eq!(rt; out.as_slice(), LINES.as_bytes());
+    assert_eq!(rt; out.as_slice(), REFUSAL_LINES.as_bytes());
     Ok(())
 }

@@ -9,7 +9,11 @@ use swreq_derive::{BadLine, DerivRule, Facts, Line, Requirement, Statement, chec
 use swreq_param::{NameId, ParamTable, ProtoId};
 
 /// What the checker says of the lines, or None where an id is not of the table or of the text.
-pub fn verdict(table: &ParamTable, text: &Text, lines: &[Line]) -> Option<Result<(), BadLine>> {
+pub(crate) fn verdict(
+    table: &ParamTable,
+    text: &Text,
+    lines: &[Line],
+) -> Option<Result<(), BadLine>> {
     if is_text(table, text) && are_lines(table, lines) {
         Some(check(text, table, lines))
     } else {

@@ -2,15 +2,15 @@
 //! and the tests that change it.
 #![tactic(auto)]
 
+#[cfg(test)]
 mod ids;
-mod text;
-
-pub use ids::verdict;
-pub use text::Text;
-
+#[cfg(test)]
+mod lines;
 #[cfg(test)]
 mod params;
 #[cfg(test)]
 mod plain;
 #[cfg(test)]
-mod tests;
+mod tables;
+#[cfg(test)]
+mod text;

@@ -1,69 +1,64 @@
 //! Type parameters and their ids.
+ghost use Rattle.std.specs.Prelude.{◌≡◌, ◌<◌, length};
+ghost use Rattle.swreq_param.specs.Tables.{IsOf};
 
+use crate::tables::table_of;
 use std::alloc::Global;
-use std::cmp::Ordering;
 use std::test::Fail;
-use swreq_param::{AssocId, NameId, ParamId, ParamTable, Step, TypeParam};
-use swreq_text::Seq;
+use swreq_param::{ParamTable, TermId};
 
-const SELF: ParamId = ParamId { depth: 0, index: 0 };
-
-const NEXT: Step = Step::Name(NameId { rank: 0 });
-
-#[test]
-fn a_member_keeps_its_id(rt: HostRuntime) -> Result<(), Fail> {
-    let mut table = ParamTable::new(rt.alloc());
-    let base = table.param(SELF)?;
-    let first = table.member(base, NEXT)?;
-    let second = table.member(base, NEXT)?;
-    assert_eq!(rt; first, second);
-    assert_eq!(rt; table.len(), 2);
-    assert!(rt; table.find(first, NEXT).is_none());
+/// Appends a line for t: its place, how many members it has, the index of its head, t itself as it is found from its base and its last
+/// step, and its comparison with the last one, in the table and outside of it.
+fn add_line(
+    alloc: Global,
+    table: &ParamTable,
+    t: TermId,
+    last: TermId,
+    out: &mut String,
+) -> Result<(), Fail>
+    requires t { IsOf table.now t }
+    requires last { IsOf table.now last }
+{
+    let head = table.head(t);
+    let found = match table.split(t) {
+        Some((base, step)) => table.find(base, step),
+        None => None,
+    };
+    write!(out, "{} {} {}", t.place, table.members(t), head.index)?;
+    write!(out, " {found:?} {:?}", table.compare(t, last))?;
+    let owned = table.owned(alloc, t)?.cmp(&table.owned(alloc, last)?);
+    write!(out, " {owned:?}\n")?;
     Ok(())
 }
 
-#[test]
-fn a_type_parameter_is_read_back(rt: HostRuntime) -> Result<(), Fail> {
-    let mut table = ParamTable::new(rt.alloc());
-    let base = table.param(SELF)?;
-    let member = table.member(base, NEXT)?;
-    assert_eq!(rt; table.find(base, NEXT), Some(member));
-    assert_eq!(rt; table.split(member), Some((base, NEXT)));
-    assert_eq!(rt; table.members(member), 1);
-    assert_eq!(rt; table.head(member), SELF);
-    assert!(rt; table.owned(rt.alloc(), member)? == one_step(rt.alloc(), NEXT)?);
-    Ok(())
+/// A line for each type parameter of the table.
+fn lines_of(alloc: Global, table: &ParamTable) -> Result<String, Fail> {
+    let mut out = String::new(alloc);
+    let count = table.len();
+    for place in 0..count {
+        let last = TermId { place: count - 1 };
+        add_line(alloc, table, TermId { place }, last, &mut out)?;
+    }
+    Ok(out)
 }
 
-#[test]
-fn roots_come_before_names_declared_again(rt: HostRuntime) -> Result<(), Fail> {
-    // protocol Late { associatedtype Next: Late }
-    // protocol Early: Late { associatedtype Next: Early }
-    // τ_0_0.[Late]Next, τ_0_0.[Early]Next, τ_0_0.Next
-    let mut table = ParamTable::new(rt.alloc());
-    let base = table.param(SELF)?;
-    let late = table.member(base, Step::Bound(AssocId { rank: 0 }))?;
-    let early = table.member(base, Step::Bound(AssocId { rank: 1 }))?;
-    let next = table.member(base, NEXT)?;
-    assert_eq!(rt; table.compare(late, early), Ordering::Less);
-    assert_eq!(rt; table.compare(next, early), Ordering::Greater);
-    Ok(())
-}
+/// Roots come before names declared again: of three members with one base, those bound to associated types come in their order, and
+/// then the name.
+const LINES: &str = "\
+0 0 0 None Less Less
+1 0 1 None Less Less
+2 0 2 None Less Less
+3 1 0 Some(TermId { place: 3 }) Greater Greater
+4 1 1 Some(TermId { place: 4 }) Greater Greater
+5 1 0 Some(TermId { place: 5 }) Less Less
+6 1 1 Some(TermId { place: 6 }) Greater Greater
+7 1 0 Some(TermId { place: 7 }) Equal Equal
+";
 
 #[test]
-fn type_parameters_compare_without_a_table(rt: HostRuntime) -> Result<(), Fail> {
-    let bound = one_step(rt.alloc(), Step::Bound(AssocId { rank: 1 }))?;
-    let next = one_step(rt.alloc(), NEXT)?;
-    assert_eq!(rt; bound.cmp(&next), Ordering::Less);
-    assert!(rt; bound == bound);
+fn type_parameters_are_read_back_and_compared(rt: HostRuntime) -> Result<(), Fail> {
+    let table = table_of(rt.alloc())?;
+    let lines = lines_of(rt.alloc(), &table)?;
+    assert_eq!(rt; lines.as_str(), LINES);
     Ok(())
-}
-
-fn one_step(alloc: Global, step: Step) -> Result<TypeParam, Fail> {
-    let mut steps = Vec::new(alloc);
-    steps.push(step)?;
-    Ok(TypeParam {
-        head: SELF,
-        steps: Seq::new(steps),
-    })
 }

@@ -6,9 +6,9 @@ use swreq_param::{AssocId, NameId, ProtoId};
 /// A protocol P that declares one name, a protocol Q that requires nothing, and a function with
 /// three generic parameters: the requirements of the function and of P.
 #[derive(Drop)]
-pub struct Text {
-    pub of_f: Vec<Requirement>,
-    pub of_p: Vec<Requirement>,
+pub(crate) struct Text {
+    pub(crate) of_f: Vec<Requirement>,
+    pub(crate) of_p: Vec<Requirement>,
 }
 
 impl Facts for Text {

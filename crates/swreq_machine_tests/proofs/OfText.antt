@@ -1,4 +1,4 @@
--- What is known of the world of a text over a table, of the lists of its signatures, and of its queries.
+-- What is known of the world of a text over a table, and of the lists of its signatures.
 use Rattle.std.proofs.Common.{◌≡◌, ◌∙◌, refl, sym, ap, subst, ℕ, ◌<◌, List, length, map, Contains, Result, Ok, Err, IfOk, IsOk}
 use Rattle.std.proofs.lemmas.List.{get_or-map, length-map}
 use Rattle.std.proofs.lemmas.List.Elements.{All-contains, All-get_or}
@@ -8,11 +8,10 @@ use Rattle.swreq_resolve.specs.Resolving.{Resolve}
 use Rattle.swreq_param.specs.Terms.{Term}
 use Rattle.swreq_orders.proofs.Members.{contains_map}
 use Rattle.swreq_lowering.specs.declared.ids.FuncId.{FuncId}
-use Rattle.swreq_lowering.specs.declared.ids.Query.{Query}
 use Rattle.swreq_lowering.specs.declared.ids.Written.{Written}
-use Rattle.swreq_lowering.specs.ByTable.{AreOf, HasIdsOf, HasQueryIdsOf, placed, placed_by, query_by}
+use Rattle.swreq_lowering.specs.ByTable.{AreOf, HasIdsOf, placed, placed_by}
 use Rattle.swreq_world.specs.ByTable.{IsOverTable, signature_by, world_by}
-use Rattle.swreq_world.specs.Closed.{HasOwn, IsClosed, IsOfSignature, IsQueryOf}
+use Rattle.swreq_world.specs.Closed.{HasOwn, IsClosed, IsOfSignature}
 use Rattle.swreq_world.specs.WorldOf.{IsWorldOf}
 use Rattle.swreq_world.specs.Worlds.{IdWorld, SignatureOver, TextWorld, no_signature, signature_at}
 use Rattle.swreq_symbols.specs.Known.{IsTextOver}
@@ -50,13 +49,3 @@ module _ (w : IdWorld) (terms : List Term) (text : IsTextOver terms w) where
   pub signature_written : (f : FuncId) → f.place < length w.signatures → (list : List Written) → list ≡ (signature_at w f).requirements
       → AreWritten terms w.lexicon list
   signature_written f l list e r c = own_written f l r (subst (λ z. Contains z r) e c)
-
-  -- the ids of a query are of the table
-  pub query_ids : (q : Query) → Contains w.queries q → HasQueryIdsOf terms q
-  query_ids q c = All-contains (HasQueryIdsOf terms) w.queries q text.table.queries c
-
-  -- what it asks is of the world
-  pub query_known : (q : Query) → Contains w.queries q → IsQueryOf (world_by terms w) (query_by terms q)
-  query_known q c =
-      All-contains (IsQueryOf (world_by terms w)) (map (query_by terms) w.queries) (query_by terms q) text.closed.queries
-      (contains_map (query_by terms) w.queries q c)

@@ -1,20 +1,9 @@
-//! Worked texts: the equations of their requirements, the reduced systems of their machines, the limits that they pass, what their
-//! machines answer, and the minimised lists of their signatures.
+//! Worked texts: the equations of their requirements, and what minimising takes.
 #![tactic(auto)]
 
 #[cfg(test)]
-mod answers;
-#[cfg(test)]
-mod lines;
-#[cfg(test)]
-mod machines;
+mod equations;
 #[cfg(test)]
 mod minimised;
 #[cfg(test)]
-mod minimised_texts;
-#[cfg(test)]
-mod systems;
-#[cfg(test)]
-mod tests;
-#[cfg(test)]
-mod texts;
+mod worlds;

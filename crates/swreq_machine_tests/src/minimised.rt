@@ -1,27 +1,20 @@
-//! Texts, and the minimised lists of their signatures.
-ghost use Rattle.std.specs.Prelude.{◌≡◌, ◌<◌, length};
+//! Texts, and what minimising their signatures takes.
+ghost use Rattle.std.specs.Prelude.{◌<◌, length, IfOk};
 ghost use Rattle.swreq_complete.specs.Limits.{AreInRange};
 ghost use Rattle.swreq_symbols.specs.Known.{IsTextOver};
 ghost use Rattle.swreq_world.specs.ByTable.{world_by};
 ghost use Rattle.swreq_valid.specs.Machines.{AreRulesOf};
-ghost use Rattle.swreq_valid.specs.Plans.{AreKnown};
 ghost use Rattle.swreq_valid.specs.Rounds.{last_rules};
 ghost use Rattle.swreq_minimal.specs.Inheritance.{IsInheritanceWritten};
 
-use crate::lines::world_over;
-use crate::machines::machine_of;
-use crate::minimised_texts::TEXTS;
-use crate::tests::{in_range, row};
+use crate::worlds::world_of;
 use std::alloc::Global;
 use std::process::Abort;
 use std::test::Fail;
 use swreq_complete::{Failed, Limits};
-use swreq_derive::{Params, Requirement};
 use swreq_minimal::minimise;
 use swreq_param::ParamTable;
-use swreq_print::signature_text;
-use swreq_samples::{skeleton_of, with_collections};
-use swreq_valid::{Machine, Protocols};
+use swreq_valid::{Machine, Protocols, Refused};
 use swreq_watch::{Event, Quiet, Recorder};
 use swreq_world::{FuncId, World};
 
@@ -31,32 +24,41 @@ const LIMITS: Limits = Limits {
     max_length: 64,
 };
 
-/// Appends the signature with this list.
-fn add_list(
+/// The machine of a signature.
+fn machine_of(
     alloc: Global,
     world: &World,
     table: &ParamTable,
-    params: Params,
-    list: &[Requirement],
-    out: &mut Vec<u8>,
-) -> Result<(), Fail>
-    requires { AreKnown table.now world.now.lexicon list.now }
+    protocols: &Protocols,
+    f: FuncId,
+    limits: Limits,
+) -> Result<Machine, Refused>
+    requires text { IsTextOver table.now world.now }
+    requires protocols { AreRulesOf (world_by table.now world.now) (last_rules protocols.now.rounds) }
+    requires f { f.place < length world.now.signatures }
+    requires limits { AreInRange limits }
 {
-    signature_text(alloc, world.lexicon(), table, params, list, out)?;
-    out.extend_from_slice(b"\n")?;
-    Ok(())
+    Machine::build(
+        alloc,
+        world,
+        table,
+        protocols,
+        world.params(f),
+        world.signature(f),
+        limits,
+        &mut Quiet,
+    )
 }
 
-/// Appends that a limit was passed.
-fn add_failure(failed: &Failed, out: &mut Vec<u8>) -> Result<(), Fail> {
+fn why_not(failed: &Failed) -> &'static str {
     match failed {
-        Failed::Limit { .. } => Ok(out.extend_from_slice(b"limit\n")?),
-        Failed::Memory => Err("no memory".into()),
+        Failed::Limit { .. } => "limit",
+        Failed::Memory => "no memory",
     }
 }
 
-/// Appends the signature with what minimising answers for the machine.
-fn add_minimised(
+/// How many requirements minimising keeps of the list of the machine, or why it fails.
+fn kept(
     alloc: Global,
     world: &World,
     table: &mut ParamTable,
@@ -64,23 +66,20 @@ fn add_minimised(
     machine: &Machine,
     limits: Limits,
     watch: &mut Recorder,
-    out: &mut Vec<u8>,
-) -> Result<(), Fail>
+) -> Result<String, Fail>
     requires text { IsTextOver table.old world.now }
     requires inheritance { IsInheritanceWritten (world_by table.old world.now) }
     requires protocols { AreRulesOf (world_by table.old world.now) (last_rules protocols.now.rounds) }
     requires limits { AreInRange limits }
-    ensures world { world_by table.new world.now ≡ world_by table.old world.now }
-    ensures text { IsTextOver table.new world.now }
 {
     match minimise(alloc, world, table, protocols, machine, limits, watch) {
-        Ok(list) => add_list(alloc, world, table, machine.params(), &list, out),
-        Err(failed) => add_failure(&failed, out),
+        Ok(list) => Ok(format!(in alloc; "{}", list.len())?),
+        Err(failed) => Ok(why_not(&failed).to_string(alloc)?),
     }
 }
 
-/// Appends the signature f with its minimised list.
-fn add_signature(
+/// The same of the list of a signature.
+fn kept_of(
     alloc: Global,
     world: &World,
     table: &mut ParamTable,
@@ -88,117 +87,105 @@ fn add_signature(
     f: FuncId,
     limits: Limits,
     watch: &mut Recorder,
-    out: &mut Vec<u8>,
-) -> Result<(), Fail>
+) -> Result<String, Fail>
     requires text { IsTextOver table.old world.now }
     requires inheritance { IsInheritanceWritten (world_by table.old world.now) }
     requires protocols { AreRulesOf (world_by table.old world.now) (last_rules protocols.now.rounds) }
     requires f { f.place < length world.now.signatures }
     requires limits { AreInRange limits }
-    ensures world { world_by table.new world.now ≡ world_by table.old world.now }
-    ensures text { IsTextOver table.new world.now }
 {
     match machine_of(alloc, world, table, protocols, f, LIMITS) {
-        Ok(machine) => add_minimised(alloc, world, table, protocols, &machine, limits, watch, out),
+        Ok(machine) => kept(alloc, world, table, protocols, &machine, limits, watch),
         Err(_) => Err("no machine".into()),
     }
 }
 
-/// Appends each signature with its minimised list.
-fn add_signatures(
+/// The same of the list of the first signature of a world.
+fn kept_of_first(
     alloc: Global,
     world: &World,
     table: &mut ParamTable,
-    protocols: &Protocols,
     limits: Limits,
     watch: &mut Recorder,
-    out: &mut Vec<u8>,
-) -> Result<(), Fail>
+) -> Result<String, Fail>
     requires text { IsTextOver table.old world.now }
     requires inheritance { IsInheritanceWritten (world_by table.old world.now) }
-    requires protocols { AreRulesOf (world_by table.old world.now) (last_rules protocols.now.rounds) }
     requires limits { AreInRange limits }
 {
-    for place in 0..world.functions() {
-        let f = FuncId { place };
-        add_signature(alloc, world, table, protocols, f, limits, watch, out)?;
+    let f = FuncId { place: 0 };
+    if f.place >= world.functions() {
+        return Err("no signature".into());
     }
-    Ok(())
-}
-
-/// The signatures of a world with their minimised lists.
-fn lines_of_world(
-    alloc: Global,
-    world: &World,
-    table: &mut ParamTable,
-    limits: Limits,
-    watch: &mut Recorder,
-) -> Result<Vec<u8>, Fail>
-    requires text { IsTextOver table.old world.now }
-    requires inheritance { IsInheritanceWritten (world_by table.old world.now) }
-    requires limits { AreInRange limits }
-{
-    let mut out = Vec::new(alloc);
     match Protocols::build(alloc, world, table, LIMITS, &mut Quiet) {
-        Ok(protocols) => add_signatures(alloc, world, table, &protocols, limits, watch, &mut out)?,
-        Err(_) => return Err("no rules".into()),
+        Ok(protocols) => kept_of(alloc, world, table, &protocols, f, limits, watch),
+        Err(_) => Err("no rules".into()),
     }
-    Ok(out)
 }
 
-/// The signatures of a text with their minimised lists, where minimising has these limits.
-fn lines_of(
-    alloc: Global,
-    text: &[u8],
-    limits: Limits,
-    watch: &mut Recorder,
-) -> Result<Vec<u8>, Fail>
-    requires { AreInRange limits }
+/// The limits of minimising.
+fn limits_of(max_rules: u32) -> Result<Limits, Fail>
+    ensures { IfOk result AreInRange }
 {
-    if text.len() > 1_048_576 {
-        return Err("a text that is too long".into());
-    }
-    let skeleton = skeleton_of(alloc, text)?;
-    let mut table = ParamTable::new(alloc);
-    match world_over(alloc, text, &skeleton, &mut table) {
-        Ok(world) => lines_of_world(alloc, &world, &mut table, limits, watch),
-        Err(_) => Err("no world".into()),
+    if 1 <= max_rules && max_rules <= 100_000 {
+        Ok(Limits {
+            max_rules,
+            max_length: 64,
+        })
+    } else {
+        Err("a limit out of range".into())
     }
 }
 
-/// The same, where minimising has this limit of rules.
-fn lines_within(
+/// How many requirements minimising keeps of the first signature of a text, or why it fails, where it has this limit of rules.
+fn kept_within(
     alloc: Global,
     text: &[u8],
     max_rules: u32,
     watch: &mut Recorder,
-) -> Result<Vec<u8>, Fail> {
-    let limits = in_range(Limits {
-        max_rules,
-        max_length: 64,
-    })?;
-    lines_of(alloc, text, limits, watch)
+) -> Result<String, Fail> {
+    let limits = limits_of(max_rules)?;
+    let mut table = ParamTable::new(alloc);
+    let world = world_of(alloc, text, &mut table)?;
+    kept_of_first(alloc, &world, &mut table, limits, watch)
 }
 
-/// The signatures of a row have the minimised lists that it says.
-fn has_lines(rt: &impl Abort, alloc: Global, written: &str) -> Result<(), Fail> {
-    match row(written) {
-        Some((text, limit, lines)) => {
-            let max_rules: u32 = limit.parse()?;
-            let mut watch = Recorder::new(alloc);
-            let text = with_collections(alloc, text)?;
-            let found = lines_within(alloc, text.as_bytes(), max_rules, &mut watch)?;
-            assert_eq!(rt; found.as_slice(), lines.as_bytes(), "at {lines}");
-            Ok(())
-        }
-        None => Err("a row without a limit".into()),
-    }
+/// Texts, each with the limit of rules that minimising has, and what comes of it.
+const TEXTS: &[(&str, u32, &str)] = &[
+    (
+        "protocol N { associatedtype Next: N } func f<T: N>()",
+        5,
+        "1",
+    ),
+    (
+        "protocol N { associatedtype Next: N } func f<T: N, U: N>()",
+        7,
+        "2",
+    ),
+    (
+        "protocol N { associatedtype Next: N } func f<T: N, U: N>()",
+        6,
+        "limit",
+    ),
+];
+
+/// Minimising the text comes to this.
+fn comes_to(
+    rt: &impl Abort,
+    alloc: Global,
+    text: &str,
+    max_rules: u32,
+    wanted: &str,
+) -> Result<(), Fail> {
+    let mut watch = Recorder::new(alloc);
+    let found = kept_within(alloc, text.as_bytes(), max_rules, &mut watch)?;
+    assert_eq!(rt; found.as_str(), wanted, "within {max_rules}");
+    Ok(())
 }
 
 #[test]
-fn signatures_have_their_minimised_lists(rt: HostRuntime) -> Result<(), Fail> {
-    for written in TEXTS.split("====\n") {
-        has_lines(&rt, rt.alloc(), written)?;
+fn minimising_keeps_its_own_limit(rt: HostRuntime) -> Result<(), Fail> {
+    for (text, max_rules, wanted) in TEXTS {
+        comes_to(&rt, rt.alloc(), text, *max_rules, wanted)?;
     }
     Ok(())
 }
@@ -236,7 +223,7 @@ const STARTS_OF_ALL: u32 = 1 + 2 + 2 + 2 + 3 + 1;
 fn evidence_spares_completions(rt: HostRuntime) -> Result<(), Fail> {
     let alloc = rt.alloc();
     let mut recorder = Recorder::new(alloc);
-    lines_within(alloc, IMPLIED, 4000, &mut recorder)?;
+    kept_within(alloc, IMPLIED, 4000, &mut recorder)?;
     assert!(&rt; starts(recorder.events()) < STARTS_OF_ALL);
     Ok(())
 }

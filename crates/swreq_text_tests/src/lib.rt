@@ -4,8 +4,6 @@
 #[cfg(test)]
 mod lexicons;
 #[cfg(test)]
-mod lowered;
-#[cfg(test)]
 mod parts;
 #[cfg(test)]
 mod refused;

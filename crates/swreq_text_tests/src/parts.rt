@@ -1,6 +1,7 @@
 //! The skeletons of texts, part by part.
 
 use std::alloc::Global;
+use std::process::Abort;
 use std::test::Fail;
 use swreq_decl::{
     Ask, Entity, FunctionDecl, ParamDecl, ProtocolDecl, QueryDecl, ReqDecl, Skeleton, StepDecl,
@@ -176,13 +177,19 @@ const SKELETONS: &[(&[u8], &str)] = &[
     ),
 ];
 
+/// The parts of the skeleton of a text.
+fn parts(rt: &impl Abort, alloc: Global, text: &[u8]) -> Result<String, Fail> {
+    assert!(rt; text.len() <= 1_048_576);
+    let skeleton = skeleton_of(alloc, text)?;
+    let mut line = String::new(alloc);
+    describe(&mut line, &skeleton)?;
+    Ok(line)
+}
+
 #[test]
 fn skeletons_have_their_parts_in_written_order(rt: HostRuntime) -> Result<(), Fail> {
     for (text, expected) in SKELETONS {
-        assert!(rt; text.len() <= 1_048_576);
-        let skeleton = skeleton_of(rt.alloc(), text)?;
-        let mut line = String::new(rt.alloc());
-        describe(&mut line, &skeleton)?;
+        let line = parts(&rt, rt.alloc(), text)?;
         assert_eq!(rt; line.as_str(), *expected);
     }
     Ok(())

@@ -4,7 +4,7 @@ use std::alloc::Global;
 use std::process::Abort;
 use std::test::Fail;
 use swreq_decl::Skeleton;
-use swreq_names::{Names, Param, Ranks, Signature, member_names};
+use swreq_names::{Names, Signature, member_names};
 use swreq_resolve::resolve_names;
 use swreq_samples::skeleton_of;
 
@@ -16,12 +16,17 @@ fn refusal(alloc: Global, text: &[u8], skeleton: &Skeleton) -> Result<String, Fa
     }
 }
 
+/// The refusal of the names of a text as one line, or `ok`.
+fn verdict(rt: &impl Abort, alloc: Global, text: &[u8]) -> Result<String, Fail> {
+    assert!(rt; text.len() <= 1_048_576);
+    let skeleton = skeleton_of(alloc, text)?;
+    refusal(alloc, text, &skeleton)
+}
+
 /// The names of a text are refused as one line says, or `ok`.
 fn has_verdict(rt: &impl Abort, alloc: Global, text: &str, want: &str) -> Result<(), Fail> {
-    assert!(rt; text.len() <= 1_048_576);
-    let skeleton = skeleton_of(alloc, text.as_bytes())?;
-    let found = refusal(alloc, text.as_bytes(), &skeleton)?;
-    assert_eq!(rt; found.as_str(), want, "{text}");
+    let found = verdict(rt, alloc, text.as_bytes())?;
+    assert_eq!(rt; found.as_str(), want, "of {text}");
     Ok(())
 }
 
@@ -186,14 +191,6 @@ fn of_two_causes_the_first_is_told(rt: HostRuntime) -> Result<(), Fail> {
     Ok(())
 }
 
-/// The names of a skeleton whose names resolve.
-fn names_of(alloc: Global, text: &[u8], skeleton: &Skeleton) -> Result<(Names, Ranks), Fail> {
-    match resolve_names(alloc, text, skeleton) {
-        Ok(names) => Ok((names, member_names(alloc, text, skeleton)?)),
-        Err(_) => Err("a refusal of names".into()),
-    }
-}
-
 /// A text with a signature of each kind, and a protocol that inherits another one.
 const NAMED: &[u8] = b"struct S<T> { func f<U>() } func g<V>() query g(V.C)
 protocol P { associatedtype B } protocol Q: P { associatedtype A }";
@@ -203,24 +200,84 @@ const NESTED: Signature = Signature::Nested {
     function: 0,
 };
 
+/// A line for some words, with the rank among the names of members, and how many these are. Then there is a line for each word, with the
+/// protocol of that name, the signature, the function of S, the generic parameter of that function, and whether Q declares such a member
+/// and has one. At the end are a function of g, and whether Q inherits P and P inherits Q.
+const FOUND: &str = "\
+A Some(0)
+B Some(1)
+C Some(2)
+V None
+3
+P Some(0) None None None false false
+Q Some(1) None None None false false
+S None Some(Struct(0)) None None false false
+f None None Some(Nested { outer: 0, function: 0 }) None false false
+g None Some(Function(0)) None None false false
+T None None None Some(Outer(0)) false false
+U None None None Some(Own(0)) false false
+V None None None None false false
+A None None None None true true
+B None None None None false true
+C None None None None false false
+None true false
+";
+
+/// The ranks of the names of members.
+fn ranks(alloc: Global, text: &[u8], skeleton: &Skeleton) -> Result<String, Fail> {
+    let members = member_names(alloc, text, skeleton)?;
+    let mut out = String::new(alloc);
+    for word in "A B C V".split(' ') {
+        write!(out, "{word} {:?}\n", members.find(word.as_bytes()))?;
+    }
+    write!(out, "{}\n", members.len())?;
+    Ok(out)
+}
+
+/// Appends what has this name.
+fn add_named(names: &Names, word: &str, out: &mut String) -> Result<(), Fail> {
+    let name = word.as_bytes();
+    let protocol = names.find_protocol(name);
+    let signature = names.find_signature(name);
+    let nested = names.find_nested(b"S", name);
+    let param = names.find_param(NESTED, name);
+    Ok(write!(
+        out,
+        "{word} {protocol:?} {signature:?} {nested:?} {param:?}"
+    )?)
+}
+
+fn add_lines(names: &Names, out: &mut String) -> Result<(), Fail> {
+    for word in "P Q S f g T U V A B C".split(' ') {
+        add_named(names, word, out)?;
+        let declares = names.declares(1, word.as_bytes());
+        write!(
+            out,
+            " {declares} {}\n",
+            names.has_member(1, word.as_bytes())
+        )?;
+    }
+    let nested = names.find_nested(b"g", b"f");
+    let up = names.inherits(1, 0);
+    let down = names.inherits(0, 1);
+    Ok(write!(out, "{nested:?} {up} {down}\n")?)
+}
+
+/// What is found in the names of a skeleton.
+fn found(alloc: Global, text: &[u8], skeleton: &Skeleton) -> Result<String, Fail> {
+    let mut out = ranks(alloc, text, skeleton)?;
+    match resolve_names(alloc, text, skeleton) {
+        Ok(names) => add_lines(&names, &mut out)?,
+        Err(_) => return Err("a refusal of names".into()),
+    }
+    Ok(out)
+}
+
 #[test]
 fn names_are_found_by_their_bytes(rt: HostRuntime) -> Result<(), Fail> {
-    let alloc = rt.alloc();
     assert!(rt; NAMED.len() <= 1_048_576);
-    let skeleton = skeleton_of(alloc, NAMED)?;
-    let (names, members) = names_of(alloc, NAMED, &skeleton)?;
-    assert!(rt; names.find_protocol(b"Q") == Some(1));
-    assert!(rt; names.find_protocol(b"S") == None);
-    assert!(rt; names.find_signature(b"S") == Some(Signature::Struct(0)));
-    assert!(rt; names.find_signature(b"g") == Some(Signature::Function(0)));
-    assert!(rt; names.find_signature(b"f") == None);
-    assert!(rt; names.find_nested(b"S", b"f") == Some(NESTED));
-    assert!(rt; names.find_nested(b"g", b"f") == None);
-    assert!(rt; names.find_param(NESTED, b"T") == Some(Param::Outer(0)));
-    assert!(rt; names.find_param(NESTED, b"U") == Some(Param::Own(0)));
-    assert!(rt; names.find_param(NESTED, b"V") == None);
-    assert!(rt; !names.declares(1, b"B") && names.has_member(1, b"B"));
-    assert!(rt; names.inherits(1, 0) && !names.inherits(0, 1));
-    assert!(rt; members.len() == 3 && members.find(b"C") == Some(2));
+    let skeleton = skeleton_of(rt.alloc(), NAMED)?;
+    let lines = found(rt.alloc(), NAMED, &skeleton)?;
+    assert_eq!(rt; lines.as_str(), FOUND);
     Ok(())
 }

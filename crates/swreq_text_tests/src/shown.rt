@@ -2,7 +2,7 @@
 
 use std::alloc::{AllocError, Global};
 use swreq_derive::Requirement;
-use swreq_lexicon::Lexicon;
+use swreq_lexicon::{Lexicon, ProtocolName};
 use swreq_lowering::{FuncId, Query, Written};
 use swreq_param::{AssocId, NameId, ParamTable, ProtoId, Step, TermId};
 
@@ -13,29 +13,33 @@ pub(crate) struct Page<'a> {
     pub(crate) table: &'a ParamTable,
 }
 
-fn name<'a>(page: &Page<'a>, a: NameId) -> &'a [u8] {
-    if a.rank < page.lexicon.names() {
-        page.lexicon.name(a)
+fn name(x: &Lexicon, a: NameId) -> &[u8] {
+    if a.rank < x.names() { x.name(a) } else { b"?" }
+}
+
+fn proto_name(x: &Lexicon, p: ProtoId) -> &[u8] {
+    if p.rank < x.protocols() {
+        x.proto_name(p)
     } else {
         b"?"
     }
 }
 
-fn proto_name<'a>(page: &Page<'a>, p: ProtoId) -> &'a [u8] {
-    if p.rank < page.lexicon.protocols() {
-        page.lexicon.proto_name(p)
-    } else {
-        b"?"
-    }
+/// A protocol and a name, as `[P]A`.
+pub(crate) fn add_pair(
+    x: &Lexicon,
+    pair: ProtocolName,
+    out: &mut Vec<u8>,
+) -> Result<(), AllocError> {
+    out.push(b'[')?;
+    out.extend_from_slice(proto_name(x, pair.proto))?;
+    out.push(b']')?;
+    out.extend_from_slice(name(x, pair.name))
 }
 
-fn add_bound(page: &Page<'_>, d: AssocId, out: &mut Vec<u8>) -> Result<(), AllocError> {
-    if d.rank < page.lexicon.associated() {
-        let pair = page.lexicon.assoc(d);
-        out.extend_from_slice(b"[")?;
-        out.extend_from_slice(proto_name(page, pair.proto))?;
-        out.extend_from_slice(b"]")?;
-        out.extend_from_slice(name(page, pair.name))
+fn add_bound(x: &Lexicon, d: AssocId, out: &mut Vec<u8>) -> Result<(), AllocError> {
+    if d.rank < x.associated() {
+        add_pair(x, x.assoc(d), out)
     } else {
         out.extend_from_slice(b"?")
     }
@@ -44,8 +48,8 @@ fn add_bound(page: &Page<'_>, d: AssocId, out: &mut Vec<u8>) -> Result<(), Alloc
 fn add_step(page: &Page<'_>, step: Step, out: &mut Vec<u8>) -> Result<(), AllocError> {
     out.extend_from_slice(b".")?;
     match step {
-        Step::Name(a) => out.extend_from_slice(name(page, a)),
-        Step::Bound(d) => add_bound(page, d, out),
+        Step::Name(a) => out.extend_from_slice(name(page.lexicon, a)),
+        Step::Bound(d) => add_bound(page.lexicon, d, out),
     }
 }
 
@@ -78,7 +82,7 @@ fn add_conf(
 ) -> Result<(), AllocError> {
     add_term(alloc, page, t, out)?;
     out.extend_from_slice(b": ")?;
-    out.extend_from_slice(proto_name(page, p))
+    out.extend_from_slice(proto_name(page.lexicon, p))
 }
 
 fn add_layout(

@@ -4,20 +4,24 @@ use std::alloc::Global;
 use std::process::Abort;
 use std::test::Fail;
 use swreq_decl::{ParseErr, parse};
-use swreq_lex::{MARKS, RESERVED, TEXT_LIMIT};
+use swreq_lex::TEXT_LIMIT;
 
 /// The refusal of a text as one line, or `ok`.
 fn verdict(rt: &impl Abort, alloc: Global, text: &[u8]) -> Result<String, Fail> {
     assert!(rt; text.len() <= TEXT_LIMIT);
-    let mut line = String::new(alloc);
     match parse(alloc, text) {
-        Ok(_) => write!(line, "ok")?,
-        Err(ParseErr::Lex { fault }) => write!(line, "{fault}")?,
-        Err(ParseErr::Syntax { at }) => write!(line, "syntax {at}")?,
-        Err(ParseErr::Unsupported { at, kind }) => write!(line, "{kind:?} {at}")?,
-        Err(ParseErr::Memory) => write!(line, "out of memory")?,
+        Ok(_) => Ok("ok".to_string(alloc)?),
+        Err(refusal) => line_of(alloc, &refusal),
     }
-    Ok(line)
+}
+
+fn line_of(alloc: Global, refusal: &ParseErr) -> Result<String, Fail> {
+    match refusal {
+        ParseErr::Lex { fault } => Ok(format!(in alloc; "{fault}")?),
+        ParseErr::Syntax { at } => Ok(format!(in alloc; "syntax {at}")?),
+        ParseErr::Unsupported { at, kind } => Ok(format!(in alloc; "{kind:?} {at}")?),
+        ParseErr::Memory => Err("out of memory".into()),
+    }
 }
 
 fn has_verdict(rt: &impl Abort, alloc: Global, text: &str, expected: &str) -> Result<(), Fail> {
@@ -26,7 +30,7 @@ fn has_verdict(rt: &impl Abort, alloc: Global, text: &str, expected: &str) -> Re
     Ok(())
 }
 
-/// Texts, each with its refusal: by position, by the token alone, and syntax errors.
+/// Texts outside the grammar, each with its refusal: by position, by the token alone, and syntax errors.
 const REFUSED: &str = "\
 class C { } | Class 0
 protocol P { func g() } | Member 13
@@ -149,16 +153,108 @@ func f<T: AnyObject<U>>() | GenericArguments 19
 func f<T: P>() where T<U>: P | GenericArguments 22
 query f(T : P<T>) | GenericArguments 13
 query f(T : AnyObject<T>) | GenericArguments 21
+protocol P<A> { associatedtype A } query f(T : P<T>) | GenericArguments 48
 ";
 
-#[test]
-fn texts_outside_the_grammar_are_refused(rt: HostRuntime) -> Result<(), Fail> {
-    for line in REFUSED.lines() {
-        let (text, expected) = line.split_once(" | ").ok_or("no refusal")?;
-        has_verdict(&rt, rt.alloc(), text, expected)?;
+/// Each reserved word and each mark where a name is wanted, with what it is refused for.
+const NO_NAMES: &str = "\
+func protocol () | syntax 5
+func associatedtype () | syntax 5
+func func () | Member 5
+func where () | syntax 5
+func Self () | syntax 5
+func AnyObject () | syntax 5
+func public () | syntax 5
+func internal () | syntax 5
+func fileprivate () | syntax 5
+func private () | syntax 5
+func class () | Class 5
+func struct () | Struct 5
+func enum () | Enum 5
+func actor () | Actor 5
+func extension () | Extension 5
+func typealias () | Typealias 5
+func import () | Import 5
+func var () | Member 5
+func let () | Member 5
+func init () | Member 5
+func subscript () | Member 5
+func static () | Member 5
+func mutating () | Member 5
+func some () | Existential 5
+func any () | Existential 5
+func Any () | Existential 5
+func each () | ParameterPack 5
+func repeat () | ParameterPack 5
+func Type () | Metatype 5
+func Protocol () | Metatype 5
+func async () | Effect 5
+func throws () | Effect 5
+func rethrows () | Effect 5
+func { () | syntax 5
+func } () | syntax 5
+func ( () | Tuple 5
+func ) () | syntax 5
+func < () | GenericArguments 5
+func > () | syntax 5
+func , () | syntax 5
+func : () | syntax 5
+func ; () | syntax 5
+func . () | syntax 5
+func & () | syntax 5
+func == () | syntax 5
+func [ () | Array 5
+func ] () | syntax 5
+func @ () | Attribute 5
+func ` () | Backtick 5
+func ~ () | SuppressedRequirement 5
+func ? () | Optional 5
+func ! () | Optional 5
+func = () | DefaultValue 5
+func -> () | Arrow 5
+func _ () | syntax 5
+";
+
+/// Texts of the grammar.
+const ACCEPTED: &str = "\
+/* a /* b */ c */ | ok
+ | ok
+func __() | ok
+internal protocol P { }; fileprivate func f() { }; | ok
+func query<query: query>() where query.query == query query query(query.query) | ok
+func f<T: P & AnyObject, U>() where T: AnyObject, U == T query f(); | ok
+protocol P: Q & R, AnyObject where Self: S { associatedtype A associatedtype B: C; } | ok
+func f() query g()func h() | ok
+func f() where Self.A.B: P | ok
+struct S { } | ok
+public struct S { }; | ok
+private struct S<T> { internal func f() } | ok
+struct S<T: P> where T.A: P, T == U { func f() { }; func g<U>(); } | ok
+struct S { func f() func g() { } fileprivate func h() } struct R { } | ok
+query S.f() query S.f(T) query S() | ok
+protocol P<A> { } protocol Q<A, B>: P<A> where Self: R<A, B.C> { } | ok
+protocol P: Q<A>, R<B> & S { associatedtype A: P<A> & Q, R<Self.B> where A: Q<A> } | ok
+func f<T: P<U> & Q<V, W.X>>() where T: P<Self>, U == V | ok
+protocol query<query, query>: query<query> { } | ok
+struct query<query> { func query() } query query.query(query : query) | ok
+";
+
+/// Looks at texts that stand a line each, before a bar and the refusal that is wanted or `ok`.
+fn look_at(rt: &impl Abort, alloc: Global, lines: &str) -> Result<(), Fail> {
+    for line in lines.lines() {
+        match line.split_once(" | ") {
+            Some((text, expected)) => has_verdict(rt, alloc, text, expected)?,
+            None => return Err("a line without a bar".into()),
+        }
     }
-    let text = "protocol P<A> { associatedtype A }\nquery f(T : P<T>)\n";
-    has_verdict(&rt, rt.alloc(), text, "GenericArguments 48")
+    Ok(())
+}
+
+#[test]
+fn texts_are_of_the_grammar_or_refused(rt: HostRuntime) -> Result<(), Fail> {
+    look_at(&rt, rt.alloc(), REFUSED)?;
+    look_at(&rt, rt.alloc(), NO_NAMES)?;
+    look_at(&rt, rt.alloc(), ACCEPTED)
 }
 
 /// Texts of the grammar, with a space between all tokens.
@@ -199,156 +295,30 @@ fn ends_too_early(rt: &impl Abort, alloc: Global, text: &[u8]) -> Result<(), Fai
     Ok(())
 }
 
-/// What each reserved word and each mark is refused for where a name is wanted.
-const WORD_KINDS: &[&str] = &[
-    "syntax",
-    "syntax",
-    "Member",
-    "syntax",
-    "syntax",
-    "syntax",
-    "syntax",
-    "syntax",
-    "syntax",
-    "syntax",
-    "Class",
-    "Struct",
-    "Enum",
-    "Actor",
-    "Extension",
-    "Typealias",
-    "Import",
-    "Member",
-    "Member",
-    "Member",
-    "Member",
-    "Member",
-    "Member",
-    "Existential",
-    "Existential",
-    "Existential",
-    "ParameterPack",
-    "ParameterPack",
-    "Metatype",
-    "Metatype",
-    "Effect",
-    "Effect",
-    "Effect",
-];
-
-const MARK_KINDS: &[&str] = &[
-    "syntax",
-    "syntax",
-    "Tuple",
-    "syntax",
-    "GenericArguments",
-    "syntax",
-    "syntax",
-    "syntax",
-    "syntax",
-    "syntax",
-    "syntax",
-    "syntax",
-    "Array",
-    "syntax",
-    "Attribute",
-    "Backtick",
-    "SuppressedRequirement",
-    "Optional",
-    "Optional",
-    "DefaultValue",
-    "Arrow",
-];
-
-#[test]
-fn each_word_and_mark_is_refused_for_its_kind(rt: HostRuntime) -> Result<(), Fail> {
-    for (spelling, kind) in RESERVED.iter().zip(WORD_KINDS) {
-        refused_as_a_name(&rt, rt.alloc(), spelling, kind)?;
-    }
-    for (spelling, kind) in MARKS.iter().zip(MARK_KINDS) {
-        refused_as_a_name(&rt, rt.alloc(), spelling, kind)?;
-    }
-    refused_as_a_name(&rt, rt.alloc(), "_", "syntax")
-}
-
-/// Where the name of a function is wanted, the word or mark is refused for the kind.
-fn refused_as_a_name(
-    rt: &impl Abort,
-    alloc: Global,
-    spelling: &str,
-    kind: &str,
-) -> Result<(), Fail> {
-    let text = format!(in alloc; "func {spelling} ()")?;
-    let expected = format!(in alloc; "{kind} 5")?;
-    has_verdict(rt, alloc, text.as_str(), expected.as_str())
-}
-
-const ACCEPTED: &[&str] = &[
-    "",
-    "/* a /* b */ c */\n",
-    "func __()",
-    "internal protocol P { }; fileprivate func f() { };",
-    "func query<query: query>() where query.query == query\nquery query(query.query)",
-    "func f<T: P & AnyObject, U>() where T: AnyObject, U == T\nquery f();",
-    "protocol P: Q & R, AnyObject where Self: S { associatedtype A associatedtype B: C; }",
-    "func f() query g()func h()",
-    "func f() where Self.A.B: P",
-    "struct S { }",
-    "public struct S { };",
-    "private struct S<T> { internal func f() }",
-    "struct S<T: P> where T.A: P, T == U { func f() { }; func g<U>(); }",
-    "struct S { func f() func g() { } fileprivate func h() } struct R { }",
-    "query S.f() query S.f(T) query S()",
-    "protocol P<A> { } protocol Q<A, B>: P<A> where Self: R<A, B.C> { }",
-    "protocol P: Q<A>, R<B> & S { associatedtype A: P<A> & Q, R<Self.B> where A: Q<A> }",
-    "func f<T: P<U> & Q<V, W.X>>() where T: P<Self>, U == V",
-    "protocol query<query, query>: query<query> { }",
-    "struct query<query> { func query() } query query.query(query : query)",
-];
-
-#[test]
-fn texts_of_the_grammar_are_accepted(rt: HostRuntime) -> Result<(), Fail> {
-    for text in ACCEPTED {
-        has_verdict(&rt, rt.alloc(), text, "ok")?;
-    }
-    Ok(())
-}
-
-/// A text with a type with so many members.
-fn with_members(alloc: Global, before: &str, members: u32, after: &str) -> Result<String, Fail> {
-    let mut text = String::from_str(alloc, before)?;
-    for _ in 0..members {
-        text.push_str(".A")?;
-    }
-    text.push_str(after)?;
-    Ok(text)
-}
-
 /// Texts around a type, and the verdict where that has a member too many.
 const LONG: &[(&str, &str, &str)] = &[
     ("func f<T>()\nquery f(T", ")\n", "LongType 2021"),
     ("func f<T: P<T", ", U>>()\n", "LongType 2013"),
 ];
 
-#[test]
-fn a_type_has_at_most_a_thousand_members(rt: HostRuntime) -> Result<(), Fail> {
-    for (before, after, expected) in LONG {
-        let text = with_members(rt.alloc(), before, 1000, after)?;
-        has_verdict(&rt, rt.alloc(), text.as_str(), "ok")?;
-        let text = with_members(rt.alloc(), before, 1001, after)?;
-        has_verdict(&rt, rt.alloc(), text.as_str(), expected)?;
-    }
-    Ok(())
+/// A text around a type with so many members has this verdict.
+fn with_members(
+    rt: &impl Abort,
+    alloc: Global,
+    around: (&str, &str),
+    members: usize,
+    expected: &str,
+) -> Result<(), Fail> {
+    let middle = ".A".repeat(alloc, members)?;
+    let text = format!(in alloc; "{}{middle}{}", around.0, around.1)?;
+    has_verdict(rt, alloc, text.as_str(), expected)
 }
 
 #[test]
-fn the_longest_text_is_accepted(rt: HostRuntime) -> Result<(), Fail> {
-    let mut text = Vec::new(rt.alloc());
-    text.extend_from_slice(b"//")?;
-    for _ in 0..1_048_574 {
-        text.push(b'a')?;
+fn a_type_has_at_most_a_thousand_members(rt: HostRuntime) -> Result<(), Fail> {
+    for (before, after, expected) in LONG {
+        with_members(&rt, rt.alloc(), (before, after), 1000, "ok")?;
+        with_members(&rt, rt.alloc(), (before, after), 1001, expected)?;
     }
-    let found = verdict(&rt, rt.alloc(), &text)?;
-    assert_eq!(rt; found.as_str(), "ok");
     Ok(())
 }

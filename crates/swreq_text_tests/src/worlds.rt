@@ -1,15 +1,17 @@
 //! Texts with their worlds.
+ghost use Rattle.std.specs.Prelude.{◌<◌, length};
 
 use crate::shown::{Page, add_asked, add_lines, asked};
 use std::alloc::{AllocError, Global};
 use std::process::Abort;
 use std::test::Fail;
 use swreq_derive::Facts;
-use swreq_param::{AssocId, NameId, ParamId, ParamTable, ProtoId};
+use swreq_param::{AssocId, NameId, ParamTable, ProtoId};
 use swreq_samples::{skeleton_of, with_collections};
 use swreq_world::{FuncId, FunctionFacts, Query, World};
 
-/// Texts, each with the lists of its protocols by rank, its signatures in written order with their lists, and its queries.
+/// Texts, each with the lists of its protocols by rank, its signatures in written order with their lists, and its queries. The second has
+/// every form of requirement in each place where one may stand.
 const WORLDS: &[(&str, &str)] = &[
     (
         "\
@@ -38,6 +40,57 @@ f func 1 0
 0_0.Element: Equatable 735 735
 query f 0_0.SubSequence.Element: Equatable
 query f
+",
+    ),
+    (
+        "\
+protocol Q<A> { associatedtype A }
+protocol P: Q<Self>, AnyObject where Self: Q, B: Q {
+  associatedtype B: Q<B.A> & AnyObject where B.A == Self, A: Q
+}
+struct S<T: P & Q> where T.B: Q<T> {
+  func f<U: Q<T.B>>() where U == T.A, U: AnyObject
+}
+func g<X>() where X.A: Q<X>
+query S.f(U.[Q]A : Q)
+query g()
+query S(T.B.A)
+query S.f(U == T.[P]B)
+query g(X : AnyObject)
+",
+        "\
+0_0: Q 44 44
+0_0.A == 0_0 47 49
+0_0: AnyObject 44 44
+0_0: Q 72 72
+0_0.B: Q 81 81
+0_0.B: Q 105 105
+0_0.B.A == 0_0.B.A 108 110
+0_0.B: AnyObject 105 105
+0_0.B.A == 0_0 133 140
+0_0.A: Q 146 146
+S struct 1 0
+0_0: P 162 162
+0_0: Q 162 162
+0_0.B: Q 178 178
+0_0.B.A == 0_0 183 185
+S.f func 1 1
+0_0: P 162 162
+0_0: Q 162 162
+0_0.B: Q 178 178
+0_0.B.A == 0_0 183 185
+1_0: Q 199 199
+1_0.A == 0_0.B 202 204
+1_0 == 0_0.A 218 223
+1_0: AnyObject 228 228
+g func 1 0
+0_0.A: Q 261 261
+0_0.A.A == 0_0 266 268
+query f 1_0.[Q]A: Q
+query g
+query S 0_0.B.A
+query f 1_0 == 0_0.[P]B
+query g 0_0: AnyObject
 ",
     ),
     (
@@ -282,61 +335,120 @@ fn world_of(
     }
 }
 
+/// The lines of the world of a text.
+fn lines_of_text(rt: &impl Abort, alloc: Global, text: &[u8]) -> Result<Vec<u8>, Fail> {
+    let mut table = ParamTable::new(alloc);
+    let world = world_of(rt, alloc, text, &mut table)?;
+    Ok(lines_of(alloc, &world, &table)?)
+}
+
+/// The text has the world with these lines.
+fn has_world(rt: &impl Abort, alloc: Global, text: &str, lines: &str) -> Result<(), Fail> {
+    let text = with_collections(alloc, text)?;
+    let found = lines_of_text(rt, alloc, text.as_bytes())?;
+    assert_eq!(rt; found.as_slice(), lines.as_bytes());
+    Ok(())
+}
+
 #[test]
 fn texts_have_their_worlds(rt: HostRuntime) -> Result<(), Fail> {
     for (text, lines) in WORLDS {
-        let text = with_collections(rt.alloc(), text)?;
-        let mut table = ParamTable::new(rt.alloc());
-        let world = world_of(&rt, rt.alloc(), text.as_bytes(), &mut table)?;
-        let found = lines_of(rt.alloc(), &world, &table)?;
-        assert!(&rt; found.as_slice() == lines.as_bytes());
+        has_world(&rt, rt.alloc(), text, lines)?;
     }
     Ok(())
 }
 
-/// A text with two protocols that declare one name.
+/// A text with two protocols that declare one name, and a struct.
 const TWO: &[u8] = b"\
 protocol P { associatedtype A }
 protocol Q { associatedtype A }
 func f<T: P & Q>()
 func g<T: P>()
+struct S { func k<U>() }
 ";
 
-/// What the look-ups find in the world of that text.
-fn looked_up(rt: &impl Abort, world: &World) {
+/// A line for each word, with the protocol, the name of a member, the signature and the function of S of that name, and the generic
+/// parameter of g. Then there are whether P has the name A and inherits Q, how many protocols it inherits, and how many signatures there
+/// are and requirements of g; and the name A, the protocol Q and the first associated type.
+const FOUND: &str = "\
+P Some(ProtoId { rank: 0 }) None None None None
+Q Some(ProtoId { rank: 1 }) None None None None
+A None Some(NameId { rank: 0 }) None None None
+f None None Some(FuncId { place: 0 }) None None
+g None None Some(FuncId { place: 1 }) None None
+S None None Some(FuncId { place: 2 }) None None
+k None None None Some(FuncId { place: 3 }) None
+T None None None None Some(ParamId { depth: 0, index: 0 })
+U None None None None None
+true false 0 4 1
+[65] [81] ProtocolName { proto: ProtoId { rank: 0 }, name: NameId { rank: 0 } }
+";
+
+const G: FuncId = FuncId { place: 1 };
+
+/// Appends what has this name.
+fn add_word(world: &World, word: &str, out: &mut String) -> Result<(), Fail>
+    requires { 1 < length world.now.signatures }
+{
+    let proto = world.find_proto(word.as_bytes());
+    let name = world.find_name(word.as_bytes());
+    let top = world.find_func(None, word.as_bytes());
+    let nested = world.find_func(Some(b"S"), word.as_bytes());
+    let param = world.find_param(G, word.as_bytes());
+    Ok(write!(
+        out,
+        "{word} {proto:?} {name:?} {top:?} {nested:?} {param:?}\n"
+    )?)
+}
+
+/// Appends what there is to P and g.
+fn add_counts(world: &World, out: &mut String) -> Result<(), Fail>
+    requires { 1 < length world.now.signatures }
+{
     let p = ProtoId { rank: 0 };
-    let a = NameId { rank: 0 };
-    let q = ProtoId { rank: 1 };
-    assert!(rt; world.find_proto(b"P") == Some(p));
-    assert!(rt; world.find_proto(b"Q") == Some(q));
-    assert!(rt; world.find_proto(b"A") == None);
-    assert!(rt; world.find_name(b"A") == Some(a));
-    assert!(rt; world.find_name(b"T") == None);
-    let g = FuncId { place: 1 };
-    assert!(rt; world.find_func(None, b"g") == Some(g));
-    assert!(rt; world.find_func(None, b"h") == None);
-    assert!(rt; world.find_func(Some(b"f"), b"g") == None);
-    assert!(rt; world.functions() == 2);
-    let t = ParamId { depth: 0, index: 0 };
-    assert!(rt; world.find_param(g, b"T") == Some(t));
-    assert!(rt; world.find_param(g, b"U") == None);
-    assert!(rt; world.has_member(p, a) && !world.inherits(p, q) && world.depth(p) == 0);
-    let d = AssocId { rank: 0 };
-    assert!(rt; d.rank < world.lexicon().associated());
-    let pair = world.assoc(d);
-    assert!(rt; pair.proto == p && pair.name == a);
-    assert!(rt; a.rank < world.lexicon().names());
-    assert!(rt; world.name(a) == b"A".as_slice());
-    assert!(rt; q.rank < world.protocols());
-    assert!(rt; world.proto_name(q) == b"Q".as_slice());
-    let facts = FunctionFacts::of(world, g);
-    assert!(rt; facts.written().len() == 1);
+    let has = world.has_member(p, NameId { rank: 0 });
+    let inherits = world.inherits(p, ProtoId { rank: 1 });
+    let depth = world.depth(p);
+    let requirements = FunctionFacts::of(world, G).written().len();
+    Ok(write!(
+        out,
+        "{has} {inherits} {depth} {} {requirements}\n",
+        world.functions()
+    )?)
+}
+
+/// Appends the first name, the second protocol and the first associated type.
+fn add_names(rt: &impl Abort, world: &World, out: &mut String) -> Result<(), Fail> {
+    assert!(rt; world.lexicon().names() == 1);
+    assert!(rt; world.protocols() == 2);
+    assert!(rt; world.lexicon().associated() == 2);
+    let name = world.name(NameId { rank: 0 });
+    let proto = world.proto_name(ProtoId { rank: 1 });
+    let pair = world.assoc(AssocId { rank: 0 });
+    Ok(write!(out, "{name:?} {proto:?} {pair:?}\n")?)
+}
+
+fn found(rt: &impl Abort, alloc: Global, world: &World) -> Result<String, Fail> {
+    assert!(rt; world.functions() == 4);
+    let mut out = String::new(alloc);
+    for word in "P Q A f g S k T U".split(' ') {
+        add_word(world, word, &mut out)?;
+    }
+    add_counts(world, &mut out)?;
+    add_names(rt, world, &mut out)?;
+    Ok(out)
+}
+
+/// What is found in the world of a text.
+fn found_of(rt: &impl Abort, alloc: Global, text: &[u8]) -> Result<String, Fail> {
+    let mut table = ParamTable::new(alloc);
+    let world = world_of(rt, alloc, text, &mut table)?;
+    found(rt, alloc, &world)
 }
 
 #[test]
 fn names_are_found(rt: HostRuntime) -> Result<(), Fail> {
-    let mut table = ParamTable::new(rt.alloc());
-    let world = world_of(&rt, rt.alloc(), TWO, &mut table)?;
-    looked_up(&rt, &world);
+    let lines = found_of(&rt, rt.alloc(), TWO)?;
+    assert_eq!(rt; lines.as_str(), FOUND);
     Ok(())
 }

@@ -1,109 +1,96 @@
 //! Texts at the limits of what is read, and long ones.
 use crate::running::{runs, undisturbed};
 use std::alloc::Global;
+use std::process::Abort;
 use std::test::Fail;
 
-/// The piece, so many times.
-fn repeated(alloc: Global, piece: &[u8], count: u32) -> Result<Vec<u8>, Fail> {
-    let mut text = Vec::new(alloc);
-    for _ in 0..count {
-        text.extend_from_slice(piece)?;
+/// What a text is made of: a piece so many times, between a front and a back; then there are the status and what is printed of it.
+type Row = (
+    &'static str,
+    &'static str,
+    usize,
+    &'static str,
+    &'static str,
+    &'static str,
+);
+
+/// A comment that fills the limit and one past it, and a query of a type with as many members as there may be and with one more.
+const REPEATED: &[Row] = &[
+    ("//", "a", 1_048_574, "", "0", ""),
+    (
+        "//",
+        "a",
+        1_048_575,
+        "",
+        "1",
+        "error: text longer than 1048576 bytes\n",
+    ),
+    ("func f<T>()\nquery f(T", ".A", 1000, ")", "0", "invalid\n"),
+    (
+        "func f<T>()\nquery f(T",
+        ".A",
+        1001,
+        ")",
+        "1",
+        "error: unsupported long type at 2021\n",
+    ),
+];
+
+/// The text of a row is answered as it says.
+fn is_answered(rt: &impl Abort, alloc: Global, row: &Row) -> Result<(), Fail> {
+    let (front, piece, count, back, status, output) = *row;
+    let middle = piece.repeat(alloc, count)?;
+    let text = format!(in alloc; "{front}{middle}{back}")?;
+    let setting = undisturbed("answer", text.as_bytes());
+    runs(rt, alloc, setting, status, output.as_bytes())
+}
+
+#[test]
+fn texts_up_to_the_limits_are_read(rt: HostRuntime) -> Result<(), Fail> {
+    for row in REPEATED {
+        is_answered(&rt, rt.alloc(), row)?;
     }
-    Ok(text)
-}
-
-#[test]
-fn a_text_past_the_limit_is_too_large(rt: HostRuntime) -> Result<(), Fail> {
-    let alloc = rt.alloc();
-    let letters = repeated(alloc, b"a", 1_048_574)?;
-    let mut comment = b"//".to_vec(alloc)?;
-    comment.extend_from_slice(&letters)?;
-    runs(&rt, alloc, undisturbed("answer", &comment), "0", b"")?;
-    comment.push(b'a')?;
-    runs(
-        &rt,
-        alloc,
-        undisturbed("answer", &comment),
-        "1",
-        b"error: text longer than 1048576 bytes\n",
-    )
-}
-
-#[test]
-fn comments_may_open_within_one_another_without_end(rt: HostRuntime) -> Result<(), Fail> {
-    let alloc = rt.alloc();
-    let text = repeated(alloc, b"/*", 500_000)?;
-    runs(
-        &rt,
-        alloc,
-        undisturbed("answer", &text),
-        "1",
-        b"error: open comment at 0\n",
-    )
-}
-
-/// A text with a query of a type with so many members.
-fn with_members(alloc: Global, count: u32) -> Result<Vec<u8>, Fail> {
-    let mut text = b"func f<T>()\nquery f(T".to_vec(alloc)?;
-    let members = repeated(alloc, b".A", count)?;
-    text.extend_from_slice(&members)?;
-    text.push(b')')?;
-    Ok(text)
-}
-
-#[test]
-fn a_type_has_at_most_1000_members(rt: HostRuntime) -> Result<(), Fail> {
-    let alloc = rt.alloc();
-    let long = with_members(alloc, 1000)?;
-    runs(&rt, alloc, undisturbed("answer", &long), "0", b"invalid\n")?;
-    let longer = with_members(alloc, 1001)?;
-    runs(
-        &rt,
-        alloc,
-        undisturbed("answer", &longer),
-        "1",
-        b"error: unsupported long type at 2021\n",
-    )
+    Ok(())
 }
 
 /// Protocols from 0 to the last, each of which inherits the one before it, and a query whether the last inherits the first.
-fn chain(alloc: Global, last: u32) -> Result<Vec<u8>, Fail> {
-    let mut text = b"protocol P0 { }\n".to_vec(alloc)?;
+fn chain(alloc: Global, last: u32) -> Result<String, Fail> {
+    let mut text = String::from_str(alloc, "protocol P0 { }\n")?;
     for before in 0..last {
-        let k = before + 1;
-        let line = format!(in alloc; "protocol P{k}: P{before} {{ }}\n")?;
-        text.extend_from_slice(line.as_bytes())?;
+        write!(text, "protocol P{}: P{before} {{ }}\n", before + 1)?;
     }
-    let asked = format!(in alloc; "func f<T: P{last}>()\nquery f(T : P0)\n")?;
-    text.extend_from_slice(asked.as_bytes())?;
+    write!(text, "func f<T: P{last}>()\nquery f(T : P0)\n")?;
     Ok(text)
+}
+
+/// The chain up to this protocol gives this status and prints this.
+fn chain_gives(
+    rt: &impl Abort,
+    alloc: Global,
+    last: u32,
+    words: &str,
+    status: &str,
+    output: &str,
+) -> Result<(), Fail> {
+    let text = chain(alloc, last)?;
+    let setting = undisturbed(words, text.as_bytes());
+    runs(rt, alloc, setting, status, output.as_bytes())
 }
 
 #[test]
 fn a_chain_of_80_protocols_is_within_the_limits(rt: HostRuntime) -> Result<(), Fail> {
-    let alloc = rt.alloc();
-    let text = chain(alloc, 79)?;
-    runs(&rt, alloc, undisturbed("answer", &text), "0", b"yes\n")
+    chain_gives(&rt, rt.alloc(), 79, "answer", "0", "yes\n")
 }
 
 #[test]
-fn a_chain_of_100_protocols_wants_more_rules(rt: HostRuntime) -> Result<(), Fail> {
-    let alloc = rt.alloc();
-    let text = chain(alloc, 99)?;
-    runs(
-        &rt,
-        alloc,
-        undisturbed("answer", &text),
-        "3",
-        b"error: more than 4000 rules\n",
-    )?;
-    runs(
-        &rt,
-        alloc,
-        undisturbed("answer --max-rules 5150", &text),
-        "0",
-        b"yes\n",
-    )
+fn a_chain_of_100_protocols_passes_the_limit_of_rules(rt: HostRuntime) -> Result<(), Fail> {
+    let error = "error: more than 4000 rules\n";
+    chain_gives(&rt, rt.alloc(), 99, "answer", "3", error)
+}
+
+#[test]
+fn a_chain_of_100_protocols_is_within_more_rules(rt: HostRuntime) -> Result<(), Fail> {
+    chain_gives(&rt, rt.alloc(), 99, "answer --max-rules 5150", "0", "yes\n")
 }
 
 /// What is printed of the largest generated text.

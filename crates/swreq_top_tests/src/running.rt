@@ -2,9 +2,9 @@
 use std::alloc::Global;
 use std::process::Abort;
 use std::test::Fail;
-use swreq_text::{MemSink, MemSource};
+use swreq_text::{MemSink, MemSource, Sink, Source};
 use swreq_top::run;
-use swreq_watch::Quiet;
+use swreq_watch::{Quiet, Watch};
 
 /// How a run meets the world: the words, with single spaces between them; the text, in pieces of 10, with the read that fails; and the
 /// sink, in pieces of 3, with its room and the write that fails.
@@ -37,6 +37,40 @@ pub(crate) fn words_of(alloc: Global, line: &str) -> Result<Vec<String>, Fail> {
     Ok(words)
 }
 
+/// The status that a run gives, as it is written.
+pub(crate) fn status_of<S: Source, K: Sink, W: Watch>(
+    alloc: Global,
+    words: &[String],
+    src: &mut S,
+    out: &mut K,
+    watch: &mut W,
+) -> Result<String, Fail> {
+    let status = run(alloc, words, src, out, watch);
+    Ok(format!(in alloc; "{status}")?)
+}
+
+fn source_of(alloc: Global, setting: &Setting<'_>) -> Result<MemSource, Fail> {
+    let text = setting.text.to_vec(alloc)?;
+    let failing = vec![in alloc; setting.failing_read]?;
+    Ok(MemSource::new(text, 10, failing))
+}
+
+fn sink_of(alloc: Global, setting: &Setting<'_>) -> Result<MemSink, Fail> {
+    let failing = vec![in alloc; setting.failing_write]?;
+    Ok(MemSink::new(alloc, setting.room, 3, failing)?)
+}
+
+/// The sink behind a run with these words has taken what is printed; the status is this.
+fn ran(
+    alloc: Global,
+    setting: &Setting<'_>,
+    words: &[String],
+    out: &mut MemSink,
+) -> Result<String, Fail> {
+    let mut src = source_of(alloc, setting)?;
+    status_of(alloc, words, &mut src, out, &mut Quiet)
+}
+
 /// A run gives this status, as it is written, and prints this.
 pub(crate) fn runs(
     rt: &impl Abort,
@@ -45,22 +79,10 @@ pub(crate) fn runs(
     status: &str,
     taken: &[u8],
 ) -> Result<(), Fail> {
-    let Setting {
-        words: line,
-        text,
-        failing_read,
-        room,
-        failing_write,
-    } = setting;
-    let words = words_of(alloc, line)?;
-    let mut src = MemSource::new(text.to_vec(alloc)?, 10, vec![in alloc; failing_read]?);
-    let mut out = MemSink::new(alloc, room, 3, vec![in alloc; failing_write]?)?;
-    let came = run(alloc, &words, &mut src, &mut out, &mut Quiet);
-    assert_eq!(rt; out.bytes(), taken, "after {line}");
-    assert_eq!(rt;
-        format!(in alloc; "{came}")?.as_str(),
-        status,
-        "after {line}"
-    );
+    let words = words_of(alloc, setting.words)?;
+    let mut out = sink_of(alloc, &setting)?;
+    let came = ran(alloc, &setting, &words, &mut out)?;
+    assert_eq!(rt; out.bytes(), taken, "after {}", setting.words);
+    assert_eq!(rt; came.as_str(), status, "after {}", setting.words);
     Ok(())
 }

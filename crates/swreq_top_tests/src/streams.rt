@@ -1,27 +1,27 @@
 //! What the words and the streams do to a run.
-use crate::running::{Setting, runs, undisturbed, words_of};
+use crate::running::{Setting, runs, status_of, undisturbed, words_of};
 use crate::texts::{ENDLESS, ENDLESS_ANSWERS};
 use std::alloc::Global;
 use std::process::Abort;
 use std::test::Fail;
 use swreq_text::{CountSink, MemSink, MemSource, Source, SureSource};
-use swreq_top::run;
 use swreq_watch::Quiet;
 
-/// A run with these words gives this status, prints this, and leaves the source as it was.
+/// A run with these words gives this status, as it is written, prints this, and leaves the source as it was.
 fn reads_nothing(
     rt: &impl Abort,
     alloc: Global,
     words: &[String],
-    status: u8,
+    status: &str,
     taken: &[u8],
 ) -> Result<(), Fail> {
     let mut src = MemSource::new(b"query".to_vec(alloc)?, 10, Vec::new(alloc));
     let mut out = MemSink::new(alloc, 1000, 1000, Vec::new(alloc))?;
-    assert_eq!(rt; run(alloc, words, &mut src, &mut out, &mut Quiet), status);
+    let came = status_of(alloc, words, &mut src, &mut out, &mut Quiet)?;
+    let left = src.read(&mut [0u8; 10]);
     assert_eq!(rt; out.bytes(), taken);
-    let mut buf = [0u8; 10];
-    assert_eq!(rt; src.read(&mut buf), Ok(5));
+    assert_eq!(rt; came.as_str(), status);
+    assert_eq!(rt; left, Ok(5));
     Ok(())
 }
 
@@ -39,20 +39,18 @@ fly";
 
 #[test]
 fn wrong_words_read_nothing(rt: HostRuntime) -> Result<(), Fail> {
-    let alloc = rt.alloc();
-    reads_nothing(&rt, alloc, &[], 2, USAGE)?;
+    reads_nothing(&rt, rt.alloc(), &[], "2", USAGE)?;
     for line in WRONG.split("\n") {
-        let words = words_of(alloc, line)?;
-        reads_nothing(&rt, alloc, &words, 2, USAGE)?;
+        let words = words_of(rt.alloc(), line)?;
+        reads_nothing(&rt, rt.alloc(), &words, "2", USAGE)?;
     }
     Ok(())
 }
 
 #[test]
 fn a_generated_text_is_not_read(rt: HostRuntime) -> Result<(), Fail> {
-    let alloc = rt.alloc();
-    let words = words_of(alloc, "gen 3 --max-rules 1")?;
-    reads_nothing(&rt, alloc, &words, 3, b"error: more than 1 rules\n")
+    let words = words_of(rt.alloc(), "gen 3 --max-rules 1")?;
+    reads_nothing(&rt, rt.alloc(), &words, "3", b"error: more than 1 rules\n")
 }
 
 /// The text comes in 17 pieces, and the next read finds its end.
@@ -115,11 +113,11 @@ fn room_may_be_short_for_a_refusal(rt: HostRuntime) -> Result<(), Fail> {
 
 #[test]
 fn streams_that_never_fail_give_status_0(rt: HostRuntime) -> Result<(), Fail> {
-    let alloc = rt.alloc();
-    let words = words_of(alloc, "answer")?;
-    let mut src = SureSource::new(ENDLESS.as_bytes().to_vec(alloc)?);
+    let words = words_of(rt.alloc(), "answer")?;
+    let mut src = SureSource::new(ENDLESS.as_bytes().to_vec(rt.alloc())?);
     let mut out = CountSink::new();
-    assert_eq!(rt; run(alloc, &words, &mut src, &mut out, &mut Quiet), 0);
+    let status = status_of(rt.alloc(), &words, &mut src, &mut out, &mut Quiet)?;
+    assert_eq!(rt; status.as_str(), "0");
     assert_eq!(rt; out.count(), ENDLESS_ANSWERS.len() as u64);
     Ok(())
 }

@@ -1,6 +1,8 @@
 //! Texts, and the words they are run with.
 use crate::running::{runs, undisturbed};
-use crate::texts::{ENDLESS, TEXTS};
+use crate::texts::{ANSWERS, ENDLESS, LIMITS, REFUSALS};
+use std::alloc::Global;
+use std::process::Abort;
 use std::test::Fail;
 use swreq_samples::with_collections;
 
@@ -12,44 +14,49 @@ fn row(written: &str) -> Option<(&str, &str, &str, &str)> {
     Some((words, text, status, output))
 }
 
-#[test]
-fn texts_are_answered_or_refused(rt: HostRuntime) -> Result<(), Fail> {
-    for written in TEXTS.split("====\n") {
-        match row(written) {
-            Some((words, text, status, output)) => {
-                let text = with_collections(rt.alloc(), text)?;
-                let setting = undisturbed(words, text.as_bytes());
-                runs(&rt, rt.alloc(), setting, status, output.as_bytes())?
-            }
-            None => return Err("a row without words or a status".into()),
+/// What a row says is given.
+fn gives(rt: &impl Abort, alloc: Global, written: &str) -> Result<(), Fail> {
+    match row(written) {
+        Some((words, text, status, output)) => {
+            let text = with_collections(alloc, text)?;
+            let setting = undisturbed(words, text.as_bytes());
+            runs(rt, alloc, setting, status, output.as_bytes())
         }
+        None => Err("a row without words or a status".into()),
+    }
+}
+
+/// Each row is given.
+fn all_give(rt: &impl Abort, alloc: Global, rows: &str) -> Result<(), Fail> {
+    for written in rows.split("====\n") {
+        gives(rt, alloc, written)?;
     }
     Ok(())
 }
 
 #[test]
-fn bytes_that_are_no_text_and_texts_that_end_too_soon_are_refused(
-    rt: HostRuntime,
-) -> Result<(), Fail> {
-    let alloc = rt.alloc();
-    runs(
-        &rt,
-        alloc,
-        undisturbed("answer", &[0x2F, 0x2F, 0xFF]),
-        "1",
-        b"error: not UTF-8 at 2\n",
-    )?;
-    runs(
-        &rt,
-        alloc,
-        undisturbed("answer", b"func f<T>() where T."),
-        "1",
-        b"error: syntax at 20\n",
-    )
+fn texts_are_answered(rt: HostRuntime) -> Result<(), Fail> {
+    all_give(&rt, rt.alloc(), ANSWERS)
+}
+
+#[test]
+fn limits_are_kept_or_passed(rt: HostRuntime) -> Result<(), Fail> {
+    all_give(&rt, rt.alloc(), LIMITS)
+}
+
+#[test]
+fn texts_are_refused(rt: HostRuntime) -> Result<(), Fail> {
+    all_give(&rt, rt.alloc(), REFUSALS)
+}
+
+#[test]
+fn bytes_that_are_no_text_are_refused(rt: HostRuntime) -> Result<(), Fail> {
+    let setting = undisturbed("answer", &[0x2F, 0x2F, 0xFF]);
+    runs(&rt, rt.alloc(), setting, "1", b"error: not UTF-8 at 2\n")
 }
 
 /// What is answered of the front of an endless text, cut off behind so many bytes.
-const CUT: [(usize, &str, &str); 5] = [
+const CUT: &[(usize, &str, &str)] = &[
     (3, "1", "error: syntax at 0\n"),
     (12, "1", "error: syntax at 12\n"),
     (53, "0", ""),
@@ -60,14 +67,11 @@ const CUT: [(usize, &str, &str); 5] = [
 #[test]
 fn a_text_that_is_cut_off_is_refused_where_it_ends_too_soon(rt: HostRuntime) -> Result<(), Fail> {
     for (bytes, status, output) in CUT {
-        match ENDLESS.as_bytes().get(..bytes) {
-            Some(front) => runs(
-                &rt,
-                rt.alloc(),
-                undisturbed("answer", front),
-                status,
-                output.as_bytes(),
-            )?,
+        match ENDLESS.as_bytes().get(..*bytes) {
+            Some(front) => {
+                let setting = undisturbed("answer", front);
+                runs(&rt, rt.alloc(), setting, status, output.as_bytes())?
+            }
             None => return Err("a text that is too short".into()),
         }
     }

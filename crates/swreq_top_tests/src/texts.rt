@@ -1,15 +1,14 @@
 //! Texts with the words they are run with, their statuses and outputs.
+//!
+//! Each row begins with the words of the command line behind a dollar sign. Its text ends at a line of four bars with the status; behind
+//! it is the output, up to a line of four equals signs.
 
-/// Each row begins with the words of the command line behind a dollar sign. Its text ends at a line of four bars with the status; behind
-/// it is the output, up to a line of four equals signs.
-pub(crate) const TEXTS: &str = "\
+/// Texts whose queries are answered or whose signatures are printed.
+pub(crate) const ANSWERS: &str = "\
 $ answer
 ---- 0
 ====
 $ answer --max-rules=100000
----- 0
-====
-$ rules --max-length 255 --max-rules 1
 ---- 0
 ====
 $ answer
@@ -98,6 +97,222 @@ invalid
 no
 <τ_0_0 where τ_0_0 : N>
 ====
+$ answer
+protocol P { associatedtype A }
+protocol Q { associatedtype A }
+func f<T: P & Q>()
+func g<T: P>()
+query f(T.[P]A == T.[Q]A)
+query f(T.A)
+query f()
+query g(T.[Q]A)
+query g(T.[Q]A : P)
+query g(T.[Q]A == T)
+query g(T.[Q]A : AnyObject)
+query g(T.A)
+query f(T : AnyObject)
+query g(T.[Q]A == T.A)
+query g(T.A == T.[Q]A)
+query g()
+---- 0
+yes
+τ_0_0.[P]A
+<τ_0_0 where τ_0_0 : P, τ_0_0 : Q>
+invalid
+invalid
+invalid
+invalid
+τ_0_0.[P]A
+no
+invalid
+invalid
+<τ_0_0 where τ_0_0 : P>
+====
+$ answer
+protocol Late { associatedtype Next: Late }
+protocol Early: Late { associatedtype Next: Early }
+func f<T: Early>()
+query f(T.Next)
+query f(T.Next.Next : Early)
+query f(T.Next.Next)
+query f()
+---- 0
+τ_0_0.[Late]Next
+yes
+τ_0_0.[Late]Next.[Late]Next
+<τ_0_0 where τ_0_0 : Early>
+====
+$ answer
+protocol P { associatedtype B where B == Self }
+func f<X: P, Y>() where X.B == Y
+query f()
+query f(Y : P)
+query f(Y)
+---- 0
+<τ_0_0, τ_0_1 where τ_0_0 : P, τ_0_0 == τ_0_1>
+yes
+τ_0_0
+====
+$ answer
+protocol Base { }
+protocol Derived: Base { }
+func f<T, U>() where T == U, U == T, T == T
+func g<T: Base & Derived>()
+query f()
+query g()
+---- 0
+<τ_0_0, τ_0_1 where τ_0_0 == τ_0_1>
+<τ_0_0 where τ_0_0 : Derived>
+====
+$ signatures
+protocol N { associatedtype Next: N }
+func f<T: N, U: N>()
+---- 0
+f: <τ_0_0, τ_0_1 where τ_0_0 : N, τ_0_1 : N>
+====
+$ signatures
+protocol P { associatedtype A }
+protocol Q { }
+func f<T, U>() where T: P, U: P, T.A == U.A, T.A: Q, U.A: AnyObject
+func g<T, U>() where U.A: AnyObject, T.A: Q, T.A == U.A, U: P, T: P
+func h<T, U>() where T.A: Q, U: P, U.A: AnyObject, T: P, T.A == U.A
+---- 0
+f: <τ_0_0, τ_0_1 where τ_0_0 : P, τ_0_1 : P, τ_0_0.[P]A : Q, τ_0_0.[P]A : AnyObject, τ_0_0.[P]A == τ_0_1.[P]A>
+g: <τ_0_0, τ_0_1 where τ_0_0 : P, τ_0_1 : P, τ_0_0.[P]A : Q, τ_0_0.[P]A : AnyObject, τ_0_0.[P]A == τ_0_1.[P]A>
+h: <τ_0_0, τ_0_1 where τ_0_0 : P, τ_0_1 : P, τ_0_0.[P]A : Q, τ_0_0.[P]A : AnyObject, τ_0_0.[P]A == τ_0_1.[P]A>
+====
+$ answer
+func f<T, U, V>() where T == U, U == V, T == V
+func g<T, U, V>() where V == T, U == V
+query f()
+query g()
+---- 0
+<τ_0_0, τ_0_1, τ_0_2 where τ_0_0 == τ_0_1, τ_0_0 == τ_0_2>
+<τ_0_0, τ_0_1, τ_0_2 where τ_0_0 == τ_0_1, τ_0_0 == τ_0_2>
+====
+$ answer
+protocol Q { }
+protocol P { associatedtype A: Q }
+func f<T: P, U: Q>() where T.A == U
+query f()
+---- 0
+<τ_0_0, τ_0_1 where τ_0_0 : P, τ_0_1 == τ_0_0.[P]A>
+====
+$ answer
+protocol P: AnyObject { }
+func f<T: P, U>() where U == T
+func g<T: AnyObject, U>() where T == U
+func h<T: P, U>()
+query f(U : AnyObject)
+query f()
+query g()
+query g(U)
+query g(U : AnyObject)
+query h(U : AnyObject)
+query g(U : P)
+---- 0
+yes
+<τ_0_0, τ_0_1 where τ_0_0 : P, τ_0_0 == τ_0_1>
+<τ_0_0, τ_0_1 where τ_0_0 : AnyObject, τ_0_0 == τ_0_1>
+τ_0_0
+yes
+no
+no
+====
+$ answer
+protocol P { associatedtype A }
+struct S<T: P> {
+  func f<U: P>() where U.A == T.A { }
+  func g()
+}
+query S.f(U.A)
+query S.f()
+query S.g()
+query S()
+query S.f(U)
+query S(T.A)
+query S.f(U.A == T.A)
+query S.g(T.A)
+query S(T : P)
+---- 0
+τ_0_0.[P]A
+<τ_0_0, τ_1_0 where τ_0_0 : P, τ_1_0 : P, τ_0_0.[P]A == τ_1_0.[P]A>
+<τ_0_0 where τ_0_0 : P>
+<τ_0_0 where τ_0_0 : P>
+τ_1_0
+τ_0_0.[P]A
+yes
+τ_0_0.[P]A
+yes
+====
+$ signatures
+protocol P { associatedtype A }
+struct S<T: P> {
+  func f<U: P>() where U.A == T.A { }
+  func g()
+}
+query S.f(U.A)
+query S.f()
+query S.g()
+query S()
+---- 0
+S: <τ_0_0 where τ_0_0 : P>
+S.f: <τ_0_0, τ_1_0 where τ_0_0 : P, τ_1_0 : P, τ_0_0.[P]A == τ_1_0.[P]A>
+S.g: <τ_0_0 where τ_0_0 : P>
+====
+$ answer
+struct S { func f<T>() }
+query S.f()
+---- 0
+<τ_0_0>
+====
+$ answer
+protocol Sequence<Element> { associatedtype Element }
+func f<S: Sequence<E>, E>()
+func g<S: Sequence, E>() where S.Element == E
+query f()
+query g()
+query f(S.Element)
+query g(E == S.Element)
+query g(S.Element)
+---- 0
+<τ_0_0, τ_0_1 where τ_0_0 : Sequence, τ_0_1 == τ_0_0.[Sequence]Element>
+<τ_0_0, τ_0_1 where τ_0_0 : Sequence, τ_0_1 == τ_0_0.[Sequence]Element>
+τ_0_1
+yes
+τ_0_1
+====
+$ gen 3
+this text is not read
+---- 0
+protocols 3
+functions 1
+queries 13
+yes 6
+no 4
+invalid 2
+<τ_0_0, τ_0_1 where τ_0_0 : L1, τ_0_1 : L1, τ_0_0.[L1]A1 == τ_0_1.[L1]A1>
+====
+$ gen 1
+---- 0
+protocols 1
+functions 1
+queries 5
+yes 4
+no 0
+invalid 0
+<τ_0_0, τ_0_1 where τ_0_0 : L1, τ_0_1 : L1, τ_0_0.[L1]A1 == τ_0_1.[L1]A1>
+====
+$ answer
+/* a /* b */ c */
+---- 0
+";
+
+/// Reduced systems, and limits that are kept or passed, with their traces.
+pub(crate) const LIMITS: &str = "\
+$ rules --max-length 255 --max-rules 1
+---- 0
+====
 $ rules
 protocol N { associatedtype Next: N }
 func f<T: N>()
@@ -106,6 +321,32 @@ query f(T.Next == T.Next.Next)
 query f(T.Missing : N)
 query f(T.Next.Next)
 query f()
+---- 0
+f: 7 rules
+  [N].[N] => [N]
+  [N].[N:Next] => [N:Next]
+  [N].Next => [N:Next]
+  [N:Next].[N] => [N:Next]
+  [N:Next].Next => [N:Next].[N:Next]
+  τ_0_0.[N] => τ_0_0
+  τ_0_0.Next => τ_0_0.[N:Next]
+====
+$ rules --max-rules 7
+protocol N { associatedtype Next: N }
+func f<T: N>()
+---- 0
+f: 7 rules
+  [N].[N] => [N]
+  [N].[N:Next] => [N:Next]
+  [N].Next => [N:Next]
+  [N:Next].[N] => [N:Next]
+  [N:Next].Next => [N:Next].[N:Next]
+  τ_0_0.[N] => τ_0_0
+  τ_0_0.Next => τ_0_0.[N:Next]
+====
+$ rules --max-length 2
+protocol N { associatedtype Next: N }
+func f<T: N>()
 ---- 0
 f: 7 rules
   [N].[N] => [N]
@@ -179,6 +420,12 @@ query f()
 ---- 3
 error: rule longer than 1 symbols
 ====
+$ answer --max-rules 1
+protocol P: AnyObject { associatedtype A where A.A == Self }
+func f<T: P, U: AnyObject>() where T.A == U
+---- 3
+error: more than 1 rules
+====
 $ answer --max-length 4
 protocol P { associatedtype A: P associatedtype B: P where A.B.A == B.A.B }
 ---- 3
@@ -236,190 +483,22 @@ query f()
 error: rule longer than 1 symbols
   1: [N].[N] => [N] (given 1)
 ====
-$ answer
-protocol P { associatedtype A }
-protocol Q { associatedtype A }
-func f<T: P & Q>()
-func g<T: P>()
-query f(T.[P]A == T.[Q]A)
-query f(T.A)
-query f()
-query g(T.[Q]A)
-query g(T.[Q]A : P)
-query g(T.[Q]A == T)
-query g(T.[Q]A : AnyObject)
-query g(T.A)
----- 0
-yes
-τ_0_0.[P]A
-<τ_0_0 where τ_0_0 : P, τ_0_0 : Q>
-invalid
-invalid
-invalid
-invalid
-τ_0_0.[P]A
-====
-$ answer
-protocol Late { associatedtype Next: Late }
-protocol Early: Late { associatedtype Next: Early }
-func f<T: Early>()
-query f(T.Next)
-query f(T.Next.Next : Early)
-query f(T.Next.Next)
-query f()
----- 0
-τ_0_0.[Late]Next
-yes
-τ_0_0.[Late]Next.[Late]Next
-<τ_0_0 where τ_0_0 : Early>
-====
-$ answer
-protocol P { associatedtype B where B == Self }
-func f<X: P, Y>() where X.B == Y
-query f()
-query f(Y : P)
-query f(Y)
----- 0
-<τ_0_0, τ_0_1 where τ_0_0 : P, τ_0_0 == τ_0_1>
-yes
-τ_0_0
-====
-$ answer
-protocol Base { }
-protocol Derived: Base { }
-func f<T, U>() where T == U, U == T, T == T
-func g<T: Base & Derived>()
-query f()
-query g()
----- 0
-<τ_0_0, τ_0_1 where τ_0_0 == τ_0_1>
-<τ_0_0 where τ_0_0 : Derived>
-====
 $ signatures --trace
 func f<T, U, V>() where T == U, U == V, T == V
 func g<T, U, V>() where V == T, U == V
 ---- 0
 f: <τ_0_0, τ_0_1, τ_0_2 where τ_0_0 == τ_0_1, τ_0_0 == τ_0_2>
 g: <τ_0_0, τ_0_1, τ_0_2 where τ_0_0 == τ_0_1, τ_0_0 == τ_0_2>
-====
-$ answer
-func f<T, U, V>() where T == U, U == V, T == V
-func g<T, U, V>() where V == T, U == V
-query f()
-query g()
----- 0
-<τ_0_0, τ_0_1, τ_0_2 where τ_0_0 == τ_0_1, τ_0_0 == τ_0_2>
-<τ_0_0, τ_0_1, τ_0_2 where τ_0_0 == τ_0_1, τ_0_0 == τ_0_2>
-====
-$ answer
-protocol Q { }
-protocol P { associatedtype A: Q }
-func f<T: P, U: Q>() where T.A == U
-query f()
----- 0
-<τ_0_0, τ_0_1 where τ_0_0 : P, τ_0_1 == τ_0_0.[P]A>
-====
+";
+
+/// Texts that are refused.
+pub(crate) const REFUSALS: &str = "\
 $ answer
 protocol P { associatedtype A }
 protocol Q { associatedtype B: P }
 func f<T>() where T.A: Q, T.A.B == T {}
 ---- 1
 error: not a type parameter at 85
-====
-$ answer
-protocol P: AnyObject { }
-func f<T: P, U>() where U == T
-func g<T: AnyObject, U>() where T == U
-func h<T: P, U>()
-query f(U : AnyObject)
-query f()
-query g()
-query g(U)
-query g(U : AnyObject)
-query h(U : AnyObject)
----- 0
-yes
-<τ_0_0, τ_0_1 where τ_0_0 : P, τ_0_0 == τ_0_1>
-<τ_0_0, τ_0_1 where τ_0_0 : AnyObject, τ_0_0 == τ_0_1>
-τ_0_0
-yes
-no
-====
-$ answer
-protocol P { associatedtype A }
-struct S<T: P> {
-  func f<U: P>() where U.A == T.A { }
-  func g()
-}
-query S.f(U.A)
-query S.f()
-query S.g()
-query S()
-query S.f(U)
-query S(T.A)
----- 0
-τ_0_0.[P]A
-<τ_0_0, τ_1_0 where τ_0_0 : P, τ_1_0 : P, τ_0_0.[P]A == τ_1_0.[P]A>
-<τ_0_0 where τ_0_0 : P>
-<τ_0_0 where τ_0_0 : P>
-τ_1_0
-τ_0_0.[P]A
-====
-$ signatures
-protocol P { associatedtype A }
-struct S<T: P> {
-  func f<U: P>() where U.A == T.A { }
-  func g()
-}
-query S.f(U.A)
-query S.f()
-query S.g()
-query S()
----- 0
-S: <τ_0_0 where τ_0_0 : P>
-S.f: <τ_0_0, τ_1_0 where τ_0_0 : P, τ_1_0 : P, τ_0_0.[P]A == τ_1_0.[P]A>
-S.g: <τ_0_0 where τ_0_0 : P>
-====
-$ answer
-struct S { func f<T>() }
-query S.f()
----- 0
-<τ_0_0>
-====
-$ answer
-protocol Sequence<Element> { associatedtype Element }
-func f<S: Sequence<E>, E>()
-func g<S: Sequence, E>() where S.Element == E
-query f()
-query g()
-query f(S.Element)
-query g(E == S.Element)
----- 0
-<τ_0_0, τ_0_1 where τ_0_0 : Sequence, τ_0_1 == τ_0_0.[Sequence]Element>
-<τ_0_0, τ_0_1 where τ_0_0 : Sequence, τ_0_1 == τ_0_0.[Sequence]Element>
-τ_0_1
-yes
-====
-$ gen 3
-this text is not read
----- 0
-protocols 3
-functions 1
-queries 13
-yes 6
-no 4
-invalid 2
-<τ_0_0, τ_0_1 where τ_0_0 : L1, τ_0_1 : L1, τ_0_0.[L1]A1 == τ_0_1.[L1]A1>
-====
-$ gen 1
----- 0
-protocols 1
-functions 1
-queries 5
-yes 4
-no 0
-invalid 0
-<τ_0_0, τ_0_1 where τ_0_0 : L1, τ_0_1 : L1, τ_0_0.[L1]A1 == τ_0_1.[L1]A1>
 ====
 $ answer
 func f<T>()
@@ -517,10 +596,6 @@ $ answer
 /* a /* b */ c
 ---- 1
 error: open comment at 0
-====
-$ answer
-/* a /* b */ c */
----- 0
 ====
 $ answer
 struct S { }

@@ -1,6 +1,6 @@
 //! A run that several watchers are told of.
 
-use crate::running::words_of;
+use crate::running::{status_of, words_of};
 use crate::texts::ENDLESS;
 use std::alloc::{AllocError, Global};
 use std::cell::Cell;
@@ -9,7 +9,6 @@ use std::rc::Rc;
 use std::test::Fail;
 use swreq_sample_rules::{counts, tally_at};
 use swreq_text::{MemSink, SureSource};
-use swreq_top::run;
 use swreq_watch::{Fan, Watch};
 
 fn add(fan: &mut Fan, watcher: Box<dyn Watch>) -> Result<(), AllocError> {
@@ -28,46 +27,32 @@ fn fan_of(alloc: Global, counts: &[Rc<Cell<u32>>; 3]) -> Result<Fan, AllocError>
     Ok(fan)
 }
 
-fn assert_owners(rt: &impl Abort, counts: &[Rc<Cell<u32>>; 3], wanted: [usize; 3]) {
-    for (count, wanted) in counts.iter().zip(wanted) {
-        assert_eq!(rt; Rc::strong_count(count), wanted);
-    }
+/// The status of a run that the fan is told of. It prints that there was no memory.
+fn ran_under(rt: &impl Abort, alloc: Global, fan: &mut Fan) -> Result<String, Fail> {
+    let words = words_of(alloc, "answer")?;
+    let mut src = SureSource::new(ENDLESS.as_bytes().to_vec(alloc)?);
+    let mut out = MemSink::new(alloc, 1000, 1000, Vec::new(alloc))?;
+    let status = status_of(alloc, &words, &mut src, &mut out, fan)?;
+    assert_eq!(rt; out.bytes(), b"error: out of memory\n".as_slice());
+    Ok(status)
 }
 
-/// Drops the last watcher of the fan.
-fn drop_one(rt: &impl Abort, fan: &mut Fan, counts: &[Rc<Cell<u32>>; 3], wanted: [usize; 3]) {
-    assert!(rt; fan.drop_last());
-    assert_owners(rt, counts, wanted);
+/// How often each watcher was told, and how many own its cell.
+fn lines_of(alloc: Global, counts: &[Rc<Cell<u32>>; 3]) -> Result<String, Fail> {
+    let mut out = String::new(alloc);
+    for count in counts {
+        write!(out, "{} {}\n", count.get(), Rc::strong_count(count))?;
+    }
+    Ok(out)
 }
 
 #[test]
 fn a_watcher_without_memory_ends_the_run(rt: HostRuntime) -> Result<(), Fail> {
-    let alloc = rt.alloc();
-    let counts = counts(alloc)?;
-    let mut fan = fan_of(alloc, &counts)?;
-    let words = words_of(alloc, "answer")?;
-    let mut src = SureSource::new(ENDLESS.as_bytes().to_vec(alloc)?);
-    let mut out = MemSink::new(alloc, 1000, 1000, Vec::new(alloc))?;
-    assert_eq!(rt; run(alloc, &words, &mut src, &mut out, &mut fan), 6);
-    assert_eq!(rt; out.bytes(), b"error: out of memory\n".as_slice());
-    assert_eq!(rt; counts[0].get(), 3);
-    assert_eq!(rt; counts[1].get(), 2);
-    assert_eq!(rt; counts[2].get(), 2);
-    assert_owners(&rt, &counts, [2, 2, 2]);
-    drop_one(&rt, &mut fan, &counts, [2, 2, 1]);
-    drop_one(&rt, &mut fan, &counts, [2, 1, 1]);
-    drop_one(&rt, &mut fan, &counts, [1, 1, 1]);
-    assert!(rt; !fan.drop_last());
-    Ok(())
-}
-
-#[test]
-fn watchers_are_dropped_with_their_fan(rt: HostRuntime) -> Result<(), Fail> {
-    let alloc = rt.alloc();
-    let counts = counts(alloc)?;
-    let mut fan = fan_of(alloc, &counts)?;
-    assert_owners(&rt, &counts, [2, 2, 2]);
-    drop(fan);
-    assert_owners(&rt, &counts, [1, 1, 1]);
+    let counts = counts(rt.alloc())?;
+    let mut fan = fan_of(rt.alloc(), &counts)?;
+    let status = ran_under(&rt, rt.alloc(), &mut fan)?;
+    assert_eq!(rt; status.as_str(), "6");
+    let lines = lines_of(rt.alloc(), &counts)?;
+    assert_eq!(rt; lines.as_str(), "3 2\n2 2\n2 2\n");
     Ok(())
 }

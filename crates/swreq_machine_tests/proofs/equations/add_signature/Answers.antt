@@ -2,7 +2,7 @@ use Rattle.std.proofs.Common.{refl}
 use Rattle.swreq_world.specs.Worlds.{signature_at}
 use Rattle.swreq_valid.proofs.Made.{written_known}
 use Rattle.swreq_machine_tests.proofs.OfText.{signature_written}
-use Rattle.swreq_machine_tests.proofs.systems.add_signature.Goals as goal
+use Rattle.swreq_machine_tests.proofs.equations.add_signature.Goals as goal
 
 pub add_equations-requires-clause-list : goal.add_equations-requires-clause-list
 add_equations-requires-clause-list c =

@@ -1,5 +1,5 @@
 use Rattle.swreq_machine_tests.proofs.OfText.{signature_written}
-use Rattle.swreq_machine_tests.proofs.machines.machine_of.Goals as goal
+use Rattle.swreq_machine_tests.proofs.minimised.machine_of.Goals as goal
 
 pub build-requires-clause-written : goal.build-requires-clause-written
 build-requires-clause-written c =

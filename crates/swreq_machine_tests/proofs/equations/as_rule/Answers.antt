@@ -3,7 +3,7 @@ use Rattle.std.specs.declared.cmp.Ordering.TheVariants.{Less, Greater}
 use Rattle.swreq_word.specs.declared.symbols.Symbol.{Symbol}
 use Rattle.swreq_word.specs.Order.{word_cmp, WordLess}
 use Rattle.swreq_word.specs.OrderLaws.{word_total}
-use Rattle.swreq_machine_tests.proofs.systems.as_rule.Goals as goal
+use Rattle.swreq_machine_tests.proofs.equations.as_rule.Goals as goal
 
 turned : (u v a b : List Symbol) → Greater ≡ word_cmp u v → u ≡ a → v ≡ b → WordLess b a
 turned u v a b h e f = let k = word_total.antisymm v u in let g : word_cmp v u ≡ Less = cc in rw (← e, ← f) g

@@ -1,5 +1,5 @@
 use Rattle.swreq_machine_tests.proofs.OfText.{inheritance_over, text_over}
-use Rattle.swreq_machine_tests.proofs.lines.world_over.Goals as goal
+use Rattle.swreq_machine_tests.proofs.worlds.world_over.Goals as goal
 
 pub returns-clause-text : goal.returns-clause-text
 returns-clause-text c =
