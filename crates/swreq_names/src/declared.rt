@@ -10,7 +10,6 @@ use crate::words::{Named, declarations};
 use std::alloc::{AllocError, Global};
 use std::marker::Model;
 use swreq_decl::{FunctionDecl, ProtocolDecl, Skeleton, StructDecl};
-use swreq_text::Seq;
 
 /// The names of the protocols, and of what stands in each.
 #[derive(Drop)]
@@ -34,13 +33,28 @@ impl OfProtocols {
     }
 }
 
+/// The names of the generic parameters of each function of a struct.
+#[derive(Drop)]
+struct OfNested {
+    params: Vec<Directory>,
+}
+
+impl Model for OfNested {
+    ghost use Rattle.std.specs.Prelude.{List};
+    ghost use Rattle.swreq_names.specs.declared.directory.Declaration.{Declaration};
+
+    ghost Value = { List (List Declaration) };
+
+    ghost view = { λ n. n.params.items };
+}
+
 /// The names of the structs, and of what stands in each.
 #[derive(Drop)]
 struct OfStructs {
     names: Directory,
     params: Vec<Directory>,
     nested: Vec<Directory>,
-    nested_params: Vec<Seq<Directory>>,
+    nested_params: Vec<OfNested>,
 }
 
 impl OfStructs {
@@ -286,11 +300,11 @@ fn at<'a>(directories: &'a [Directory], place: usize, empty: &'a Directory) -> &
 }
 
 /// The list at this place, or the empty one where there is none.
-fn list_of(lists: &[Seq<Directory>], place: usize) -> &[Directory]
+fn list_of(lists: &[OfNested], place: usize) -> &[Directory]
     ensures { result.now ≡ slice_index_or lists.now place [] }
 {
     match lists.get(place) {
-        Some(list) => list.items(),
+        Some(list) => &list.params,
         None => &[],
     }
 }
@@ -378,13 +392,13 @@ fn nested_params(
     alloc: Global,
     text: &[u8],
     structs: &[StructDecl],
-) -> Result<Vec<Seq<Directory>>, AllocError>
+) -> Result<Vec<OfNested>, AllocError>
     ensures { IfOk result (λ found. found.items ≡ map (λ t. map (λ f. of_params text.now f.params) t.functions) structs.now) }
 {
     let mut found = Vec::new(alloc);
     for item in structs {
-        let names = params(alloc, text, item.functions.items())?;
-        found.push(Seq::new(names))?;
+        let params = params(alloc, text, item.functions.items())?;
+        found.push(OfNested { params })?;
     }
     Ok(found)
 }
