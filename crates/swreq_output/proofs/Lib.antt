@@ -5,3 +5,4 @@ mod Minimising
 mod OfText
 pub mod PrintingAlike
 mod Reading
+mod Systems

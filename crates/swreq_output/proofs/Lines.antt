@@ -1,5 +1,5 @@
 -- What the lines of a signature are made of.
-use Rattle.std.proofs.Common.{◌≡◌, ◌∙◌, refl, sym, ap, subst, ℕ, List, ◌++◌}
+use Rattle.std.proofs.Common.{◌≡◌, ◌∙◌, refl, sym, subst, ℕ, List, ◌++◌}
 use Rattle.std.specs.Prelude.{codes}
 use Rattle.swreq_param.specs.Terms.{Term}
 use Rattle.swreq_derive.specs.declared.known.Params.{Params}
@@ -28,14 +28,15 @@ use Rattle.swreq_output.specs.Signatures.{IsMinimisedLine, written_list}
 use Rattle.swreq_output.specs.Systems.{IsSystemText, system_text}
 use Rattle.swreq_output.proofs.Reading.{params_are}
 
--- the line of the minimised list
-line_appended : (terms : List Term) (w : IdWorld) (f : FuncId) (of_machine params : Params) (list : List TermRequirement) (out new : List ℕ)
+-- what holds of the text of the minimised list holds of the line
+line_appended : (P : List ℕ → Type 0) (terms : List Term) (w : IdWorld) (f : FuncId) (of_machine params : Params)
+    (list : List TermRequirement)
     → of_machine ≡ (signature_at (world_by terms w) f).params → params ≡ (signature_at w f).params
     → IsMinimised (facts_of (world_by terms w)) (generic_params of_machine) (written_list (signature_at (world_by terms w) f)) list
     → AreEquivalent (facts_of (world_by terms w)) (generic_params of_machine) (written_list (signature_at (world_by terms w) f)) list
-    → new ≡ out ++ (signature_text w.lexicon (generic_params params) list ++ codes "\n")
-    → (line : List ℕ) × IsMinimisedLine (world_by terms w) (signature_at (world_by terms w) f) line × (new ≡ out ++ line)
-line_appended terms w f of_machine params list out new alike read minimised same e =
+    → P (signature_text w.lexicon (generic_params params) list ++ codes "\n")
+    → (line : List ℕ) × IsMinimisedLine (world_by terms w) (signature_at (world_by terms w) f) line × P line
+line_appended P terms w f of_machine params list alike read minimised same holds =
     let g : SignatureOver PlacedRequirement = signature_at (world_by terms w) f in (
       signature_text w.lexicon (generic_params g.params) list ++ codes "\n",
       record {
@@ -44,27 +45,29 @@ line_appended terms w f of_machine params list out new alike read minimised same
         same = subst (λ (p : Params). AreEquivalent (facts_of (world_by terms w)) (generic_params p) (written_list g) list) alike same;
         line_is = refl;
       },
-      e ∙ ap (λ (p : Params). out ++ (signature_text w.lexicon (generic_params p) list ++ codes "\n")) (read ∙ sym (params_are terms w f)),
+      subst (λ (p : Params). P (signature_text w.lexicon (generic_params p) list ++ codes "\n")) (read ∙ sym (params_are terms w f)) holds,
     )
 
 -- the same, by what the code reads
-pub line_read : (terms new_terms : List Term) (w : IdWorld) (f : FuncId) (of_machine params : Params) (rs shown : List Requirement) (out new : List ℕ)
+pub line_read : (P : List ℕ → Type 0) (terms new_terms : List Term) (w : IdWorld) (f : FuncId) (of_machine params : Params)
+    (rs shown : List Requirement)
     → of_machine ≡ (signature_at (world_by terms w) f).params → params ≡ (signature_at w f).params → shown ≡ rs
     → IsMinimised (facts_of (world_by terms w)) (generic_params of_machine) (written_list (signature_at (world_by terms w) f)) (listed new_terms rs)
     → AreEquivalent (facts_of (world_by terms w)) (generic_params of_machine) (written_list (signature_at (world_by terms w) f)) (listed new_terms rs)
-    → new ≡ out ++ (signature_text w.lexicon (generic_params params) (listed new_terms shown) ++ codes "\n")
-    → (line : List ℕ) × IsMinimisedLine (world_by terms w) (signature_at (world_by terms w) f) line × (new ≡ out ++ line)
-line_read terms new_terms w f of_machine params rs shown out new alike read are minimised same e =
-    line_appended terms w f of_machine params (listed new_terms rs) out new alike read minimised same
-    (subst (λ (z : List Requirement). new ≡ out ++ (signature_text w.lexicon (generic_params params) (listed new_terms z) ++ codes "\n")) are e)
+    → P (signature_text w.lexicon (generic_params params) (listed new_terms shown) ++ codes "\n")
+    → (line : List ℕ) × IsMinimisedLine (world_by terms w) (signature_at (world_by terms w) f) line × P line
+line_read P terms new_terms w f of_machine params rs shown alike read are minimised same holds =
+    line_appended P terms w f of_machine params (listed new_terms rs) alike read minimised same
+    (subst (λ (z : List Requirement). P (signature_text w.lexicon (generic_params params) (listed new_terms z) ++ codes "\n")) are holds)
 
 -- The reduced system by the rules of the machine, which the code reads as its own.
-pub system_read : (w : TextWorld) (g : SignatureOver PlacedRequirement) (machine : MachineView) (own rules shown : List Rule) (out new : List ℕ)
+pub system_read : (P : List ℕ → Type 0) (w : TextWorld) (g : SignatureOver PlacedRequirement) (machine : MachineView)
+    (own rules shown : List Rule)
     → IsMachineOf w (written_list g) machine → machine.params ≡ g.params
     → own ≡ last_rules machine.rounds → IsReducedSystem (Linked (Step own)) rules → shown ≡ rules
-    → new ≡ out ++ system_text w g shown
-    → (text : List ℕ) × IsSystemText w g text × (new ≡ out ++ text)
-system_read w g machine own rules shown out new is same of_machine reduced are e =
+    → P (system_text w g shown)
+    → (text : List ℕ) × IsSystemText w g text × P text
+system_read P w g machine own rules shown is same of_machine reduced are holds =
     let m = symbols_of w.lexicon in
     let f = facts_of w in
     let list = written_list g in
@@ -76,5 +79,5 @@ system_read w g machine own rules shown out new is same of_machine reduced are e
             (reduced_system (last_rules machine.rounds) (UsableEquation m f (WrittenList (generic_params machine.params) list)) is.rules rules here);
         text_is = refl;
       },
-      e ∙ ap (λ z. out ++ system_text w g z) are,
+      subst (λ (z : List Rule). P (system_text w g z)) are holds,
     )

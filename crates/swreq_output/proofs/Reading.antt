@@ -1,9 +1,10 @@
 -- A signature of a world over ids, and the same over type parameters.
-use Rattle.std.proofs.Common.{◌≡◌, ◌∙◌, refl, sym, ap, append_assoc, ℕ, List, [], ◌++◌, Option, Some, None}
+use Rattle.std.proofs.Common.{◌≡◌, ◌∙◌, refl, sym, ap, append_assoc, subst, ℕ, List, [], ◌++◌, Option, Some, None}
 use Rattle.std.specs.Option.{option_map_or}
 use Rattle.std.specs.Prelude.{codes}
 use Rattle.std.proofs.Math.ListN.{get_or-map}
 use Rattle.swreq_param.specs.Terms.{Term}
+use Rattle.swreq_text.specs.Joined.{GrewByPart}
 use Rattle.swreq_lowering.specs.declared.ids.FuncId.{FuncId}
 use Rattle.swreq_world.specs.ByTable.{signature_by, world_by}
 use Rattle.swreq_world.specs.Lookups.{outer_name}
@@ -31,6 +32,13 @@ module _ (terms : List Term) (w : IdWorld) where
   full_name_is : (f : FuncId) → full_name (world_by terms w) (signature_at (world_by terms w) f)
       ≡ option_map_or (λ outer. outer ++ codes ".") (outer_name w (signature_at w f).outer) [] ++ (signature_at w f).name
   full_name_is f = λ i. option_map_or (λ outer. outer ++ codes ".") (outer_is f i) [] ++ name_is f i
+
+  -- a part of what the code reads is a part of its name
+  pub name_grew : (f : FuncId) (out new : List ℕ)
+      → GrewByPart out
+      (option_map_or (λ outer. outer ++ codes ".") (outer_name w (signature_at w f).outer) [] ++ (signature_at w f).name) new
+      → GrewByPart out (full_name (world_by terms w) (signature_at (world_by terms w) f)) new
+  name_grew f out new part = subst (λ (name : List ℕ). GrewByPart out name new) (sym (full_name_is f)) part
 
   pub name_appended : (f : FuncId) (out mid new name : List ℕ) → mid ≡ out ++ option_map_or (λ outer. outer ++ codes ".") (outer_name w (signature_at w f).outer) []
       → name ≡ (signature_at w f).name → new ≡ mid ++ name → new ≡ out ++ full_name (world_by terms w) (signature_at (world_by terms w) f)

@@ -1,6 +1,7 @@
 //! The line of a minimised signature.
-ghost use Rattle.std.specs.Prelude.{◌≡◌, ◌<◌, ◌++◌, List, ℕ, codes, length, IfErr, OnOk};
+ghost use Rattle.std.specs.Prelude.{◌≡◌, ◌≢◌, ◌⊎◌, ◌<◌, ◌++◌, List, ℕ, codes, length, IfErr, OnErr, OnOk};
 ghost use Rattle.swreq_param.specs.Tables.{Extends};
+ghost use Rattle.swreq_text.specs.Joined.{GrewByPart};
 ghost use Rattle.swreq_derive.specs.Facts.{generic_params};
 ghost use Rattle.swreq_complete.specs.declared.limit.Failed.TheVariants.{Memory};
 ghost use Rattle.swreq_complete.specs.Limits.{AreInRange};
@@ -29,6 +30,7 @@ use swreq_watch::Watch;
 use swreq_world::{FuncId, World};
 
 /// Writes the signature with these generic parameters and requirements as a line.
+#[tactic(auto, using(swreq_text::proofs::Parts::none_grew))]
 fn put_signature(
     alloc: Global,
     world: &World,
@@ -38,8 +40,10 @@ fn put_signature(
     out: &mut Vec<u8>,
 ) -> Result<(), AllocError>
     requires { AreKnown table.now world.now.lexicon list.now }
-    ensures { OnOk result (out.new.items ≡ out.old.items
+    ensures ok { OnOk result (out.new.items ≡ out.old.items
         ++ (signature_text world.now.lexicon (generic_params params) (listed table.now list.now) ++ codes "\n")) }
+    ensures err { OnErr result (GrewByPart out.old.items
+        (signature_text world.now.lexicon (generic_params params) (listed table.now list.now) ++ codes "\n") out.new.items) }
 {
     signature_text(alloc, world.lexicon(), table, params, list, out)?;
     append_bytes(out, b"\n")
@@ -58,6 +62,8 @@ fn put_line(
     ensures line { OnOk result (out.new.items ≡ out.old.items
         ++ (signature_text world.now.lexicon (generic_params params) (listed table.now list.now) ++ codes "\n")) }
     ensures failed { IfErr result (λ failed. failed ≡ Memory) }
+    ensures part { OnErr result (GrewByPart out.old.items
+        (signature_text world.now.lexicon (generic_params params) (listed table.now list.now) ++ codes "\n") out.new.items) }
 {
     match put_signature(alloc, world, table, params, list, out) {
         Ok(()) => Ok(()),
@@ -65,7 +71,8 @@ fn put_line(
     }
 }
 
-/// Writes the minimised list of a signature at the end, by its machine, as a line. For want of memory a part of it may stand there.
+/// Writes the minimised list of a signature at the end, by its machine, as a line. If memory runs out the first bytes of it may
+/// stand there; on a limit the list is unchanged.
 ///
 /// `Failed::Limit` comes only where the rounds of a list that minimising meets pass a limit, with the trace of the round that passes it.
 /// The watcher is told the events of the rounds of such lists. The table grows, its ids stay, and so does the world over it.
@@ -95,6 +102,10 @@ pub fn minimised_line<W: Watch>(
     ensures failed { IfErr result (λ failed. (told : List Event)
         × MinimisingFails limits (world_by table.old world.now) (last_rules protocols.now.rounds) (signature_at (world_by table.old world.now) f) failed told
         × GrewBy (W.told watch.old) (W.told watch.new) told) }
+    ensures part { OnErr result ((out.new.items ≡ out.old.items) ⊎ ((line : List ℕ)
+        × IsMinimisedLine (world_by table.old world.now) (signature_at (world_by table.old world.now) f) line
+        × GrewByPart out.old.items line out.new.items)) }
+    ensures unchanged { IfErr result (λ failed. failed ≢ Memory → out.new.items ≡ out.old.items) }
     ensures extends { Extends table.old table.new }
     ensures world { world_by table.new world.now ≡ world_by table.old world.now }
     ensures text { IsTextOver table.new world.now }

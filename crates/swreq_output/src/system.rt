@@ -1,6 +1,7 @@
 //! The reduced rewriting system of a signature.
-ghost use Rattle.std.specs.Prelude.{◌≡◌, ◌<◌, ◌++◌, List, ℕ, codes, decimal, length, OnOk};
+ghost use Rattle.std.specs.Prelude.{◌≡◌, ◌⊎◌, ◌<◌, ◌++◌, List, ℕ, codes, decimal, length, OnErr, OnOk};
 ghost use Rattle.std.specs.List.{flat_map};
+ghost use Rattle.swreq_text.specs.Joined.{GrewByPart};
 ghost use Rattle.swreq_symbols.specs.Known.{IsTextOver};
 ghost use Rattle.swreq_valid.specs.Machines.{IsMachineOf};
 ghost use Rattle.swreq_world.specs.ByTable.{world_by};
@@ -19,6 +20,7 @@ use swreq_valid::Machine;
 use swreq_world::{FuncId, World};
 
 /// Writes the line above so many rules of a signature.
+#[tactic(auto, using(swreq_text::proofs::Parts::none_grew, swreq_text::proofs::Parts::grew_first, swreq_text::proofs::Parts::grew_next))]
 fn put_head(
     world: &World,
     table: &ParamTable,
@@ -27,9 +29,12 @@ fn put_head(
     out: &mut Vec<u8>,
 ) -> Result<(), AllocError>
     requires { f.place < length world.now.signatures }
-    ensures { OnOk result (out.new.items ≡ out.old.items
+    ensures ok { OnOk result (out.new.items ≡ out.old.items
         ++ (full_name (world_by table.now world.now) (signature_at (world_by table.now world.now) f)
         ++ (codes ": " ++ (decimal rules ++ codes " rules\n")))) }
+    ensures err { OnErr result (GrewByPart out.old.items
+        (full_name (world_by table.now world.now) (signature_at (world_by table.now world.now) f)
+        ++ (codes ": " ++ (decimal rules ++ codes " rules\n"))) out.new.items) }
 {
     full_name(world, table, f, out)?;
     append_bytes(out, b": ")?;
@@ -38,13 +43,15 @@ fn put_head(
 }
 
 /// Writes a rule as a line, after two spaces.
+#[tactic(auto, using(swreq_text::proofs::Parts::none_grew, swreq_text::proofs::Parts::grew_next))]
 fn put_rule(
     alloc: Global,
     names: &Lexicon,
     rule: &Rule,
     out: &mut Vec<u8>,
 ) -> Result<(), AllocError>
-    ensures { OnOk result (out.new.items ≡ out.old.items ++ rule_line names.now rule.now) }
+    ensures ok { OnOk result (out.new.items ≡ out.old.items ++ rule_line names.now rule.now) }
+    ensures err { OnErr result (GrewByPart out.old.items (rule_line names.now rule.now) out.new.items) }
 {
     append_bytes(out, b"  ")?;
     rule_text(alloc, names, rule, out)?;
@@ -58,7 +65,8 @@ fn put_rules(
     rules: &[Rule],
     out: &mut Vec<u8>,
 ) -> Result<(), AllocError>
-    ensures { OnOk result (out.new.items ≡ out.old.items ++ flat_map (rule_line names.now) rules.now) }
+    ensures ok { OnOk result (out.new.items ≡ out.old.items ++ flat_map (rule_line names.now) rules.now) }
+    ensures err { OnErr result (GrewByPart out.old.items (flat_map (rule_line names.now) rules.now) out.new.items) }
 {
     for k in 0..rules.len() {
         let rule = &rules[k];
@@ -77,15 +85,17 @@ fn put_system(
     out: &mut Vec<u8>,
 ) -> Result<(), AllocError>
     requires { f.place < length world.now.signatures }
-    ensures { OnOk result (out.new.items ≡ out.old.items
+    ensures ok { OnOk result (out.new.items ≡ out.old.items
         ++ system_text (world_by table.now world.now) (signature_at (world_by table.now world.now) f) rules.now) }
+    ensures err { OnErr result (GrewByPart out.old.items
+        (system_text (world_by table.now world.now) (signature_at (world_by table.now world.now) f) rules.now) out.new.items) }
 {
     put_head(world, table, f, rules.len(), out)?;
     put_rules(alloc, world.lexicon(), rules, out)
 }
 
 /// Writes the reduced rewriting system of a signature at the end, by its machine: a line with its name and the number of rules, and then
-/// each rule, after two spaces, by left sides. For want of memory a part of it may stand there.
+/// each rule, after two spaces, by left sides. If memory runs out the first bytes of it may stand there.
 pub fn system_text(
     alloc: Global,
     world: &World,
@@ -98,8 +108,12 @@ pub fn system_text(
     requires f { f.place < length world.now.signatures }
     requires machine { IsMachineOf (world_by table.now world.now) (written_list (signature_at (world_by table.now world.now) f)) machine.now }
     requires params { machine.now.params ≡ (signature_at (world_by table.now world.now) f).params }
-    ensures { OnOk result ((text : List ℕ) × IsSystemText (world_by table.now world.now) (signature_at (world_by table.now world.now) f) text
+    ensures ok { OnOk result ((text : List ℕ)
+        × IsSystemText (world_by table.now world.now) (signature_at (world_by table.now world.now) f) text
         × (out.new.items ≡ out.old.items ++ text)) }
+    ensures err { OnErr result ((out.new.items ≡ out.old.items) ⊎ ((text : List ℕ)
+        × IsSystemText (world_by table.now world.now) (signature_at (world_by table.now world.now) f) text
+        × GrewByPart out.old.items text out.new.items)) }
 {
     match machine.rules().canonical(alloc) {
         Err(error) => Err(error),

@@ -5,6 +5,7 @@ use Rattle.std.specs.declared.alloc.Global.{Global}
 use Rattle.std.proofs.lemmas.Bool.{cases_eq, eqb-true, and_from, and_parts}
 use Rattle.std.proofs.lemmas.List.{get_or-set_other, get_or-set_same, length-set, take_more}
 use Rattle.std.proofs.lemmas.List.Elements.{All-contains, All-contains_itself, All-filter, All-get_or, filter-append, filter_passes}
+use Rattle.std.proofs.Math.Bool.{and-false}
 use Rattle.swreq_param.specs.Terms.{Term}
 use Rattle.swreq_words.specs.declared.command.Command.{Command}
 use Rattle.swreq_words.specs.declared.command.Command.TheVariants as command
@@ -86,10 +87,6 @@ module _ (terms : List Term) (c : Command) (qs : List Query) (count : ℕ) (grou
         ∙ sym (filter_left (test k) qs q (ap (λ (b : Bool). b && nat_eq (signature_of (query_by terms q)).place k) lacks));
   }
 
-  and_false : (b : Bool) → (b && false) ≡ false
-  and_false true = refl
-  and_false false = refl
-
   module _ (old more : Vec Query Global) (l : at < count) (answered : by_machine c (query_by terms q) ≡ true) (old_is : old ≡ get_or groups at old)
       (pushed : more.items ≡ old.items ++ q ∷ []) where
     group_of : (k : ℕ) (d : Vec Query Global) → k < count → (k ≡ at) ⊎ (k ≢ at)
@@ -105,7 +102,7 @@ module _ (terms : List Term) (c : Command) (qs : List Query) (count : ℕ) (grou
         ∙ sym (filter_kept (test k) qs q keeps)
     group_of k d below (inr n) =
         let lacks : test k q ≡ false = ap (λ (b : Bool). by_machine c (query_by terms q) && b)
-        (ne_eqb _ k (λ e. n (sym e ∙ same_place))) ∙ and_false (by_machine c (query_by terms q)) in
+        (ne_eqb _ k (λ e. n (sym e ∙ same_place))) ∙ and-false (by_machine c (query_by terms q)) in
         ap (λ (g : Vec Query Global). g.items) (get_or-set_other groups at k more d n) ∙ h.each k d below ∙ sym (filter_left (test k) qs q lacks)
 
     -- one that a machine answers

@@ -6,6 +6,7 @@ use Rattle.std.proofs.lemmas.Bool.{cases_eq, and_from}
 use Rattle.std.proofs.lemmas.List.{get_or-replicate, get_or_default, get_or-set_other, get_or-set_same, length-append, length-replicate, length-set, take_more}
 use Rattle.std.proofs.lemmas.Option.{get_or_from_slice_get, same_Some, slice_get-get_or, slice_get-map, slice_get_within}
 use Rattle.std.proofs.lemmas.List.Elements.{Contains-get_or}
+use Rattle.std.proofs.Math.Bool.{and-false}
 use Rattle.swreq_param.specs.Terms.{Term}
 use Rattle.swreq_print.specs.Names.{Text}
 use Rattle.swreq_words.specs.declared.command.Command.TheVariants as command
@@ -67,10 +68,6 @@ take_at : {X : Type 0} (xs : List X) (k : ℕ) (x : X) → slice_get xs k ≡ So
 take_at {X} xs k x is =
     take_more xs k x (slice_get_within xs k x is) ∙ ap (λ (y : X). take k xs ++ y ∷ []) (get_or_from_slice_get xs k x x is)
 
-and_false : (b : Bool) → (b && false) ≡ false
-and_false true = refl
-and_false false = refl
-
 module _ (w : TextWorld) (count : ℕ) (next : List ℕ) where
   pub next_first : (n : ℕ) → next ≡ replicate n 0 → n ≡ count → AreNext w 0 count next
   next_first n from n_is =
@@ -111,7 +108,7 @@ module _ (w : TextWorld) (count : ℕ) (next : List ℕ) where
           ∙ ap (λ (n : ℕ). n + 1) (ap (λ (n : ℕ). get_or next n 0) (sym e) ∙ h.each k below) ∙ sym longer
       moved k below (inr n) =
           get_or-set_other next at k place 0 n
-          ∙ unmoved k below (ap (λ (b : Bool). is_of_types q && b) (ne_eqb at k (λ e. n (sym e))) ∙ and_false (is_of_types q))
+          ∙ unmoved k below (ap (λ (b : Bool). is_of_types q && b) (ne_eqb at k (λ e. n (sym e))) ∙ and-false (is_of_types q))
 
       -- behind one that a machine answers
       pub next_more : AreNext w (asked + 1) count (set next at place)

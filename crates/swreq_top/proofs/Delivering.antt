@@ -1,7 +1,6 @@
 -- What a run delivers.
 use Rattle.std.proofs.Common.{◌≡◌, ◌≢◌, ◌⊎◌, ◌∙◌, ℕ, ◌+◌, ◌<◌, ◌≤◌, List, [], ◌++◌, length, Option, Some, None, IfSome, Result, Ok, Err, refl, sym, ap, inl, inr, subst, arith, length-append, append-nil}
 use Rattle.std.specs.Io.KnownBytes.{Consumes, IsAtEnd}
-use Rattle.swreq_lex.specs.declared.lexer.TheConstants.{TEXT_LIMIT}
 use Rattle.swreq_text.specs.Given.{GivesCount}
 use Rattle.swreq_text.specs.declared.whole.ReadErr.{ReadErr}
 use Rattle.swreq_text.specs.declared.whole.ReadErr.TheVariants.{Fault, Memory, TooLarge}
@@ -54,25 +53,25 @@ of_source P (Some all) None text came end holds = absurd came
 of_source P (Some all) (Some rest) text came end holds = subst P (sym (whole all rest text came end)) holds
 
 -- a text that was read to its end is read
-pub read_whole : (left rest : Option Text) (text : Text) → Consumes left rest text → IsAtEnd rest → length text ≤ TEXT_LIMIT → IsRead left rest
+pub read_whole : (left rest : Option Text) (text : Text) → Consumes left rest text → IsAtEnd rest → length text ≤ 1048576 → IsRead left rest
 read_whole None rest text came end within = tt
 read_whole (Some all) None text came end within = absurd came
 read_whole (Some all) (Some rest) text came end within = inl (omega (arith, ap length (whole all rest text came end), within), end)
 
 -- and so is one that is too long
-pub read_too_large : (left rest : Option Text) → GivesCount left rest (TEXT_LIMIT + 1) → IsRead left rest
+pub read_too_large : (left rest : Option Text) → GivesCount left rest 1048577 → IsRead left rest
 read_too_large None rest came = tt
 read_too_large (Some all) None came = absurd came.1
 read_too_large (Some all) (Some rest) came = inr (omega (arith, ap length came.1, length-append came.0 rest, came.2), came)
 
 -- which is refused for that
-pub too_large : (line : CommandLine) (left rest : Option Text) (old new : Option (List Event)) → GivesCount left rest (TEXT_LIMIT + 1)
+pub too_large : (line : CommandLine) (left rest : Option Text) (old new : Option (List Event)) → GivesCount left rest 1048577
     → GrewBy old new []
     → IfSome left (λ text. IsToldVerdict line text old new (refused_with refusals.TooLarge) × IsOnlyRefusal line text (refused_with refusals.TooLarge))
 too_large line None rest old new came grew = tt
 too_large line (Some all) None old new came grew = absurd came.1
 too_large line (Some all) (Some rest) old new came grew =
-    let long : TEXT_LIMIT < length all = omega (arith, ap length came.1, length-append came.0 rest, came.2) in
+    let long : 1048576 < length all = omega (arith, ap length came.1, length-append came.0 rest, came.2) in
     (([], is_refused (without_world refusals.TooLarge long refl refl), grew), λ p told refused. sym (long_refused line all long refused))
 
 -- nothing is told of a text before it is read
@@ -143,7 +142,7 @@ module _ (line : CommandLine) where
 
   -- and of a text that was read to its end
   pub answers_read : (left rest : Option Text) (old new : Option (List Event)) (text : Text) (result : Result Outcome ReadErr)
-      → (IsGen line.command → ⊥) → Consumes left rest text → IsAtEnd rest → length text ≤ TEXT_LIMIT
+      → (IsGen line.command → ⊥) → Consumes left rest text → IsAtEnd rest → length text ≤ 1048576
       → AnswersText line (answered_text line.command text) old new result → Answers line left rest old new result
   answers_read left rest old new text (Ok o) reads came end within h = (
     leaves_read line.command left rest reads (read_whole left rest text came end within),

@@ -226,7 +226,7 @@ empty_unrefused line o told (past_a_limit w which trace has checked is) =
 -- and in minimising no round passes a limit
 pub empty_not_cut_short : (line : CommandLine) (o : Outcome) (told : List Event) → IsCutShort line [] o told → ⊥
 empty_not_cut_short line o told cut =
-    none_minimised cut.world (bare_world cut.world cut.has_world) line.command cut.fails.g cut.fails.asked
+    none_minimised cut.check.world (bare_world cut.check.world cut.check.has_world) line.command cut.fails.g cut.fails.asked
 
 -- ---- runs over a source that has nothing left
 

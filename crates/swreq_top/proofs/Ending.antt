@@ -3,8 +3,8 @@ use Rattle.std.proofs.Common.{◌≡◌, ◌≢◌, ◌⊎◌, ◌∙◌, ℕ, �
 use Rattle.std.specs.Io.KnownBytes.{Appends}
 use Rattle.std.proofs.lemmas.Option.{IfSome_then}
 use Rattle.swreq_print.specs.Names.{Text}
+use Rattle.swreq_print.specs.Refusals.{refusal_line}
 use Rattle.swreq_print.specs.declared.refusal.RefusalKind.TheVariants as refusals
-use Rattle.swreq_print.specs.declared.refusal.TheConstants.{OUT_OF_MEMORY, READ_FAULT, TOO_LARGE, USAGE}
 use Rattle.swreq_text.specs.Faults.{HasRisen}
 use Rattle.swreq_text.specs.Given.{AppendsPart}
 use Rattle.swreq_text.specs.declared.whole.ReadErr.{ReadErr}
@@ -24,6 +24,17 @@ use Rattle.swreq_top.specs.Verdict.{IsCutShort, IsRefused, IsVerdict, refused_wi
 use Rattle.swreq_top.specs.Verdict.IsVerdict.{answered as is_answered, cut_short as is_cut_short, refused as is_refused}
 use Rattle.swreq_top.specs.Wanted.{HasCount}
 use Rattle.swreq_top.proofs.Delivering.{known_left, leaves_read, read_too_large, told_nothing, too_large}
+
+-- what the source, the sink and the watcher show
+abbrev pub surroundings : {S K W : Type 0} (left : S → Option Text) (read_faults : S → ℕ) (taken : K → Option Text) (write_faults : K → ℕ)
+    (told : W → Option (List Event)) → S → K → W → Surroundings
+surroundings left read_faults taken write_faults told src out watch = record {
+  left = left src;
+  read_faults = read_faults src;
+  taken = taken out;
+  write_faults = write_faults out;
+  told = told watch;
+}
 
 module _ (words : List Text) (before after : Surroundings) where
   -- What is told.
@@ -48,18 +59,19 @@ module _ (words : List Text) (before after : Surroundings) where
   -- ---- wrong words
 
   pub ended_wrong : (result : ℕ) → AreWrong words → after.read_faults ≡ before.read_faults → GrewBy before.told after.told []
-      → Finished USAGE.now 2 result → IsEnd words before after result
+      → Finished (refusal_line refusals.Usage) 2 result → IsEnd words before after result
   ended_wrong result wrong unread grew finished =
-      ended USAGE.now 2 result finished (λ taken same. wrong_words wrong taken unread same grew) (inl (wrong, refl)) (λ line says. absurd (wrong line says))
+      ended (refusal_line refusals.Usage) 2 result finished (λ taken same. wrong_words wrong taken unread same grew)
+      (inl (wrong, refl)) (λ line says. absurd (wrong line says))
 
   -- ---- words for which there was no memory
 
   pub ended_unread : (result : ℕ) → after.read_faults ≡ before.read_faults → GrewBy before.told after.told []
-      → Finished OUT_OF_MEMORY.now 6 result → IsEnd words before after result
+      → Finished (refusal_line refusals.OutOfMemory) 6 result → IsEnd words before after result
   ended_unread result unread grew finished =
       let told : Tells = λ line says. IfSome_then (known_text line.command before.left)
       (told_nothing line (known_text line.command before.left) before.told after.told grew) (λ text part. inr part) in
-      ended OUT_OF_MEMORY.now 6 result finished (λ taken same. no_memory taken unread same told) (inr (inl refl)) told
+      ended (refusal_line refusals.OutOfMemory) 6 result finished (λ taken same. no_memory taken unread same told) (inr (inl refl)) told
 
   -- ---- words of a command line
 
@@ -100,7 +112,7 @@ module _ (words : List Text) (before after : Surroundings) where
     ended_verdict o result answers unread finished = ended_by o result answers.2 answers unread finished
 
     pub ended_too_large : (result : ℕ) → Answers line before.left after.left before.told after.told (Err TooLarge)
-        → after.read_faults ≡ before.read_faults → Finished TOO_LARGE.now 1 result → IsEnd words before after result
+        → after.read_faults ≡ before.read_faults → Finished (refusal_line refusals.TooLarge) 1 result → IsEnd words before after result
     ended_too_large result (came, reads, grew) unread finished =
         let o : Outcome = refused_with refusals.TooLarge in
         ended_by o result (inr (inl refl)) (
@@ -111,17 +123,18 @@ module _ (words : List Text) (before after : Surroundings) where
 
     -- a read that failed
     pub ended_fault : (result : ℕ) → Answers line before.left after.left before.told after.told (Err Fault)
-        → HasRisen before.read_faults after.read_faults → Finished READ_FAULT.now 4 result → IsEnd words before after result
+        → HasRisen before.read_faults after.read_faults → Finished (refusal_line refusals.ReadFault) 4 result
+        → IsEnd words before after result
     ended_fault result (reads, grew) risen finished =
-        ended READ_FAULT.now 4 result finished (λ taken same. read_failed line says risen taken same grew)
+        ended (refusal_line refusals.ReadFault) 4 result finished (λ taken same. read_failed line says risen taken same grew)
         (inr (inr (line, says, inr (risen, refl))))
         (part_told (told_nothing line (known_text line.command before.left) before.told after.told grew))
 
     -- no memory for an answer
     pub ended_memory : (result : ℕ) → Answers line before.left after.left before.told after.told (Err Memory)
-        → after.read_faults ≡ before.read_faults → Finished OUT_OF_MEMORY.now 6 result → IsEnd words before after result
+        → after.read_faults ≡ before.read_faults → Finished (refusal_line refusals.OutOfMemory) 6 result → IsEnd words before after result
     ended_memory result told unread finished =
-        ended OUT_OF_MEMORY.now 6 result finished (λ taken same. no_memory taken unread same (part_told told))
+        ended (refusal_line refusals.OutOfMemory) 6 result finished (λ taken same. no_memory taken unread same (part_told told))
         (inr (inl refl)) (part_told told)
 
 -- ---- words
@@ -176,7 +189,8 @@ module _ (words : List Text) (before after : Surroundings) where
   end_wrong (write_failed printed is part risen told) wrong = inr (inl refl)
   end_wrong (no_memory taken unread same told) wrong = inr (inr refl)
 
-  pub end_usage : {status : ℕ} → IsEnd words before after status → status ≡ 2 → AreWrong words × Appends before.taken after.taken USAGE.now
+  pub end_usage : {status : ℕ} → IsEnd words before after status → status ≡ 2
+      → AreWrong words × Appends before.taken after.taken (refusal_line refusals.Usage)
   end_usage (delivered {status} d is unread same) two = absurd (not_two status is two)
   end_usage (wrong_words wrong taken unread same grew) two = (wrong, taken)
   end_usage (read_failed line says risen taken same grew) two = absurd (omega (arith, two))
@@ -184,7 +198,8 @@ module _ (words : List Text) (before after : Surroundings) where
   end_usage (no_memory taken unread same told) two = absurd (omega (arith, two))
 
   pub end_read_fault : {status : ℕ} → IsEnd words before after status → status ≡ 4
-      → HasRisen before.read_faults after.read_faults × Appends before.taken after.taken READ_FAULT.now × GrewBy before.told after.told []
+      → HasRisen before.read_faults after.read_faults × Appends before.taken after.taken (refusal_line refusals.ReadFault)
+      × GrewBy before.told after.told []
   end_read_fault (delivered {status} d is unread same) four = absurd (omega (arith, at_most_three status is, four))
   end_read_fault (wrong_words wrong taken unread same grew) four = absurd (omega (arith, four))
   end_read_fault (read_failed line says risen taken same grew) four = (risen, taken, grew)
@@ -216,7 +231,8 @@ module _ (words : List Text) (before after : Surroundings) where
   end_no_write_fault (write_failed printed is part risen told) = inl refl
   end_no_write_fault (no_memory taken unread same told) = inr same
 
-  pub end_memory : {status : ℕ} → IsEnd words before after status → status ≡ 6 → Appends before.taken after.taken OUT_OF_MEMORY.now
+  pub end_memory : {status : ℕ} → IsEnd words before after status → status ≡ 6
+      → Appends before.taken after.taken (refusal_line refusals.OutOfMemory)
   end_memory (delivered {status} d is unread same) six = absurd (omega (arith, at_most_three status is, six))
   end_memory (wrong_words wrong taken unread same grew) six = absurd (omega (arith, six))
   end_memory (read_failed line says risen taken same grew) six = absurd (omega (arith, six))

@@ -5,6 +5,7 @@ use Rattle.std.proofs.lemmas.Option.{same_Some}
 use Rattle.std.proofs.lemmas.List.{get_or-set_other, get_or-set_same, length-map, length-set}
 use Rattle.std.proofs.lemmas.List.Elements.{All-contains, Contains-get_or}
 use Rattle.std.proofs.lemmas.List.Folds.{list_any-append}
+use Rattle.std.proofs.Math.Bool.{or-false, or-true}
 use Rattle.swreq_param.specs.Terms.{Term}
 use Rattle.swreq_orders.proofs.Members.{contains_map}
 use Rattle.swreq_words.specs.declared.command.Command.{Command}
@@ -23,14 +24,6 @@ use Rattle.swreq_top.specs.Wanted.{AreFlags, function_of, is_at, is_list_asked, 
 use Rattle.swreq_top.proofs.Lines.{query_signature}
 use Rattle.swreq_top.proofs.OneWorld.{any_in, any_of}
 
-or_false : (b : Bool) → (b || false) ≡ b
-or_false true = refl
-or_false false = refl
-
-or_true : (b : Bool) → (b || true) ≡ true
-or_true true = refl
-or_true false = refl
-
 -- the query asks for the minimised list of the signature at this place
 abbrev lists_at : ℕ → Query → Bool
 lists_at k q = is_at k (list_asked q)
@@ -43,7 +36,7 @@ module _ (qs : List Query) (count : ℕ) (flags : List Bool) (q : Query) (h : Ar
   unasked : (k : ℕ) → k < count → lists_at k q ≡ false → get_or flags k false ≡ is_list_asked (qs ++ q ∷ []) k
   unasked k below other =
       h.set k below
-      ∙ sym (ends k ∙ ap (λ (b : Bool). is_list_asked qs k || b) (or_false (lists_at k q) ∙ other) ∙ or_false (is_list_asked qs k))
+      ∙ sym (ends k ∙ ap (λ (b : Bool). is_list_asked qs k || b) (or-false (lists_at k q) ∙ other) ∙ or-false (is_list_asked qs k))
 
   module _ (f : FuncId) (asks : list_asked q ≡ Some f) (l : f.place < count) where
     flag_of : (k : ℕ) → k < count → (k ≡ f.place) ⊎ (k ≢ f.place) → get_or (set flags f.place true) k false ≡ is_list_asked (qs ++ q ∷ []) k
@@ -51,7 +44,7 @@ module _ (qs : List Query) (count : ℕ) (flags : List Bool) (q : Query) (h : Ar
         let same : lists_at k q ≡ true = ap (is_at k) asks ∙ eq-eqb f.place k (sym e) in
         let within : f.place < length flags = omega (arith, h.counted, l) in
         ap (λ (n : ℕ). get_or (set flags f.place true) n false) e ∙ get_or-set_same flags f.place true false within
-        ∙ sym (ends k ∙ ap (λ (b : Bool). is_list_asked qs k || b) (or_false (lists_at k q) ∙ same) ∙ or_true (is_list_asked qs k))
+        ∙ sym (ends k ∙ ap (λ (b : Bool). is_list_asked qs k || b) (or-false (lists_at k q) ∙ same) ∙ or-true (is_list_asked qs k))
     flag_of k below (inr n) =
         get_or-set_other flags f.place k true false n ∙ unasked k below (ap (is_at k) asks ∙ ne_eqb f.place k (λ e. n (sym e)))
 

@@ -218,12 +218,12 @@ module _ (Sentence : TextWorld → Command → List Text → Type 0)
       → (w : TextWorld) × IsWorldOfText text w × ((lines : List Text) × ArePrinted false w line.command lines
       × Appends old new (printed_text line.command lines) × Sentence w line.command lines)
   of_answer line text output old new told taken a =
-      let w : TextWorld = a.world in
-      let is : IsClosed w = world_closed text w a.has_world in
+      let w : TextWorld = a.check.world in
+      let is : IsClosed w = world_closed text w a.check.has_world in
       let (lines, are, e) = a.output in (
         w,
-        a.has_world,
-        (lines, are, subst (Appends old new) e taken, holds w is (is_formed (limits_of line) w is a.built) line.command lines are),
+        a.check.has_world,
+        (lines, are, subst (Appends old new) e taken, holds w is (is_formed (limits_of line) w is a.check.built) line.command lines are),
       )
 
   -- what is delivered with status 0 says so

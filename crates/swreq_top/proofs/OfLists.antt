@@ -1,5 +1,5 @@
 -- What building the machine of a signature says, where its list is read from a world over ids.
-use Rattle.std.proofs.Common.{◌≡◌, ◌∙◌, inl, inr, sym, ap, subst, ◌<◌, arith, List, Option, None, Result, Ok, Err, Contains, length, map}
+use Rattle.std.proofs.Common.{◌≡◌, ◌⊎◌, ◌∙◌, inl, inr, sym, ap, subst, ◌<◌, arith, List, Option, None, Result, Ok, Err, Contains, length, map}
 use Rattle.std.proofs.lemmas.List.{length-map}
 use Rattle.std.proofs.lemmas.List.Elements.{All-contains, All-get_or}
 use Rattle.swreq_complete.specs.declared.limit.Limits.{Limits}
@@ -98,11 +98,15 @@ module _ (w : IdWorld) (terms : List Term) (f : FuncId) where
       pub refused_one : (e : Refused) → BuildsList (Err e) → ChecksOne limits (world_by terms w) base meant old new (Err e)
       refused_one e b = one_refused limits (world_by terms w) base meant old new e (builds (Err e) b)
 
-      pub done_one : (rules : List Rule) (done : Unit {0}) → BuildsList (Ok rules) → ChecksOne limits (world_by terms w) base meant old new (Ok done)
-      done_one rules done b = one_done limits (world_by terms w) base meant old new rules done (builds (Ok rules) b)
-
-      pub lost_one : (rules : List Rule) → BuildsList (Ok rules) → ChecksOne limits (world_by terms w) base meant old new (Err Memory)
-      lost_one rules b = one_lost limits (world_by terms w) base meant old new rules (builds (Ok rules) b)
+      -- behind it all is made, or there is no memory for it
+      pub made_one : (rules : List Rule) (made : Result (Unit {0}) Refused) → (made ≡ Ok tt) ⊎ (made ≡ Err Memory) → BuildsList (Ok rules)
+          → ChecksOne limits (world_by terms w) base meant old new made
+      made_one rules made (inl done) b =
+          subst (ChecksOne limits (world_by terms w) base meant old new) (sym done)
+          (one_done limits (world_by terms w) base meant old new rules tt (builds (Ok rules) b))
+      made_one rules made (inr lost) b =
+          subst (ChecksOne limits (world_by terms w) base meant old new) (sym lost)
+          (one_lost limits (world_by terms w) base meant old new rules (builds (Ok rules) b))
 
     -- ---- behind it
 

@@ -3,7 +3,6 @@ use Rattle.std.proofs.Common.{◌≡◌, ◌≢◌, ◌⊎◌, ℕ, ◌<◌, ◌
 use Rattle.std.proofs.lemmas.Bool.{cases_lt}
 use Rattle.swreq_lex.specs.declared.refusal.LexErr.{LexErr}
 use Rattle.swreq_lex.specs.declared.refusal.LexErr.TheVariants as lexical
-use Rattle.swreq_lex.specs.declared.lexer.TheConstants.{TEXT_LIMIT}
 use Rattle.swreq_lex.specs.declared.token.Token as lexed
 use Rattle.swreq_lex.specs.Refusals.{HasRefusal}
 use Rattle.swreq_lex.specs.Tokens.{HasTokens}
@@ -31,7 +30,7 @@ use Rattle.swreq_words.specs.declared.command.CommandLine.{CommandLine}
 use Rattle.swreq_output.specs.Ended.{IsWorldOfText}
 use Rattle.swreq_top.specs.Machines.{IsBuiltOver, IsChecked}
 use Rattle.swreq_top.specs.Reports.{limit_refusal, name_refusal, refusal_of}
-use Rattle.swreq_top.specs.Verdict.{HasNoWorld, IsRefused, IsVerdict, RefusesNames, limits_of, machine_outcome, refused_with}
+use Rattle.swreq_top.specs.Verdict.{HasNoWorld, IsRefused, IsVerdict, PassesCheck, RefusesNames, limits_of, machine_outcome, refused_with}
 use Rattle.swreq_top.specs.Verdict.IsRefused.{without_world, not_a_type_parameter, past_a_limit}
 use Rattle.swreq_top.specs.Verdict.IsVerdict.{answered as is_answered, cut_short as is_cut_short, refused as is_refused}
 use Rattle.swreq_top.specs.declared.outcome.Outcome.{Outcome}
@@ -68,7 +67,7 @@ grammars : (at : ℕ) (kind : Option Kind) → (refused at kind ≢ grammar.Memo
 grammars at None = (λ is. (cc), λ fault is. (cc))
 grammars at (Some kind) = (λ is. (cc), λ fault is. (cc))
 
-module _ (text : List ℕ) (one : AreOne text) (within : length text ≤ TEXT_LIMIT) where
+module _ (text : List ℕ) (one : AreOne text) (within : length text ≤ 1048576) where
   lexically : (e : LexErr) → HasRefusal text e → Reading text
   lexically e has = record {
     parsed = Err (grammar.Lex e);
@@ -266,7 +265,8 @@ module _ (line : CommandLine) (text : List ℕ) where
   never_whole (Err e) o is whole = whole
 
   -- a text that is too long is refused for that alone
-  pub long_refused : TEXT_LIMIT < length text → {o : Outcome} {events : List Event} → IsRefused line text o events → o ≡ refused_with refusals.TooLarge
+  pub long_refused : 1048576 < length text → {o : Outcome} {events : List Event} → IsRefused line text o events
+      → o ≡ refused_with refusals.TooLarge
   long_refused long {o} (without_world refusal has is none) = is ∙ ap refused_with (is_too_large refusal has)
     where
       is_too_large : (kind : RefusalKind) → HasNoWorld text kind → kind ≡ refusals.TooLarge
@@ -293,14 +293,15 @@ module _ (line : CommandLine) (text : List ℕ) where
   long_refused long (past_a_limit w which trace has checked is) = absurd (omega (arith, long, has.within))
 
   module _ (one : AreOne text) (o p : Outcome) (events also : List Event) (refused : IsRefused line text o events) where
-    never_built : (w : TextWorld) (rules : List Rule) (first : List Event) → IsWorldOfText text w → IsBuiltOver (limits_of line) w rules first → ⊥
-    never_built w rules first has built =
-        let r = reading_of text one has.within in never_whole r.parsed o (refused_read one r refused) (whole_read one r w rules first has built)
+    never_passed : PassesCheck line text also → ⊥
+    never_passed c =
+        let r = reading_of text one c.has_world.within in
+        never_whole r.parsed o (refused_read one r refused) (whole_read one r c.world c.rules c.first c.has_world c.built)
 
     too : IsRefused line text p also → p ≡ o
-    too other = by (cases_lt TEXT_LIMIT (length text))
+    too other = by (cases_lt 1048576 (length text))
       where
-        by : (TEXT_LIMIT < length text) ⊎ (length text ≤ TEXT_LIMIT) → p ≡ o
+        by : (1048576 < length text) ⊎ (length text ≤ 1048576) → p ≡ o
         by (inl long) = long_refused long other ∙ sym (long_refused long refused)
         by (inr within) =
             let r = reading_of text one within in one_read r.parsed o p (refused_read one r refused) (refused_read one r other)
@@ -308,5 +309,5 @@ module _ (line : CommandLine) (text : List ℕ) where
     -- a text that is refused has no other verdict
     pub one_verdict : IsVerdict line text p also → p ≡ o
     one_verdict (is_refused other) = too other
-    one_verdict (is_cut_short c) = absurd (never_built c.world c.rules c.first c.has_world c.built)
-    one_verdict (is_answered a) = absurd (never_built a.world a.rules a.first a.has_world a.built)
+    one_verdict (is_cut_short c) = absurd (never_passed c.check)
+    one_verdict (is_answered a) = absurd (never_passed a.check)

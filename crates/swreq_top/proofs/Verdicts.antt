@@ -3,7 +3,6 @@ use Rattle.std.proofs.Common.{◌≡◌, ◌≢◌, ◌⊎◌, ℕ, ◌<◌, ◌
 use Rattle.std.specs.declared.alloc.AllocError.{AllocError}
 use Rattle.swreq_lex.specs.declared.refusal.LexErr.{LexErr}
 use Rattle.swreq_lex.specs.declared.refusal.LexErr.TheVariants as lexical
-use Rattle.swreq_lex.specs.declared.lexer.TheConstants.{TEXT_LIMIT}
 use Rattle.swreq_lex.specs.Refusals.{HasRefusal}
 use Rattle.swreq_decl.specs.declared.kind.Kind.{Kind}
 use Rattle.swreq_decl.specs.declared.skeleton.Skeleton.{Skeleton}
@@ -36,14 +35,14 @@ use Rattle.swreq_valid.specs.declared.refused.Refused.TheVariants.{Limit, NotATy
 use Rattle.swreq_top.specs.declared.outcome.Outcome.{Outcome}
 use Rattle.swreq_top.specs.declared.checking.Checked.{Checked}
 use Rattle.swreq_output.specs.Ended.{IsWorldOfText}
-use Rattle.swreq_top.specs.Machines.{IsChecked}
+use Rattle.swreq_top.specs.Machines.{IsBuiltOver, IsChecked}
 use Rattle.swreq_top.specs.Outputs.{IsOutput}
 use Rattle.swreq_top.specs.Checks.{Checks}
 use Rattle.swreq_top.specs.Replies.{Finishes, IsToldVerdict, Replies, WasToldPart}
 use Rattle.swreq_top.specs.Reports.{name_refusal, refusal_of}
 use Rattle.swreq_top.specs.Told.{MinimisingAllTells, MinimisingEndsIn}
 use Rattle.swreq_top.specs.Told.MinimisingAllTells.{nothing}
-use Rattle.swreq_top.specs.Verdict.{HasNoWorld, IsRefused, IsStopOf, IsVerdict, answered_text, limits_of, machine_outcome, refused_with, stopped_with}
+use Rattle.swreq_top.specs.Verdict.{HasNoWorld, IsRefused, IsStopOf, IsVerdict, PassesCheck, answered_text, limits_of, machine_outcome, refused_with, stopped_with}
 use Rattle.swreq_top.specs.Verdict.IsRefused.{without_world, not_a_type_parameter, past_a_limit}
 use Rattle.swreq_top.specs.Verdict.IsVerdict.{answered as is_answered, cut_short as is_cut_short, refused as is_refused}
 use Rattle.swreq_top.proofs.Checked.{check_tells, is_formed}
@@ -51,14 +50,14 @@ use Rattle.swreq_top.proofs.Lines.{by_book}
 
 -- what a text was read with is exact
 pub record IsExact (text : List ℕ) (parsed : Result Skeleton ParseErr) : Type 0 where
-  pub within : length text ≤ TEXT_LIMIT
+  pub within : length text ≤ 1048576
   pub ok : (skeleton : Skeleton) → Exactly (StandsFor text skeleton) (Ok skeleton) parsed
   pub lex : (fault : LexErr) → Exactly (HasRefusal text fault) (Err (grammar.Lex fault)) parsed
   pub syntax : (at : ℕ) → Exactly (RefusedFor text at None) (Err (grammar.Syntax at)) parsed
   pub unsupported : (at : ℕ) (kind : Kind) → Exactly (RefusedFor text at (Some kind)) (Err (grammar.Unsupported at kind)) parsed
 
 -- a refusal of names is one of the text
-pub names_refused : (text : List ℕ) (skeleton : Skeleton) (e : NameErr) → length text ≤ TEXT_LIMIT → StandsFor text skeleton
+pub names_refused : (text : List ℕ) (skeleton : Skeleton) (e : NameErr) → length text ≤ 1048576 → StandsFor text skeleton
     → Refuses text skeleton e → HasNoWorld text (name_refusal e)
 names_refused text skeleton (names.Duplicate at) within stands refuses = (within, (skeleton, stands, refuses))
 names_refused text skeleton (names.NotAProtocol at) within stands refuses = (within, (skeleton, stands, refuses))
@@ -99,7 +98,7 @@ one_error {A} {E} r e f is same = let both : (let z : Result A E = Err e in z) �
 
 -- a text whose names are refused is
 pub unresolved_refused : {Names : Type 0} (text : List ℕ) (skeleton : Skeleton) (result : Result Names NameErr) (e : NameErr) → result ≡ Err e
-    → e ≢ names.Memory → length text ≤ TEXT_LIMIT → StandsFor text skeleton
+    → e ≢ names.Memory → length text ≤ 1048576 → StandsFor text skeleton
     → IfErr result (λ f. Refuses text skeleton f ⊎ (f ≡ names.Memory)) → HasNoWorld text (name_refusal e)
 unresolved_refused text skeleton result e is real within stands some =
     names_refused text skeleton e within stands (elim (subst (λ r. IfErr r (λ f. Refuses text skeleton f ⊎ (f ≡ names.Memory))) is some) [
@@ -128,7 +127,7 @@ module _ (line : CommandLine) (text : List ℕ) where
   refused_early old refusal real (Err e) h refused = replies_nothing old e
 
   -- and so is one that is too long
-  pub refused_long : (old : Option (List Event)) (result : Result Outcome AllocError) → TEXT_LIMIT < length text
+  pub refused_long : (old : Option (List Event)) (result : Result Outcome AllocError) → 1048576 < length text
       → IfOk result (λ o. o ≡ refused_with refusals.TooLarge) → Replies line text old old result
   refused_long old (Ok o) long is = ([], is_refused (without_world refusals.TooLarge long is refl), grew_none old)
   refused_long old (Err e) long h = replies_nothing old e
@@ -183,6 +182,11 @@ module _ (line : CommandLine) (text : List ℕ) where
 
     -- ---- behind the check
 
+    -- the check, and what is told behind it
+    abbrev passed : (rules : List Rule) (first more : List Event) → IsBuiltOver (limits_of line) w rules first → PassesCheck line text (first ++ more)
+    passed rules first more built =
+        record { world = w; has_world = has; rules = rules; first = first; more = more; built = built; told_is = refl }
+
     module _ (rules : List Rule) (old new : Option (List Event)) where
       -- for want of memory before minimising
       pub finishes_nothing : (e : AllocError) → Finishes line text w rules old old (Err e)
@@ -199,14 +203,8 @@ module _ (line : CommandLine) (text : List ℕ) where
       finishes_answered closed (Ok o) (told, parts, grew) (status, output) = (
         told,
         λ first built. is_answered (record {
-          world = w;
-          has_world = has;
-          rules = rules;
-          first = first;
-          more = told;
-          built = built;
+          check = passed rules first told built;
           parts = parts;
-          told_is = refl;
           status = status;
           output = by_book w (is_formed (limits_of line) w closed built) closed line.command o.output output;
         }),
@@ -225,16 +223,10 @@ module _ (line : CommandLine) (text : List ℕ) where
       finishes_stopped which trace (Ok o) (told, fails, grew) is = (
         told,
         λ first built. is_cut_short (record {
-          world = w;
-          has_world = has;
-          rules = rules;
-          first = first;
-          more = told;
-          built = built;
+          check = passed rules first told built;
           which = which;
           trace = trace;
           fails = fails;
-          told_is = refl;
           outcome = is;
         }),
         grew,

@@ -1,14 +1,14 @@
 -- What a run reads, writes and tells.
-use Rattle.std.specs.Prelude.{◌≡◌, ◌⊎◌, ℕ, ◌+◌, ◌<◌, ◌≤◌, List, [], length, Option, Some, IfSome, Result, Ok, Err}
+use Rattle.std.specs.Prelude.{◌≡◌, ◌⊎◌, ℕ, ◌<◌, ◌≤◌, List, [], length, Option, Some, IfSome, Result, Ok, Err}
 use Rattle.std.specs.Io.KnownBytes.{Appends, IsAtEnd}
 use Rattle.swreq_text.specs.Faults.{HasRisen}
 use Rattle.swreq_text.specs.Given.{AppendsPart, GivesCount}
 use Rattle.swreq_text.specs.declared.whole.ReadErr.{ReadErr}
 use Rattle.swreq_text.specs.declared.whole.ReadErr.TheVariants.{TooLarge, Fault, Memory}
 use Rattle.swreq_gen.specs.Generated.{generated}
-use Rattle.swreq_lex.specs.declared.lexer.TheConstants.{TEXT_LIMIT}
 use Rattle.swreq_print.specs.Names.{Text}
-use Rattle.swreq_print.specs.declared.refusal.TheConstants.{OUT_OF_MEMORY, READ_FAULT, USAGE}
+use Rattle.swreq_print.specs.Refusals.{refusal_line}
+use Rattle.swreq_print.specs.declared.refusal.RefusalKind.TheVariants as refusals
 use Rattle.swreq_watch.specs.declared.events.Event.{Event}
 use Rattle.swreq_watch.specs.Told.{GrewBy}
 use Rattle.swreq_words.specs.Form.{Says}
@@ -42,7 +42,7 @@ known_text (command.Gen n) left = Some (generated n)
 -- one more than the limit.
 abbrev pub IsRead : Option Text → Option Text → Type 0
 IsRead left rest =
-    IfSome left (λ text. ((length text ≤ TEXT_LIMIT) × IsAtEnd rest) ⊎ ((TEXT_LIMIT < length text) × GivesCount left rest (TEXT_LIMIT + 1)))
+    IfSome left (λ text. ((length text ≤ 1048576) × IsAtEnd rest) ⊎ ((1048576 < length text) × GivesCount left rest 1048577))
 
 -- Of a command that reads a source that is left; `gen` leaves it as it was.
 abbrev pub LeavesSource : Command → Option Text → Option Text → Type 0
@@ -70,9 +70,10 @@ IsOutputOn line left output =
 
 abbrev pub IsPrinted : (words : List Text) (read_failed : Type 0) (left : Option Text) → Text → Type 0
 IsPrinted words read_failed left printed =
-    (AreWrong words × (printed ≡ USAGE.now))
-    ⊎ ((printed ≡ OUT_OF_MEMORY.now)
-    ⊎ ((line : CommandLine) × Says words line × (IsOutputOn line left printed ⊎ (read_failed × (printed ≡ READ_FAULT.now)))))
+    (AreWrong words × (printed ≡ refusal_line refusals.Usage))
+    ⊎ ((printed ≡ refusal_line refusals.OutOfMemory)
+    ⊎ ((line : CommandLine) × Says words line
+    × (IsOutputOn line left printed ⊎ (read_failed × (printed ≡ refusal_line refusals.ReadFault)))))
 
 -- The watcher was told what is told with a verdict, or a part of that.
 abbrev pub TellsSome : List Text → Option Text → Option (List Event) → Option (List Event) → Type 0
@@ -101,7 +102,7 @@ Answers line left rest old new (Ok o) =
     × IfSome (known_text line.command left) (λ text. IsToldVerdict line text old new o × IsOnlyRefusal line text o)
     × ((o.status ≡ 0) ⊎ ((o.status ≡ 1) ⊎ (o.status ≡ 3)))
 Answers line left rest old new (Err TooLarge) =
-    GivesCount left rest (TEXT_LIMIT + 1) × (IsGen line.command → ⊥) × GrewBy old new []
+    GivesCount left rest 1048577 × (IsGen line.command → ⊥) × GrewBy old new []
 Answers line left rest old new (Err Fault) = (IsGen line.command → ⊥) × GrewBy old new []
 Answers line left rest old new (Err Memory) = IfSome (known_text line.command left) (λ text. WasToldPart line text old new)
 
@@ -128,16 +129,16 @@ pub data IsEnd (words : List Text) (before after : Surroundings) : (status : ℕ
       → (status ≡ 0) ⊎ ((status ≡ 1) ⊎ (status ≡ 3)) → after.read_faults ≡ before.read_faults → after.write_faults ≡ before.write_faults
       → IsEnd words before after status
   -- The words are wrong, and the usage line was taken.
-  wrong_words : AreWrong words → Appends before.taken after.taken USAGE.now → after.read_faults ≡ before.read_faults
+  wrong_words : AreWrong words → Appends before.taken after.taken (refusal_line refusals.Usage) → after.read_faults ≡ before.read_faults
       → after.write_faults ≡ before.write_faults → GrewBy before.told after.told [] → IsEnd words before after 2
   -- A read failed.
   read_failed : (line : CommandLine) → Says words line → HasRisen before.read_faults after.read_faults
-      → Appends before.taken after.taken READ_FAULT.now → after.write_faults ≡ before.write_faults → GrewBy before.told after.told []
-      → IsEnd words before after 4
+      → Appends before.taken after.taken (refusal_line refusals.ReadFault) → after.write_faults ≡ before.write_faults
+      → GrewBy before.told after.told [] → IsEnd words before after 4
   -- A write failed, and a part of what was to be printed was taken.
   write_failed : (printed : Text) → IsPrinted words (HasRisen before.read_faults after.read_faults) before.left printed
       → AppendsPart before.taken after.taken printed → HasRisen before.write_faults after.write_faults
       → TellsSome words before.left before.told after.told → IsEnd words before after 5
   -- There was no memory.
-  no_memory : Appends before.taken after.taken OUT_OF_MEMORY.now → after.read_faults ≡ before.read_faults
+  no_memory : Appends before.taken after.taken (refusal_line refusals.OutOfMemory) → after.read_faults ≡ before.read_faults
       → after.write_faults ≡ before.write_faults → TellsSome words before.left before.told after.told → IsEnd words before after 6

@@ -1,7 +1,6 @@
 -- The verdicts on a text.
 use Rattle.std.specs.Prelude.{◌≡◌, ℕ, ◌<◌, ◌≤◌, Bool, false, List, [], ◌++◌, length, Some, None, if◌then◌else◌}
 use Rattle.swreq_lex.specs.declared.refusal.LexErr.TheVariants as lexical
-use Rattle.swreq_lex.specs.declared.lexer.TheConstants.{TEXT_LIMIT}
 use Rattle.swreq_lex.specs.Refusals.{HasRefusal}
 use Rattle.swreq_decl.specs.declared.skeleton.Skeleton.{Skeleton}
 use Rattle.swreq_decl.specs.Skeletons.{StandsFor, RefusedFor}
@@ -73,16 +72,16 @@ IsStopOf line x failed.Memory o = ⊥
 
 -- The text is not too long, a skeleton stands for it, and its names have this refusal.
 abbrev pub RefusesNames : Text → NameErr → Type 0
-RefusesNames text e = (length text ≤ TEXT_LIMIT) × ((skeleton : Skeleton) × StandsFor text skeleton × Refuses text skeleton e)
+RefusesNames text e = (length text ≤ 1048576) × ((skeleton : Skeleton) × StandsFor text skeleton × Refuses text skeleton e)
 
 -- The text has no world: it is too long, is not in the language, or its names do not resolve. At most one refusal is its.
 abbrev pub HasNoWorld : Text → RefusalKind → Type 0
-HasNoWorld text refusals.TooLarge = TEXT_LIMIT < length text
-HasNoWorld text (refusals.NotUtf8 at) = (length text ≤ TEXT_LIMIT) × HasRefusal text (lexical.NotUtf8 at)
-HasNoWorld text (refusals.BadCharacter at) = (length text ≤ TEXT_LIMIT) × HasRefusal text (lexical.BadCharacter at)
-HasNoWorld text (refusals.OpenComment at) = (length text ≤ TEXT_LIMIT) × HasRefusal text (lexical.OpenComment at)
-HasNoWorld text (refusals.Syntax at) = (length text ≤ TEXT_LIMIT) × RefusedFor text at None
-HasNoWorld text (refusals.Unsupported at kind) = (length text ≤ TEXT_LIMIT) × RefusedFor text at (Some kind)
+HasNoWorld text refusals.TooLarge = 1048576 < length text
+HasNoWorld text (refusals.NotUtf8 at) = (length text ≤ 1048576) × HasRefusal text (lexical.NotUtf8 at)
+HasNoWorld text (refusals.BadCharacter at) = (length text ≤ 1048576) × HasRefusal text (lexical.BadCharacter at)
+HasNoWorld text (refusals.OpenComment at) = (length text ≤ 1048576) × HasRefusal text (lexical.OpenComment at)
+HasNoWorld text (refusals.Syntax at) = (length text ≤ 1048576) × RefusedFor text at None
+HasNoWorld text (refusals.Unsupported at kind) = (length text ≤ 1048576) × RefusedFor text at (Some kind)
 HasNoWorld text (refusals.Duplicate at) = RefusesNames text (names.Duplicate at)
 HasNoWorld text (refusals.NotAProtocol at) = RefusesNames text (names.NotAProtocol at)
 HasNoWorld text (refusals.ConcreteType at) = RefusesNames text (names.ConcreteType at)
@@ -105,34 +104,32 @@ module _ (line : CommandLine) (text : Text) where
     past_a_limit : {o : Outcome} {told : List Event} (w : TextWorld) (which : Which) (trace : List Rule) → IsWorldOfText text w
         → IsChecked (limits_of line) w (Some (Limit which trace)) told → o ≡ stopped_with line w.lexicon which trace → IsRefused o told
 
-  module _ (guarded : Bool) where
-    -- The text is answered, by the rules with the guard or without it: it has a world, nothing in it is refused, and the output is what
-    -- the command prints. The events of the check are told, and then parts of minimising.
-    pub record IsAnswered (o : Outcome) (told : List Event) : Type 0 where
-      pub world : TextWorld
-      pub has_world : IsWorldOfText text world
-      pub rules : List Rule
-      pub first : List Event
-      pub more : List Event
-      pub built : IsBuiltOver (limits_of line) world rules first
-      pub parts : MinimisingAllTells (limits_of line) world line.command rules more
-      pub told_is : told ≡ first ++ more
-      pub status : o.status ≡ 0
-      pub output : IsOutput guarded world line.command o.output
-
-  -- In minimising for the command a round passes a limit.
-  pub record IsCutShort (o : Outcome) (told : List Event) : Type 0 where
+  -- The text has a world, of which the check refuses nothing and comes to rules of the protocols. Its events are told first, and then more.
+  pub record PassesCheck (told : List Event) : Type 0 where
     pub world : TextWorld
     pub has_world : IsWorldOfText text world
     pub rules : List Rule
     pub first : List Event
     pub more : List Event
     pub built : IsBuiltOver (limits_of line) world rules first
+    pub told_is : told ≡ first ++ more
+
+  module _ (guarded : Bool) where
+    -- The text is answered, by the rules with the guard or without it: it passes the check, and the output is what the command prints.
+    -- Behind the check parts of minimising are told.
+    pub record IsAnswered (o : Outcome) (told : List Event) : Type 0 where
+      pub check : PassesCheck told
+      pub parts : MinimisingAllTells (limits_of line) check.world line.command check.rules check.more
+      pub status : o.status ≡ 0
+      pub output : IsOutput guarded check.world line.command o.output
+
+  -- The text passes the check, and in minimising for the command a round passes a limit.
+  pub record IsCutShort (o : Outcome) (told : List Event) : Type 0 where
+    pub check : PassesCheck told
     pub which : Which
     pub trace : List Rule
-    pub fails : MinimisingAllFails (limits_of line) world line.command rules (failed.Limit which trace) more
-    pub told_is : told ≡ first ++ more
-    pub outcome : o ≡ stopped_with line world.lexicon which trace
+    pub fails : MinimisingAllFails (limits_of line) check.world line.command check.rules (failed.Limit which trace) check.more
+    pub outcome : o ≡ stopped_with line check.world.lexicon which trace
 
   -- A verdict, and what is told with it. The answers are by the book's rules, which have no guard.
   pub data IsVerdict (o : Outcome) (told : List Event) : Type 0 where

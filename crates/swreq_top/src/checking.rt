@@ -48,7 +48,7 @@ fn check_one<W: Watch>(
     ensures check { ChecksOne limits (world_by table.now world.now) (last_rules protocols.now.rounds) (signature_at (world_by table.now world.now) f) (W.told watch.old) (W.told watch.new) result }
     ensures made { OnOk result (IsMadeOf (world_by table.now world.now) asked.now.command (f.place + 1) made.new) }
 {
-    match Machine::build(
+    let machine = Machine::build(
         alloc,
         world,
         table,
@@ -57,13 +57,8 @@ fn check_one<W: Watch>(
         world.signature(f),
         limits,
         watch,
-    ) {
-        Err(refused) => Err(refused),
-        Ok(machine) => match make(alloc, world, table, asked, f, &machine, made) {
-            Err(_) => Err(Refused::Memory),
-            Ok(()) => Ok(()),
-        },
-    }
+    )?;
+    make(alloc, world, table, asked, f, &machine, made).map_err(|_| Refused::Memory)
 }
 
 /// Checks the signatures, in order.
@@ -86,7 +81,7 @@ fn check_all<W: Watch>(
     ensures made { OnOk result (IsMadeOf (world_by table.now world.now) asked.now.command (length (world_by table.now world.now).signatures) made.new) }
 {
     for k in 0..world.functions() {
-        match check_one(
+        check_one(
             alloc,
             world,
             table,
@@ -96,10 +91,7 @@ fn check_all<W: Watch>(
             limits,
             watch,
             made,
-        ) {
-            Err(refused) => return Err(refused),
-            Ok(()) => {}
-        }
+        )?;
     }
     Ok(())
 }
@@ -121,16 +113,10 @@ pub(crate) fn check<W: Watch>(
     ensures check { Checks limits (world_by table.now world.now) (W.told watch.old) (W.told watch.new) result }
     ensures checked { IfOk result (IsCheckedFor limits (world_by table.now world.now) asked.now.command) }
 {
-    match Protocols::build(alloc, world, table, limits, watch) {
-        Err(refused) => Err(refused),
-        Ok(protocols) => {
-            let mut made = Made::new(alloc);
-            match check_all(
-                alloc, world, table, &protocols, asked, limits, watch, &mut made,
-            ) {
-                Err(refused) => Err(refused),
-                Ok(()) => Ok(Checked { protocols, made }),
-            }
-        }
-    }
+    let protocols = Protocols::build(alloc, world, table, limits, watch)?;
+    let mut made = Made::new(alloc);
+    check_all(
+        alloc, world, table, &protocols, asked, limits, watch, &mut made,
+    )?;
+    Ok(Checked { protocols, made })
 }

@@ -91,16 +91,12 @@ fn line_of<W: Watch>(
     ensures world { world_by table.new world.now ≡ world_by table.old world.now }
     ensures text { IsTextOver table.new world.now }
 {
-    match machine_of(alloc, world, table, protocols, f, limits) {
-        Err(_) => Err(Failed::Memory),
-        Ok(machine) => {
-            let mut line = Vec::new(alloc);
-            minimised_line(
-                alloc, world, table, protocols, &machine, f, limits, watch, &mut line,
-            )?;
-            Ok(Seq::new(line))
-        }
-    }
+    let machine = machine_of(alloc, world, table, protocols, f, limits)?;
+    let mut line = Vec::new(alloc);
+    minimised_line(
+        alloc, world, table, protocols, &machine, f, limits, watch, &mut line,
+    )?;
+    Ok(Seq::new(line))
 }
 
 /// The line of the minimised list of a signature, or None where the command does not ask for it.
@@ -134,10 +130,8 @@ fn line_if_wanted<W: Watch>(
     if !lists[f.place as usize] {
         return Ok(None);
     }
-    match line_of(alloc, world, table, protocols, f, limits, watch) {
-        Ok(line) => Ok(Some(line)),
-        Err(failed) => Err(failed),
-    }
+    let line = line_of(alloc, world, table, protocols, f, limits, watch)?;
+    Ok(Some(line))
 }
 
 /// The lines of the minimised lists that the command asks for, of each signature in written order.
@@ -172,7 +166,7 @@ pub(crate) fn minimised_lines<W: Watch>(
 {
     let mut all = Vec::new(alloc);
     for k in 0..world.functions() {
-        match line_if_wanted(
+        let entry = line_if_wanted(
             alloc,
             world,
             table,
@@ -182,13 +176,8 @@ pub(crate) fn minimised_lines<W: Watch>(
             FuncId { place: k },
             limits,
             watch,
-        ) {
-            Err(failed) => return Err(failed),
-            Ok(entry) => match all.push(entry) {
-                Err(_) => return Err(Failed::Memory),
-                Ok(()) => {}
-            },
-        }
+        )?;
+        all.push(entry).map_err(|_| Failed::Memory)?;
     }
     Ok(all)
 }

@@ -3,7 +3,6 @@ ghost use Rattle.std.specs.Prelude.{◌≡◌, ◌≢◌, ◌≤◌, List, lengt
 ghost use Rattle.swreq_complete.specs.Limits.{AreInRange};
 ghost use Rattle.swreq_decl.specs.Skeletons.{StandsFor};
 ghost use Rattle.swreq_decl.specs.declared.refusal.ParseErr.TheVariants as grammar;
-ghost use Rattle.swreq_lex.specs.declared.lexer.TheConstants.{TEXT_LIMIT};
 ghost use Rattle.swreq_minimal.specs.Inheritance.{IsInheritanceWritten};
 ghost use Rattle.swreq_resolve.specs.declared.refusal.NameErr.TheVariants as names;
 ghost use Rattle.swreq_symbols.specs.Known.{IsTextOver};
@@ -122,7 +121,7 @@ fn with_skeleton<W: Watch>(
     skeleton: &Skeleton,
     watch: &mut W,
 ) -> Result<Outcome, AllocError>
-    requires within { length text.now ≤ TEXT_LIMIT }
+    requires within { length text.now ≤ 1048576 }
     requires stands { StandsFor text.now skeleton.now }
     requires limits { AreInRange (limits_of line.now) }
     requires count { HasCount line.now.command }
@@ -141,7 +140,7 @@ fn over_table<W: Watch>(
     table: &mut ParamTable,
     watch: &mut W,
 ) -> Result<Outcome, AllocError>
-    requires within { length text.now ≤ TEXT_LIMIT }
+    requires within { length text.now ≤ 1048576 }
     requires stands { StandsFor text.now skeleton.now }
     requires limits { AreInRange (limits_of line.now) }
     requires count { HasCount line.now.command }

@@ -2,6 +2,8 @@
 ghost use Rattle.std.specs.Prelude.{◌≡◌, ◌≢◌, ◌+◌, ◌≤◌, ◌⊎◌, ℕ, Err, List, Some, [], map, string_bytes};
 ghost use Rattle.std.specs.Io.KnownBytes.{Appends};
 ghost use Rattle.swreq_complete.specs.Limits.{AreInRange};
+ghost use Rattle.swreq_print.specs.Refusals.{refusal_line};
+ghost use Rattle.swreq_print.specs.declared.refusal.RefusalKind.TheVariants as refusals;
 ghost use Rattle.swreq_text.specs.Faults.{HasRisen};
 ghost use Rattle.swreq_text.specs.Given.{AppendsPart, GivesCount};
 ghost use Rattle.swreq_watch.specs.Told.{GrewBy};
@@ -61,11 +63,11 @@ pub fn run<S: Source, K: Sink, W: Watch>(
     // The words.
     ensures wrong_words { AreWrong (map string_bytes words.now) → (result ≡ 2) ⊎ ((result ≡ 5) ⊎ (result ≡ 6)) }
     ensures usage { result ≡ 2 → AreWrong (map string_bytes words.now) }
-    ensures usage_line { result ≡ 2 → Appends (K.taken out.old) (K.taken out.new) USAGE.now }
+    ensures usage_line { result ≡ 2 → Appends (K.taken out.old) (K.taken out.new) (refusal_line refusals.Usage) }
 
     // What is left of the source.
     ensures unread { AreWrong (map string_bytes words.now) ⊎ SayGen (map string_bytes words.now) → src.new ≡ src.old }
-    ensures no_more { (n : ℕ) × (n ≤ TEXT_LIMIT + 1) × GivesCount (S.left src.old) (S.left src.new) n }
+    ensures no_more { (n : ℕ) × (n ≤ 1048577) × GivesCount (S.left src.old) (S.left src.new) n }
 
     // What the watcher is told.
     ensures untold { AreWrong (map string_bytes words.now) ⊎ (result ≡ 4) → GrewBy (W.told watch.old) (W.told watch.new) [] }
@@ -73,14 +75,14 @@ pub fn run<S: Source, K: Sink, W: Watch>(
 
     // The faults of the streams, and memory.
     ensures read_fault { result ≡ 4 → HasRisen (S.faults src.old) (S.faults src.new) }
-    ensures read_fault_line { result ≡ 4 → Appends (K.taken out.old) (K.taken out.new) READ_FAULT.now }
+    ensures read_fault_line { result ≡ 4 → Appends (K.taken out.old) (K.taken out.new) (refusal_line refusals.ReadFault) }
     ensures no_read_fault { (result ≡ 4) ⊎ ((result ≡ 5) ⊎ (S.faults src.new ≡ S.faults src.old)) }
     ensures write_fault { result ≡ 5 → HasRisen (K.faults out.old) (K.faults out.new) }
     ensures write_part { result ≡ 5 → (printed : List ℕ)
         × IsPrinted (map string_bytes words.now) (HasRisen (S.faults src.old) (S.faults src.new)) (S.left src.old) printed
         × AppendsPart (K.taken out.old) (K.taken out.new) printed }
     ensures no_write_fault { (result ≡ 5) ⊎ (K.faults out.new ≡ K.faults out.old) }
-    ensures memory_line { result ≡ 6 → Appends (K.taken out.old) (K.taken out.new) OUT_OF_MEMORY.now }
+    ensures memory_line { result ≡ 6 → Appends (K.taken out.old) (K.taken out.new) (refusal_line refusals.OutOfMemory) }
     ensures statuses { result ≤ 6 }
 {
     carry_out(alloc, words, src, out, watch)
@@ -99,7 +101,7 @@ fn carry_out<S: Source, K: Sink, W: Watch>(
         (record { left = S.left src.new; read_faults = S.faults src.new; taken = K.taken out.new; write_faults = K.faults out.new; told = W.told watch.new })
         result }
     ensures unread { AreWrong (map string_bytes words.now) ⊎ SayGen (map string_bytes words.now) → src.new ≡ src.old }
-    ensures no_more { (n : ℕ) × (n ≤ TEXT_LIMIT + 1) × GivesCount (S.left src.old) (S.left src.new) n }
+    ensures no_more { (n : ℕ) × (n ≤ 1048577) × GivesCount (S.left src.old) (S.left src.new) n }
     ensures untold { AreWrong (map string_bytes words.now) → W.told watch.new ≡ W.told watch.old }
 {
     numbers_are_in_range();
@@ -126,7 +128,7 @@ fn answer<S: Source, W: Watch>(
     requires count { HasCount line.now.command }
     ensures answer { Answers line.now (S.left src.old) (S.left src.new) (W.told watch.old) (W.told watch.new) result }
     ensures unread { IsGen line.now.command → src.new ≡ src.old }
-    ensures no_more { (n : ℕ) × (n ≤ TEXT_LIMIT + 1) × GivesCount (S.left src.old) (S.left src.new) n }
+    ensures no_more { (n : ℕ) × (n ≤ 1048577) × GivesCount (S.left src.old) (S.left src.new) n }
     ensures fault { result ≡ Err Fault → HasRisen (S.faults src.old) (S.faults src.new) }
     ensures no_fault { (result ≡ Err Fault) ⊎ (S.faults src.new ≡ S.faults src.old) }
 {
@@ -150,10 +152,8 @@ fn replied<W: Watch>(
     requires count { HasCount line.now.command }
     ensures { AnswersText line.now (answered_text line.now.command text.now) (W.told watch.old) (W.told watch.new) result }
 {
-    match reply(alloc, line, text, watch) {
-        Ok(outcome) => Ok(outcome),
-        Err(_) => Err(ReadErr::Memory),
-    }
+    let outcome = reply(alloc, line, text, watch)?;
+    Ok(outcome)
 }
 
 /// Writes the bytes, and gives the status, which is 5 where a write failed.

@@ -46,8 +46,8 @@ limit_within MaxLength (number text ∷ parts) h = limit_within MaxLength parts 
 pub limits_within : {words : List (List ℕ)} {line : CommandLine} → Says words line
     → (1 ≤ line.max_rules) × (line.max_rules ≤ 100000) × (1 ≤ line.max_length) × (line.max_length ≤ 255)
 limits_within says =
-    let rules = subst (IsFrom1 100000) (sym says.max_rules) (limit_within MaxRules says.parts says.in_range) in
-    let symbols = subst (IsFrom1 255) (sym says.max_length) (limit_within MaxLength says.parts says.in_range) in
+    let rules = subst (IsFrom1 100000) (sym says.max_rules) (limit_within MaxRules says.form.parts says.form.in_range) in
+    let symbols = subst (IsFrom1 255) (sym says.max_length) (limit_within MaxLength says.form.parts says.form.in_range) in
     (rules.0, rules.1, symbols.0, symbols.1)
 
 -- ---- the number of `gen`
@@ -79,4 +79,5 @@ gen_within Gen (Some text) n within e = subst (IsFrom1 greatest_count) (inner (n
 -- and so is the number of `gen`
 pub count_within_range : {words : List (List ℕ)} {line : CommandLine} → Says words line → (n : ℕ) → line.command ≡ command.Gen n → (1 ≤ n) × (n ≤ 100)
 count_within_range says n is =
-    gen_within says.name (text_set (codes "number") says.parts) n (count_within says.parts says.in_range) (says.command ∙ ap (λ (c : Command). Some c) is)
+    gen_within says.form.name (text_set (codes "number") says.form.parts) n (count_within says.form.parts says.form.in_range)
+    (says.command ∙ ap (λ (c : Command). Some c) is)

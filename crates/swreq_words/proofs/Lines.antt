@@ -2,7 +2,7 @@
 use Rattle.std.proofs.Common.{ap, ap₂, refl, sym, subst, codes, true, false, Bool, not, ◌&&◌, ◌||◌, if◌then◌else◌, option_map, option_and_then, true≢false, is_some, Result, Ok, Err, IfOk, List, Option, Some, None, [], ◌∷◌, ◌≡◌, ◌∙◌, ℕ}
 use Rattle.std.specs.Str.{bytes_eq}
 use Rattle.std.specs.Option.{option_map_or, ok_or}
-use Rattle.std.specs.List.{list_all, flat_map}
+use Rattle.std.specs.List.{flat_map}
 use Rattle.std.proofs.lemmas.Bool.{and_parts}
 use Rattle.clap.specs.Words.{takes, subcommand_of}
 use Rattle.swreq_words.specs.declared.command.Command.{Command}
@@ -15,7 +15,7 @@ use Rattle.swreq_words.specs.declared.names.Limit.{Limit}
 use Rattle.swreq_words.specs.declared.names.Limit.TheVariants.{MaxRules, MaxLength}
 use Rattle.swreq_words.specs.declared.seen.Seen.{Seen}
 use Rattle.swreq_words.specs.Numbers.{number_of}
-use Rattle.swreq_words.specs.Form.{Text, Part, Says, words_of, word_of, follows, may_follow, is_in_range, is_each_once, is_set, text_set, limit_in, limit_name, preset, command_of}
+use Rattle.swreq_words.specs.Form.{Text, Part, HasForm, Says, words_of, word_of, follows, is_set, text_set, limit_in, limit_name, preset, command_of}
 use Rattle.swreq_words.specs.Reading.{name_of, takes_number, read_on, nothing_seen, is_done, are_parts, has_form}
 use Rattle.swreq_words.specs.Found.{limit_found, line_with, line_of, line_found}
 use Rattle.swreq_words.specs.Taken.{genreq}
@@ -25,15 +25,10 @@ use Rattle.swreq_words.proofs.Accepts.{accepted, are_of}
 use Rattle.swreq_words.proofs.TopCommand.{Taken, taken, rows_of_parts}
 use Rattle.swreq_words.proofs.Values.{are_new, given, text_is_set, set_text, found, trace_found}
 
--- the words have the form
+-- the words have the form, with the number where the command takes one
 pub record Formed (words : List Text) : Type 0 where
-  pub name : CommandName
-  pub parts : List Part
-  pub spelled : words ≡ word_of name ∷ flat_map words_of parts
-  pub follow : list_all (may_follow (follows name)) parts ≡ true
-  pub in_range : list_all is_in_range parts ≡ true
-  pub once : is_each_once [] parts ≡ true
-  pub counts : takes_number (follows name) ≡ true → is_set (codes "number") parts ≡ true
+  pub form : HasForm words
+  pub counts : takes_number (follows form.name) ≡ true → is_set (codes "number") form.parts ≡ true
 
 -- ---- the test passes exactly the words of the form
 
@@ -71,12 +66,14 @@ formed_after n ws (Some after) e is =
     let end = and_parts (not (is_some after.waiting)) (not (takes_number (follows n)) || after.number) is in
     let all = (told (follows n) ws nothing_seen after e (calm_of after.waiting end.0)).0 refl in
     record {
-      name = n;
-      parts = all.parts;
-      spelled = ap (λ rest. word_of n ∷ rest) all.spelled;
-      follow = all.follow;
-      in_range = all.in_range;
-      once = all.once [] (refl, refl, refl, refl);
+      form = record {
+        name = n;
+        parts = all.parts;
+        spelled = ap (λ rest. word_of n ∷ rest) all.spelled;
+        follow = all.follow;
+        in_range = all.in_range;
+        once = all.once [] (refl, refl, refl, refl);
+      };
       counts = λ t. all.counts (number_there (takes_number (follows n)) after.number t end.1) (λ was. true≢false (sym was));
     }
 
@@ -94,11 +91,11 @@ done_if true number e = e refl
 
 pub has_form_of : (words : List Text) → Formed words → has_form words ≡ true
 has_form_of words f =
-    let may = follows f.name in
-    let a = accepted may nothing_seen [] f.parts (refl, refl, refl, refl) f.follow f.in_range f.once in
+    let may = follows f.form.name in
+    let a = accepted may nothing_seen [] f.form.parts (refl, refl, refl, refl) f.form.follow f.form.in_range f.form.once in
     let counted : (not (takes_number may) || a.end.number) ≡ true = done_if (takes_number may) a.end.number (λ t. a.counts (f.counts t)) in
-    ap has_form f.spelled
-    ∙ ap (λ o. option_map_or (λ name. are_parts (follows name) (flat_map words_of f.parts)) o false) (name_is f.name)
+    ap has_form f.form.spelled
+    ∙ ap (λ o. option_map_or (λ name. are_parts (follows name) (flat_map words_of f.form.parts)) o false) (name_is f.form.name)
     ∙ ap (λ o. option_map_or (is_done may) o false) a.reads
     ∙ ap₂ (λ w n. not (is_some w) && n) a.waits counted
 
@@ -114,13 +111,8 @@ counts_of Gen (Some u) ps c is e t = text_is_set (codes "number") u ps is
 
 pub formed_of : (words : List Text) (line : CommandLine) → Says words line → Formed words
 formed_of words line says = record {
-  name = says.name;
-  parts = says.parts;
-  spelled = says.spelled;
-  follow = says.follow;
-  in_range = says.in_range;
-  once = says.once;
-  counts = counts_of says.name (text_set (codes "number") says.parts) says.parts line.command refl says.command;
+  form = says.form;
+  counts = counts_of says.form.name (text_set (codes "number") says.form.parts) says.form.parts line.command refl says.command;
 }
 
 -- the line of these parts
@@ -146,25 +138,20 @@ same_line line r l t er el et =
     ∙ ap (λ x. record line { max_length = x; trace = t }) (sym el)
     ∙ ap (λ x. record line { trace = x }) (sym et)
 
-says_line : (words : List Text) (line : CommandLine) → (says : Says words line) → line_by says.name says.parts ≡ Some line
+says_line : (words : List Text) (line : CommandLine) → (says : Says words line) → line_by says.form.name says.form.parts ≡ Some line
 says_line words line says =
-    ap (option_map (line_in says.parts)) says.command
+    ap (option_map (line_in says.form.parts)) says.command
     ∙ ap (λ x. Some x) (same_line line _ _ _ says.max_rules says.max_length says.traces)
 
 mapped : {A B : Type 0} (f : A → B) (o : Option A) (y : B) → option_map f o ≡ Some y → (x : A) × (o ≡ Some x) × (f x ≡ y)
 mapped f None y e = absurd (none_some y e)
 mapped f (Some x) y e = (x, refl, some_same (f x) y e)
 
-line_says : (words : List Text) (f : Formed words) (line : CommandLine) → line_by f.name f.parts ≡ Some line → Says words line
+line_says : (words : List Text) (f : HasForm words) (line : CommandLine) → line_by f.name f.parts ≡ Some line → Says words line
 line_says words f line e =
     let m = mapped (line_in f.parts) (command_of f.name (text_set (codes "number") f.parts)) line e in
     record {
-      name = f.name;
-      parts = f.parts;
-      spelled = f.spelled;
-      follow = f.follow;
-      in_range = f.in_range;
-      once = f.once;
+      form = f;
       command = m.1 ∙ ap (λ (l : CommandLine). Some l.command) m.2;
       max_rules = sym (ap (λ (l : CommandLine). l.max_rules) m.2);
       max_length = sym (ap (λ (l : CommandLine). l.max_length) m.2);
@@ -173,19 +160,22 @@ line_says words f line e =
 
 -- ---- the command takes them, and finds the line
 
-taken_of : (words : List Text) (f : Formed words) → Taken f.name f.parts
-taken_of words f = taken f.name f.parts (are_of (follows f.name) f.parts f.follow f.in_range) (are_new [] [] f.parts (λ id. refl) f.once)
-    (λ e. given (codes "number") f.parts (f.counts (ap takes_number e)))
+taken_of : (words : List Text) (f : Formed words) → Taken f.form.name f.form.parts
+taken_of words f =
+    let h = f.form in
+    taken h.name h.parts (are_of (follows h.name) h.parts h.follow h.in_range) (are_new [] [] h.parts (λ id. refl) h.once)
+    (λ e. given (codes "number") h.parts (f.counts (ap takes_number e)))
 
 pub takes_of : (words : List Text) → has_form words ≡ true → takes genreq words ≡ true
-takes_of words e = let f = formed words e in ap (takes genreq) f.spelled ∙ (taken_of words f).takes_words
+takes_of words e = let f = formed words e in ap (takes genreq) f.form.spelled ∙ (taken_of words f).takes_words
 
-found_of : (words : List Text) (f : Formed words) → line_found (subcommand_of genreq words) ≡ line_by f.name f.parts
-found_of words f = ap (λ ws. line_found (subcommand_of genreq ws)) f.spelled ∙ ap line_found (taken_of words f).finds ∙ found_in f.name f.parts
+found_of : (words : List Text) (f : Formed words) → line_found (subcommand_of genreq words) ≡ line_by f.form.name f.form.parts
+found_of words f =
+    ap (λ ws. line_found (subcommand_of genreq ws)) f.form.spelled ∙ ap line_found (taken_of words f).finds ∙ found_in f.form.name f.form.parts
 
 -- what is found is what the words say
 pub found_says : (words : List Text) (line : CommandLine) → has_form words ≡ true → line_found (subcommand_of genreq words) ≡ Some line → Says words line
-found_says words line e is = let f = formed words e in line_says words f line (sym (found_of words f) ∙ is)
+found_says words line e is = let f = formed words e in line_says words f.form line (sym (found_of words f) ∙ is)
 
 pub says_found : (words : List Text) (line : CommandLine) → Says words line → line_found (subcommand_of genreq words) ≡ Some line
 unfolding formed_of
@@ -204,8 +194,8 @@ command_there Gen ps e = let t = set_text (codes "number") ps (e refl) in (_, ap
 pub line_there : (words : List Text) → has_form words ≡ true → (line : CommandLine) × (line_found (subcommand_of genreq words) ≡ Some line)
 line_there words e =
     let f = formed words e in
-    let c = command_there f.name f.parts f.counts in
-    (line_in f.parts c.0, found_of words f ∙ ap (option_map (line_in f.parts)) c.1)
+    let c = command_there f.form.name f.form.parts f.counts in
+    (line_in f.form.parts c.0, found_of words f ∙ ap (option_map (line_in f.form.parts)) c.1)
 
 -- ---- what is answered
 

@@ -125,15 +125,19 @@ command_of Rules text = Some command.Rules
 command_of Gen None = None
 command_of Gen (Some text) = Some (command.Gen (number_of text))
 
--- the words have the form, and say this command line
-pub record Says (words : List Text) (line : CommandLine) : Type 0 where
+-- the words are the name of a command and parts that may follow it, each with its number in its range, each setting what none before it sets
+pub record HasForm (words : List Text) : Type 0 where
   pub name : CommandName
   pub parts : List Part
   pub spelled : words ≡ word_of name ∷ flat_map words_of parts
   pub follow : list_all (may_follow (follows name)) parts ≡ true
   pub in_range : list_all is_in_range parts ≡ true
   pub once : is_each_once [] parts ≡ true
-  pub command : command_of name (text_set (codes "number") parts) ≡ Some line.command
-  pub max_rules : line.max_rules ≡ limit_in MaxRules parts
-  pub max_length : line.max_length ≡ limit_in MaxLength parts
-  pub traces : line.trace ≡ is_set (codes "trace") parts
+
+-- the words have the form, and say this command line
+pub record Says (words : List Text) (line : CommandLine) : Type 0 where
+  pub form : HasForm words
+  pub command : command_of form.name (text_set (codes "number") form.parts) ≡ Some line.command
+  pub max_rules : line.max_rules ≡ limit_in MaxRules form.parts
+  pub max_length : line.max_length ≡ limit_in MaxLength form.parts
+  pub traces : line.trace ≡ is_set (codes "trace") form.parts

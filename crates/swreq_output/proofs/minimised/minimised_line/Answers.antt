@@ -1,10 +1,11 @@
-use Rattle.std.proofs.Common.{sym, subst}
-use Rattle.std.proofs.lemmas.Result.{IfErr-weaker, on_ok_weaker}
+use Rattle.std.proofs.Common.{◌≡◌, ◌⊎◌, ◌++◌, ℕ, List, inr, sym, subst}
+use Rattle.std.proofs.lemmas.Result.{IfErr-weaker, on_err_weaker, on_ok_weaker}
+use Rattle.swreq_text.specs.Joined.{GrewByPart}
 use Rattle.swreq_world.specs.ByTable.{world_by}
 use Rattle.swreq_world.specs.Worlds.{signature_at}
 use Rattle.swreq_valid.specs.Plans.{AreKnown}
 use Rattle.swreq_valid.specs.Rounds.{last_rules}
-use Rattle.swreq_output.specs.Signatures.{written_list}
+use Rattle.swreq_output.specs.Signatures.{IsMinimisedLine, written_list}
 use Rattle.swreq_output.proofs.Lines.{line_read}
 use Rattle.swreq_output.proofs.Minimising.{signature_fails, signature_tells, signature_wants}
 use Rattle.swreq_output.proofs.minimised.minimised_line.Goals as goal
@@ -23,11 +24,29 @@ pub returns-in-Ok-clause-line : goal.returns-in-Ok-clause-line
 returns-in-Ok-clause-line g c =
     let s = signature_at (world_by c.args.table.now c.args.world.now) c.args.f in
     on_ok_weaker c.put_line.result
-    (line_read c.args.table.now c.minimise.new.table c.args.world.now c.args.f c.args.machine.now.params c.params.result c.in-Ok.list.items c.deref.result.now
-    c.args.out.now.items c.put_line.new.out.items
+    (line_read (λ (line : List ℕ). c.put_line.new.out.items ≡ c.args.out.now.items ++ line)
+    c.args.table.now c.minimise.new.table c.args.world.now c.args.f
+    c.args.machine.now.params c.params.result c.in-Ok.list.items c.deref.result.now
     c.requires.params c.params.ensures c.deref.ensures.value (c.in-Ok.ensures.minimised (written_list s) c.requires.machine)
     (c.in-Ok.ensures.same (written_list s) c.requires.machine))
     c.put_line.ensures.line
+
+pub returns-in-Ok-clause-part : goal.returns-in-Ok-clause-part
+returns-in-Ok-clause-part g c =
+    let w = world_by c.args.table.now c.args.world.now in
+    let s = signature_at w c.args.f in
+    on_err_weaker {Q = (c.put_line.new.out.items ≡ c.args.out.now.items)
+    ⊎ ((line : List ℕ) × IsMinimisedLine w s line × GrewByPart c.args.out.now.items line c.put_line.new.out.items)}
+    c.put_line.result
+    (λ part. inr (line_read (λ (line : List ℕ). GrewByPart c.args.out.now.items line c.put_line.new.out.items)
+    c.args.table.now c.minimise.new.table c.args.world.now c.args.f
+    c.args.machine.now.params c.params.result c.in-Ok.list.items c.deref.result.now
+    c.requires.params c.params.ensures c.deref.ensures.value (c.in-Ok.ensures.minimised (written_list s) c.requires.machine)
+    (c.in-Ok.ensures.same (written_list s) c.requires.machine) part))
+    c.put_line.ensures.part
+
+pub returns-in-Ok-clause-unchanged : goal.returns-in-Ok-clause-unchanged
+returns-in-Ok-clause-unchanged g c = IfErr-weaker c.put_line.result _ _ (λ failed is other. absurd (other is)) c.put_line.ensures.failed
 
 pub returns-in-Ok-clause-told : goal.returns-in-Ok-clause-told
 returns-in-Ok-clause-told g c =

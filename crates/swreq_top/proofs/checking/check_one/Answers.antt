@@ -1,5 +1,8 @@
+use Rattle.std.proofs.Common.{◌≡◌, ◌⊎◌, Err, Ok, rules}
+use Rattle.std.proofs.lemmas.Result.{err_from_is_err_and}
 use Rattle.swreq_valid.specs.Rounds.{last_rules}
-use Rattle.swreq_top.proofs.OfLists.{done_one, lost_one, machine_is, refused_one, signature_written}
+use Rattle.swreq_valid.specs.declared.refused.Refused.TheVariants.{Memory}
+use Rattle.swreq_top.proofs.OfLists.{machine_is, made_one, refused_one, signature_written}
 use Rattle.swreq_top.proofs.checking.check_one.Goals as goal
 
 pub build-requires-clause-written : goal.build-requires-clause-written
@@ -8,19 +11,19 @@ build-requires-clause-written g c =
 
 pub make-requires-clause-machine : goal.make-requires-clause-machine
 make-requires-clause-machine g c =
-    machine_is c.args.world.now c.args.table.now c.args.f c.signature.result.now c.in-Ok.machine c.signature.ensures c.in-Ok.ensures.machine
+    machine_is c.args.world.now c.args.table.now c.args.f c.signature.result.now c.in_ok-machine.machine c.signature.ensures
+    c.in_ok-machine.ensures.machine
 
-pub returns-in-Err-clause-check : goal.returns-in-Err-clause-check
-returns-in-Err-clause-check g c =
-    refused_one c.args.world.now c.args.table.now c.args.f c.args.limits (last_rules c.args.protocols.now.rounds) c.params.result
-    c.signature.result.now c.params.ensures c.signature.ensures _ _ c.in-Err.refused c.in-Err.ensures.answer
-
-pub returns-in-Err-make-clause-check : goal.returns-in-Err-make-clause-check
-returns-in-Err-make-clause-check g c =
-    lost_one c.args.world.now c.args.table.now c.args.f c.args.limits (last_rules c.args.protocols.now.rounds) c.params.result
-    c.signature.result.now c.params.ensures c.signature.ensures _ _ (last_rules c.in-Ok.machine.rounds) c.in-Ok.ensures.answer
+pub returns-in_err-machine-clause-check : goal.returns-in_err-machine-clause-check
+returns-in_err-machine-clause-check g c =
+    let p = err_from_is_err_and c.from_residual.result c.from_residual.ensures.1 in
+    rw (p.1, p.2)
+    (refused_one c.args.world.now c.args.table.now c.args.f c.args.limits (last_rules c.args.protocols.now.rounds) c.params.result
+    c.signature.result.now c.params.ensures c.signature.ensures _ _ c.in_err-machine.field-0.0 c.in_err-machine.ensures.answer)
 
 pub returns-clause-check : goal.returns-clause-check
 returns-clause-check g c =
-    done_one c.args.world.now c.args.table.now c.args.f c.args.limits (last_rules c.args.protocols.now.rounds) c.params.result
-    c.signature.result.now c.params.ensures c.signature.ensures _ _ (last_rules c.in-Ok.machine.rounds) tt c.in-Ok.ensures.answer
+    let made : (c.map_err.result ≡ Ok tt) ⊎ (c.map_err.result ≡ Err Memory) = search rules in
+    made_one c.args.world.now c.args.table.now c.args.f c.args.limits (last_rules c.args.protocols.now.rounds) c.params.result
+    c.signature.result.now c.params.ensures c.signature.ensures _ _ (last_rules c.in_ok-machine.machine.rounds) c.map_err.result made
+    c.in_ok-machine.ensures.answer

@@ -16,4 +16,4 @@ returns-in-Rules c =
     (omega (arith, length-map c.args.world.now.signatures (signature_by c.args.table.now), c.requires.f))
     (subst (λ (k : Command). AreSystems (world_by c.args.table.now c.args.world.now) k
     (take c.args.f.place (world_by c.args.table.now c.args.world.now).signatures) c.args.systems.now.items) c.in-Rules.is c.requires.systems) h))
-    c.system_text.ensures
+    c.system_text.ensures.ok

@@ -3,7 +3,7 @@ use Rattle.swreq_text.specs.declared.whole.ReadErr.{ReadErr}
 use Rattle.swreq_text.specs.declared.whole.ReadErr.TheVariants.{Memory, TooLarge}
 use Rattle.swreq_watch.proofs.Told.{grew_none}
 use Rattle.swreq_top.specs.Runs.{Answers, IsFinished, Surroundings}
-use Rattle.swreq_top.proofs.Ending.{ended_fault, ended_memory, ended_too_large, ended_unread, ended_verdict, ended_wrong, gen_said, has_count, no_fault}
+use Rattle.swreq_top.proofs.Ending.{ended_fault, ended_memory, ended_too_large, ended_unread, ended_verdict, ended_wrong, gen_said, has_count, no_fault, surroundings}
 use Rattle.swreq_top.proofs.program.carry_out.Goals as goal
 
 pub answer-requires-clause-limits : goal.answer-requires-clause-limits
@@ -15,20 +15,9 @@ answer-requires-clause-count g c = has_count c.in-Ok.line.command (λ n is. c.nu
 pub returns-in-Ok-answer-clause-end : goal.returns-in-Ok-answer-clause-end
 returns-in-Ok-answer-clause-end g c =
     let words : List (List ℕ) = map string_bytes c.args.words.now in
-    let before : Surroundings = record {
-      left = g.S.Source.left c.args.src.now;
-      read_faults = g.S.Source.faults c.args.src.now;
-      taken = g.K.Sink.taken c.args.out.now;
-      write_faults = g.K.Sink.faults c.args.out.now;
-      told = g.W.Watch.told c.args.watch.now;
-    } in
-    let after : Surroundings = record {
-      left = g.S.Source.left c.answer.new.src;
-      read_faults = g.S.Source.faults c.answer.new.src;
-      taken = g.K.Sink.taken c.finish.new.out;
-      write_faults = g.K.Sink.faults c.finish.new.out;
-      told = g.W.Watch.told c.answer.new.watch;
-    } in
+    let shown = surroundings g.S.Source.left g.S.Source.faults g.K.Sink.taken g.K.Sink.faults g.W.Watch.told in
+    let before : Surroundings = shown c.args.src.now c.args.out.now c.args.watch.now in
+    let after : Surroundings = shown c.answer.new.src c.finish.new.out c.answer.new.watch in
     ended_verdict words before after c.in-Ok.line c.in-Ok.ensures.ok c.in-Ok-answer.outcome c.finish.result c.in-Ok-answer.ensures.answer
     (no_fault {A = after.read_faults ≡ before.read_faults} _ (Ok c.in-Ok-answer.outcome) refl (λ is. (cc)) c.in-Ok-answer.ensures.no_fault)
     (subst (λ (bytes : List ℕ). IsFinished (g.K.Sink.taken c.args.out.now) (g.K.Sink.taken c.finish.new.out) (g.K.Sink.faults c.args.out.now)
@@ -43,22 +32,15 @@ returns-in-Ok-answer-clause-unread g c some = elim some [
 pub returns-in-Err-TooLarge-clause-end : goal.returns-in-Err-TooLarge-clause-end
 returns-in-Err-TooLarge-clause-end g c =
     let words : List (List ℕ) = map string_bytes c.args.words.now in
-    let before : Surroundings = record {
-      left = g.S.Source.left c.args.src.now;
-      read_faults = g.S.Source.faults c.args.src.now;
-      taken = g.K.Sink.taken c.args.out.now;
-      write_faults = g.K.Sink.faults c.args.out.now;
-      told = g.W.Watch.told c.args.watch.now;
-    } in
-    let after : Surroundings = record {
-      left = g.S.Source.left c.answer.new.src;
-      read_faults = g.S.Source.faults c.answer.new.src;
-      taken = g.K.Sink.taken c.finish-in-Err-TooLarge.new.out;
-      write_faults = g.K.Sink.faults c.finish-in-Err-TooLarge.new.out;
-      told = g.W.Watch.told c.answer.new.watch;
-    } in
-    ended_too_large words before after c.in-Ok.line c.in-Ok.ensures.ok c.finish-in-Err-TooLarge.result (subst (λ (e : ReadErr). Answers c.in-Ok.line before.left after.left before.told after.told (Err e)) c.in-Err-TooLarge.field-0-is c.in-Err-TooLarge.ensures.answer)
-    (no_fault {A = after.read_faults ≡ before.read_faults} (Err c.in-Err-TooLarge.field-0) (Err TooLarge) (ap Err c.in-Err-TooLarge.field-0-is) (λ is. (cc)) c.in-Err-TooLarge.ensures.no_fault) c.finish-in-Err-TooLarge.ensures
+    let shown = surroundings g.S.Source.left g.S.Source.faults g.K.Sink.taken g.K.Sink.faults g.W.Watch.told in
+    let before : Surroundings = shown c.args.src.now c.args.out.now c.args.watch.now in
+    let after : Surroundings = shown c.answer.new.src c.finish-in-Err-TooLarge.new.out c.answer.new.watch in
+    ended_too_large words before after c.in-Ok.line c.in-Ok.ensures.ok c.finish-in-Err-TooLarge.result
+    (subst (λ (e : ReadErr). Answers c.in-Ok.line before.left after.left before.told after.told (Err e))
+    c.in-Err-TooLarge.field-0-is c.in-Err-TooLarge.ensures.answer)
+    (no_fault {A = after.read_faults ≡ before.read_faults} (Err c.in-Err-TooLarge.field-0) (Err TooLarge) (ap Err c.in-Err-TooLarge.field-0-is) (λ is. (cc))
+    c.in-Err-TooLarge.ensures.no_fault)
+    c.finish-in-Err-TooLarge.ensures
 
 pub returns-in-Err-TooLarge-clause-unread : goal.returns-in-Err-TooLarge-clause-unread
 returns-in-Err-TooLarge-clause-unread g c some = elim some [
@@ -69,21 +51,13 @@ returns-in-Err-TooLarge-clause-unread g c some = elim some [
 pub returns-in-Err-Fault-clause-end : goal.returns-in-Err-Fault-clause-end
 returns-in-Err-Fault-clause-end g c =
     let words : List (List ℕ) = map string_bytes c.args.words.now in
-    let before : Surroundings = record {
-      left = g.S.Source.left c.args.src.now;
-      read_faults = g.S.Source.faults c.args.src.now;
-      taken = g.K.Sink.taken c.args.out.now;
-      write_faults = g.K.Sink.faults c.args.out.now;
-      told = g.W.Watch.told c.args.watch.now;
-    } in
-    let after : Surroundings = record {
-      left = g.S.Source.left c.answer.new.src;
-      read_faults = g.S.Source.faults c.answer.new.src;
-      taken = g.K.Sink.taken c.finish-in-Err-Fault.new.out;
-      write_faults = g.K.Sink.faults c.finish-in-Err-Fault.new.out;
-      told = g.W.Watch.told c.answer.new.watch;
-    } in
-    ended_fault words before after c.in-Ok.line c.in-Ok.ensures.ok c.finish-in-Err-Fault.result (subst (λ (e : ReadErr). Answers c.in-Ok.line before.left after.left before.told after.told (Err e)) c.in-Err-Fault.field-0-is c.in-Err-Fault.ensures.answer) (c.in-Err-Fault.ensures.fault (ap Err c.in-Err-Fault.field-0-is))
+    let shown = surroundings g.S.Source.left g.S.Source.faults g.K.Sink.taken g.K.Sink.faults g.W.Watch.told in
+    let before : Surroundings = shown c.args.src.now c.args.out.now c.args.watch.now in
+    let after : Surroundings = shown c.answer.new.src c.finish-in-Err-Fault.new.out c.answer.new.watch in
+    ended_fault words before after c.in-Ok.line c.in-Ok.ensures.ok c.finish-in-Err-Fault.result
+    (subst (λ (e : ReadErr). Answers c.in-Ok.line before.left after.left before.told after.told (Err e))
+    c.in-Err-Fault.field-0-is c.in-Err-Fault.ensures.answer)
+    (c.in-Err-Fault.ensures.fault (ap Err c.in-Err-Fault.field-0-is))
     c.finish-in-Err-Fault.ensures
 
 pub returns-in-Err-Fault-clause-unread : goal.returns-in-Err-Fault-clause-unread
@@ -95,22 +69,15 @@ returns-in-Err-Fault-clause-unread g c some = elim some [
 pub returns-in-Err-Memory-answer-clause-end : goal.returns-in-Err-Memory-answer-clause-end
 returns-in-Err-Memory-answer-clause-end g c =
     let words : List (List ℕ) = map string_bytes c.args.words.now in
-    let before : Surroundings = record {
-      left = g.S.Source.left c.args.src.now;
-      read_faults = g.S.Source.faults c.args.src.now;
-      taken = g.K.Sink.taken c.args.out.now;
-      write_faults = g.K.Sink.faults c.args.out.now;
-      told = g.W.Watch.told c.args.watch.now;
-    } in
-    let after : Surroundings = record {
-      left = g.S.Source.left c.answer.new.src;
-      read_faults = g.S.Source.faults c.answer.new.src;
-      taken = g.K.Sink.taken c.finish-in-Err-Memory-answer.new.out;
-      write_faults = g.K.Sink.faults c.finish-in-Err-Memory-answer.new.out;
-      told = g.W.Watch.told c.answer.new.watch;
-    } in
-    ended_memory words before after c.in-Ok.line c.in-Ok.ensures.ok c.finish-in-Err-Memory-answer.result (subst (λ (e : ReadErr). Answers c.in-Ok.line before.left after.left before.told after.told (Err e)) c.in-Err-Memory-answer.field-0-is c.in-Err-Memory-answer.ensures.answer)
-    (no_fault {A = after.read_faults ≡ before.read_faults} (Err c.in-Err-Memory-answer.field-0) (Err Memory) (ap Err c.in-Err-Memory-answer.field-0-is) (λ is. (cc)) c.in-Err-Memory-answer.ensures.no_fault) c.finish-in-Err-Memory-answer.ensures
+    let shown = surroundings g.S.Source.left g.S.Source.faults g.K.Sink.taken g.K.Sink.faults g.W.Watch.told in
+    let before : Surroundings = shown c.args.src.now c.args.out.now c.args.watch.now in
+    let after : Surroundings = shown c.answer.new.src c.finish-in-Err-Memory-answer.new.out c.answer.new.watch in
+    ended_memory words before after c.in-Ok.line c.in-Ok.ensures.ok c.finish-in-Err-Memory-answer.result
+    (subst (λ (e : ReadErr). Answers c.in-Ok.line before.left after.left before.told after.told (Err e))
+    c.in-Err-Memory-answer.field-0-is c.in-Err-Memory-answer.ensures.answer)
+    (no_fault {A = after.read_faults ≡ before.read_faults} (Err c.in-Err-Memory-answer.field-0) (Err Memory) (ap Err c.in-Err-Memory-answer.field-0-is) (λ is. (cc))
+    c.in-Err-Memory-answer.ensures.no_fault)
+    c.finish-in-Err-Memory-answer.ensures
 
 pub returns-in-Err-Memory-answer-clause-unread : goal.returns-in-Err-Memory-answer-clause-unread
 returns-in-Err-Memory-answer-clause-unread g c some = elim some [
@@ -121,38 +88,16 @@ returns-in-Err-Memory-answer-clause-unread g c some = elim some [
 pub returns-in-Err-Usage-clause-end : goal.returns-in-Err-Usage-clause-end
 returns-in-Err-Usage-clause-end g c =
     let words : List (List ℕ) = map string_bytes c.args.words.now in
-    let before : Surroundings = record {
-      left = g.S.Source.left c.args.src.now;
-      read_faults = g.S.Source.faults c.args.src.now;
-      taken = g.K.Sink.taken c.args.out.now;
-      write_faults = g.K.Sink.faults c.args.out.now;
-      told = g.W.Watch.told c.args.watch.now;
-    } in
-    let after : Surroundings = record {
-      left = g.S.Source.left c.args.src.now;
-      read_faults = g.S.Source.faults c.args.src.now;
-      taken = g.K.Sink.taken c.finish-in-Err-Usage.new.out;
-      write_faults = g.K.Sink.faults c.finish-in-Err-Usage.new.out;
-      told = g.W.Watch.told c.args.watch.now;
-    } in
-    ended_wrong words before after c.finish-in-Err-Usage.result (c.in-Err-Usage.ensures.usage.0 (ap Err c.in-Err-Usage.field-0-is)) refl (grew_none (g.W.Watch.told c.args.watch.now))
-    c.finish-in-Err-Usage.ensures
+    let shown = surroundings g.S.Source.left g.S.Source.faults g.K.Sink.taken g.K.Sink.faults g.W.Watch.told in
+    let before : Surroundings = shown c.args.src.now c.args.out.now c.args.watch.now in
+    let after : Surroundings = shown c.args.src.now c.finish-in-Err-Usage.new.out c.args.watch.now in
+    ended_wrong words before after c.finish-in-Err-Usage.result (c.in-Err-Usage.ensures.usage.0 (ap Err c.in-Err-Usage.field-0-is)) refl
+    (grew_none (g.W.Watch.told c.args.watch.now)) c.finish-in-Err-Usage.ensures
 
 pub returns-in-Err-Memory-clause-end : goal.returns-in-Err-Memory-clause-end
 returns-in-Err-Memory-clause-end g c =
     let words : List (List ℕ) = map string_bytes c.args.words.now in
-    let before : Surroundings = record {
-      left = g.S.Source.left c.args.src.now;
-      read_faults = g.S.Source.faults c.args.src.now;
-      taken = g.K.Sink.taken c.args.out.now;
-      write_faults = g.K.Sink.faults c.args.out.now;
-      told = g.W.Watch.told c.args.watch.now;
-    } in
-    let after : Surroundings = record {
-      left = g.S.Source.left c.args.src.now;
-      read_faults = g.S.Source.faults c.args.src.now;
-      taken = g.K.Sink.taken c.finish-in-Err-Memory.new.out;
-      write_faults = g.K.Sink.faults c.finish-in-Err-Memory.new.out;
-      told = g.W.Watch.told c.args.watch.now;
-    } in
+    let shown = surroundings g.S.Source.left g.S.Source.faults g.K.Sink.taken g.K.Sink.faults g.W.Watch.told in
+    let before : Surroundings = shown c.args.src.now c.args.out.now c.args.watch.now in
+    let after : Surroundings = shown c.args.src.now c.finish-in-Err-Memory.new.out c.args.watch.now in
     ended_unread words before after c.finish-in-Err-Memory.result refl (grew_none (g.W.Watch.told c.args.watch.now)) c.finish-in-Err-Memory.ensures

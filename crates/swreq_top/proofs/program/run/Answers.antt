@@ -4,27 +4,16 @@ use Rattle.swreq_watch.specs.Told.{GrewBy}
 use Rattle.swreq_watch.proofs.Told.{grew_none}
 use Rattle.swreq_top.specs.Runs.{IsAnswerable, Surroundings}
 use Rattle.swreq_top.proofs.EmptyText.{empty_is_answerable}
-use Rattle.swreq_top.proofs.Ending.{end_answered, end_delivers, end_memory, end_no_read_fault, end_no_write_fault, end_read_fault, end_status, end_told, end_usage, end_write_fault, end_wrong}
+use Rattle.swreq_top.proofs.Ending.{end_answered, end_delivers, end_memory, end_no_read_fault, end_no_write_fault, end_read_fault, end_status, end_told, end_usage, end_write_fault, end_wrong, surroundings}
 use Rattle.swreq_top.proofs.Headlines.{alike_taken, least_taken, lists_taken, yes_taken}
 use Rattle.swreq_top.proofs.program.run.Goals as goal
 
 pub returns : goal.returns
 returns g c =
     let words : List (List ℕ) = map string_bytes c.args.words.now in
-    let before : Surroundings = record {
-      left = g.S.Source.left c.args.src.now;
-      read_faults = g.S.Source.faults c.args.src.now;
-      taken = g.K.Sink.taken c.args.out.now;
-      write_faults = g.K.Sink.faults c.args.out.now;
-      told = g.W.Watch.told c.args.watch.now;
-    } in
-    let after : Surroundings = record {
-      left = g.S.Source.left c.carry_out.new.src;
-      read_faults = g.S.Source.faults c.carry_out.new.src;
-      taken = g.K.Sink.taken c.carry_out.new.out;
-      write_faults = g.K.Sink.faults c.carry_out.new.out;
-      told = g.W.Watch.told c.carry_out.new.watch;
-    } in
+    let shown = surroundings g.S.Source.left g.S.Source.faults g.K.Sink.taken g.K.Sink.faults g.W.Watch.told in
+    let before : Surroundings = shown c.args.src.now c.args.out.now c.args.watch.now in
+    let after : Surroundings = shown c.carry_out.new.src c.carry_out.new.out c.carry_out.new.watch in
     let end = c.carry_out.ensures.end in record {
       verdict = λ some. end_delivers words before after end some;
       yes = λ zero. yes_taken words before.left after.left before.taken after.taken before.told after.told c.carry_out.result zero (end_delivers words before after end (inl zero));
