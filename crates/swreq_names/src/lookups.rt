@@ -40,7 +40,7 @@ pub fn has_member(d: &Declared, inherits: &Closure, i: usize, name: &[u8]) -> bo
 /// Protocols are numbered in written order, from 0. All look-ups are by the bytes of a name, and take no memory.
 #[derive(Drop)]
 pub struct Names {
-    declared: Declared,
+    declared: Box<Declared>,
     inherits: Closure,
 }
 
@@ -49,7 +49,7 @@ impl Model for Names {
 
     ghost Value = { NamesView };
 
-    ghost view = { λ n. record { declared = n.declared; inherits = n.inherits } };
+    ghost view = { λ n. record { declared = n.declared.value; inherits = n.inherits } };
 }
 
 impl Names {
@@ -59,6 +59,7 @@ impl Names {
     {
         let declared = Declared::of(alloc, text, s)?;
         let inherits = closure_of(alloc, text, &declared, s.protocols.items())?;
+        let declared = Box::new(alloc, declared)?;
         Ok(Names { declared, inherits })
     }
 
