@@ -235,22 +235,12 @@ fn put_ways(
     Ok(())
 }
 
-/// The same by a copy of the rules.
-fn put_ways_by_copy(
-    alloc: Global,
-    rules: &CompleteRules,
-    letters: &str,
-    out: &mut String,
-) -> Result<(), Fail> {
-    put_ways(alloc, &rules.copy(alloc)?, letters, out)
-}
-
 fn ended_over(alloc: Global, base: &str, text: &str) -> Result<CompleteRules, Fail> {
     let base = ended(alloc, CompleteRules::empty(alloc), base, &mut Quiet)?;
     ended(alloc, base, text, &mut Quiet)
 }
 
-/// The same of the completion of the base by the equations.
+/// The same by a copy of the rules that complete the base by the equations.
 fn put_ways_of(
     alloc: Global,
     base: &str,
@@ -258,7 +248,8 @@ fn put_ways_of(
     letters: &str,
     out: &mut String,
 ) -> Result<(), Fail> {
-    put_ways_by_copy(alloc, &ended_over(alloc, base, text)?, letters, out)
+    let rules = ended_over(alloc, base, text)?;
+    put_ways(alloc, &rules.copy(alloc)?, letters, out)
 }
 
 #[test]

@@ -4,7 +4,7 @@ use crate::notation::{assert_same, put_word, rules, word};
 use std::alloc::{AllocError, Global};
 use std::fmt::Write;
 use std::test::Fail;
-use swreq_rule::{Redex, RuleList, contains, first_redex, overlaps};
+use swreq_rule::{Redex, contains, first_redex, overlaps};
 
 /// The rules of a protocol N with a member A, and of a generic parameter that conforms to it.
 const CONFORMING: &str = "NN>N Na>a NA>a aN>a aA>aa TN>T TA>Ta";
@@ -39,21 +39,13 @@ fn put_redex(out: &mut String, redex: Option<Redex>) -> Result<(), Fail> {
 }
 
 /// The first redex of the word, and the word to which it reduces.
-fn put_reduced(
-    alloc: Global,
-    list: &RuleList,
-    letters: &str,
-    out: &mut String,
-) -> Result<(), Fail> {
+fn put_reduced(alloc: Global, text: &str, letters: &str, out: &mut String) -> Result<(), Fail> {
+    let list = rules(alloc, text)?;
     let mut w = word(alloc, letters)?;
     put_redex(out, first_redex(list.rules(), &w))?;
     list.reduce(&mut w);
     put_word(out, &w)?;
     Ok(())
-}
-
-fn put_reduced_by(alloc: Global, text: &str, letters: &str, out: &mut String) -> Result<(), Fail> {
-    put_reduced(alloc, &rules(alloc, text)?, letters, out)
 }
 
 #[test]
@@ -62,7 +54,7 @@ fn reduction_takes_the_earliest_place_and_there_the_shortest_left_side(
 ) -> Result<(), Fail> {
     for (text, letters, wanted) in REDUCED {
         let mut out = String::new(rt.alloc());
-        put_reduced_by(rt.alloc(), text, letters, &mut out)?;
+        put_reduced(rt.alloc(), text, letters, &mut out)?;
         assert_same(&rt, &out, wanted);
     }
     Ok(())

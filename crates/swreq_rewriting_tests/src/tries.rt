@@ -22,16 +22,11 @@ fn store(rt: &impl Abort, alloc: Global, text: &str, trie: &mut Trie) -> Result<
     Ok(())
 }
 
-fn store_all(rt: &impl Abort, alloc: Global, sides: &str, trie: &mut Trie) -> Result<(), Fail> {
-    for side in sides.split_whitespace() {
-        store(rt, alloc, side, trie)?;
-    }
-    Ok(())
-}
-
 fn stored(rt: &impl Abort, alloc: Global, sides: &str) -> Result<Trie, Fail> {
     let mut trie = Trie::new(alloc);
-    store_all(rt, alloc, sides, &mut trie)?;
+    for side in sides.split_whitespace() {
+        store(rt, alloc, side, &mut trie)?;
+    }
     Ok(trie)
 }
 

@@ -80,23 +80,12 @@ fn put_found(
     Ok(())
 }
 
-/// The same of each of the words.
-fn put_all(
-    alloc: Global,
-    words: &[&str],
-    table: &mut WordTable,
-    out: &mut String,
-) -> Result<(), Fail> {
-    for letters in words {
-        put_interned(out, table, &word(alloc, letters)?)?;
-    }
-    Ok(())
-}
-
-/// The same in a new table, and then the places of a word that it lacks and of one that it has.
+/// What a new table says of each of the words, and then the places of a word that it lacks and of one that it has.
 fn put_table(alloc: Global, words: &[&str], out: &mut String) -> Result<(), Fail> {
     let mut table = WordTable::new(alloc);
-    put_all(alloc, words, &mut table, out)?;
+    for letters in words {
+        put_interned(out, &mut table, &word(alloc, letters)?)?;
+    }
     put_found(alloc, &table, "T", out)?;
     put_found(alloc, &table, "TN", out)
 }
@@ -114,26 +103,18 @@ fn smaller<O: Ord + Drop>(a: O, b: O) -> O {
     if a < b { a } else { b }
 }
 
-fn smaller_word(alloc: Global, a: &str, b: &str) -> Result<Word, AllocError> {
-    Ok(smaller(Word::new(word(alloc, a)?), Word::new(word(alloc, b)?)))
-}
-
-/// Whether the word is in the set.
-fn has(alloc: Global, words: &IndexSet<Word>, letters: &str) -> Result<bool, AllocError> {
-    let w = Word::new(word(alloc, letters)?);
-    Ok(words.contains(&w.clone()?))
-}
-
 /// The set of the smaller word.
 fn set_of_smaller(alloc: Global, a: &str, b: &str) -> Result<IndexSet<Word>, AllocError> {
     let mut words = IndexSet::new(alloc);
-    words.insert(smaller_word(alloc, a, b)?)?;
+    words.insert(smaller(Word::new(word(alloc, a)?), Word::new(word(alloc, b)?)))?;
     Ok(words)
 }
 
 /// Whether the word is in the set of the smaller one of two words.
 fn is_smaller(alloc: Global, letters: &str) -> Result<bool, AllocError> {
-    has(alloc, &set_of_smaller(alloc, "NN", "L")?, letters)
+    let words = set_of_smaller(alloc, "NN", "L")?;
+    let w = Word::new(word(alloc, letters)?);
+    Ok(words.contains(&w.clone()?))
 }
 
 #[test]
