@@ -1,4 +1,5 @@
 pub mod Spaces
+pub mod Parts
 pub mod Directories
 pub mod Inheritance
 pub mod Names
