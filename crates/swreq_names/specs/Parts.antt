@@ -13,6 +13,7 @@ use Rattle.swreq_decl.specs.declared.skeleton.FunctionDecl.{FunctionDecl}
 use Rattle.swreq_decl.specs.declared.skeleton.StructDecl.{StructDecl}
 use Rattle.swreq_decl.specs.declared.skeleton.Ask.{Ask}
 use Rattle.swreq_decl.specs.declared.skeleton.Ask.TheVariants as asks
+use Rattle.swreq_decl.specs.declared.skeleton.QueryDecl.{QueryDecl}
 use Rattle.swreq_decl.specs.declared.skeleton.Skeleton.{Skeleton}
 use Rattle.swreq_names.specs.declared.signature.Signature.{Signature}
 use Rattle.swreq_names.specs.declared.signature.Signature.TheVariants.{Struct, Function, Nested}
@@ -52,7 +53,7 @@ numbered i [] = []
 numbered i (x ∷ xs) = (i, x) ∷ numbered (i + 1) xs
 
 abbrev pub of_param : ℕ × ParamDecl → Constraint
-of_param (k, g) = bound (parameter k g.name) g.bounds
+of_param g = bound (parameter g.0 g.1.name) g.1.bounds
 
 -- the constraints of a signature, without those of the struct around it
 abbrev pub of_signature : List ParamDecl → List ReqDecl → List Constraint
@@ -60,29 +61,32 @@ of_signature params clause = map of_param (numbered 0 params) ++ of_clause claus
 
 -- ---- scopes
 
--- a part stands in a protocol, by its place among the protocols, or in a signature
+-- a part stands in a protocol, by its place among the protocols, in a signature, or in a query, by its place among the queries
 pub data Scope : Type 0 where
   in_protocol : ℕ → Scope
   in_signature : Signature → Scope
+  in_query : ℕ → Scope
 
 abbrev pub standing : {A : Type 0} → Scope → List A → List (Scope × A)
 standing scope parts = map (λ part. (scope, part)) parts
 
-abbrev pub in_nested : ℕ → ℕ × FunctionDecl → List (Scope × Constraint)
-in_nested i (j, f) = standing (in_signature (Nested i j)) (of_signature f.params f.clause)
+abbrev pub in_protocol_at : ℕ × ProtocolDecl → List (Scope × Constraint)
+in_protocol_at p = standing (in_protocol p.0) (of_protocol p.1)
+
+abbrev pub in_nested_at : ℕ → ℕ × FunctionDecl → List (Scope × Constraint)
+in_nested_at i f = standing (in_signature (Nested i f.0)) (of_signature f.1.params f.1.clause)
 
 -- of a struct, and then of its functions
-abbrev pub in_struct : ℕ × StructDecl → List (Scope × Constraint)
-in_struct (i, t) = standing (in_signature (Struct i)) (of_signature t.params t.clause) ++ flat_map (in_nested i) (numbered 0 t.functions)
+abbrev pub in_struct_at : ℕ × StructDecl → List (Scope × Constraint)
+in_struct_at t = standing (in_signature (Struct t.0)) (of_signature t.1.params t.1.clause) ++ flat_map (in_nested_at t.0) (numbered 0 t.1.functions)
 
-abbrev pub in_function : ℕ × FunctionDecl → List (Scope × Constraint)
-in_function (i, f) = standing (in_signature (Function i)) (of_signature f.params f.clause)
+abbrev pub in_function_at : ℕ × FunctionDecl → List (Scope × Constraint)
+in_function_at f = standing (in_signature (Function f.0)) (of_signature f.1.params f.1.clause)
 
 -- the constraints of a text, each kind of part in written order
 abbrev pub constraints : Skeleton → List (Scope × Constraint)
 constraints s =
-    flat_map (λ (i, p). standing (in_protocol i) (of_protocol p)) (numbered 0 s.protocols)
-    ++ (flat_map in_struct (numbered 0 s.structs) ++ flat_map in_function (numbered 0 s.functions))
+    flat_map in_protocol_at (numbered 0 s.protocols) ++ (flat_map in_struct_at (numbered 0 s.structs) ++ flat_map in_function_at (numbered 0 s.functions))
 
 -- ---- written types
 
@@ -105,6 +109,12 @@ types_of_ask (asks.Reduced t) = t ∷ []
 types_of_ask (asks.Is t e) = t ∷ types_of_entity e
 types_of_ask (asks.Same t u) = t ∷ u ∷ []
 
+abbrev pub types_at : Scope × Constraint → List (Scope × TypeDecl)
+types_at c = standing c.0 (types_of c.1)
+
+abbrev pub asked_at : ℕ × QueryDecl → List (Scope × TypeDecl)
+asked_at q = standing (in_query q.0) (types_of_ask q.1.ask)
+
 -- all types that are written in a text, those of its declarations and those of its queries
-abbrev pub types : Skeleton → List TypeDecl
-types s = flat_map (λ c. types_of c.1) (constraints s) ++ flat_map (λ q. types_of_ask q.ask) s.queries
+abbrev pub types : Skeleton → List (Scope × TypeDecl)
+types s = flat_map types_at (constraints s) ++ flat_map asked_at (numbered 0 s.queries)
