@@ -10,6 +10,8 @@ pub mod Declared
 pub mod Whole
 pub mod Few
 pub mod RankLaws
+pub mod Orders
+pub mod Depths
 pub mod Positions
 pub mod Mapped
 pub mod Keyed

@@ -1,14 +1,14 @@
 -- What ranks say.
-use Rattle.std.proofs.Common.{◌≡◌, ℕ, zero, suc, ◌+◌, ◌-◌, ◌<◌, ◌≤◌, ⊎_elim, ◌↔◌, Bool, true, false, cond, nat_eq, List, [], ◌∷◌, length, get_or, slice_get, position, Option, Some, None, unwrap_or, Contains, refl, sym, ap, subst, ◌∙◌, arith, eqb-true}
+use Rattle.std.proofs.Common.{◌≡◌, ℕ, zero, suc, ◌+◌, ◌-◌, ◌<◌, ◌≤◌, ⊎_elim, ◌↔◌, Bool, cond, List, [], ◌∷◌, length, get_or, slice_get, position, Option, Some, None, unwrap_or, Contains, refl, sym, ap, subst, ◌∙◌, arith}
 use Rattle.std.specs.declared.cmp.Ordering.{Ordering}
-use Rattle.std.specs.declared.cmp.Ordering.TheVariants.{Less, Equal, Greater}
+use Rattle.std.specs.declared.cmp.Ordering.TheVariants.{Less, Greater}
 use Rattle.std.specs.Ordering.{nat_cmp, ordering_then, then_cmp, on}
-use Rattle.std.specs.Cmp.{IsTotalOrder}
+use Rattle.std.specs.Cmp.{IsTotalOrder, nat_cmp_is}
 use Rattle.std.specs.List.{position_from, IsDistinct}
 use Rattle.std.specs.List.Sorted.{IsStrictlySortedBy}
 use Rattle.std.specs.Option.{option_map}
 use Rattle.std.specs.Str.{bytes_eq}
-use Rattle.std.proofs.lemmas.Bool.{cases_lt, cases_eq, le-ltb}
+use Rattle.std.proofs.lemmas.Bool.{cases_lt, cases_eq}
 use Rattle.std.proofs.lemmas.Cmp.{then_total, on_total, nat_cmp_total}
 use Rattle.std.proofs.lemmas.Iterator.Adapters.{position_from-zero}
 use Rattle.std.proofs.lemmas.List.{length-map}
@@ -116,29 +116,23 @@ assoc_total inherits associated =
 
 -- ---- by name first
 
-greater_name : (m n : ℕ) → m < n → nat_cmp n m ≡ Greater
-greater_name m n h =
-    ap (λ b. cond b Less (cond (nat_eq n m) Equal Greater)) (le-ltb n m (omega arith)) ∙ ap (λ b. cond b Equal Greater) (not_equal (nat_eq n m) refl)
+-- in a sorted list an item that is neither the other one nor after it
+pub stands_first : {K : Type 0} (cmp : K → K → Ordering) (xs : List K) → IsStrictlySortedBy cmp xs
+    → (i j : ℕ) (x y : K) → slice_get xs i ≡ Some x → slice_get xs j ≡ Some y → (x ≡ y → ⊥) → (cmp y x ≡ Less → ⊥) → i < j
+stands_first cmp xs sorted i j x y f g other not_less =
+    ⊎_elim (λ l. l) (λ l. ⊎_elim (λ s. absurd (other (same_Some x y (sym f ∙ ap (slice_get xs) s ∙ g)))) (λ n. absurd (not_after (above i j l n))) (cases_eq i j)) (cases_lt i j)
   where
-    not_equal : (b : Bool) → nat_eq n m ≡ b → nat_eq n m ≡ false
-    not_equal true e = let s = eqb-true n m e in absurd (omega (arith, s, h))
-    not_equal false e = e
+    not_after : j < i → ⊥
+    not_after l =
+        not_less
+        ((λ k. cmp (sym (get_or_from_slice_get xs j y x g) k) (sym (get_or_from_slice_get xs i x x f) k)) ∙ rising_from_sorted cmp xs sorted j i x l (slice_get_within xs i x f))
 
 pub by_name : (rest : ProtocolName → ProtocolName → Ordering) (ds : List ProtocolName) → IsStrictlySortedBy (then_cmp (on (λ d. d.name.rank) nat_cmp) rest) ds
     → (i j : ℕ) (d e : ProtocolName) → slice_get ds i ≡ Some d → slice_get ds j ≡ Some e → d.name.rank < e.name.rank → i < j
 by_name rest ds sorted i j d e f g h =
-    ⊎_elim (λ l. l) (λ l. ⊎_elim (λ s. absurd (not_itself s)) (λ n. absurd (not_after (above i j l n))) (cases_eq i j)) (cases_lt i j)
-  where
-    not_itself : i ≡ j → ⊥
-    not_itself s = let r = ap (λ (x : ProtocolName). x.name.rank) (same_Some d e (sym f ∙ ap (slice_get ds) s ∙ g)) in omega (arith, r, h)
-
-    not_after : j < i → ⊥
-    not_after l =
-        let less = rising_from_sorted (then_cmp (on (λ (x : ProtocolName). x.name.rank) nat_cmp) rest) ds sorted j i d l (slice_get_within ds i d f) in
-        let is : ordering_then (nat_cmp e.name.rank d.name.rank) (rest e d) ≡ Less =
-        (λ k. then_cmp (on (λ (x : ProtocolName). x.name.rank) nat_cmp) rest (sym (get_or_from_slice_get ds j e d g) k) (sym (get_or_from_slice_get ds i d d f) k)) ∙ less in
-        let clash : Greater ≡ Less = sym (ap (λ o. ordering_then o (rest e d)) (greater_name d.name.rank e.name.rank h)) ∙ is in
-        absurd cc
+    stands_first (then_cmp (on (λ (x : ProtocolName). x.name.rank) nat_cmp) rest) ds sorted i j d e f g
+    (λ s. let r = ap (λ (x : ProtocolName). x.name.rank) s in absurd (omega (arith, r, h)))
+    (λ l. let clash : Greater ≡ Less = ap (λ o. ordering_then o (rest e d)) (nat_cmp_is e.name.rank d.name.rank Greater h) ∙ l in absurd cc)
 
 -- ---- places
 

@@ -38,9 +38,13 @@ module _ (inherits : ProtoId → ProtoId → Bool) where
   abbrev pub assoc_cmp : List ProtocolName → ProtocolName → ProtocolName → Ordering
   assoc_cmp associated = then_cmp (on (λ d. d.name.rank) nat_cmp) (then_cmp (on (λ d. cond (is_root associated d) 0 1) nat_cmp) (on (λ d. d.proto.rank) nat_cmp))
 
-  -- P has the member name A where P declares A or inherits a protocol that declares A.
+  -- P inherits the name A where P inherits a protocol that declares A.
+  abbrev pub InheritsName : List ProtocolName → ProtoId → NameId → Type 0
+  InheritsName associated p a = (q : ProtoId) × (inherits p q ≡ true) × Contains associated (pair q a)
+
+  -- P has the member name A where P declares A or inherits it.
   abbrev pub HasMember : List ProtocolName → ProtoId → NameId → Type 0
-  HasMember associated p a = Contains associated (pair p a) ⊎ ((q : ProtoId) × (inherits p q ≡ true) × Contains associated (pair q a))
+  HasMember associated p a = Contains associated (pair p a) ⊎ InheritsName associated p a
 
   -- A protocol that inherits more comes first; where two inherit as many, they go by rank.
   abbrev pub order_cmp : ℕ → ProtoId → ProtoId → Ordering

@@ -68,6 +68,9 @@ depth x p = over.depth (inherits x) (length x.protocols) p
 abbrev pub assoc_cmp : LexiconView → ProtocolName → ProtocolName → Ordering
 assoc_cmp x = over.assoc_cmp (inherits x) x.associated
 
+abbrev pub InheritsName : LexiconView → ProtoId → NameId → Type 0
+InheritsName x p a = over.InheritsName (inherits x) x.associated p a
+
 abbrev pub HasMember : LexiconView → ProtoId → NameId → Type 0
 HasMember x p a = over.HasMember (inherits x) x.associated p a
 

@@ -1,6 +1,6 @@
 //! What holds of the ranks of each text.
 
-ghost use Rattle.std.specs.Prelude.{◌≡◌, ◌↔◌, ◌<◌, ℕ, List, length, Contains, Some, slice_get};
+ghost use Rattle.std.specs.Prelude.{◌≡◌, ◌↔◌, ◌<◌, ℕ, IsTrue, List, length, Contains, Some, slice_get};
 ghost use Rattle.std.specs.List.{IsDistinct};
 ghost use Rattle.std.specs.Str.{bytes_eq};
 ghost use Rattle.swreq_decl.specs.declared.skeleton.Skeleton.{Skeleton};
@@ -8,12 +8,13 @@ ghost use Rattle.swreq_derive.specs.Derivation.{AssociatedType};
 ghost use Rattle.swreq_derive.specs.Facts.{AreOneToOne};
 ghost use Rattle.swreq_names.specs.Mentioned.{mentioned};
 ghost use Rattle.swreq_names.specs.Spaces.{place, spaces};
+ghost use Rattle.swreq_param.specs.declared.ids.NameId.{NameId};
 ghost use Rattle.swreq_param.specs.declared.ids.ProtoId.{ProtoId};
 ghost use Rattle.swreq_lexicon.specs.declared.pair.ProtocolName.{ProtocolName};
 ghost use Rattle.swreq_lexicon.specs.Lexicons.{pair, proto_by, name_by, assoc_by, associated_types};
 ghost use Rattle.swreq_rank.specs.Ranks.{Bytes};
 ghost use Rattle.swreq_lexicon.specs.Texts.{IsLexiconOf, protocol_names, declared_in};
-ghost use Rattle.swreq_lexicon.specs.Views.{LexiconView, IsProtocol, place_of};
+ghost use Rattle.swreq_lexicon.specs.Views.{LexiconView, IsProtocol, place_of, inherits, depth, InheritsName};
 
 /// Each name of a protocol, each name of an associated type or of a member, and each associated type has its rank.
 pub fn names_have_ranks(text: &[u8])
@@ -48,4 +49,29 @@ pub fn ranks_go_by_name_first(text: &[u8])
         → slice_get x.associated i ≡ Some d → slice_get x.associated j ≡ Some e → d.name.rank < e.name.rank → i < j }
     ensures symbols { (s : Skeleton) (x : LexiconView) → IsLexiconOf text.now s x → (i j : ℕ) (d e : ProtocolName)
         → slice_get x.symbols i ≡ Some d → slice_get x.symbols j ≡ Some e → d.name.rank < e.name.rank → i < j }
+{}
+
+/// Of associated types of one name the roots come first: those of protocols that do not inherit the name. Roots go by protocol, and so do
+/// the others.
+pub fn roots_come_first(text: &[u8])
+    ensures roots { (s : Skeleton) (x : LexiconView) → IsLexiconOf text.now s x → (i j : ℕ) (p q : ProtoId) (a : NameId)
+        → slice_get x.associated i ≡ Some (pair p a) → slice_get x.associated j ≡ Some (pair q a)
+        → ¬ (InheritsName x p a) → InheritsName x q a → i < j }
+    ensures protocols { (s : Skeleton) (x : LexiconView) → IsLexiconOf text.now s x → (i j : ℕ) (p q : ProtoId) (a : NameId)
+        → slice_get x.associated i ≡ Some (pair p a) → slice_get x.associated j ≡ Some (pair q a)
+        → (InheritsName x p a ↔ InheritsName x q a) → p.rank < q.rank → i < j }
+{}
+
+/// Of member symbols of one name that of a protocol comes before those of the protocols that it inherits, but for one that inherits
+/// itself. A protocol that inherits more comes first, and those that inherit as many go by protocol.
+pub fn heirs_come_first(text: &[u8])
+    ensures heirs { (s : Skeleton) (x : LexiconView) → IsLexiconOf text.now s x → (i j : ℕ) (p q : ProtoId) (a : NameId)
+        → slice_get x.symbols i ≡ Some (pair p a) → slice_get x.symbols j ≡ Some (pair q a)
+        → IsTrue (inherits x p q) → ¬ (IsTrue (inherits x q q)) → i < j }
+    ensures depths { (s : Skeleton) (x : LexiconView) → IsLexiconOf text.now s x → (i j : ℕ) (p q : ProtoId) (a : NameId)
+        → slice_get x.symbols i ≡ Some (pair p a) → slice_get x.symbols j ≡ Some (pair q a)
+        → depth x q < depth x p → i < j }
+    ensures protocols { (s : Skeleton) (x : LexiconView) → IsLexiconOf text.now s x → (i j : ℕ) (p q : ProtoId) (a : NameId)
+        → slice_get x.symbols i ≡ Some (pair p a) → slice_get x.symbols j ≡ Some (pair q a)
+        → depth x p ≡ depth x q → p.rank < q.rank → i < j }
 {}
