@@ -83,7 +83,12 @@ concrete type at 67 | struct S<T> { func f<U>() where U == T } query S.f(U == T)
 concrete type at 31 | struct S<T> { } func f() where T: AnyObject
 concrete type at 47 | protocol P<A> { associatedtype A } func f<T: P<U>>()
 concrete type at 49 | protocol P<A> { associatedtype A } protocol Q: P<B> { }
-concrete type at 38 | protocol P: Q { } protocol Q: P where A: AnyObject { }";
+concrete type at 38 | protocol P: Q { } protocol Q: P where A: AnyObject { }
+ok | protocol P { } protocol Q { associatedtype B } protocol R: P, Q where B: P { }
+ok | protocol P { } protocol Q { associatedtype B } protocol R: P & Q where B: P { }
+ok | protocol P { } protocol Q { associatedtype B } protocol R where Self: P & Q, B: P { }
+ok | protocol P { } protocol Q { associatedtype B } protocol R { associatedtype A where Self: P & Q, B == A }
+concrete type at 89 | protocol P { } protocol Q { associatedtype B } protocol R { associatedtype A: P, Q where B == A }";
 
 /// Names that stand for protocols.
 const PROTOCOLS: &str = "not a protocol at 10 | func f<T: Base>()
@@ -140,7 +145,12 @@ ok | protocol P { associatedtype A: P }
 ok | protocol P where Self.A: P { }
 circular inheritance at 9 | protocol P: Q { } protocol Q: R { } protocol R: P { }
 circular inheritance at 27 | protocol P: Q { } protocol Q: R { } protocol R: Q { }
-circular inheritance at 9 | protocol P: Q where A: AnyObject { } protocol Q: P { associatedtype A }";
+circular inheritance at 9 | protocol P: Q where A: AnyObject { } protocol Q: P { associatedtype A }
+circular inheritance at 24 | protocol Q { } protocol P: Q, P { }
+circular inheritance at 9 | protocol P: Q, R { } protocol Q { } protocol R: Q & P { }
+circular inheritance at 9 | protocol P { associatedtype A where Self: Q & P } protocol Q { }
+circular inheritance at 24 | protocol Q { } protocol P where Self.A: Q, Self: P { }
+ok | protocol Q { } protocol P where Self: Q, Self.A: Q & P { }";
 
 #[test]
 fn names_are_refused_or_resolve(rt: HostRuntime) -> Result<(), Fail> {

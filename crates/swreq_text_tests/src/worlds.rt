@@ -11,7 +11,8 @@ use swreq_samples::{skeleton_of, with_collections};
 use swreq_world::{FuncId, FunctionFacts, Query, World};
 
 /// Texts, each with the lists of its protocols by rank, its signatures in written order with their lists, and its queries. The second has
-/// every form of requirement in each place where one may stand.
+/// every form of requirement in each place where one may stand. In the last but one a name stands in each such place that stands nowhere
+/// else, and the last has arguments of several bounds, and types of several steps as arguments.
 const WORLDS: &[(&str, &str)] = &[
     (
         "\
@@ -240,6 +241,88 @@ R struct 0 0
 query a 1_0
 query c 0_0
 query R
+",
+    ),
+    (
+        "\
+protocol P<A> { associatedtype A }
+protocol Q: P<Self.a> where Self.b: P<Self.c>, Self.d == Self.e {
+  associatedtype B: P<Self.f> where Self.g: P<Self.h>, Self.i == Self.j
+}
+struct S<T: P<T.k>> where T.l: P<T.m>, T.n == T.o {
+  func f<U: P<U.p>>() where U.q: P<T.r>, U.s == T.t
+}
+func g<X: P<X.u>>() where X.v: AnyObject, X.w == X.x
+query g(X.y)
+query g(X.z == X.aa)
+query S.f(U.bb : P)
+",
+        "\
+0_0: P 44 44
+0_0.A == 0_0.a 47 49
+0_0.b: P 63 63
+0_0.b.A == 0_0.c 71 73
+0_0.d == 0_0.e 82 92
+0_0.B: P 118 118
+0_0.B.A == 0_0.f 121 123
+0_0.g: P 137 137
+0_0.g.A == 0_0.h 145 147
+0_0.i == 0_0.j 156 166
+S struct 1 0
+0_0: P 184 184
+0_0.A == 0_0.k 187 189
+0_0.l: P 201 201
+0_0.l.A == 0_0.m 206 208
+0_0.n == 0_0.o 214 221
+S.f func 1 1
+0_0: P 184 184
+0_0.A == 0_0.k 187 189
+0_0.l: P 201 201
+0_0.l.A == 0_0.m 206 208
+0_0.n == 0_0.o 214 221
+1_0: P 236 236
+1_0.A == 1_0.p 239 241
+1_0.q: P 255 255
+1_0.q.A == 0_0.r 260 262
+1_0.s == 0_0.t 268 275
+g func 1 0
+0_0: P 288 288
+0_0.A == 0_0.u 291 293
+0_0.v: AnyObject 307 307
+0_0.w == 0_0.x 323 330
+query g 0_0.y
+query g 0_0.z == 0_0.aa
+query f 1_0.bb: P
+",
+    ),
+    (
+        "\
+protocol P<A> { associatedtype A }
+protocol Q<B, C>: P<B>, P<C.A> & P<Self> { associatedtype B associatedtype C: P }
+func f<T: Q<U.A, U> & P<U>, U: P<T.C.A>>() where T.B: P<T> & AnyObject & Q<T.C, U.A.A>
+",
+        "\
+0_0: P 44 44
+0_0.A == 0_0.B 53 55
+0_0: P 44 44
+0_0.A == 0_0.C.A 59 61
+0_0: P 44 44
+0_0.A == 0_0 68 70
+0_0.C: P 110 110
+f func 2 0
+0_0: Q 124 124
+0_0.B == 0_1.A 127 129
+0_0.C == 0_1 127 134
+0_0: P 124 124
+0_0.A == 0_1 139 141
+0_1: P 145 145
+0_1.A == 0_0.C.A 148 150
+0_0.B: P 166 166
+0_0.B.A == 0_0 171 173
+0_0.B: AnyObject 166 166
+0_0.B: Q 166 166
+0_0.B.B == 0_0.C 190 192
+0_0.B.C == 0_1.A.A 190 197
 ",
     ),
 ];
