@@ -51,8 +51,8 @@ pub fn ranks_go_by_name_first(text: &[u8])
         → slice_get x.symbols i ≡ Some d → slice_get x.symbols j ≡ Some e → d.name.rank < e.name.rank → i < j }
 {}
 
-/// Of associated types of one name the roots come first: those of protocols that do not inherit the name. Roots go by protocol, and so do
-/// the others.
+/// Associated types of one name: those of protocols that do not inherit the name, the roots, come before those of protocols that do. Roots
+/// go by protocol, and so do the others.
 pub fn roots_come_first(text: &[u8])
     ensures roots { (s : Skeleton) (x : LexiconView) → IsLexiconOf text.now s x → (i j : ℕ) (p q : ProtoId) (a : NameId)
         → slice_get x.associated i ≡ Some (pair p a) → slice_get x.associated j ≡ Some (pair q a)
@@ -62,8 +62,8 @@ pub fn roots_come_first(text: &[u8])
         → (InheritsName x p a ↔ InheritsName x q a) → p.rank < q.rank → i < j }
 {}
 
-/// Of member symbols of one name that of a protocol comes before those of the protocols that it inherits, but for one that inherits
-/// itself. A protocol that inherits more comes first, and those that inherit as many go by protocol.
+/// Member symbols of one name: that of a protocol comes before that of each protocol that it inherits and that does not inherit itself. A
+/// protocol that inherits more protocols comes first, and those that inherit as many go by rank.
 pub fn heirs_come_first(text: &[u8])
     ensures heirs { (s : Skeleton) (x : LexiconView) → IsLexiconOf text.now s x → (i j : ℕ) (p q : ProtoId) (a : NameId)
         → slice_get x.symbols i ≡ Some (pair p a) → slice_get x.symbols j ≡ Some (pair q a)

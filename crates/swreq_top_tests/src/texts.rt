@@ -282,6 +282,68 @@ query g(S.Element)
 yes
 τ_0_1
 ====
+$ answer
+protocol P { associatedtype A }
+func f<T: P>()
+query f(T.A == T.Z)
+query f(T.Z)
+query f(T.A == T.A)
+---- 0
+invalid
+invalid
+yes
+====
+$ answer
+protocol P { }
+protocol Q { associatedtype B }
+protocol R: P, Q where B: P { }
+protocol S { associatedtype C where Self: P & Q }
+func f<T: R, U: S>()
+query f(T.B : P)
+query f(T : Q)
+query f(T.B)
+query f(U : Q)
+query f(U.[Q]B == U.B)
+query f(U.B : P)
+---- 0
+yes
+yes
+τ_0_0.[Q]B
+yes
+yes
+no
+====
+$ answer
+protocol P<A> { associatedtype A }
+protocol Q<B, C> { associatedtype B associatedtype C: P }
+func f<T: P<U.C.A> & Q<U.B, T>, U: Q>()
+query f(T.C.C.B)
+query f(U.C.A)
+query f(U.C : P)
+query f()
+---- 0
+τ_0_0.[Q]B
+τ_0_0.[P]A
+yes
+<τ_0_0, τ_0_1 where τ_0_0 : Q, τ_0_1 : Q, τ_0_0 == τ_0_0.[Q]C, τ_0_0.[Q]B == τ_0_1.[Q]B, τ_0_0.[P]A == τ_0_1.[Q]C.[P]A>
+====
+$ signatures
+protocol P { associatedtype A }
+func a<T: P>()
+struct S<T> {
+  func b<U: P>() where U.A == T
+  func c() where T: P
+}
+func d()
+struct R { }
+---- 0
+a: <τ_0_0 where τ_0_0 : P>
+S: <τ_0_0>
+S.b: <τ_0_0, τ_1_0 where τ_1_0 : P, τ_0_0 == τ_1_0.[P]A>
+S.c: <τ_0_0 where τ_0_0 : P>
+d: <>
+R: <>
+====
 $ gen 3
 this text is not read
 ---- 0
@@ -330,6 +392,41 @@ f: 7 rules
   [N:Next].Next => [N:Next].[N:Next]
   τ_0_0.[N] => τ_0_0
   τ_0_0.Next => τ_0_0.[N:Next]
+====
+$ rules
+protocol Base { associatedtype A }
+protocol Derived: Base { }
+func f<T: Derived>()
+---- 0
+f: 12 rules
+  [Base].[Base] => [Base]
+  [Base].[Base:A] => [Base:A]
+  [Base].A => [Base:A]
+  [Derived].[Base] => [Derived]
+  [Derived].[Derived] => [Derived]
+  [Derived].[Derived:A] => [Derived:A]
+  [Derived].[Base:A] => [Derived:A]
+  [Derived].A => [Derived:A]
+  τ_0_0.[Base] => τ_0_0
+  τ_0_0.[Derived] => τ_0_0
+  τ_0_0.[Base:A] => τ_0_0.[Derived:A]
+  τ_0_0.A => τ_0_0.[Derived:A]
+====
+$ rules
+func a<T, U>() where T == U
+struct S<T: AnyObject> {
+  func b<U>() where U == T
+}
+func c()
+---- 0
+a: 1 rules
+  τ_0_1 => τ_0_0
+S: 1 rules
+  τ_0_0.[layout: AnyObject] => τ_0_0
+S.b: 2 rules
+  τ_1_0 => τ_0_0
+  τ_0_0.[layout: AnyObject] => τ_0_0
+c: 0 rules
 ====
 $ rules --max-rules 7
 protocol N { associatedtype Next: N }
@@ -512,6 +609,53 @@ protocol P where Self.A: P { }
 func f<T>() where T.A == T
 ---- 1
 error: not a type parameter at 17
+====
+$ answer
+protocol P<A> { associatedtype A }
+func f<T: P<U.Z>, U: P>()
+query f()
+---- 1
+error: not a type parameter at 47
+====
+$ answer
+protocol P<A> { associatedtype A: P<A.Z> }
+---- 1
+error: not a type parameter at 36
+====
+$ answer
+protocol P { associatedtype A where A == Self.Z, Self.Z == A }
+---- 1
+error: not a type parameter at 41
+====
+$ answer
+protocol P { associatedtype A }
+func f<T: P, U>() where T.A == U.Z
+---- 1
+error: not a type parameter at 63
+====
+$ answer
+func f<T, U>() where T.A == U.Z
+---- 1
+error: not a type parameter at 21
+====
+$ answer
+func f<T>() where T.A: AnyObject
+---- 1
+error: not a type parameter at 18
+====
+$ answer
+protocol P { associatedtype A }
+struct S<T: P> {
+  func f<U: P>() where U.A == T.Z
+}
+---- 1
+error: not a type parameter at 79
+====
+$ answer
+func f<T>() where T.A == T
+protocol P where Self.A: P { }
+---- 1
+error: not a type parameter at 44
 ====
 $ answer
 protocol P { }
