@@ -1,10 +1,11 @@
 -- Which member symbols there are, and their order.
-use Rattle.std.proofs.Common.{◌≡◌, ℕ, zero, suc, ◌<◌, ◌≤◌, ◌⊎◌, inl, inr, ⊎_elim, Bool, true, ◌&&◌, ◌||◌, nat_eq, cond, List, length, take, Some, Contains, refl, sym, ap, subst, ◌∙◌, arith, eqb-true}
+use Rattle.std.proofs.Common.{◌≡◌, ℕ, zero, suc, ◌<◌, ◌≤◌, ◌⊎◌, inl, inr, ⊎_elim, Bool, true, ◌&&◌, ◌||◌, nat_eq, List, length, take, Some, Contains, refl, sym, ap, subst, ◌∙◌, arith, eqb-true}
 use Rattle.std.specs.List.{AllByRecursion}
 use Rattle.std.specs.List.Sorted.{IsStrictlySortedBy}
-use Rattle.std.specs.declared.cmp.Ordering.TheVariants.{Less, Equal, Greater}
+use Rattle.std.specs.declared.cmp.Ordering.TheVariants.{Less}
 use Rattle.std.specs.Ordering.{nat_cmp, ordering_then}
-use Rattle.std.proofs.lemmas.Bool.{lt-ltb, eq-eqb, cases_lt, or_cases, or_left, or_right, and_from, and_parts}
+use Rattle.std.specs.Cmp.{nat_cmp_is}
+use Rattle.std.proofs.lemmas.Bool.{eq-eqb, cases_lt, or_cases, or_left, or_right, and_from, and_parts}
 use Rattle.std.proofs.lemmas.Cmp.{nat_cmp_total, tied_itself}
 use Rattle.std.proofs.lemmas.List.Elements.{Contains-append_left, Contains-append_right, Contains-append_cases, All-filter, All-contains, All-contains_itself, filter_passes}
 use Rattle.std.proofs.lemmas.List.Kept.{IsStrictlySortedBy-filter}
@@ -72,15 +73,12 @@ module _ (order : List ProtoId) (has : ProtoId → NameId → Bool) where
 
 -- ---- their order
 
-less_from : (m n : ℕ) → m < n → nat_cmp m n ≡ Less
-less_from m n h = ap (λ b. cond b Less (cond (nat_eq m n) Equal Greater)) (lt-ltb m n h)
-
 module _ (inherits : ProtoId → ProtoId → Bool) (count : ℕ) (order : List ProtoId) (has : ProtoId → NameId → Bool) (sorted : IsStrictlySortedBy (order_cmp inherits count) order) where
   keeps : (a : NameId) (p q : ProtoId) → order_cmp inherits count p q ≡ Less → symbol_cmp inherits count (pair p a) (pair q a) ≡ Less
   keeps a p q h = ap (λ o. ordering_then o (order_cmp inherits count p q)) (tied_itself nat_cmp_total a.rank) ∙ h
 
   by_name : (d e : ProtocolName) → d.name.rank < e.name.rank → symbol_cmp inherits count d e ≡ Less
-  by_name d e h = ap (λ o. ordering_then o (order_cmp inherits count d.proto e.proto)) (less_from d.name.rank e.name.rank h)
+  by_name d e h = ap (λ o. ordering_then o (order_cmp inherits count d.proto e.proto)) (sym (nat_cmp_is d.name.rank e.name.rank Less h))
 
   named : (n : ℕ) (d : ProtocolName) → Contains (symbols_of order has (name n)) d → d.name.rank ≡ n
   named n d c = let k = key_of (λ p. pair p (name n)) (λ (e : ProtocolName). e.proto) (having order has (name n)) d c in ap (λ (e : ProtocolName). e.name.rank) (sym k.2)

@@ -1,5 +1,5 @@
 -- What requirements of a protocol are over.
-use Rattle.std.proofs.Common.{◌≡◌, ◌∙◌, ℕ, zero, suc, Bool, true, false, cond, List, [], ◌∷◌, ◌++◌, map, refl, arith}
+use Rattle.std.proofs.Common.{◌≡◌, ◌∙◌, ℕ, zero, suc, Bool, true, false, cond, List, [], ◌∷◌, ◌++◌, map, refl, subst, sym, arith}
 use Rattle.std.specs.List.{All, flat_map}
 use Rattle.std.specs.Str.{bytes_eq}
 use Rattle.swreq_param.specs.Terms.{Term, self, self_param, head}
@@ -15,9 +15,11 @@ use Rattle.swreq_decl.specs.declared.skeleton.ProtocolDecl.{ProtocolDecl}
 use Rattle.swreq_names.specs.Spaces.{word, self_bytes}
 use Rattle.swreq_lowering.specs.declared.scope.Scope.TheVariants.{Protocol}
 use Rattle.swreq_lowering.specs.Heads.{IsOverSelf}
-use Rattle.swreq_lowering.specs.Requirements.{PlacedRequirement, bound_of, of_one_side, arguments, in_bound, in_bounds, in_requirement, in_clause, in_member, in_members, in_protocol}
+use Rattle.swreq_lowering.specs.Requirements.{PlacedRequirement, bound_of, of_one_side, arguments, in_bound, in_bounds, in_protocol}
+use Rattle.swreq_lowering.specs.Walk.{in_requirement, in_clause, in_member, in_members}
 use Rattle.swreq_lowering.specs.Types.{member_named, protocol_head, step_of, type_in}
 use Rattle.swreq_lowering.specs.Words.{WordsView, proto_of, primaries_named}
+use Rattle.swreq_lowering.proofs.Walked.{protocol_walked}
 
 abbrev Over : PlacedRequirement → Type 0
 Over r = IsOverSelf r.requirement
@@ -75,5 +77,6 @@ module _ (w : WordsView) where
 
   pub protocol_over : (p : ProtocolDecl) → All Over (in_protocol w p)
   protocol_over p =
-      all_append Over (in_bounds w Protocol self p.name.start p.inherits) (in_clause w Protocol p.clause ++ in_members w p.members) (bounds_over self p.name.start p.inherits refl)
-      (all_append Over (in_clause w Protocol p.clause) (in_members w p.members) (clause_over p.clause) (all_pieces Over (in_member w) p.members member_over))
+      subst (All Over) (sym (protocol_walked w p))
+      (all_append Over (in_bounds w Protocol self p.name.start p.inherits) (in_clause w Protocol p.clause ++ in_members w p.members) (bounds_over self p.name.start p.inherits refl)
+      (all_append Over (in_clause w Protocol p.clause) (in_members w p.members) (clause_over p.clause) (all_pieces Over (in_member w) p.members member_over)))

@@ -7,7 +7,8 @@ use Rattle.swreq_decl.specs.declared.skeleton.Span.{Span}
 use Rattle.swreq_decl.specs.declared.skeleton.TypeDecl.{TypeDecl}
 use Rattle.swreq_names.specs.declared.signature.Signature.{Signature}
 use Rattle.swreq_lowering.specs.declared.scope.Scope.{Scope}
-use Rattle.swreq_lowering.specs.Requirements.{argument, arguments, in_param, in_params}
+use Rattle.swreq_lowering.specs.Requirements.{argument, arguments}
+use Rattle.swreq_lowering.specs.Walk.{in_param, in_params}
 use Rattle.swreq_lowering.specs.Words.{WordsView}
 
 -- ---- the bounds of generic parameters

@@ -11,7 +11,7 @@
 --     T == U                    [T == U], at the first words of T and of U
 --
 -- What stands in the table on the left of `:` stands also before the arguments of an inheritance entry.
-use Rattle.std.specs.Prelude.{ℕ, ◌+◌, cond, List, [], ◌∷◌, ◌++◌}
+use Rattle.std.specs.Prelude.{ℕ, cond, List, [], ◌∷◌, ◌++◌}
 use Rattle.std.specs.List.{flat_map}
 use Rattle.swreq_param.specs.Terms.{Term, self}
 use Rattle.swreq_param.specs.Terms.Term.{Generic}
@@ -21,8 +21,6 @@ use Rattle.swreq_decl.specs.declared.skeleton.Span.{Span}
 use Rattle.swreq_decl.specs.declared.skeleton.Entity.{Entity}
 use Rattle.swreq_decl.specs.declared.skeleton.TypeDecl.{TypeDecl}
 use Rattle.swreq_decl.specs.declared.skeleton.ReqDecl.{ReqDecl}
-use Rattle.swreq_decl.specs.declared.skeleton.ReqDecl.TheVariants as requirements
-use Rattle.swreq_decl.specs.declared.skeleton.AssocDecl.{AssocDecl}
 use Rattle.swreq_decl.specs.declared.skeleton.ParamDecl.{ParamDecl}
 use Rattle.swreq_decl.specs.declared.skeleton.ProtocolDecl.{ProtocolDecl}
 use Rattle.swreq_decl.specs.declared.skeleton.FunctionDecl.{FunctionDecl}
@@ -30,6 +28,10 @@ use Rattle.swreq_decl.specs.declared.skeleton.StructDecl.{StructDecl}
 use Rattle.swreq_names.specs.declared.signature.Signature.{Signature}
 use Rattle.swreq_names.specs.declared.signature.Signature.TheVariants.{Struct, Function, Nested}
 use Rattle.swreq_names.specs.declared.signature.Param.TheVariants.{Own}
+use Rattle.swreq_names.specs.Parts as parts
+use Rattle.swreq_names.specs.Parts.{Subject, Constraint}
+use Rattle.swreq_names.specs.Parts.Subject.{self_of, associated, parameter, written}
+use Rattle.swreq_names.specs.Parts.Constraint.{bound, same}
 use Rattle.swreq_lowering.specs.declared.scope.Scope.{Scope}
 use Rattle.swreq_lowering.specs.declared.scope.Scope.TheVariants as scopes
 use Rattle.swreq_lowering.specs.Signatures.{own_depth}
@@ -48,7 +50,19 @@ of_one_side r at = record { requirement = r; left_at = at; right_at = at }
 abbrev pub equality : Term → ℕ → Term → ℕ → PlacedRequirement
 equality t at u place = record { requirement = Equals t u; left_at = at; right_at = place }
 
+-- where the subject of a constraint is written
+abbrev pub subject_at : Subject → ℕ
+subject_at (self_of p) = p.start
+subject_at (associated a) = a.start
+subject_at (parameter k g) = g.start
+subject_at (written t) = t.head.start
+
 module _ (w : WordsView) where
+  -- the depth of generic parameters that are declared in a scope
+  abbrev pub depth_in : Scope → ℕ
+  depth_in scopes.Protocol = 0
+  depth_in (scopes.Signature g) = own_depth w.skeleton g
+
   -- `T: P` or `T: AnyObject`
   abbrev pub bound_of : Term → Entity → TermRequirement
   bound_of t e = cond e.layout (IsAnyObject t) (Conforms t (proto_of w e.span))
@@ -71,40 +85,25 @@ module _ (w : WordsView) where
     abbrev pub in_bounds : Term → ℕ → List Entity → List PlacedRequirement
     in_bounds t at bounds = flat_map (in_bound t at) bounds
 
-    abbrev pub in_requirement : ReqDecl → List PlacedRequirement
-    in_requirement (requirements.Bound t bounds) = in_bounds (type_in w scope t) t.head.start bounds
-    in_requirement (requirements.Same t u) = equality (type_in w scope t) t.head.start (type_in w scope u) u.head.start ∷ []
+    -- the type parameter that a constraint is on
+    abbrev pub subject_of : Subject → Term
+    subject_of (self_of p) = self
+    subject_of (associated a) = member_named w self a
+    subject_of (parameter k g) = Generic (param_id (depth_in scope) (Own k))
+    subject_of (written t) = type_in w scope t
 
-    abbrev pub in_clause : List ReqDecl → List PlacedRequirement
-    in_clause clause = flat_map in_requirement clause
-
-  -- ---- protocols
-
-  abbrev pub in_member : AssocDecl → List PlacedRequirement
-  in_member m = in_bounds scopes.Protocol (member_named w self m.name) m.name.start m.inherits ++ in_clause scopes.Protocol m.clause
-
-  abbrev pub in_members : List AssocDecl → List PlacedRequirement
-  in_members ms = flat_map in_member ms
+    -- what a constraint requires
+    abbrev pub of_constraint : Constraint → List PlacedRequirement
+    of_constraint (bound subject bounds) = in_bounds (subject_of subject) (subject_at subject) bounds
+    of_constraint (same t u) = equality (type_in w scope t) t.head.start (type_in w scope u) u.head.start ∷ []
 
   -- the requirements of a protocol
   abbrev pub in_protocol : ProtocolDecl → List PlacedRequirement
-  in_protocol p = in_bounds scopes.Protocol self p.name.start p.inherits ++ (in_clause scopes.Protocol p.clause ++ in_members p.members)
+  in_protocol p = flat_map (of_constraint scopes.Protocol) (parts.of_protocol p)
 
-  -- ---- signatures
-
-  module _ (g : Signature) where
-    -- the bounds of the k-th generic parameter of its own
-    abbrev pub in_param : ℕ → ParamDecl → List PlacedRequirement
-    in_param k p = in_bounds (scopes.Signature g) (Generic (param_id (own_depth w.skeleton g) (Own k))) p.name.start p.bounds
-
-    -- the bounds of its generic parameters, from the k-th on
-    abbrev pub in_params : ℕ → List ParamDecl → List PlacedRequirement
-    in_params k [] = []
-    in_params k (p ∷ ps) = in_param k p ++ in_params (k + 1) ps
-
-    -- what is written in it
-    abbrev pub in_signature : List ParamDecl → List ReqDecl → List PlacedRequirement
-    in_signature params clause = in_params 0 params ++ in_clause (scopes.Signature g) clause
+  -- what is written in a signature with these generic parameters of its own and this clause
+  abbrev pub in_signature : Signature → List ParamDecl → List ReqDecl → List PlacedRequirement
+  in_signature g params clause = flat_map (of_constraint (scopes.Signature g)) (parts.of_signature params clause)
 
   -- the list of the i-th struct
   abbrev pub in_struct : ℕ → StructDecl → List PlacedRequirement

@@ -2,7 +2,8 @@
 ghost use Rattle.std.specs.Prelude.{OnOk, IfOk};
 ghost use Rattle.swreq_param.specs.Tables.{Extends};
 ghost use Rattle.swreq_lowering.specs.Adding.{Adds, Lists};
-ghost use Rattle.swreq_lowering.specs.Requirements.{in_member, in_members, in_protocol};
+ghost use Rattle.swreq_lowering.specs.Requirements.{in_protocol};
+ghost use Rattle.swreq_lowering.specs.Walk.{in_member, in_members};
 ghost use Rattle.swreq_lowering.specs.Words.{words_by};
 
 use crate::ids::Written;

@@ -5,7 +5,8 @@ ghost use Rattle.swreq_param.specs.Tables.{Extends, IsOf, term_at};
 ghost use Rattle.swreq_derive.specs.Facts.{requirement_of};
 ghost use Rattle.swreq_lowering.specs.Adding.{Adds};
 ghost use Rattle.swreq_lowering.specs.ByTable.{HasIdsOf};
-ghost use Rattle.swreq_lowering.specs.Requirements.{argument, arguments, bound_of, in_bound, in_bounds, equality, in_clause, in_requirement};
+ghost use Rattle.swreq_lowering.specs.Requirements.{argument, arguments, bound_of, in_bound, in_bounds, equality};
+ghost use Rattle.swreq_lowering.specs.Walk.{in_clause, in_requirement};
 ghost use Rattle.swreq_lowering.specs.Types.{type_in};
 ghost use Rattle.swreq_lowering.specs.Words.{words_by};
 

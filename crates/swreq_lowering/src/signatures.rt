@@ -5,7 +5,8 @@ ghost use Rattle.swreq_param.specs.Tables.{Extends};
 ghost use Rattle.swreq_decl.specs.declared.skeleton.StructDecl.{StructDecl};
 ghost use Rattle.swreq_lowering.specs.Adding.{Adds, Lists};
 ghost use Rattle.swreq_lowering.specs.ByTable.{AreOf, placed};
-ghost use Rattle.swreq_lowering.specs.Requirements.{in_function, in_nested, in_param, in_params, in_signature, in_struct};
+ghost use Rattle.swreq_lowering.specs.Requirements.{in_function, in_nested, in_signature, in_struct};
+ghost use Rattle.swreq_lowering.specs.Walk.{in_param, in_params};
 ghost use Rattle.swreq_lowering.specs.Words.{words_by};
 
 use crate::ids::Written;

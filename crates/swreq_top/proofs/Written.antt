@@ -1,18 +1,16 @@
 -- What is written depends on a lexicon by its names, its associated types and what they refer to alone.
-use Rattle.std.proofs.Common.{◌≡◌, ◌∙◌, refl, ap, ap₂, ℕ, ◌+◌, cond, List, [], ◌∷◌, ◌++◌, Option, Some, None, map, slice_get}
+use Rattle.std.proofs.Common.{◌≡◌, ◌∙◌, refl, ap, ap₂, ℕ, cond, List, [], ◌∷◌, ◌++◌, Option, Some, None, map, slice_get}
 use Rattle.std.specs.List.{flat_map}
-use Rattle.swreq_param.specs.Terms.{Term, self, with_steps}
+use Rattle.swreq_param.specs.Terms.{Term, with_steps}
 use Rattle.swreq_param.specs.Terms.Term.{Generic}
 use Rattle.swreq_decl.specs.declared.skeleton.Ask.{Ask}
 use Rattle.swreq_decl.specs.declared.skeleton.Ask.TheVariants as asks
-use Rattle.swreq_decl.specs.declared.skeleton.AssocDecl.{AssocDecl}
 use Rattle.swreq_decl.specs.declared.skeleton.Entity.{Entity}
 use Rattle.swreq_decl.specs.declared.skeleton.FunctionDecl.{FunctionDecl}
 use Rattle.swreq_decl.specs.declared.skeleton.ParamDecl.{ParamDecl}
 use Rattle.swreq_decl.specs.declared.skeleton.ProtocolDecl.{ProtocolDecl}
 use Rattle.swreq_decl.specs.declared.skeleton.QueryDecl.{QueryDecl}
 use Rattle.swreq_decl.specs.declared.skeleton.ReqDecl.{ReqDecl}
-use Rattle.swreq_decl.specs.declared.skeleton.ReqDecl.TheVariants as requirements
 use Rattle.swreq_decl.specs.declared.skeleton.Span.{Span}
 use Rattle.swreq_decl.specs.declared.skeleton.StepDecl.{StepDecl}
 use Rattle.swreq_decl.specs.declared.skeleton.StepDecl.TheVariants as decls
@@ -21,6 +19,10 @@ use Rattle.swreq_decl.specs.declared.skeleton.TypeDecl.{TypeDecl}
 use Rattle.swreq_names.specs.declared.signature.Signature.{Signature}
 use Rattle.swreq_names.specs.declared.signature.Signature.TheVariants.{Struct, Function, Nested}
 use Rattle.swreq_names.specs.declared.signature.Param.TheVariants.{Own}
+use Rattle.swreq_names.specs.Parts as parts
+use Rattle.swreq_names.specs.Parts.{Constraint, Subject}
+use Rattle.swreq_names.specs.Parts.Constraint.{bound, same}
+use Rattle.swreq_names.specs.Parts.Subject.{associated, parameter, self_of, written}
 use Rattle.swreq_names.specs.Spaces.{protocol_of}
 use Rattle.swreq_lexicon.specs.Views.{LexiconView}
 use Rattle.swreq_lowering.specs.declared.ids.FuncId.{FuncId}
@@ -28,7 +30,7 @@ use Rattle.swreq_lowering.specs.declared.scope.Scope.{Scope}
 use Rattle.swreq_lowering.specs.declared.scope.Scope.TheVariants as scopes
 use Rattle.swreq_lowering.specs.Queries.TermQuery.{AsksAnyObject, AsksConforms, AsksEquals, AsksReduced}
 use Rattle.swreq_lowering.specs.Queries.{asked_of, asked_signature, query_of, signature_named}
-use Rattle.swreq_lowering.specs.Requirements.{PlacedRequirement, bound_of, equality, of_one_side, arguments, argument, in_bound, in_bounds, in_clause, in_member, in_params, in_protocol, in_requirement, in_signature, in_struct}
+use Rattle.swreq_lowering.specs.Requirements.{PlacedRequirement, bound_of, depth_in, equality, of_constraint, of_one_side, arguments, argument, in_bound, in_bounds, in_protocol, in_signature, in_struct, subject_at, subject_of}
 use Rattle.swreq_lowering.specs.Signatures.{func_id, functions_of, in_order, own_depth, params_of}
 use Rattle.swreq_lowering.specs.Types.{head_in, member_named, param_id, step_of, type_in}
 use Rattle.swreq_lowering.specs.Words.{WordsView, declared, primaries_named, proto_of}
@@ -87,36 +89,32 @@ module _ (w : WordsView) where
     in_bounds_same : (t : Term) (at : ℕ) (bounds : List Entity) → in_bounds (bare_words w) scope t at bounds ≡ in_bounds w scope t at bounds
     in_bounds_same t at bounds = flat_alike (in_bound (bare_words w) scope t at) (in_bound w scope t at) (in_bound_same t at) bounds
 
-    in_requirement_same : (r : ReqDecl) → in_requirement (bare_words w) scope r ≡ in_requirement w scope r
-    in_requirement_same (requirements.Bound t bounds) =
-        ap (λ (v : Term). in_bounds (bare_words w) scope v t.head.start bounds) (type_same scope t)
-        ∙ in_bounds_same (type_in w scope t) t.head.start bounds
-    in_requirement_same (requirements.Same t u) =
-        ap₂ (λ (v z : Term). equality v t.head.start z u.head.start ∷ []) (type_same scope t) (type_same scope u)
+    depth_same : depth_in (bare_words w) scope ≡ depth_in w scope
+    depth_same = elim scope [ scopes.Protocol ↦ refl | scopes.Signature g ↦ refl ]
 
-    in_clause_same : (clause : List ReqDecl) → in_clause (bare_words w) scope clause ≡ in_clause w scope clause
-    in_clause_same clause = flat_alike (in_requirement (bare_words w) scope) (in_requirement w scope) in_requirement_same clause
+    subject_same : (subject : Subject) → subject_of (bare_words w) scope subject ≡ subject_of w scope subject
+    subject_same (self_of p) = refl
+    subject_same (associated a) = refl
+    subject_same (parameter k g) = ap (λ (n : ℕ). Generic (param_id n (Own k))) depth_same
+    subject_same (written t) = type_same scope t
+
+    constraint_same : (c : Constraint) → of_constraint (bare_words w) scope c ≡ of_constraint w scope c
+    constraint_same (bound subject bounds) =
+        ap (λ (v : Term). in_bounds (bare_words w) scope v (subject_at subject) bounds) (subject_same subject)
+        ∙ in_bounds_same (subject_of w scope subject) (subject_at subject) bounds
+    constraint_same (same t u) = ap₂ (λ (v z : Term). equality v t.head.start z u.head.start ∷ []) (type_same scope t) (type_same scope u)
+
+    constraints_same : (cs : List Constraint) → flat_map (of_constraint (bare_words w) scope) cs ≡ flat_map (of_constraint w scope) cs
+    constraints_same cs = flat_alike (of_constraint (bare_words w) scope) (of_constraint w scope) constraint_same cs
 
   abbrev joined : List PlacedRequirement → List PlacedRequirement → List PlacedRequirement
   joined xs ys = xs ++ ys
 
-  in_member_same : (m : AssocDecl) → in_member (bare_words w) m ≡ in_member w m
-  in_member_same m =
-      ap₂ joined (in_bounds_same scopes.Protocol (member_named w self m.name) m.name.start m.inherits) (in_clause_same scopes.Protocol m.clause)
-
   in_protocol_same : (p : ProtocolDecl) → in_protocol (bare_words w) p ≡ in_protocol w p
-  in_protocol_same p =
-      ap₂ joined (in_bounds_same scopes.Protocol self p.name.start p.inherits)
-      (ap₂ joined (in_clause_same scopes.Protocol p.clause) (flat_alike (in_member (bare_words w)) (in_member w) in_member_same p.members))
+  in_protocol_same p = constraints_same scopes.Protocol (parts.of_protocol p)
 
-  module _ (g : Signature) where
-    in_params_same : (k : ℕ) (ps : List ParamDecl) → in_params (bare_words w) g k ps ≡ in_params w g k ps
-    in_params_same k [] = refl
-    in_params_same k (p ∷ ps) =
-        ap₂ joined (in_bounds_same (scopes.Signature g) (Generic (param_id (own_depth w.skeleton g) (Own k))) p.name.start p.bounds) (in_params_same (k + 1) ps)
-
-    in_signature_same : (ps : List ParamDecl) (clause : List ReqDecl) → in_signature (bare_words w) g ps clause ≡ in_signature w g ps clause
-    in_signature_same ps clause = ap₂ joined (in_params_same 0 ps) (in_clause_same (scopes.Signature g) clause)
+  in_signature_same : (g : Signature) (ps : List ParamDecl) (clause : List ReqDecl) → in_signature (bare_words w) g ps clause ≡ in_signature w g ps clause
+  in_signature_same g ps clause = constraints_same (scopes.Signature g) (parts.of_signature ps clause)
 
   in_struct_same : (i : ℕ) (s : StructDecl) → in_struct (bare_words w) i s ≡ in_struct w i s
   in_struct_same i s = in_signature_same (Struct i) s.params s.clause

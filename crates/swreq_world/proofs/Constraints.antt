@@ -23,7 +23,8 @@ use Rattle.swreq_rank.specs.Ranks.{Bytes}
 use Rattle.swreq_lexicon.specs.Views.{IsProtocol, IsName}
 use Rattle.swreq_lowering.specs.declared.scope.Scope.{Scope}
 use Rattle.swreq_lowering.specs.Heads.{IsOver}
-use Rattle.swreq_lowering.specs.Requirements.{PlacedRequirement, of_one_side, equality, bound_of, argument, arguments, in_bound, in_bounds, in_requirement, in_clause}
+use Rattle.swreq_lowering.specs.Requirements.{PlacedRequirement, of_one_side, equality, bound_of, argument, arguments, in_bound, in_bounds}
+use Rattle.swreq_lowering.specs.Walk.{in_requirement, in_clause}
 use Rattle.swreq_lowering.specs.Types.{step_of, head_in, type_in}
 use Rattle.swreq_lowering.specs.Words.{WordsView, declared, proto_of, name_of, primaries_named}
 use Rattle.swreq_param.specs.OwnedLaws.{heads_same}

@@ -1,5 +1,5 @@
 -- What is written in a protocol, where its names resolve.
-use Rattle.std.proofs.Common.{◌≡◌, ℕ, Bool, true, false, cond, ◌||◌, List, [], ◌++◌, Option, Some, None, get_or, map, slice_get, refl}
+use Rattle.std.proofs.Common.{◌≡◌, ℕ, Bool, true, false, cond, ◌||◌, List, [], ◌++◌, Option, Some, None, get_or, map, slice_get, refl, subst, sym}
 use Rattle.std.proofs.lemmas.List.Elements.{All-nil, All-head, All-tail, All-append, All-map}
 use Rattle.std.specs.List.{All, flat_map}
 use Rattle.std.specs.Str.{bytes_eq}
@@ -15,7 +15,9 @@ use Rattle.swreq_param.specs.declared.ids.ParamId.{ParamId}
 use Rattle.swreq_param.specs.Terms.{self, self_param, head}
 use Rattle.swreq_rank.specs.Ranks.{Bytes}
 use Rattle.swreq_lowering.specs.declared.scope.Scope.TheVariants.{Protocol}
-use Rattle.swreq_lowering.specs.Requirements.{in_bounds, in_clause, in_member, in_members, in_protocol}
+use Rattle.swreq_lowering.specs.Requirements.{in_bounds, in_protocol}
+use Rattle.swreq_lowering.specs.Walk.{in_clause, in_member, in_members}
+use Rattle.swreq_lowering.proofs.Walked.{protocol_walked}
 use Rattle.swreq_lowering.specs.Types.{member_named, protocol_head}
 use Rattle.swreq_lowering.specs.Words.{WordsView, declared}
 use Rattle.swreq_world.specs.Closed.{IsTermOf, IsOfProtocol}
@@ -65,11 +67,12 @@ module _ (w : WordsView) (inherits : ℕ → ℕ → Bool) (are : AreResolved w 
         let first = parts w of_inherits (of_clause ++ (duplicates members members ++ of_each)) in_inherits (in_its_clause ++ in_each) all in
         let second = parts w of_clause (duplicates members members ++ of_each) in_its_clause in_each first.1 in
         let last = after w (duplicates members members) of_each in_each second.1 in
-        All-append (IsOfProtocol w.lexicon) (in_bounds w Protocol self p.name.start p.inherits) (in_clause w Protocol p.clause ++ in_members w p.members)
+        subst (All (IsOfProtocol w.lexicon)) (sym (protocol_walked w p))
+        (All-append (IsOfProtocol w.lexicon) (in_bounds w Protocol self p.name.start p.inherits) (in_clause w Protocol p.clause ++ in_members w p.members)
         (bounds_are w are.refers Protocol begins IsSelf starts self p.name.start p.inherits (tt, refl) first.0)
         (All-append (IsOfProtocol w.lexicon) (in_clause w Protocol p.clause) (in_members w p.members) (clause_is w are.refers Protocol begins IsSelf starts p.clause second.0)
         (all_in_pieces (IsOfProtocol w.lexicon) (λ m. Resolved w (of_member w.text (declared w) begins m) (names.in_member w.text m)) (in_member w) p.members member_is
-        (each w (of_member w.text (declared w) begins) (names.in_member w.text) p.members last)))
+        (each w (of_member w.text (declared w) begins) (names.in_member w.text) p.members last))))
 
   -- ---- the protocols of the text
 

@@ -1,5 +1,5 @@
 -- What is written in a signature, where its names resolve.
-use Rattle.std.proofs.Common.{◌≡◌, ℕ, ◌+◌, ◌≤◌, Bool, true, List, [], ◌∷◌, ◌++◌, Option, Some, None, length, get_or, map, slice_get, refl, sym, ap, ◌∙◌, arith}
+use Rattle.std.proofs.Common.{◌≡◌, ℕ, ◌+◌, ◌≤◌, Bool, true, List, [], ◌∷◌, ◌++◌, Option, Some, None, length, get_or, map, slice_get, refl, subst, sym, ap, ◌∙◌, arith}
 use Rattle.std.proofs.lemmas.List.Elements.{All-nil, All-append, All-weaker, All-map}
 use Rattle.std.specs.List.{All, flat_map}
 use Rattle.swreq_decl.specs.declared.skeleton.FunctionDecl.{FunctionDecl}
@@ -24,7 +24,9 @@ use Rattle.swreq_param.specs.Terms.Term.{Generic}
 use Rattle.swreq_rank.specs.Ranks.{Bytes}
 use Rattle.swreq_lowering.specs.declared.scope.Scope.TheVariants as scopes
 use Rattle.swreq_lowering.specs.Heads.{IsOver}
-use Rattle.swreq_lowering.specs.Requirements.{PlacedRequirement, in_clause, in_param, in_params, in_signature, in_struct, in_nested}
+use Rattle.swreq_lowering.specs.Requirements.{PlacedRequirement, in_signature, in_struct, in_nested}
+use Rattle.swreq_lowering.specs.Walk.{in_clause, in_param, in_params}
+use Rattle.swreq_lowering.proofs.Walked.{signature_walked}
 use Rattle.swreq_lowering.specs.Signatures.{params_of_struct, params_of_function, functions_of, outer_params, own_params, own_depth, params_of}
 use Rattle.swreq_lowering.specs.Types.{param_id, signature_head}
 use Rattle.swreq_lowering.specs.Words.{WordsView, declared}
@@ -76,9 +78,10 @@ module _ (w : WordsView) (inherits : ℕ → ℕ → Bool) (are : AreResolved w 
         let of_clause = flat_map (of_requirement w.text (declared w) begins) clause in
         let parts = all_right Never (duplicates outer own) (of_each ++ of_clause) (all_right Never (duplicates own own) (duplicates outer own ++ (of_each ++ of_clause)) h) in
         let l = ap length e in
-        All-append (IsWithin g) (in_params w g 0 ps) (in_clause w (scopes.Signature g) clause)
+        subst (All (IsWithin g)) (sym (signature_walked w g ps clause))
+        (All-append (IsWithin g) (in_params w g 0 ps) (in_clause w (scopes.Signature g) clause)
         (params_are 0 ps (omega arith) (all_left Never of_each of_clause parts, n))
-        (clause_is w are.refers (scopes.Signature g) begins IsParam starts clause (all_right Never of_each of_clause parts, m))
+        (clause_is w are.refers (scopes.Signature g) begins IsParam starts clause (all_right Never of_each of_clause parts, m)))
 
   -- ---- the signatures of the text
 

@@ -5,7 +5,8 @@ use Rattle.swreq_param.specs.Terms.Term.{Member}
 use Rattle.swreq_param.specs.Tables.{term_at}
 use Rattle.swreq_param.proofs.Growing.{onward}
 use Rattle.swreq_lowering.specs.declared.scope.Scope.TheVariants.{Protocol}
-use Rattle.swreq_lowering.specs.Requirements.{in_bounds, in_clause}
+use Rattle.swreq_lowering.specs.Requirements.{in_bounds}
+use Rattle.swreq_lowering.specs.Walk.{in_clause}
 use Rattle.swreq_lowering.specs.Words.{words_by, name_of}
 use Rattle.swreq_lowering.proofs.Growing.{extends_interned, adds_then, adds_later, adds_same, on_ok}
 use Rattle.swreq_lowering.proofs.protocols.add_member.Goals as goal

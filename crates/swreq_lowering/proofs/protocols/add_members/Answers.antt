@@ -1,4 +1,4 @@
-use Rattle.swreq_lowering.specs.Requirements.{in_member}
+use Rattle.swreq_lowering.specs.Walk.{in_member}
 use Rattle.swreq_lowering.specs.Words.{words_by}
 use Rattle.swreq_lowering.proofs.Pieces.{adds_more}
 use Rattle.swreq_lowering.proofs.protocols.add_members.Goals as goal

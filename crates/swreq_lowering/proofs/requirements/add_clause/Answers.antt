@@ -1,4 +1,4 @@
-use Rattle.swreq_lowering.specs.Requirements.{in_requirement}
+use Rattle.swreq_lowering.specs.Walk.{in_requirement}
 use Rattle.swreq_lowering.specs.Words.{words_by}
 use Rattle.swreq_lowering.proofs.Pieces.{adds_more}
 use Rattle.swreq_lowering.proofs.requirements.add_clause.Goals as goal

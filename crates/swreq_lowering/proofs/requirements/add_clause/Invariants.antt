@@ -1,6 +1,6 @@
 use Rattle.std.proofs.Common.{take}
 use Rattle.swreq_lowering.specs.Adding.{Adds}
-use Rattle.swreq_lowering.specs.Requirements.{in_clause}
+use Rattle.swreq_lowering.specs.Walk.{in_clause}
 use Rattle.swreq_lowering.specs.Words.{words_by}
 use Rattle.swreq_lowering.proofs.requirements.add_clause.Given as goal
 

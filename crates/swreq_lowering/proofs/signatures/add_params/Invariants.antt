@@ -1,6 +1,6 @@
 use Rattle.std.proofs.Common.{◌≤◌, ◌-◌, length, take}
 use Rattle.swreq_lowering.specs.Adding.{Adds}
-use Rattle.swreq_lowering.specs.Requirements.{in_params}
+use Rattle.swreq_lowering.specs.Walk.{in_params}
 use Rattle.swreq_lowering.specs.Words.{words_by}
 use Rattle.swreq_lowering.proofs.signatures.add_params.Given as goal
 

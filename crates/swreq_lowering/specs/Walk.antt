@@ -1,0 +1,36 @@
+-- What private functions add for the parts of a protocol and of a signature, one part after another.
+use Rattle.std.specs.Prelude.{ℕ, ◌+◌, List, [], ◌∷◌, ◌++◌}
+use Rattle.std.specs.List.{flat_map}
+use Rattle.swreq_decl.specs.declared.skeleton.AssocDecl.{AssocDecl}
+use Rattle.swreq_decl.specs.declared.skeleton.ParamDecl.{ParamDecl}
+use Rattle.swreq_decl.specs.declared.skeleton.ReqDecl.{ReqDecl}
+use Rattle.swreq_names.specs.declared.signature.Signature.{Signature}
+use Rattle.swreq_names.specs.Parts as parts
+use Rattle.swreq_names.specs.Parts.Subject.{associated}
+use Rattle.swreq_names.specs.Parts.Constraint.{bound}
+use Rattle.swreq_lowering.specs.declared.scope.Scope.{Scope}
+use Rattle.swreq_lowering.specs.declared.scope.Scope.TheVariants as scopes
+use Rattle.swreq_lowering.specs.Requirements.{PlacedRequirement, of_constraint}
+use Rattle.swreq_lowering.specs.Words.{WordsView}
+
+module _ (w : WordsView) where
+  abbrev pub in_requirement : Scope → ReqDecl → List PlacedRequirement
+  in_requirement scope r = of_constraint w scope (parts.of_requirement r)
+
+  abbrev pub in_clause : Scope → List ReqDecl → List PlacedRequirement
+  in_clause scope clause = flat_map (in_requirement scope) clause
+
+  abbrev pub in_member : AssocDecl → List PlacedRequirement
+  in_member m = of_constraint w scopes.Protocol (bound (associated m.name) m.inherits) ++ in_clause scopes.Protocol m.clause
+
+  abbrev pub in_members : List AssocDecl → List PlacedRequirement
+  in_members ms = flat_map in_member ms
+
+  -- the bounds of the k-th generic parameter
+  abbrev pub in_param : Signature → ℕ → ParamDecl → List PlacedRequirement
+  in_param g k p = of_constraint w (scopes.Signature g) (parts.of_param (k, p))
+
+  -- the bounds of generic parameters, from the k-th on
+  abbrev pub in_params : Signature → ℕ → List ParamDecl → List PlacedRequirement
+  in_params g k [] = []
+  in_params g k (p ∷ ps) = in_param g k p ++ in_params g (k + 1) ps
