@@ -7,7 +7,7 @@ use Rattle.swreq_lex.specs.declared.token.Token as lexed
 use Rattle.swreq_lex.specs.Slices.{AreSlices, next}
 use Rattle.swreq_lex.specs.Tokens.{HasTokens, first_offset}
 use Rattle.swreq_grammar.specs.declared.token.Token.{Token}
-use Rattle.swreq_grammar.specs.Grammar.{Limit, Matches, Parts, mapped, sequence, alternative, repetition}
+use Rattle.swreq_grammar.specs.Grammar.{Limit, Matches, Parts, terminal, mapped, sequence, alternative, repetition}
 use Rattle.swreq_decl.specs.declared.terminal.Terminal.{Terminal}
 use Rattle.swreq_decl.specs.declared.kind.Kind.{Kind}
 use Rattle.swreq_decl.specs.declared.skeleton.Span.{Span}
@@ -29,8 +29,7 @@ use Rattle.swreq_names.specs.declared.directory.Declaration.{Declaration}
 use Rattle.swreq_names.specs.declared.signature.Signature.{Signature}
 use Rattle.swreq_names.specs.declared.signature.Signature.TheVariants.{Struct, Function, Nested}
 use Rattle.swreq_names.specs.Spaces.{declaration, declarations, of_params, own_params, outer_params, spaces}
-use Rattle.swreq_resolve.proofs.Meaning.{AreInOrder}
-use Rattle.swreq_resolve.proofs.RefusedNames.{IsInOrder}
+use Rattle.swreq_resolve.proofs.Meaning.{AreInOrder, IsInOrder}
 
 -- ---- rising offsets
 
@@ -165,8 +164,259 @@ rising_separated : {A : Type 0} {ss : List Terminal} {g : Line A} {start : A →
 rising_separated {A} {ss} {g} {start} b = at_mapped (record {
   holds = λ from ts v r m.
       let q = rising_past from (start v.0) m.0 m.1 (subst (Rising from) m.2 r) (b.at m.0 v.0 m.3) in
-      (omega arith, names_rising _ start (begins_after b) (suc (start v.0)) m.1 v.1 q.1 m.4.0);
+      (omega arith, names_rising (after (terminal ss) g) start (begins_after b) (suc (start v.0)) m.1 v.1 q.1 m.4.0);
 })
 
 rising_in_angles : {A : Type 0} {g : Line A} {start : A → ℕ} → Begins g start → Keeps (in_angles g) (AreRising start 0)
 rising_in_angles b = at_after (at_before (rising_separated b))
+
+-- ---- the lines of the source
+
+abbrev span_start : Span → ℕ
+span_start s = s.start
+
+abbrev member_start : AssocDecl → ℕ
+member_start m = m.name.start
+
+abbrev protocol_start : ProtocolDecl → ℕ
+protocol_start p = p.name.start
+
+abbrev param_start : ParamDecl → ℕ
+param_start g = g.name.start
+
+abbrev function_start : FunctionDecl → ℕ
+function_start f = f.name.start
+
+abbrev struct_start : StructDecl → ℕ
+struct_start t = t.name.start
+
+-- The names that a part declares stand in order.
+abbrev IsRisenProtocol : ProtocolDecl → Type 0
+IsRisenProtocol p = AreRising span_start 0 p.primaries × AreRising member_start 0 p.members
+
+abbrev IsRisenFunction : FunctionDecl → Type 0
+IsRisenFunction f = AreRising param_start 0 f.params
+
+abbrev IsRisenStruct : StructDecl → Type 0
+IsRisenStruct t = AreRising param_start 0 t.params × (AreRising function_start 0 t.functions × AllByRecursion IsRisenFunction t.functions)
+
+abbrev IsRisenItem : Item → Type 0
+IsRisenItem (items.Protocol p) = IsRisenProtocol p
+IsRisenItem (items.Struct t) = IsRisenStruct t
+IsRisenItem (items.Function f) = IsRisenFunction f
+IsRisenItem (items.Query q) = Unit {0}
+
+name_begins : Begins lines.name span_start
+unfolding lines.name
+name_begins = record { at = λ ts s m. subst (λ us. Starts s.start us) (sym m.1.0) (inl (sym (ap (λ (x : Span). x.start) m.2))) }
+
+member_begins : Begins lines.member member_start
+unfolding lines.member
+member_begins = begins_mapped (begins_after (begins_first name_begins))
+
+param_begins : Begins lines.param param_start
+unfolding lines.param
+param_begins = begins_mapped (begins_first name_begins)
+
+function_begins : Begins lines.function function_start
+unfolding lines.function
+function_begins = begins_mapped (begins_after (begins_first name_begins))
+
+inner_begins : Begins lines.inner_function function_start
+unfolding lines.inner_function
+inner_begins = begins_before (begins_after function_begins)
+
+primaries_risen : Keeps lines.primary_names (AreRising span_start 0)
+unfolding lines.primary_names lines.primaries
+primaries_risen = at_or_else tt (rising_in_angles name_begins)
+
+params_risen : Keeps lines.params (AreRising param_start 0)
+unfolding lines.params lines.generics
+params_risen = at_or_else tt (rising_in_angles param_begins)
+
+protocol_risen : Keeps lines.protocol IsRisenProtocol
+unfolding lines.protocol
+protocol_risen =
+    at_mapped (at_after (at_second (at_both primaries_risen (at_second (at_second (at_after (at_before (rising_in member_begins))))))))
+
+function_risen : Keeps lines.function IsRisenFunction
+unfolding lines.function
+function_risen = at_mapped (at_after (at_second (at_first params_risen)))
+
+inner_risen : Keeps lines.inner_function IsRisenFunction
+unfolding lines.inner_function
+inner_risen = at_before (at_after function_risen)
+
+structure_risen : Keeps lines.structure IsRisenStruct
+unfolding lines.structure
+structure_risen =
+    at_mapped (at_after (at_second (at_both params_risen (at_second (at_after (at_before (at_twice (rising_in inner_begins) (at_each inner_risen))))))))
+
+declaration_risen : Keeps lines.declaration IsRisenItem
+unfolding lines.declaration
+declaration_risen = at_alternative (at_mapped protocol_risen) (at_alternative (at_mapped function_risen) (at_mapped structure_risen))
+
+bare_item_risen : Keeps lines.bare_item IsRisenItem
+unfolding lines.bare_item
+bare_item_risen = at_alternative (at_after declaration_risen) (at_alternative declaration_risen (at_mapped none))
+
+item_risen : Keeps lines.item IsRisenItem
+unfolding lines.item
+item_risen = at_before bare_item_risen
+
+-- ---- skeletons
+
+-- The names that the parts of a skeleton declare stand in order, and so do the names of the parts of each kind.
+record IsRisen (from : ℕ) (s : Skeleton) : Type 0 where
+  protocols : AreRising protocol_start from s.protocols
+  structs : AreRising struct_start from s.structs
+  functions : AreRising function_start from s.functions
+  each_protocol : AllByRecursion IsRisenProtocol s.protocols
+  each_struct : AllByRecursion IsRisenStruct s.structs
+  each_function : AllByRecursion IsRisenFunction s.functions
+
+sooner : (from to : ℕ) → from ≤ to → (s : Skeleton) → IsRisen to s → IsRisen from s
+sooner from to l s r = record {
+  protocols = rising_sooner protocol_start from to l s.protocols r.protocols;
+  structs = rising_sooner struct_start from to l s.structs r.structs;
+  functions = rising_sooner function_start from to l s.functions r.functions;
+  each_protocol = r.each_protocol;
+  each_struct = r.each_struct;
+  each_function = r.each_function;
+}
+
+parts_risen : (from : ℕ) (vs : List Item) (ts : Tokens) → Parts (Matches number lines.item) ts vs → Rising from ts → IsRisen from (skeleton_of vs)
+parts_risen from [] ts e r = record { protocols = tt; structs = tt; functions = tt; each_protocol = tt; each_struct = tt; each_function = tt }
+parts_risen from (items.Protocol p ∷ vs) ts (a, b, s, m, ms) r =
+    let k = rising_parts from ts a b s r in
+    let q = rising_past from p.name.start a b (subst (Rising from) s r) (item_stands a (items.Protocol p) m) in
+    let all = parts_risen (suc p.name.start) vs b ms q.1 in
+    let less = q.0 in
+    let more = sooner from (suc p.name.start) (omega arith) (skeleton_of vs) all in
+    record {
+      protocols = (q.0, all.protocols);
+      structs = more.structs;
+      functions = more.functions;
+      each_protocol = (item_risen.holds from a (items.Protocol p) k.0 m, all.each_protocol);
+      each_struct = all.each_struct;
+      each_function = all.each_function;
+    }
+parts_risen from (items.Struct t ∷ vs) ts (a, b, s, m, ms) r =
+    let k = rising_parts from ts a b s r in
+    let q = rising_past from t.name.start a b (subst (Rising from) s r) (item_stands a (items.Struct t) m) in
+    let all = parts_risen (suc t.name.start) vs b ms q.1 in
+    let less = q.0 in
+    let more = sooner from (suc t.name.start) (omega arith) (skeleton_of vs) all in
+    record {
+      protocols = more.protocols;
+      structs = (q.0, all.structs);
+      functions = more.functions;
+      each_protocol = all.each_protocol;
+      each_struct = (item_risen.holds from a (items.Struct t) k.0 m, all.each_struct);
+      each_function = all.each_function;
+    }
+parts_risen from (items.Function f ∷ vs) ts (a, b, s, m, ms) r =
+    let k = rising_parts from ts a b s r in
+    let q = rising_past from f.name.start a b (subst (Rising from) s r) (item_stands a (items.Function f) m) in
+    let all = parts_risen (suc f.name.start) vs b ms q.1 in
+    let less = q.0 in
+    let more = sooner from (suc f.name.start) (omega arith) (skeleton_of vs) all in
+    record {
+      protocols = more.protocols;
+      structs = more.structs;
+      functions = (q.0, all.functions);
+      each_protocol = all.each_protocol;
+      each_struct = all.each_struct;
+      each_function = (item_risen.holds from a (items.Function f) k.0 m, all.each_function);
+    }
+parts_risen from (items.Query q ∷ vs) ts (a, b, s, m, ms) r =
+    let all = parts_risen from vs b ms (rising_parts from ts a b s r).1 in
+    record {
+      protocols = all.protocols;
+      structs = all.structs;
+      functions = all.functions;
+      each_protocol = all.each_protocol;
+      each_struct = all.each_struct;
+      each_function = all.each_function;
+    }
+
+-- ---- declared names
+
+module _ (text : List ℕ) where
+  none_sooner : (from : ℕ) (ss : List Span) → AreRising span_start from ss → (d : Declaration) → Contains (declarations text ss) d → from ≤ d.at
+  none_sooner from [] r d c = no_member d c
+  none_sooner from (x ∷ ss) r d c =
+      ⊎_elim (λ e. let k = r.0 in let s = ap (λ (y : Declaration). y.at) e in omega (arith, k, s))
+      (λ h. let k = r.0 in let l = none_sooner (suc x.start) ss r.1 d h in omega (arith, k, l))
+      (member_cases (declaration text x) d (declarations text ss) c)
+
+  in_order : (from : ℕ) (ss : List Span) → AreRising span_start from ss → AreInOrder (declarations text ss)
+  in_order from [] r = tt
+  in_order from (x ∷ ss) r = ((λ d c. let l = none_sooner (suc x.start) ss r.1 d c in omega (arith, l)), in_order (suc x.start) ss r.1)
+
+  named_rising : {A : Type 0} (name : A → Span) (from : ℕ) (xs : List A) → AreRising (λ x. (name x).start) from xs → AreRising span_start from (map name xs)
+  named_rising name from [] r = tt
+  named_rising name from (x ∷ xs) r = (r.0, named_rising name (suc (name x).start) xs r.1)
+
+  named_in_order : {A : Type 0} (name : A → Span) (from : ℕ) (xs : List A) → AreRising (λ x. (name x).start) from xs
+      → AreInOrder (declarations text (map name xs))
+  named_in_order name from xs r = in_order from (map name xs) (named_rising name from xs r)
+
+  -- a fact for each list of lists
+  at_place : {A B : Type 0} (P : List B → Type 0) (f : A → List B) (Is : A → Type 0) → P [] → ((x : A) → Is x → P (f x))
+      → (xs : List A) → AllByRecursion Is xs → (i : ℕ) → P (get_or (map f xs) i [])
+  at_place P f Is empty one [] a i = empty
+  at_place P f Is empty one (x ∷ xs) a zero = one x a.0
+  at_place P f Is empty one (x ∷ xs) a (suc i) = at_place P f Is empty one xs a.1 i
+
+  params_in_order : (gs : List ParamDecl) → AreRising param_start 0 gs → AreInOrder (of_params text gs)
+  params_in_order gs r = named_in_order (λ g. g.name) 0 gs r
+
+  module _ (from : ℕ) (s : Skeleton) (r : IsRisen from s) where
+    of_structs : (i : ℕ) → AreInOrder (get_or (map (λ t. of_params text t.params) s.structs) i [])
+    of_structs i =
+        at_place AreInOrder (λ (t : StructDecl). of_params text t.params) IsRisenStruct tt (λ t h. params_in_order t.params h.0) s.structs r.each_struct i
+
+    of_functions : (i : ℕ) → AreInOrder (get_or (map (λ f. of_params text f.params) s.functions) i [])
+    of_functions i =
+        at_place AreInOrder (λ (f : FunctionDecl). of_params text f.params) IsRisenFunction tt (λ f h. params_in_order f.params h) s.functions r.each_function i
+
+    of_nested : (i j : ℕ) → AreInOrder (get_or (get_or (map (λ t. map (λ f. of_params text f.params) t.functions) s.structs) i []) j [])
+    of_nested i j =
+        at_place (λ (dss : List (List Declaration)). AreInOrder (get_or dss j [])) (λ (t : StructDecl). map (λ (f : FunctionDecl). of_params text f.params) t.functions)
+        IsRisenStruct tt
+        (λ t h. at_place AreInOrder (λ (f : FunctionDecl). of_params text f.params) IsRisenFunction tt (λ f k. params_in_order f.params k) t.functions h.1.1 j)
+        s.structs r.each_struct i
+
+    own_in_order : (g : Signature) → AreInOrder (own_params (spaces text s) g)
+    own_in_order (Struct i) = of_structs i
+    own_in_order (Function i) = of_functions i
+    own_in_order (Nested i j) = of_nested i j
+
+    outer_in_order : (g : Signature) → AreInOrder (outer_params (spaces text s) g)
+    outer_in_order (Struct i) = tt
+    outer_in_order (Function i) = tt
+    outer_in_order (Nested i j) = of_structs i
+
+    all_in_order : IsInOrder (spaces text s)
+    all_in_order = record {
+      protocols = named_in_order (λ (p : ProtocolDecl). p.name) from s.protocols r.protocols;
+      structs = named_in_order (λ (t : StructDecl). t.name) from s.structs r.structs;
+      functions = named_in_order (λ (f : FunctionDecl). f.name) from s.functions r.functions;
+      members = at_place AreInOrder (λ (p : ProtocolDecl). declarations text (map (λ (m : AssocDecl). m.name) p.members)) IsRisenProtocol tt
+          (λ p h. named_in_order (λ (m : AssocDecl). m.name) 0 p.members h.1) s.protocols r.each_protocol;
+      primaries = at_place AreInOrder (λ (p : ProtocolDecl). declarations text p.primaries) IsRisenProtocol tt
+          (λ p h. in_order 0 p.primaries h.0) s.protocols r.each_protocol;
+      nested = at_place AreInOrder (λ (t : StructDecl). declarations text (map (λ (f : FunctionDecl). f.name) t.functions)) IsRisenStruct tt
+          (λ t h. named_in_order (λ (f : FunctionDecl). f.name) 0 t.functions h.1.0) s.structs r.each_struct;
+      own = own_in_order;
+      outer = outer_in_order;
+    }
+
+  pub declared_in_order : (s : Skeleton) → ((ts : List lexed.Token) → HasTokens text ts → AreSlices text (first_offset (chars text)) ts)
+      → StandsFor text s → IsInOrder (spaces text s)
+  unfolding lines.source
+  declared_in_order s slices (found, tokens, (parts, m, e)) =
+      let from = first_offset (chars text) in
+      let r = parts_risen from parts (with_terminals text found) m.0 (slices_rising text from found (slices found tokens)) in
+      subst (λ (u : Skeleton). IsInOrder (spaces text u)) (sym e) (all_in_order from (skeleton_of parts) r)

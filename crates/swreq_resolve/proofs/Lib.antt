@@ -5,3 +5,4 @@ pub mod SameMembers
 pub mod Gathered
 pub mod Meaning
 pub mod RefusedNames
+pub mod DeclaredOrder

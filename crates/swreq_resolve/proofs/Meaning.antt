@@ -57,6 +57,17 @@ abbrev pub AreInOrder : List Declaration → Type 0
 AreInOrder [] = Unit {0}
 AreInOrder (d ∷ ds) = ((e : Declaration) → Contains ds e → d.at ≤ e.at) × AreInOrder ds
 
+-- Each list of declared names stands in order.
+pub record IsInOrder (d : Spaces) : Type 0 where
+  pub protocols : AreInOrder d.protocols
+  pub structs : AreInOrder d.structs
+  pub functions : AreInOrder d.functions
+  pub members : (i : ℕ) → AreInOrder (get_or d.members i [])
+  pub primaries : (i : ℕ) → AreInOrder (get_or d.primaries i [])
+  pub nested : (i : ℕ) → AreInOrder (get_or d.nested i [])
+  pub own : (g : Signature) → AreInOrder (own_params d g)
+  pub outer : (g : Signature) → AreInOrder (outer_params d g)
+
 some_number : (i k : ℕ) → Some i ≡ Some k → i ≡ k
 some_number i k e = cc
 

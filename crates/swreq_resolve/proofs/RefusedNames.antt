@@ -31,7 +31,7 @@ use Rattle.swreq_resolve.specs.First.{when}
 use Rattle.swreq_resolve.specs.Refused.{Space, protocols_and_structs, structs_and_functions, functions_of, associated_types_of, primary_names_of, parameters_of, declarations_of, told_apart, HasEarlier, Declares, HasMember, HasParameter, signature_asked, IsScopeOf, IsLookedAt, HasType, HasEntity, refused, IsRefused, declared_again, no_protocol, no_protocol_in_brackets, wrong_arguments, concrete_in_protocol, concrete_in_signature, no_such_member, no_such_primary, no_signature, no_struct, no_function}
 use Rattle.swreq_resolve.specs.Refusals.{duplicate_of, duplicates, of_space, of_spaces, begins_in_protocol, begins_in_signature, has_arity, of_protocol_name, primary_of, of_bound, of_step, of_named, of_type, refusals}
 use Rattle.swreq_resolve.proofs.SameMembers.{in_pieces, from_pieces, has_number, number_of, Same}
-use Rattle.swreq_resolve.proofs.Meaning.{AreInOrder, earlier_to, earlier_from, declares_to, declares_from, parameter_to, parameter_from, member_to, member_from, begins_to, begins_from}
+use Rattle.swreq_resolve.proofs.Meaning.{AreInOrder, IsInOrder, earlier_to, earlier_from, declares_to, declares_from, parameter_to, parameter_from, member_to, member_from, begins_to, begins_from}
 use Rattle.swreq_resolve.proofs.Gathered.{begins_at, named_by, typed_by, named_at, typed_at, again_in_protocol, primaries_in_protocol, own_of_protocol, again_in_signature, again_in_function, again_in_nested, again_in_struct, unknown_signature, unknown_struct, unknown_in, unknown, own, asked, of_entities, of_types, all_gathered}
 
 -- ---- one refusal
@@ -123,19 +123,6 @@ module _ (ds es : List Declaration) where
       (λ a. Contains-append_right third fourth r (duplicates_from es p es d k a))
       (earlier_cases ds es d.name d.at h))))
       (Contains-append_cases ds es d c)
-
--- ---- order
-
--- Each list of declared names stands in order.
-pub record IsInOrder (d : Spaces) : Type 0 where
-  pub protocols : AreInOrder d.protocols
-  pub structs : AreInOrder d.structs
-  pub functions : AreInOrder d.functions
-  pub members : (i : ℕ) → AreInOrder (get_or d.members i [])
-  pub primaries : (i : ℕ) → AreInOrder (get_or d.primaries i [])
-  pub nested : (i : ℕ) → AreInOrder (get_or d.nested i [])
-  pub own : (g : Signature) → AreInOrder (own_params d g)
-  pub outer : (g : Signature) → AreInOrder (outer_params d g)
 
 -- ---- what stands within
 
