@@ -2,7 +2,7 @@
 use Rattle.std.proofs.Common.{◌≡◌, ℕ, zero, suc, ◌≤◌, ◌<◌, ◌⊎◌, inl, inr, ⊎_elim, List, [], ◌∷◌, ◌++◌, map, get_or, Contains, refl, sym, ap, subst, ◌∙◌, arith}
 use Rattle.std.specs.List.{AllByRecursion, filter_map}
 use Rattle.std.specs.Str.{chars}
-use Rattle.swreq_orders.proofs.Members.{no_member, member_cases}
+use Rattle.swreq_orders.proofs.Members.{no_member, first_member, later_member, member_cases}
 use Rattle.swreq_lex.specs.declared.token.Token as lexed
 use Rattle.swreq_lex.specs.Slices.{AreSlices, next}
 use Rattle.swreq_lex.specs.Tokens.{HasTokens, first_offset}
@@ -266,6 +266,28 @@ item_risen = at_before bare_item_risen
 
 -- ---- skeletons
 
+-- No two have one place.
+abbrev AreApart : List StructDecl → List FunctionDecl → Type 0
+AreApart ts fs = (t : StructDecl) (f : FunctionDecl) → Contains ts t → Contains fs f → struct_start t ≡ function_start f → ⊥
+
+starts_from : {A : Type 0} (start : A → ℕ) (from : ℕ) (xs : List A) → AreRising start from xs → (y : A) → Contains xs y → from ≤ start y
+starts_from start from [] r y c = no_member y c
+starts_from start from (x ∷ xs) r y c =
+    ⊎_elim (λ e. let k = r.0 in let s = ap start e in omega (arith, k, s))
+    (λ h. let k = r.0 in let l = starts_from start (suc (start x)) xs r.1 y h in omega (arith, k, l)) (member_cases x y xs c)
+
+one_more_struct : (t : StructDecl) (ts : List StructDecl) (fs : List FunctionDecl) → AreRising function_start (suc (struct_start t)) fs → AreApart ts fs
+    → AreApart (t ∷ ts) fs
+one_more_struct t ts fs r a u f c d e =
+    ⊎_elim (λ s. let l = starts_from function_start (suc (struct_start t)) fs r f d in let z = ap struct_start s in omega (arith, l, z, e))
+    (λ h. a u f h d e) (member_cases t u ts c)
+
+one_more_function : (f : FunctionDecl) (ts : List StructDecl) (fs : List FunctionDecl) → AreRising struct_start (suc (function_start f)) ts → AreApart ts fs
+    → AreApart ts (f ∷ fs)
+one_more_function f ts fs r a t g c d e =
+    ⊎_elim (λ s. let l = starts_from struct_start (suc (function_start f)) ts r t c in let z = ap function_start s in omega (arith, l, z, e))
+    (λ h. a t g c h e) (member_cases f g fs d)
+
 -- The names that the parts of a skeleton declare stand in order, and so do the names of the parts of each kind.
 record IsRisen (from : ℕ) (s : Skeleton) : Type 0 where
   protocols : AreRising protocol_start from s.protocols
@@ -274,6 +296,7 @@ record IsRisen (from : ℕ) (s : Skeleton) : Type 0 where
   each_protocol : AllByRecursion IsRisenProtocol s.protocols
   each_struct : AllByRecursion IsRisenStruct s.structs
   each_function : AllByRecursion IsRisenFunction s.functions
+  apart : AreApart s.structs s.functions
 
 sooner : (from to : ℕ) → from ≤ to → (s : Skeleton) → IsRisen to s → IsRisen from s
 sooner from to l s r = record {
@@ -283,10 +306,11 @@ sooner from to l s r = record {
   each_protocol = r.each_protocol;
   each_struct = r.each_struct;
   each_function = r.each_function;
+  apart = r.apart;
 }
 
 parts_risen : (from : ℕ) (vs : List Item) (ts : Tokens) → Parts (Matches number lines.item) ts vs → Rising from ts → IsRisen from (skeleton_of vs)
-parts_risen from [] ts e r = record { protocols = tt; structs = tt; functions = tt; each_protocol = tt; each_struct = tt; each_function = tt }
+parts_risen from [] ts e r = record { protocols = tt; structs = tt; functions = tt; each_protocol = tt; each_struct = tt; each_function = tt; apart = λ t f c d e. no_member t c }
 parts_risen from (items.Protocol p ∷ vs) ts (a, b, s, m, ms) r =
     let k = rising_parts from ts a b s r in
     let q = rising_past from p.name.start a b (subst (Rising from) s r) (item_stands a (items.Protocol p) m) in
@@ -300,6 +324,7 @@ parts_risen from (items.Protocol p ∷ vs) ts (a, b, s, m, ms) r =
       each_protocol = (item_risen.holds from a (items.Protocol p) k.0 m, all.each_protocol);
       each_struct = all.each_struct;
       each_function = all.each_function;
+      apart = all.apart;
     }
 parts_risen from (items.Struct t ∷ vs) ts (a, b, s, m, ms) r =
     let k = rising_parts from ts a b s r in
@@ -314,6 +339,7 @@ parts_risen from (items.Struct t ∷ vs) ts (a, b, s, m, ms) r =
       each_protocol = all.each_protocol;
       each_struct = (item_risen.holds from a (items.Struct t) k.0 m, all.each_struct);
       each_function = all.each_function;
+      apart = one_more_struct t (filter_map struct_of vs) (filter_map function_of vs) all.functions all.apart;
     }
 parts_risen from (items.Function f ∷ vs) ts (a, b, s, m, ms) r =
     let k = rising_parts from ts a b s r in
@@ -328,6 +354,7 @@ parts_risen from (items.Function f ∷ vs) ts (a, b, s, m, ms) r =
       each_protocol = all.each_protocol;
       each_struct = all.each_struct;
       each_function = (item_risen.holds from a (items.Function f) k.0 m, all.each_function);
+      apart = one_more_function f (filter_map struct_of vs) (filter_map function_of vs) all.structs all.apart;
     }
 parts_risen from (items.Query q ∷ vs) ts (a, b, s, m, ms) r =
     let all = parts_risen from vs b ms (rising_parts from ts a b s r).1 in
@@ -338,6 +365,7 @@ parts_risen from (items.Query q ∷ vs) ts (a, b, s, m, ms) r =
       each_protocol = all.each_protocol;
       each_struct = all.each_struct;
       each_function = all.each_function;
+      apart = all.apart;
     }
 
 -- ---- declared names
@@ -361,6 +389,15 @@ module _ (text : List ℕ) where
   named_in_order : {A : Type 0} (name : A → Span) (from : ℕ) (xs : List A) → AreRising (λ x. (name x).start) from xs
       → AreInOrder (declarations text (map name xs))
   named_in_order name from xs r = in_order from (map name xs) (named_rising name from xs r)
+
+  -- the part that has the declared name
+  named_by : {A : Type 0} (name : A → Span) (xs : List A) (d : Declaration) → Contains (declarations text (map name xs)) d
+      → (x : A) × Contains xs x × (d.at ≡ (name x).start)
+  named_by name [] d c = no_member d c
+  named_by name (x ∷ xs) d c =
+      ⊎_elim (λ e. (x, first_member x xs, ap (λ (y : Declaration). y.at) e))
+      (λ h. let r = named_by name xs d h in (r.0, later_member x r.0 xs r.1, r.2))
+      (member_cases (declaration text (name x)) d (declarations text (map name xs)) c)
 
   -- a fact for each list of lists
   at_place : {A B : Type 0} (P : List B → Type 0) (f : A → List B) (Is : A → Type 0) → P [] → ((x : A) → Is x → P (f x))
@@ -411,6 +448,10 @@ module _ (text : List ℕ) where
           (λ t h. named_in_order (λ (f : FunctionDecl). f.name) 0 t.functions h.1.0) s.structs r.each_struct;
       own = own_in_order;
       outer = outer_in_order;
+      apart = λ x y c d e.
+          let t = named_by (λ (t : StructDecl). t.name) s.structs x c in
+          let f = named_by (λ (f : FunctionDecl). f.name) s.functions y d in
+          r.apart t.0 f.0 t.1 f.1 (sym t.2 ∙ e ∙ f.2);
     }
 
   pub declared_in_order : (s : Skeleton) → ((ts : List lexed.Token) → HasTokens text ts → AreSlices text (first_offset (chars text)) ts)

@@ -24,11 +24,10 @@ use Rattle.swreq_names.specs.declared.signature.Signature.{Signature}
 use Rattle.swreq_names.specs.declared.signature.Signature.TheVariants.{Struct, Function, Nested}
 use Rattle.swreq_names.specs.Parts as parts
 use Rattle.swreq_names.specs.Parts.{Constraint, bound, Scope, in_protocol, in_signature, in_query, numbered, standing, constraints, entities, types}
-use Rattle.swreq_names.specs.Spaces.{word, struct_of, signature_of, nested_in, outer_params, own_params, Spaces, spaces}
+use Rattle.swreq_names.specs.Spaces.{word, struct_of, signature_of, nested_in, nested_of, outer_params, own_params, Spaces, spaces}
 use Rattle.swreq_resolve.specs.declared.refusal.Refusal.{Refusal}
 use Rattle.swreq_resolve.specs.declared.refusal.Fault.TheVariants.{UnknownSignature}
 use Rattle.swreq_resolve.specs.First.{when}
-use Rattle.swreq_resolve.specs.Refused.{signature_asked}
 use Rattle.swreq_resolve.specs.Refusals.{by_place, duplicates, begins_in_protocol, begins_in_signature, primary_of, of_primaries, of_named, of_type, of_entity, of_requirement, of_member, of_param, of_ask, of_members, of_protocol, of_signature, of_function, of_nested, of_struct, of_asked, of_nested_query, of_query_in, of_query, of_spaces, of_signatures, refusals}
 use Rattle.swreq_resolve.proofs.SameMembers.{Same, equal, itself, turned, then, both, moved, parted, each, split, nested, by_number, unnumbered, number_of}
 
@@ -105,6 +104,11 @@ module _ (text : List ℕ) (d : Spaces) (begins : List ℕ → Bool) where
       (ap (λ rs. of_type text d begins t ++ rs) (sym (append-nil (of_type text d begins u))))
 
 -- ---- parts in their scopes
+
+-- the signature that a query `S(..)` or `S.f(..)` is on, if there is one
+abbrev pub signature_asked : List ℕ → Skeleton → Option Span → Span → Option Signature
+signature_asked text s None p = signature_of (spaces text s) (word text p)
+signature_asked text s (Some outer) p = nested_of (spaces text s) (word text outer) (word text p)
 
 module _ (text : List ℕ) (s : Skeleton) (inherits : ℕ → ℕ → Bool) where
   abbrev d : Spaces

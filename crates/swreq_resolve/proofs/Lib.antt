@@ -4,5 +4,6 @@ pub mod Answers
 pub mod SameMembers
 pub mod Gathered
 pub mod Meaning
+pub mod References
 pub mod RefusedNames
 pub mod DeclaredOrder

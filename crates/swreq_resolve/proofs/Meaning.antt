@@ -52,12 +52,12 @@ declared_from ds name c = found_from name (names_of ds) 0 c
 
 -- ---- an earlier declaration
 
--- No declaration stands before one that the list has before it.
+-- Each declaration stands before those that the list has after it.
 abbrev pub AreInOrder : List Declaration → Type 0
 AreInOrder [] = Unit {0}
-AreInOrder (d ∷ ds) = ((e : Declaration) → Contains ds e → d.at ≤ e.at) × AreInOrder ds
+AreInOrder (d ∷ ds) = ((e : Declaration) → Contains ds e → d.at < e.at) × AreInOrder ds
 
--- Each list of declared names stands in order.
+-- Each list of declared names stands in order, and no struct and function have one place.
 pub record IsInOrder (d : Spaces) : Type 0 where
   pub protocols : AreInOrder d.protocols
   pub structs : AreInOrder d.structs
@@ -67,15 +67,16 @@ pub record IsInOrder (d : Spaces) : Type 0 where
   pub nested : (i : ℕ) → AreInOrder (get_or d.nested i [])
   pub own : (g : Signature) → AreInOrder (own_params d g)
   pub outer : (g : Signature) → AreInOrder (outer_params d g)
+  pub apart : (x y : Declaration) → Contains d.structs x → Contains d.functions y → x.at ≡ y.at → ⊥
 
-some_number : (i k : ℕ) → Some i ≡ Some k → i ≡ k
+pub some_number : (i k : ℕ) → Some i ≡ Some k → i ≡ k
 some_number i k e = cc
 
 -- what stands at the place of a name
-placed_at : (ds : List Declaration) (name : List ℕ) (i k : ℕ) → position_from (bytes_eq name) i (names_of ds) ≡ Some k
+placed_from : (ds : List Declaration) (name : List ℕ) (i k : ℕ) → position_from (bytes_eq name) i (names_of ds) ≡ Some k
     → (j : ℕ) × (d : Declaration) × (k ≡ i + j) × (slice_get ds j ≡ Some d) × (d.name ≡ name)
-placed_at [] name i k e = absurd cc
-placed_at (d ∷ ds) name i k e = by (bytes_eq name d.name) refl e (placed_at ds name (i + 1) k)
+placed_from [] name i k e = absurd cc
+placed_from (d ∷ ds) name i k e = by (bytes_eq name d.name) refl e (placed_from ds name (i + 1) k)
   where
     by : (b : Bool) → bytes_eq name d.name ≡ b → cond b (Some i) (position_from (bytes_eq name) (i + 1) (names_of ds)) ≡ Some k
         → (position_from (bytes_eq name) (i + 1) (names_of ds) ≡ Some k
@@ -84,18 +85,27 @@ placed_at (d ∷ ds) name i k e = by (bytes_eq name d.name) refl e (placed_at ds
     by true h f more = (0, d, (let s = some_number i k f in omega (arith, s)), refl, sym ((bytes_eq-Decides name d.name).0 h))
     by false h f more = let r = more f in (suc r.0, r.1, (let s = r.2 in omega (arith, s)), r.3, r.4)
 
+pub placed_at : (ds : List Declaration) (name : List ℕ) (k : ℕ) → place ds name ≡ Some k → (d : Declaration) × (slice_get ds k ≡ Some d) × (d.name ≡ name)
+placed_at ds name k e =
+    let r = placed_from ds name 0 k e in
+    let z : k ≡ r.0 = (let s = r.2 in omega (arith, s)) in
+    (r.1, ap (slice_get ds) z ∙ r.3, r.4)
+
+pub offset_at : (ds : List Declaration) (k : ℕ) (d : Declaration) → slice_get ds k ≡ Some d → offset_of ds k ≡ d.at
+offset_at ds k d e = ap (λ o. elim o [ None ↦ 0 | Some d ↦ d.at ]) e
+
 -- what a look-up finds, which stands no later than the offset
-abbrev IsFoundBy : List Declaration → ℕ → ℕ → Option ℕ → Type 0
+abbrev pub IsFoundBy : List Declaration → ℕ → ℕ → Option ℕ → Type 0
 IsFoundBy ds i at o = (j : ℕ) × (d : Declaration) × (o ≡ Some (i + j)) × (slice_get ds j ≡ Some d) × (d.at ≤ at)
 
 -- Where an ordered list has a name, a look-up finds one that stands no later.
-first_at : (ds : List Declaration) (name : List ℕ) (i : ℕ) (e : Declaration) → Contains ds e → e.name ≡ name → AreInOrder ds
+pub first_at : (ds : List Declaration) (name : List ℕ) (i : ℕ) (e : Declaration) → Contains ds e → e.name ≡ name → AreInOrder ds
     → IsFoundBy ds i e.at (position_from (bytes_eq name) i (names_of ds))
 first_at [] name i e c same o = no_member e c
 first_at (d ∷ ds) name i e c same o = by (bytes_eq name d.name) refl (λ h. first_at ds name (i + 1) e h same o.1)
   where
     no_later : d.at ≤ e.at
-    no_later = ⊎_elim (λ s. let t = ap (λ (x : Declaration). x.at) s in omega (arith, t)) (o.0 e) (member_cases d e ds c)
+    no_later = ⊎_elim (λ s. let t = ap (λ (x : Declaration). x.at) s in omega (arith, t)) (λ h. let l = o.0 e h in omega (arith, l)) (member_cases d e ds c)
 
     behind : bytes_eq name d.name ≡ false → Contains ds e
     behind h =
@@ -114,15 +124,12 @@ earlier_to ds name at e = by (place ds name) refl e
   where
     here : (k : ℕ) → place ds name ≡ Some k → nat_lt (offset_of ds k) at ≡ true → HasEarlier ds name at
     here k p l =
-        let r = placed_at ds name 0 k p in
-        let z : k ≡ r.0 = (let s = r.2 in omega (arith, s)) in
-        let at_k : slice_get ds k ≡ Some r.1 = ap (slice_get ds) z ∙ r.3 in
-        let offset : offset_of ds k ≡ r.1.at = ap (λ o. elim o [ None ↦ 0 | Some d ↦ d.at ]) at_k in
+        let r = placed_at ds name k p in
         record {
-          earlier = r.1;
-          declared = get_contains ds k r.1 at_k;
-          same = r.4;
-          before = subst (λ n. n < at) offset (ltb-true (offset_of ds k) at l);
+          earlier = r.0;
+          declared = get_contains ds k r.0 r.1;
+          same = r.2;
+          before = subst (λ n. n < at) (offset_at ds k r.0 r.1) (ltb-true (offset_of ds k) at l);
         }
 
     by : (o : Option ℕ) → place ds name ≡ o → elim o [ None ↦ false | Some k ↦ nat_lt (offset_of ds k) at ] ≡ true → HasEarlier ds name at
@@ -133,10 +140,25 @@ pub earlier_from : (ds : List Declaration) (name : List ℕ) (at : ℕ) → AreI
 earlier_from ds name at o h =
     let r = first_at ds name 0 h.earlier h.declared h.same o in
     let z : 0 + r.0 ≡ r.0 = omega arith in
-    let offset : offset_of ds r.0 ≡ r.1.at = ap (λ p. elim p [ None ↦ 0 | Some d ↦ d.at ]) r.3 in
-    let less : offset_of ds r.0 < at = subst (λ n. n < at) (sym offset) (let l = r.4 in let b = h.before in omega (arith, l, b)) in
+    let less : offset_of ds r.0 < at = subst (λ n. n < at) (sym (offset_at ds r.0 r.1 r.3)) (let l = r.4 in let b = h.before in omega (arith, l, b)) in
     ap (λ p. elim p [ None ↦ false | Some k ↦ nat_lt (offset_of ds k) at ]) (r.2 ∙ ap Some z)
     ∙ lt-ltb (offset_of ds r.0) at less
+
+-- an earlier one of two lists
+pub earlier_left : (ds es : List Declaration) (name : List ℕ) (at : ℕ) → HasEarlier ds name at → HasEarlier (ds ++ es) name at
+earlier_left ds es name at h =
+    record { earlier = h.earlier; declared = Contains-append_left ds es h.earlier h.declared; same = h.same; before = h.before }
+
+pub earlier_right : (ds es : List Declaration) (name : List ℕ) (at : ℕ) → HasEarlier es name at → HasEarlier (ds ++ es) name at
+earlier_right ds es name at h =
+    record { earlier = h.earlier; declared = Contains-append_right ds es h.earlier h.declared; same = h.same; before = h.before }
+
+pub earlier_cases : (ds es : List Declaration) (name : List ℕ) (at : ℕ) → HasEarlier (ds ++ es) name at → HasEarlier ds name at ⊎ HasEarlier es name at
+earlier_cases ds es name at h =
+    ⊎_elim
+    (λ c. inl (record { earlier = h.earlier; declared = c; same = h.same; before = h.before }))
+    (λ c. inr (record { earlier = h.earlier; declared = c; same = h.same; before = h.before }))
+    (Contains-append_cases ds es h.earlier h.declared)
 
 -- ---- members of protocols
 

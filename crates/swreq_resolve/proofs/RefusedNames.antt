@@ -23,16 +23,17 @@ use Rattle.swreq_names.specs.declared.signature.Signature.{Signature}
 use Rattle.swreq_names.specs.declared.signature.Signature.TheVariants.{Struct, Function, Nested}
 use Rattle.swreq_names.specs.Inheritance.{Tells}
 use Rattle.swreq_names.specs.Parts.{Scope, in_protocol, in_signature, in_query, numbered, entities, types}
-use Rattle.swreq_names.specs.Spaces.{word, declarations, of_params, is_declared_before, self_bytes, protocol_of, struct_of, signature_of, nested_in, nested_of, outer_params, own_params, declares, has_member, Spaces, spaces}
+use Rattle.swreq_names.specs.Spaces.{word, declarations, of_params, place, is_declared_before, self_bytes, protocol_of, struct_of, function_of, signature_of, nested_in, nested_of, outer_params, own_params, declares, has_member, Spaces, spaces}
 use Rattle.swreq_resolve.specs.declared.refusal.Fault.{Fault}
 use Rattle.swreq_resolve.specs.declared.refusal.Fault.TheVariants.{Duplicate, NotAProtocol, ConcreteType, NoSuchMember, UnknownSignature, WrongArity}
 use Rattle.swreq_resolve.specs.declared.refusal.Refusal.{Refusal}
 use Rattle.swreq_resolve.specs.First.{when}
-use Rattle.swreq_resolve.specs.Refused.{Space, protocols_and_structs, structs_and_functions, functions_of, associated_types_of, primary_names_of, parameters_of, declarations_of, told_apart, HasEarlier, Declares, HasMember, HasParameter, signature_asked, IsScopeOf, IsLookedAt, HasType, HasEntity, refused, IsRefused, declared_again, no_protocol, no_protocol_in_brackets, wrong_arguments, concrete_in_protocol, concrete_in_signature, no_such_member, no_such_primary, no_signature, no_struct, no_function}
+use Rattle.swreq_resolve.specs.Refused.{Space, protocols_and_structs, structs_and_functions, functions_of, associated_types_of, primary_names_of, parameters_of, declarations_of, told_apart, HasEarlier, NamesProtocol, NamesStruct, NamesFunction, NamesInner, NamesSignature, Declares, HasMember, HasParameter, IsScopeOf, IsLookedAt, HasType, HasEntity, refused, IsRefused, declared_again, no_protocol, no_protocol_in_brackets, wrong_arguments, concrete_in_protocol, concrete_in_signature, no_such_member, no_such_primary, no_signature, no_struct, no_function}
 use Rattle.swreq_resolve.specs.Refusals.{duplicate_of, duplicates, of_space, of_spaces, begins_in_protocol, begins_in_signature, has_arity, of_protocol_name, primary_of, of_bound, of_step, of_named, of_type, refusals}
 use Rattle.swreq_resolve.proofs.SameMembers.{in_pieces, from_pieces, has_number, number_of, Same}
-use Rattle.swreq_resolve.proofs.Meaning.{AreInOrder, IsInOrder, earlier_to, earlier_from, declares_to, declares_from, parameter_to, parameter_from, member_to, member_from, begins_to, begins_from}
-use Rattle.swreq_resolve.proofs.Gathered.{begins_at, named_by, typed_by, named_at, typed_at, again_in_protocol, primaries_in_protocol, own_of_protocol, again_in_signature, again_in_function, again_in_nested, again_in_struct, unknown_signature, unknown_struct, unknown_in, unknown, own, asked, of_entities, of_types, all_gathered}
+use Rattle.swreq_resolve.proofs.Meaning.{AreInOrder, IsInOrder, earlier_to, earlier_from, earlier_left, earlier_right, earlier_cases, declares_to, declares_from, parameter_to, parameter_from, member_to, member_from, begins_to, begins_from}
+use Rattle.swreq_resolve.proofs.References.{none_to, none_from, protocol, struct, function, inner, signature}
+use Rattle.swreq_resolve.proofs.Gathered.{signature_asked, begins_at, named_by, typed_by, named_at, typed_at, again_in_protocol, primaries_in_protocol, own_of_protocol, again_in_signature, again_in_function, again_in_nested, again_in_struct, unknown_signature, unknown_struct, unknown_in, unknown, own, asked, of_entities, of_types, all_gathered}
 
 -- ---- one refusal
 
@@ -67,22 +68,6 @@ module _ (space : List Declaration) where
   duplicates_from o ds d c h =
       in_pieces (duplicate_of space) ds d (refused Duplicate d.at) c
       (when_from (is_declared_before space d.name d.at) Duplicate d.at (earlier_from space d.name d.at o h))
-
--- an earlier one of two lists
-earlier_left : (ds es : List Declaration) (name : List ℕ) (at : ℕ) → HasEarlier ds name at → HasEarlier (ds ++ es) name at
-earlier_left ds es name at h =
-    record { earlier = h.earlier; declared = Contains-append_left ds es h.earlier h.declared; same = h.same; before = h.before }
-
-earlier_right : (ds es : List Declaration) (name : List ℕ) (at : ℕ) → HasEarlier es name at → HasEarlier (ds ++ es) name at
-earlier_right ds es name at h =
-    record { earlier = h.earlier; declared = Contains-append_right ds es h.earlier h.declared; same = h.same; before = h.before }
-
-earlier_cases : (ds es : List Declaration) (name : List ℕ) (at : ℕ) → HasEarlier (ds ++ es) name at → HasEarlier ds name at ⊎ HasEarlier es name at
-earlier_cases ds es name at h =
-    ⊎_elim
-    (λ c. inl (record { earlier = h.earlier; declared = c; same = h.same; before = h.before }))
-    (λ c. inr (record { earlier = h.earlier; declared = c; same = h.same; before = h.before }))
-    (Contains-append_cases ds es h.earlier h.declared)
 
 -- two lists that are one space
 module _ (ds es : List Declaration) where
@@ -138,7 +123,7 @@ within_inner f [] i j y c = no_member y c
 within_inner f (x ∷ xs) zero j y c = (x, refl, c)
 within_inner f (x ∷ xs) (suc i) j y c = within_inner f xs i j y c
 
-module _ (text : List ℕ) (s : Skeleton) (inherits : ℕ → ℕ → Bool) (tells : Tells text s inherits) where
+module _ (text : List ℕ) (s : Skeleton) (inherits : ℕ → ℕ → Bool) (tells : Tells text s inherits) (order : IsInOrder (spaces text s)) where
   abbrev d : Spaces
   d = spaces text s
 
@@ -219,24 +204,34 @@ module _ (text : List ℕ) (s : Skeleton) (inherits : ℕ → ℕ → Bool) (tel
   -- ---- queries
 
   module _ (q : QueryDecl) (c : Contains s.queries q) (r : Refusal) where
-    top_to : q.outer ≡ None → (o : Option Signature) → signature_of d (word text q.function) ≡ o
-        → Contains (unknown_signature text s inherits q o) r → IsRefused text s r
-    top_to e None h k = turned (refused UnknownSignature q.function.start) r (only_member (refused UnknownSignature q.function.start) r k) (no_signature c e h)
-    top_to e (Some g) h k = no_member r k
+    top_to : q.outer ≡ None → (a b : Option ℕ) → struct_of d (word text q.function) ≡ a → function_of d (word text q.function) ≡ b
+        → Contains (unknown_signature text s inherits q (elim a as (λ _. Option Signature) [ None ↦ option_map Function b | Some i ↦ Some (Struct i) ])) r
+        → IsRefused text s r
+    top_to e None None f g k =
+        let no_structs = none_to (struct_of d (word text q.function)) (NamesStruct text s q.function) (struct text s order q.function) f in
+        let no_functions = none_to (function_of d (word text q.function)) (NamesFunction text s q.function) (function text s order q.function) g in
+        turned (refused UnknownSignature q.function.start) r (only_member (refused UnknownSignature q.function.start) r k)
+        (no_signature c e no_structs no_functions)
+    top_to e None (Some j) f g k = no_member r k
+    top_to e (Some i) b f g k = no_member r k
 
-    inner_to : (outer : Span) → q.outer ≡ Some outer → (i : ℕ) → struct_of d (word text outer) ≡ Some i
-        → (o : Option Signature) → nested_in d i (word text q.function) ≡ o → Contains (unknown_signature text s inherits q o) r → IsRefused text s r
+    inner_to : (outer : Span) → q.outer ≡ Some outer → (i : ℕ) → NamesStruct text s outer i → (o : Option ℕ)
+        → place (get_or d.nested i []) (word text q.function) ≡ o → Contains (unknown_signature text s inherits q (option_map (Nested i) o)) r → IsRefused text s r
     inner_to outer e i f None h k =
-        turned (refused UnknownSignature q.function.start) r (only_member (refused UnknownSignature q.function.start) r k) (no_function c e f h)
-    inner_to outer e i f (Some g) h k = no_member r k
+        let none = none_to (place (get_or d.nested i []) (word text q.function)) (NamesInner text s i q.function) (inner text s order i q.function) h in
+        turned (refused UnknownSignature q.function.start) r (only_member (refused UnknownSignature q.function.start) r k) (no_function c e f none)
+    inner_to outer e i f (Some j) h k = no_member r k
 
     outer_to : (outer : Span) → q.outer ≡ Some outer → (o : Option ℕ) → struct_of d (word text outer) ≡ o
         → Contains (unknown_struct text s inherits q outer o) r → IsRefused text s r
-    outer_to outer e None h k = turned (refused UnknownSignature outer.start) r (only_member (refused UnknownSignature outer.start) r k) (no_struct c e h)
-    outer_to outer e (Some i) h k = inner_to outer e i h (nested_in d i (word text q.function)) refl k
+    outer_to outer e None h k =
+        turned (refused UnknownSignature outer.start) r (only_member (refused UnknownSignature outer.start) r k)
+        (no_struct c e (none_to (struct_of d (word text outer)) (NamesStruct text s outer) (struct text s order outer) h))
+    outer_to outer e (Some i) h k =
+        inner_to outer e i ((struct text s order outer).to i h) (place (get_or d.nested i []) (word text q.function)) refl k
 
     query_to : (o : Option Span) → q.outer ≡ o → Contains (unknown_in text s inherits q o) r → IsRefused text s r
-    query_to None e k = top_to e (signature_of d (word text q.function)) refl k
+    query_to None e k = top_to e (struct_of d (word text q.function)) (function_of d (word text q.function)) refl refl k
     query_to (Some outer) e k = outer_to outer e (struct_of d (word text outer)) refl k
 
   asked_to : (r : Refusal) → Contains asked_names r → IsRefused text s r
@@ -253,7 +248,7 @@ module _ (text : List ℕ) (s : Skeleton) (inherits : ℕ → ℕ → Bool) (tel
       → (b : Begins) → option_map (begins_in_signature d) o ≡ Some b → (g : Signature) × IsScopeOf text s g (in_query k) × (begins_in_signature d g ≡ b)
   asked_begins k p e None f b h = absurd cc
   asked_begins k None e (Some g) f b h = absurd cc
-  asked_begins k (Some q) e (Some g) f b h = (g, (q, e, f), same_begins (begins_in_signature d g) b h)
+  asked_begins k (Some q) e (Some g) f b h = (g, (q, e, (signature text s order q.outer q.function).to g f), same_begins (begins_in_signature d g) b h)
     where
       same_begins : (a b : Begins) → Some a ≡ Some b → a ≡ b
       same_begins a b e = cc
@@ -275,12 +270,12 @@ module _ (text : List ℕ) (s : Skeleton) (inherits : ℕ → ℕ → Bool) (tel
     wrong_to n i h false true f g c = no_member r c
     wrong_to n i h false false f g c =
         turned (refused WrongArity e.span.start) r (only_member (refused WrongArity e.span.start) r c)
-        (wrong_arguments (stands n) h (eqb-false (length e.args) 0 f) (eqb-false (length e.args) (length (get_or d.primaries i [])) g))
+        (wrong_arguments (stands n) ((protocol text s order e.span).to i h) (eqb-false (length e.args) 0 f) (eqb-false (length e.args) (length (get_or d.primaries i [])) g))
 
     protocol_name_to : e.layout ≡ false → (o : Option ℕ) → protocol_of d (word text e.span) ≡ o
         → Contains (of_protocol_name d e.span (length e.args) o) r → IsRefused text s r
     protocol_name_to n None h c =
-        turned (refused NotAProtocol e.span.start) r (only_member (refused NotAProtocol e.span.start) r c) (no_protocol (stands n) h)
+        turned (refused NotAProtocol e.span.start) r (only_member (refused NotAProtocol e.span.start) r c) (no_protocol (stands n) (none_to (protocol_of d (word text e.span)) (NamesProtocol text s e.span) (protocol text s order e.span) h))
     protocol_name_to n (Some i) h c = wrong_to n i h (nat_eq (length e.args) 0) (nat_eq (length e.args) (length (get_or d.primaries i []))) refl refl c
 
     named_to : (l : Bool) → e.layout ≡ l → Contains (cond l [] (of_protocol_name d e.span (length e.args) (protocol_of d (word text e.span)))) r → IsRefused text s r
@@ -324,11 +319,11 @@ module _ (text : List ℕ) (s : Skeleton) (inherits : ℕ → ℕ → Bool) (tel
   bound_to : (scope : Scope) (t : TypeDecl) → HasType text s scope t → (p a : Span) → Contains t.steps (steps.Bound p a)
       → (o : Option ℕ) → protocol_of d (word text p) ≡ o → (r : Refusal) → Contains (of_bound text d p a o) r → IsRefused text s r
   bound_to scope t w p a c None h r k =
-      turned (refused NotAProtocol p.start) r (only_member (refused NotAProtocol p.start) r k) (no_protocol_in_brackets w c h)
+      turned (refused NotAProtocol p.start) r (only_member (refused NotAProtocol p.start) r k) (no_protocol_in_brackets w c (none_to (protocol_of d (word text p)) (NamesProtocol text s p) (protocol text s order p) h))
   bound_to scope t w p a c (Some i) h r k =
       let e = when_to (not (declares d i (word text a))) NoSuchMember a.start r k in
       turned (refused NoSuchMember a.start) r e.1
-      (no_such_member w c h (refuted (declares d i (word text a)) (Declares text s i (word text a)) (declares_from text s i (word text a)) e.0))
+      (no_such_member w c ((protocol text s order p).to i h) (refuted (declares d i (word text a)) (Declares text s i (word text a)) (declares_from text s i (word text a)) e.0))
 
   step_to : (scope : Scope) (t : TypeDecl) → HasType text s scope t → (step : StepDecl) → Contains t.steps step
       → (r : Refusal) → Contains (of_step text d step) r → IsRefused text s r
@@ -418,7 +413,7 @@ module _ (text : List ℕ) (s : Skeleton) (inherits : ℕ → ℕ → Bool) (tel
 
   -- ---- declarations
 
-  module _ (order : IsInOrder d) (x : Declaration) where
+  module _ (x : Declaration) where
     abbrev again : Refusal
     again = refused Duplicate x.at
 
@@ -516,19 +511,31 @@ module _ (text : List ℕ) (s : Skeleton) (inherits : ℕ → ℕ → Bool) (tel
     query_found : (o : Option Span) → q.outer ≡ o → (r : Refusal) → Contains (unknown_in text s inherits q o) r → IsFound r
     query_found o e r k = found_query q c r (subst (λ (p : Option Span). Contains (unknown_in text s inherits q p) r) (sym e) k)
 
-    signature_found : q.outer ≡ None → signature_of d (word text q.function) ≡ None → IsFound here
-    signature_found e h =
+    signature_found : q.outer ≡ None → ((i : ℕ) → NamesStruct text s q.function i → ⊥) → ((i : ℕ) → NamesFunction text s q.function i → ⊥) → IsFound here
+    signature_found e no_structs no_functions =
+        let f : struct_of d (word text q.function) ≡ None
+        = none_from (struct_of d (word text q.function)) (NamesStruct text s q.function) (struct text s order q.function) no_structs in
+        let g : function_of d (word text q.function) ≡ None
+        = none_from (function_of d (word text q.function)) (NamesFunction text s q.function) (function text s order q.function) no_functions in
+        let h : signature_of d (word text q.function) ≡ None
+        = ap (λ a. elim a as (λ _. Option Signature) [ None ↦ option_map Function (function_of d (word text q.function)) | Some i ↦ Some (Struct i) ]) f
+        ∙ ap (option_map Function) g in
         query_found None e here
         (subst (λ (o : Option Signature). Contains (unknown_signature text s inherits q o) here) (sym h) (first_member here []))
 
-    struct_found : (outer : Span) → q.outer ≡ Some outer → struct_of d (word text outer) ≡ None → IsFound (refused UnknownSignature outer.start)
-    struct_found outer e h =
+    struct_found : (outer : Span) → q.outer ≡ Some outer → ((i : ℕ) → NamesStruct text s outer i → ⊥) → IsFound (refused UnknownSignature outer.start)
+    struct_found outer e n =
         let r = refused UnknownSignature outer.start in
+        let h : struct_of d (word text outer) ≡ None = none_from (struct_of d (word text outer)) (NamesStruct text s outer) (struct text s order outer) n in
         query_found (Some outer) e r (subst (λ (o : Option ℕ). Contains (unknown_struct text s inherits q outer o) r) (sym h) (first_member r []))
 
-    nested_found : (outer : Span) → q.outer ≡ Some outer → (i : ℕ) → struct_of d (word text outer) ≡ Some i
-        → nested_in d i (word text q.function) ≡ None → IsFound here
-    nested_found outer e i f h =
+    inner_found : (outer : Span) → q.outer ≡ Some outer → (i : ℕ) → NamesStruct text s outer i → ((j : ℕ) → NamesInner text s i q.function j → ⊥)
+        → IsFound here
+    inner_found outer e i m n =
+        let f : struct_of d (word text outer) ≡ Some i = (struct text s order outer).from i m in
+        let h : nested_in d i (word text q.function) ≡ None
+        = ap (option_map (Nested i))
+        (none_from (place (get_or d.nested i []) (word text q.function)) (NamesInner text s i q.function) (inner text s order i q.function) n) in
         query_found (Some outer) e here
         (subst (λ (o : Option ℕ). Contains (unknown_struct text s inherits q outer o) here) (sym f)
         (subst (λ (o : Option Signature). Contains (unknown_signature text s inherits q o) here) (sym h) (first_member here [])))
@@ -538,7 +545,8 @@ module _ (text : List ℕ) (s : Skeleton) (inherits : ℕ → ℕ → Bool) (tel
   scope_begins : (g : Signature) (scope : Scope) → IsScopeOf text s g scope → begins_at text s inherits scope ≡ Some (begins_in_signature d g)
   scope_begins g (in_protocol i) h = absurd h
   scope_begins g (in_signature f) e = ap (λ (x : Signature). Some (begins_in_signature d x)) e
-  scope_begins g (in_query k) (q, e, h) =
+  scope_begins g (in_query k) (q, e, m) =
+      let h = (signature text s order q.outer q.function).from g m in
       ap (λ (p : Option QueryDecl). option_map (begins_in_signature d) (elim p as (λ _. Option Signature) [ None ↦ None | Some q ↦ signature_asked text s q.outer q.function ])) e
       ∙ ap (option_map (begins_in_signature d)) h
 
@@ -558,9 +566,10 @@ module _ (text : List ℕ) (s : Skeleton) (inherits : ℕ → ℕ → Bool) (tel
       (subst (λ (p : Option ℕ). Contains (of_protocol_name d e.span (length e.args) p) r) (sym h) c) in
       found_entity (scope, e) w.written r (subst (λ (p : Option Begins). Contains (named_by text s inherits p e) r) (sym b.1) named)
 
-  wrong_found : (scope : Scope) (e : Entity) (i : ℕ) → HasEntity text s scope e → protocol_of d (word text e.span) ≡ Some i
+  wrong_found : (scope : Scope) (e : Entity) (i : ℕ) → HasEntity text s scope e → NamesProtocol text s e.span i
       → (length e.args ≡ 0 → ⊥) → (length e.args ≡ length (get_or d.primaries i []) → ⊥) → IsFound (refused WrongArity e.span.start)
-  wrong_found scope e i w h some differ =
+  wrong_found scope e i w m some differ =
+      let h : protocol_of d (word text e.span) ≡ Some i = (protocol text s order e.span).from i m in
       let count = length e.args in
       let wrong : not (has_arity d i count) ≡ true
       = ap not (or_from (nat_eq count 0) (nat_eq count (length (get_or d.primaries i []))) (ne_eqb count 0 some) (ne_eqb count (length (get_or d.primaries i [])) differ)) in
@@ -594,8 +603,9 @@ module _ (text : List ℕ) (s : Skeleton) (inherits : ℕ → ℕ → Bool) (tel
       step_found scope t w (steps.Bound p a) c r (subst (λ (x : Option ℕ). Contains (of_bound text d p a x) r) (sym h) k)
 
   undeclared_found : (scope : Scope) (t : TypeDecl) → HasType text s scope t → (p a : Span) → Contains t.steps (steps.Bound p a)
-      → (i : ℕ) → protocol_of d (word text p) ≡ Some i → (Declares text s i (word text a) → ⊥) → IsFound (refused NoSuchMember a.start)
-  undeclared_found scope t w p a c i h n =
+      → (i : ℕ) → NamesProtocol text s p i → (Declares text s i (word text a) → ⊥) → IsFound (refused NoSuchMember a.start)
+  undeclared_found scope t w p a c i m n =
+      let h : protocol_of d (word text p) ≡ Some i = (protocol text s order p).from i m in
       let name : List ℕ = word text a in
       bound_found scope t w p a c (Some i) h (refused NoSuchMember a.start)
       (when_from (not (declares d i name)) NoSuchMember a.start (denied (declares d i name) (Declares text s i name) (declares_to text s i name) n))
@@ -615,16 +625,20 @@ module _ (text : List ℕ) (s : Skeleton) (inherits : ℕ → ℕ → Bool) (tel
       let begins : Begins = begins_in_signature d g in
       head_found scope t w begins (scope_begins g scope h) (denied (begins name) (HasParameter text s g name) (parameter_to text s g name) n)
 
-  pub refusals_from : IsInOrder d → (r : Refusal) → IsRefused text s r → Contains (refusals text inherits s) r
-  refusals_from order _ (declared_again space {d = x} c h) = again_found order x space c h
-  refusals_from order _ (no_protocol {scope} {e} w h) = entity_found scope e w None h (refused NotAProtocol e.span.start) (first_member (refused NotAProtocol e.span.start) [])
-  refusals_from order _ (no_protocol_in_brackets {scope} {t} {p} {a} w c h) =
-      bound_found scope t w p a c None h (refused NotAProtocol p.start) (first_member (refused NotAProtocol p.start) [])
-  refusals_from order _ (wrong_arguments {scope} {e} {i} w h some differ) = wrong_found scope e i w h some differ
-  refusals_from order _ (concrete_in_protocol {i} {t} w self member) = in_protocol_found i t w self member
-  refusals_from order _ (concrete_in_signature {scope} g {t} w h n) = in_signature_found scope g t w h n
-  refusals_from order _ (no_such_member {scope} {t} {p} {a} {i} w c h n) = undeclared_found scope t w p a c i h n
-  refusals_from order _ (no_such_primary {i} {d = x} c n) = primary_found i x c n
-  refusals_from order _ (no_signature {q} c e h) = signature_found q c e h
-  refusals_from order _ (no_struct {q} {outer} c e h) = struct_found q c outer e h
-  refusals_from order _ (no_function {q} {outer} {i} c e f h) = nested_found q c outer e i f h
+  no_protocols : (p : Span) → ((i : ℕ) → NamesProtocol text s p i → ⊥) → protocol_of d (word text p) ≡ None
+  no_protocols p n = none_from (protocol_of d (word text p)) (NamesProtocol text s p) (protocol text s order p) n
+
+  pub refusals_from : (r : Refusal) → IsRefused text s r → Contains (refusals text inherits s) r
+  refusals_from _ (declared_again space {d = x} c h) = again_found x space c h
+  refusals_from _ (no_protocol {scope} {e} w n) =
+      let r = refused NotAProtocol e.span.start in entity_found scope e w None (no_protocols e.span n) r (first_member r [])
+  refusals_from _ (no_protocol_in_brackets {scope} {t} {p} {a} w c n) =
+      let r = refused NotAProtocol p.start in bound_found scope t w p a c None (no_protocols p n) r (first_member r [])
+  refusals_from _ (wrong_arguments {scope} {e} {i} w m some differ) = wrong_found scope e i w m some differ
+  refusals_from _ (concrete_in_protocol {i} {t} w self member) = in_protocol_found i t w self member
+  refusals_from _ (concrete_in_signature {scope} g {t} w h n) = in_signature_found scope g t w h n
+  refusals_from _ (no_such_member {scope} {t} {p} {a} {i} w c m n) = undeclared_found scope t w p a c i m n
+  refusals_from _ (no_such_primary {i} {d = x} c n) = primary_found i x c n
+  refusals_from _ (no_signature {q} c e n m) = signature_found q c e n m
+  refusals_from _ (no_struct {q} {outer} c e n) = struct_found q c outer e n
+  refusals_from _ (no_function {q} {outer} {i} c e m n) = inner_found q c outer e i m n

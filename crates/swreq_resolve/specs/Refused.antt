@@ -9,10 +9,11 @@ use Rattle.swreq_decl.specs.declared.skeleton.QueryDecl.{QueryDecl}
 use Rattle.swreq_decl.specs.declared.skeleton.Skeleton.{Skeleton}
 use Rattle.swreq_names.specs.declared.directory.Declaration.{Declaration}
 use Rattle.swreq_names.specs.declared.signature.Signature.{Signature}
+use Rattle.swreq_names.specs.declared.signature.Signature.TheVariants.{Struct, Function, Nested}
 use Rattle.swreq_names.specs.Directories.{names_of}
 use Rattle.swreq_names.specs.Inheritance.{Inherits}
 use Rattle.swreq_names.specs.Parts.{Scope, in_protocol, in_signature, in_query, types, entities}
-use Rattle.swreq_names.specs.Spaces.{word, self_bytes, protocol_of, struct_of, signature_of, nested_in, nested_of, outer_params, own_params, Spaces, spaces}
+use Rattle.swreq_names.specs.Spaces.{word, self_bytes, outer_params, own_params, Spaces, spaces}
 use Rattle.swreq_resolve.specs.declared.refusal.Fault.{Fault}
 use Rattle.swreq_resolve.specs.declared.refusal.Fault.TheVariants.{Duplicate, NotAProtocol, ConcreteType, NoSuchMember, UnknownSignature, WrongArity}
 use Rattle.swreq_resolve.specs.declared.refusal.Refusal.{Refusal}
@@ -44,8 +45,7 @@ module _ (d : Spaces) where
   declarations_of (primary_names_of i) = slice_index_or d.primaries i []
   declarations_of (parameters_of g) = own_params d g
 
-  -- The declarations that those of a space are told apart from: of the space itself; for the generic parameters of a function of a struct also those of the
-  -- struct.
+  -- what these are told apart from: from one another, and the generic parameters of a function of a struct also from those of the struct
   abbrev pub told_apart : Space → List Declaration
   told_apart (parameters_of g) = outer_params d g ++ own_params d g
   told_apart space = declarations_of space
@@ -57,54 +57,79 @@ pub record HasEarlier (ds : List Declaration) (name : List ℕ) (at : ℕ) : Typ
   pub same : earlier.name ≡ name
   pub before : earlier.at < at
 
+-- ---- what a name means
+
+-- The name means the i-th of these declarations: that has the name, and no earlier one in the space has it.
+pub record Means (ds space : List Declaration) (name : List ℕ) (i : ℕ) : Type 0 where
+  pub declaration : Declaration
+  pub place : slice_get ds i ≡ Some declaration
+  pub named : declaration.name ≡ name
+  pub first : HasEarlier space name declaration.at → ⊥
+
 module _ (text : List ℕ) (s : Skeleton) where
-  -- ---- members, generic parameters, queries
+  -- the i-th protocol, among protocols and structs
+  abbrev pub NamesProtocol : Span → ℕ → Type 0
+  NamesProtocol p i = Means (spaces text s).protocols (declarations_of (spaces text s) protocols_and_structs) (word text p) i
+
+  -- the i-th struct, among structs and functions
+  abbrev pub NamesStruct : Span → ℕ → Type 0
+  NamesStruct p i = Means (spaces text s).structs (declarations_of (spaces text s) structs_and_functions) (word text p) i
+
+  -- the i-th function at the top, among structs and functions
+  abbrev pub NamesFunction : Span → ℕ → Type 0
+  NamesFunction p i = Means (spaces text s).functions (declarations_of (spaces text s) structs_and_functions) (word text p) i
+
+  -- the j-th function of the i-th struct
+  abbrev pub NamesInner : ℕ → Span → ℕ → Type 0
+  NamesInner i p j = Means (declarations_of (spaces text s) (functions_of i)) (declarations_of (spaces text s) (functions_of i)) (word text p) j
+
+  -- the signature of a query `S(..)` or `S.f(..)`
+  abbrev pub NamesSignature : Option Span → Span → Signature → Type 0
+  NamesSignature None p (Struct i) = NamesStruct p i
+  NamesSignature None p (Function i) = NamesFunction p i
+  NamesSignature (Some outer) p (Nested i j) = NamesStruct outer i × NamesInner i p j
+  NamesSignature _ _ _ = ⊥
 
   -- The i-th protocol declares an associated type of this name itself.
   abbrev pub Declares : ℕ → List ℕ → Type 0
-  Declares i name = Contains (names_of (slice_index_or (spaces text s).members i [])) name
+  Declares i name = Contains (names_of (declarations_of (spaces text s) (associated_types_of i))) name
 
-  -- The i-th protocol has this member name: it, or a protocol that it inherits, declares it.
+  -- It has a member of this name: it, or a protocol that it inherits, declares one.
   abbrev pub HasMember : ℕ → List ℕ → Type 0
   HasMember i name = Declares i name ⊎ ((j : ℕ) × Inherits text s i j × Declares j name)
 
-  -- This is the name of a generic parameter of the signature, or of the struct around the function.
+  -- The signature, or the struct around the function, has a generic parameter of this name.
   abbrev pub HasParameter : Signature → List ℕ → Type 0
-  HasParameter g name = Contains (names_of (outer_params (spaces text s) g ++ own_params (spaces text s) g)) name
-
-  -- the signature that a query `S(..)` or `S.f(..)` is on, if there is one
-  abbrev pub signature_asked : Option Span → Span → Option Signature
-  signature_asked None f = signature_of (spaces text s) (word text f)
-  signature_asked (Some outer) f = nested_of (spaces text s) (word text outer) (word text f)
+  HasParameter g name = Contains (names_of (told_apart (spaces text s) (parameters_of g))) name
 
   -- ---- scopes
 
-  -- The scope is that of the signature: a part of it, or a query on it.
+  -- The scope is the signature, or a query on it.
   abbrev pub IsScopeOf : Signature → Scope → Type 0
   IsScopeOf g (in_protocol i) = ⊥
   IsScopeOf g (in_signature h) = h ≡ g
-  IsScopeOf g (in_query k) = (q : QueryDecl) × (slice_get s.queries k ≡ Some q) × (signature_asked q.outer q.function ≡ Some g)
+  IsScopeOf g (in_query k) = (q : QueryDecl) × (slice_get s.queries k ≡ Some q) × NamesSignature q.outer q.function g
 
-  -- What stands in a declaration is looked at, and what stands in a query on a signature. The rest of a query on no signature is not.
+  -- What stands in a declaration is looked at, and what stands in a query on a signature. The rest of a query on an unknown signature is not.
   abbrev pub IsLookedAt : Scope → Type 0
   IsLookedAt (in_query k) = (g : Signature) × IsScopeOf g (in_query k)
   IsLookedAt _ = Unit {0}
 
-  -- The type is written there, and is looked at.
+  -- The type is written in the scope, and is looked at.
   pub record HasType (scope : Scope) (t : TypeDecl) : Type 0 where
     pub written : Contains (types s) (scope, t)
     pub looked_at : IsLookedAt scope
 
-  -- The name stands for a protocol there, and is looked at. `AnyObject` is the layout and no name.
+  -- The entity stands in the scope, is looked at, and is a name: `AnyObject` is none.
   pub record HasEntity (scope : Scope) (e : Entity) : Type 0 where
     pub written : Contains (entities s) (scope, e)
     pub looked_at : IsLookedAt scope
     pub named : e.layout ≡ false
 
+-- ---- refusals
+
 abbrev pub refused : Fault → ℕ → Refusal
 refused fault at = record { fault = fault; at = at }
-
--- ---- refusals
 
 -- A name of the text is refused.
 pub data IsRefused (text : List ℕ) (s : Skeleton) : Refusal → Type 0 where
@@ -116,19 +141,19 @@ pub data IsRefused (text : List ℕ) (s : Skeleton) : Refusal → Type 0 where
   -- On the right of `:` or `&` stands a protocol, by its first declaration among protocols and structs.
   no_protocol : {scope : Scope} {e : Entity}
       → HasEntity text s scope e
-      → protocol_of (spaces text s) (word text e.span) ≡ None
+      → ((i : ℕ) → NamesProtocol text s e.span i → ⊥)
       → IsRefused text s (refused NotAProtocol e.span.start)
   -- The same in brackets in a query.
   no_protocol_in_brackets : {scope : Scope} {t : TypeDecl} {p a : Span}
       → HasType text s scope t → Contains t.steps (steps.Bound p a)
-      → protocol_of (spaces text s) (word text p) ≡ None
+      → ((i : ℕ) → NamesProtocol text s p i → ⊥)
       → IsRefused text s (refused NotAProtocol p.start)
   -- With arguments, it is a protocol with as many primary names as there are arguments.
   wrong_arguments : {scope : Scope} {e : Entity} {i : ℕ}
       → HasEntity text s scope e
-      → protocol_of (spaces text s) (word text e.span) ≡ Some i
+      → NamesProtocol text s e.span i
       → length e.args ≢ 0
-      → length e.args ≢ length (slice_index_or (spaces text s).primaries i [])
+      → length e.args ≢ length (declarations_of (spaces text s) (primary_names_of i))
       → IsRefused text s (refused WrongArity e.span.start)
   -- The first word of a type in a protocol is `Self` or a member name of the protocol.
   concrete_in_protocol : {i : ℕ} {t : TypeDecl}
@@ -145,27 +170,28 @@ pub data IsRefused (text : List ℕ) (s : Skeleton) : Refusal → Type 0 where
   -- In `[P]A` in a query, where P is a protocol, A is an associated type that P itself declares.
   no_such_member : {scope : Scope} {t : TypeDecl} {p a : Span} {i : ℕ}
       → HasType text s scope t → Contains t.steps (steps.Bound p a)
-      → protocol_of (spaces text s) (word text p) ≡ Some i
+      → NamesProtocol text s p i
       → (Declares text s i (word text a) → ⊥)
       → IsRefused text s (refused NoSuchMember a.start)
   -- A primary name is a member name of its protocol.
   no_such_primary : {i : ℕ} {d : Declaration}
-      → Contains (slice_index_or (spaces text s).primaries i []) d
+      → Contains (declarations_of (spaces text s) (primary_names_of i)) d
       → (HasMember text s i d.name → ⊥)
       → IsRefused text s (refused NoSuchMember d.at)
   -- In a query `S(..)` S is a struct, or a function at the top.
   no_signature : {q : QueryDecl}
       → Contains s.queries q → q.outer ≡ None
-      → signature_of (spaces text s) (word text q.function) ≡ None
+      → ((i : ℕ) → NamesStruct text s q.function i → ⊥)
+      → ((i : ℕ) → NamesFunction text s q.function i → ⊥)
       → IsRefused text s (refused UnknownSignature q.function.start)
   -- In a query `S.f(..)` S is a struct, by its first declaration among structs and functions.
   no_struct : {q : QueryDecl} {outer : Span}
       → Contains s.queries q → q.outer ≡ Some outer
-      → struct_of (spaces text s) (word text outer) ≡ None
+      → ((i : ℕ) → NamesStruct text s outer i → ⊥)
       → IsRefused text s (refused UnknownSignature outer.start)
   -- Then f is a function of the struct S.
   no_function : {q : QueryDecl} {outer : Span} {i : ℕ}
       → Contains s.queries q → q.outer ≡ Some outer
-      → struct_of (spaces text s) (word text outer) ≡ Some i
-      → nested_in (spaces text s) i (word text q.function) ≡ None
+      → NamesStruct text s outer i
+      → ((j : ℕ) → NamesInner text s i q.function j → ⊥)
       → IsRefused text s (refused UnknownSignature q.function.start)
