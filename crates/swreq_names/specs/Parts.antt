@@ -118,3 +118,24 @@ asked_at q = standing (in_query q.0) (types_of_ask q.1.ask)
 -- all types that are written in a text, those of its declarations and those of its queries
 abbrev pub types : Skeleton → List (Scope × TypeDecl)
 types s = flat_map types_at (constraints s) ++ flat_map asked_at (numbered 0 s.queries)
+
+-- ---- entities
+
+-- what stands on the right of the colon
+abbrev pub entities_of : Constraint → List Entity
+entities_of (bound subject bounds) = bounds
+entities_of (same t u) = []
+
+abbrev pub entities_of_ask : Ask → List Entity
+entities_of_ask (asks.Is t e) = e ∷ []
+entities_of_ask _ = []
+
+abbrev pub entities_at : Scope × Constraint → List (Scope × Entity)
+entities_at c = standing c.0 (entities_of c.1)
+
+abbrev pub asked_entities_at : ℕ × QueryDecl → List (Scope × Entity)
+asked_entities_at q = standing (in_query q.0) (entities_of_ask q.1.ask)
+
+-- all that stands on the right of a colon in a text, in its declarations and in its queries
+abbrev pub entities : Skeleton → List (Scope × Entity)
+entities s = flat_map entities_at (constraints s) ++ flat_map asked_entities_at (numbered 0 s.queries)

@@ -4,3 +4,4 @@ pub mod Errors
 pub mod Scopes
 pub mod Cycles
 pub mod Resolving
+pub mod Refused
