@@ -1,5 +1,5 @@
 -- Each direct step leads to a protocol.
-use Rattle.std.proofs.Common.{◌≡◌, ℕ, zero, suc, ◌+◌, ◌<◌, ⊎_elim, Bool, true, false, cond, ◌&&◌, List, [], ◌∷◌, ◌++◌, length, get_or, map, Option, None, Some, Contains, refl, sym, subst, arith}
+use Rattle.std.proofs.Common.{◌≡◌, ℕ, zero, suc, ◌+◌, ◌<◌, ⊎_elim, Bool, true, false, cond, List, [], ◌∷◌, ◌++◌, length, get_or, map, Option, None, Some, Contains, refl, sym, subst, arith}
 use Rattle.std.specs.List.{flat_map, position_from}
 use Rattle.std.specs.Option.{option_to_list}
 use Rattle.std.specs.Str.{bytes_eq}
@@ -7,14 +7,13 @@ use Rattle.std.proofs.lemmas.List.{length-map}
 use Rattle.std.proofs.lemmas.List.Elements.{Contains-append_cases}
 use Rattle.swreq_closure.specs.Chains.{AreWithin}
 use Rattle.swreq_decl.specs.declared.skeleton.Entity.{Entity}
-use Rattle.swreq_decl.specs.declared.skeleton.ReqDecl.{ReqDecl}
-use Rattle.swreq_decl.specs.declared.skeleton.ReqDecl.TheVariants as reqs
-use Rattle.swreq_decl.specs.declared.skeleton.AssocDecl.{AssocDecl}
 use Rattle.swreq_decl.specs.declared.skeleton.ProtocolDecl.{ProtocolDecl}
 use Rattle.swreq_names.specs.declared.directory.Declaration.{Declaration}
-use Rattle.swreq_names.specs.Spaces.{word, place, offset_of, is_declared_before, refers_to, protocol_of, Spaces, self_bytes}
+use Rattle.swreq_names.specs.Spaces.{word, place, offset_of, is_declared_before, refers_to, protocol_of, Spaces}
 use Rattle.swreq_names.specs.Directories.{names_of}
-use Rattle.swreq_names.specs.Inheritance.{is_bare, named_by, in_bounds, in_requirement, in_clause, direct}
+use Rattle.swreq_names.specs.Inheritance.{named_by, named_in, is_itself, inherited_by, direct}
+use Rattle.swreq_names.specs.Parts.{Constraint, of_protocol}
+use Rattle.swreq_names.specs.Parts.Constraint.{bound, same}
 
 abbrev AreBelow : ℕ → List ℕ → Type 0
 AreBelow n xs = (j : ℕ) → Contains xs j → j < n
@@ -75,18 +74,15 @@ module _ (text : List ℕ) (d : Spaces) where
   named_below : (e : Entity) → AreBelow (length d.protocols) (option_to_list (named_by text d e))
   named_below e = one_below (length d.protocols) (named_by text d e) (λ k h. (protocol_below d (word text e.span) k (hidden e.layout (protocol_of d (word text e.span)) k h)))
 
-  bounds_below : (es : List Entity) → AreBelow (length d.protocols) (in_bounds text d es)
-  bounds_below es = pieces_below (length d.protocols) (λ e. option_to_list (named_by text d e)) named_below es
+  entities_below : (es : List Entity) → AreBelow (length d.protocols) (named_in text d es)
+  entities_below es = pieces_below (length d.protocols) (λ e. option_to_list (named_by text d e)) named_below es
 
-  requirement_below : (r : ReqDecl) → AreBelow (length d.protocols) (in_requirement text d r)
-  requirement_below (reqs.Bound t bounds) = chosen_below (length d.protocols) (bytes_eq self_bytes (word text t.head) && is_bare t.steps) (in_bounds text d bounds) (bounds_below bounds)
-  requirement_below (reqs.Same t u) = none_below (length d.protocols)
+  constraint_below : (c : Constraint) → AreBelow (length d.protocols) (inherited_by text d c)
+  constraint_below (bound subject es) = chosen_below (length d.protocols) (is_itself text d subject) (named_in text d es) (entities_below es)
+  constraint_below (same t u) = none_below (length d.protocols)
 
   direct_below : (p : ProtocolDecl) → AreBelow (length d.protocols) (direct text d p)
-  direct_below p =
-      both_below (length d.protocols) (in_bounds text d p.inherits) (in_clause text d p.clause ++ flat_map (λ m. in_clause text d m.clause) p.members) (bounds_below p.inherits)
-      (both_below (length d.protocols) (in_clause text d p.clause) (flat_map (λ m. in_clause text d m.clause) p.members) (pieces_below (length d.protocols) (in_requirement text d) requirement_below p.clause)
-      (pieces_below (length d.protocols) (λ (m : AssocDecl). in_clause text d m.clause) (λ m. pieces_below (length d.protocols) (in_requirement text d) requirement_below m.clause) p.members))
+  direct_below p = pieces_below (length d.protocols) (inherited_by text d) constraint_below (of_protocol p)
 
   next_below : (ps : List ProtocolDecl) (i : ℕ) → AreBelow (length d.protocols) (get_or (map (direct text d) ps) i [])
   next_below [] i = none_below (length d.protocols)

@@ -14,7 +14,7 @@ use Rattle.swreq_decl.specs.declared.skeleton.ProtocolDecl.{ProtocolDecl}
 use Rattle.swreq_decl.specs.Terminals.{number}
 use Rattle.swreq_decl.specs.Source as lines
 use Rattle.swreq_decl.specs.Source.{Line, after, before, or_else, separated, in_angles, continued, plain_step, span}
-use Rattle.swreq_names.specs.Mentioned as names
+use Rattle.swreq_names.specs.Walk as names
 use Rattle.swreq_names.specs.Spaces.{word}
 
 -- ---- names

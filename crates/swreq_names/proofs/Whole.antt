@@ -17,9 +17,11 @@ use Rattle.swreq_decl.specs.declared.skeleton.ProtocolDecl.{ProtocolDecl}
 use Rattle.swreq_decl.specs.declared.skeleton.Skeleton.{Skeleton}
 use Rattle.swreq_decl.specs.Skeletons.{StandsFor, skeleton_of}
 use Rattle.swreq_decl.specs.Terminals.{number, by_kind, entry, marks, reserved_words, slice, with_terminals}
-use Rattle.swreq_names.specs.Mentioned as names
+use Rattle.swreq_names.specs.Mentioned.{mentioned}
+use Rattle.swreq_names.specs.Walk as names
 use Rattle.swreq_names.specs.Spaces.{word}
 use Rattle.swreq_names.proofs.Walk.{AreNames, AreNamed, IsItemNamed, IsProtocolNamed, join, join_all, parts_named}
+use Rattle.swreq_names.proofs.Walked.{same_names}
 
 -- ---- tokens
 
@@ -69,7 +71,7 @@ skeleton_named text (items.Query q ∷ parts) n =
     let more = skeleton_named text parts n.1 in
     record { protocols = more.protocols; structs = more.structs; functions = more.functions; queries = (n.0, more.queries) }
 
-all_names : (text : List ℕ) (s : Skeleton) → IsSkeletonNamed text s → AreNames (names.mentioned text s)
+all_names : (text : List ℕ) (s : Skeleton) → IsSkeletonNamed text s → AreNames (names.walked text s)
 all_names text s n =
     let ps = flat_map (names.in_protocol text) s.protocols in
     let ts = flat_map (names.in_struct text) s.structs in
@@ -110,5 +112,5 @@ module _ (text : List ℕ) (s : Skeleton) (slices : (ts : List lexed.Token) → 
         let n = protocol_names text s.protocols (named stands).protocols in
         contained (map (λ (p : ProtocolDecl). word text p.name) s.protocols) name n c
 
-    pub members_spelled : StandsFor text s → (name : List ℕ) → Contains (names.mentioned text s) name → IsSpelled kinds.Name name
-    members_spelled stands name c = contained (names.mentioned text s) name (all_names text s (named stands)) c
+    pub members_spelled : StandsFor text s → (name : List ℕ) → Contains (mentioned text s) name → IsSpelled kinds.Name name
+    members_spelled stands name c = contained (names.walked text s) name (all_names text s (named stands)) ((same_names text s name).1 c)

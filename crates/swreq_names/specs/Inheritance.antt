@@ -1,15 +1,16 @@
 -- Which protocols a protocol inherits. A protocol is its place among the protocols in written order.
-use Rattle.std.specs.Prelude.{ℕ, ◌↔◌, Bool, cond, true, false, ◌&&◌, List, [], ◌∷◌, ◌++◌, Option, None, map, IsTrue}
+use Rattle.std.specs.Prelude.{ℕ, ◌↔◌, Bool, cond, true, false, ◌&&◌, List, [], ◌∷◌, Option, None, map, IsTrue}
 use Rattle.std.specs.List.{flat_map}
 use Rattle.std.specs.Option.{option_to_list}
 use Rattle.std.specs.Str.{bytes_eq}
 use Rattle.swreq_closure.specs.Chains.{Leads}
 use Rattle.swreq_decl.specs.declared.skeleton.Entity.{Entity}
-use Rattle.swreq_decl.specs.declared.skeleton.ReqDecl.{ReqDecl}
-use Rattle.swreq_decl.specs.declared.skeleton.ReqDecl.TheVariants as requirements
 use Rattle.swreq_decl.specs.declared.skeleton.StepDecl.{StepDecl}
 use Rattle.swreq_decl.specs.declared.skeleton.ProtocolDecl.{ProtocolDecl}
 use Rattle.swreq_decl.specs.declared.skeleton.Skeleton.{Skeleton}
+use Rattle.swreq_names.specs.Parts.{Subject, Constraint, of_protocol}
+use Rattle.swreq_names.specs.Parts.Subject.{self_of, associated, parameter, written}
+use Rattle.swreq_names.specs.Parts.Constraint.{bound, same}
 use Rattle.swreq_names.specs.Spaces.{word, protocol_of, Spaces, spaces, self_bytes}
 
 abbrev pub is_bare : List StepDecl → Bool
@@ -21,20 +22,24 @@ module _ (text : List ℕ) (d : Spaces) where
   abbrev pub named_by : Entity → Option ℕ
   named_by e = cond e.layout None (protocol_of d (word text e.span))
 
-  abbrev pub in_bounds : List Entity → List ℕ
-  in_bounds es = flat_map (λ e. option_to_list (named_by e)) es
+  abbrev pub named_in : List Entity → List ℕ
+  named_in es = flat_map (λ e. option_to_list (named_by e)) es
 
-  -- what the requirement binds the bare `Self` to
-  abbrev pub in_requirement : ReqDecl → List ℕ
-  in_requirement (requirements.Bound t bounds) = cond (bytes_eq self_bytes (word text t.head) && is_bare t.steps) (in_bounds bounds) []
-  in_requirement (requirements.Same t u) = []
+  -- whether a constraint in a protocol is on the protocol itself: on what it inherits, or on the bare `Self`
+  abbrev pub is_itself : Subject → Bool
+  is_itself (self_of name) = true
+  is_itself (associated name) = false
+  is_itself (parameter k name) = false
+  is_itself (written t) = bytes_eq self_bytes (word text t.head) && is_bare t.steps
 
-  abbrev pub in_clause : List ReqDecl → List ℕ
-  in_clause rs = flat_map in_requirement rs
+  -- what a constraint makes the protocol inherit
+  abbrev pub inherited_by : Constraint → List ℕ
+  inherited_by (bound subject entities) = cond (is_itself subject) (named_in entities) []
+  inherited_by (same t u) = []
 
-  -- the protocols that this one inherits directly: those that it binds the bare `Self` to, anywhere
+  -- the protocols that this one inherits directly, in written order
   abbrev pub direct : ProtocolDecl → List ℕ
-  direct p = in_bounds p.inherits ++ (in_clause p.clause ++ flat_map (λ m. in_clause m.clause) p.members)
+  direct p = flat_map inherited_by (of_protocol p)
 
 -- for each protocol those that it inherits directly
 abbrev pub inheritance : List ℕ → Skeleton → List (List ℕ)

@@ -4,4 +4,5 @@ pub mod Directories
 pub mod Inheritance
 pub mod Names
 pub mod Mentioned
+pub mod Walk
 pub mod WordBytes

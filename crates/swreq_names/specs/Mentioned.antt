@@ -1,22 +1,13 @@
--- The names of the world: those of associated types and of members in the declarations and queries of a text.
-use Rattle.std.specs.Prelude.{ℕ, List, [], ◌∷◌, ◌++◌}
+-- The names of the world: those of the associated types that protocols declare, and those of the members in written types.
+use Rattle.std.specs.Prelude.{ℕ, List, ◌++◌, map}
 use Rattle.std.specs.List.{flat_map}
 use Rattle.swreq_decl.specs.declared.skeleton.Span.{Span}
-use Rattle.swreq_decl.specs.declared.skeleton.Entity.{Entity}
 use Rattle.swreq_decl.specs.declared.skeleton.StepDecl.{StepDecl}
 use Rattle.swreq_decl.specs.declared.skeleton.StepDecl.TheVariants as steps
 use Rattle.swreq_decl.specs.declared.skeleton.TypeDecl.{TypeDecl}
-use Rattle.swreq_decl.specs.declared.skeleton.ReqDecl.{ReqDecl}
-use Rattle.swreq_decl.specs.declared.skeleton.ReqDecl.TheVariants as requirements
-use Rattle.swreq_decl.specs.declared.skeleton.AssocDecl.{AssocDecl}
 use Rattle.swreq_decl.specs.declared.skeleton.ProtocolDecl.{ProtocolDecl}
-use Rattle.swreq_decl.specs.declared.skeleton.ParamDecl.{ParamDecl}
-use Rattle.swreq_decl.specs.declared.skeleton.FunctionDecl.{FunctionDecl}
-use Rattle.swreq_decl.specs.declared.skeleton.StructDecl.{StructDecl}
-use Rattle.swreq_decl.specs.declared.skeleton.Ask.{Ask}
-use Rattle.swreq_decl.specs.declared.skeleton.Ask.TheVariants as asks
-use Rattle.swreq_decl.specs.declared.skeleton.QueryDecl.{QueryDecl}
 use Rattle.swreq_decl.specs.declared.skeleton.Skeleton.{Skeleton}
+use Rattle.swreq_names.specs.Parts.{types}
 use Rattle.swreq_names.specs.Spaces.{word}
 
 -- the name of a member
@@ -25,49 +16,13 @@ member_of (steps.Plain a) = a
 member_of (steps.Bound p a) = a
 
 module _ (text : List ℕ) where
-  abbrev pub in_step : StepDecl → List (List ℕ)
-  in_step s = word text (member_of s) ∷ []
+  -- the names of the associated types that a protocol declares
+  abbrev pub declared_by : ProtocolDecl → List (List ℕ)
+  declared_by p = map (λ m. word text m.name) p.members
 
-  abbrev pub in_type : TypeDecl → List (List ℕ)
-  in_type t = flat_map in_step t.steps
-
-  abbrev pub in_entity : Entity → List (List ℕ)
-  in_entity e = flat_map in_type e.args
-
-  abbrev pub in_bounds : List Entity → List (List ℕ)
-  in_bounds es = flat_map in_entity es
-
-  abbrev pub in_requirement : ReqDecl → List (List ℕ)
-  in_requirement (requirements.Bound t bounds) = in_type t ++ in_bounds bounds
-  in_requirement (requirements.Same t u) = in_type t ++ in_type u
-
-  abbrev pub in_clause : List ReqDecl → List (List ℕ)
-  in_clause rs = flat_map in_requirement rs
-
-  abbrev pub in_member : AssocDecl → List (List ℕ)
-  in_member m = (word text m.name ∷ []) ++ (in_bounds m.inherits ++ in_clause m.clause)
-
-  abbrev pub in_protocol : ProtocolDecl → List (List ℕ)
-  in_protocol p = in_bounds p.inherits ++ (in_clause p.clause ++ flat_map in_member p.members)
-
-  abbrev pub in_param : ParamDecl → List (List ℕ)
-  in_param g = in_bounds g.bounds
-
-  abbrev pub in_function : FunctionDecl → List (List ℕ)
-  in_function f = flat_map in_param f.params ++ in_clause f.clause
-
-  abbrev pub in_struct : StructDecl → List (List ℕ)
-  in_struct s = flat_map in_param s.params ++ (in_clause s.clause ++ flat_map in_function s.functions)
-
-  abbrev pub in_ask : Ask → List (List ℕ)
-  in_ask asks.Signature = []
-  in_ask (asks.Reduced t) = in_type t
-  in_ask (asks.Is t bound) = in_type t ++ in_entity bound
-  in_ask (asks.Same t u) = in_type t ++ in_type u
-
-  abbrev pub in_query : QueryDecl → List (List ℕ)
-  in_query q = in_ask q.ask
+  -- the names of the members in a type
+  abbrev pub members_in : TypeDecl → List (List ℕ)
+  members_in t = map (λ s. word text (member_of s)) t.steps
 
   abbrev pub mentioned : Skeleton → List (List ℕ)
-  mentioned s =
-      flat_map in_protocol s.protocols ++ (flat_map in_struct s.structs ++ (flat_map in_function s.functions ++ flat_map in_query s.queries))
+  mentioned s = flat_map declared_by s.protocols ++ flat_map (λ t. members_in t.1) (types s)

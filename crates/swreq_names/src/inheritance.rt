@@ -3,7 +3,8 @@ ghost use Rattle.std.specs.Prelude.{◌≡◌, ◌++◌, map, length, IfOk, OnOk
 ghost use Rattle.std.specs.List.{flat_map};
 ghost use Rattle.std.specs.Option.{option_to_list};
 ghost use Rattle.swreq_closure.specs.Chains.{IsClosureOf};
-ghost use Rattle.swreq_names.specs.Inheritance.{named_by, in_bounds, in_requirement, in_clause, direct};
+ghost use Rattle.swreq_names.specs.Inheritance.{named_by, named_in, direct};
+ghost use Rattle.swreq_names.specs.Walk.{inherited_in, inherited_in_clause, walked_direct};
 
 use crate::declared::Declared;
 use crate::words::word;
@@ -39,7 +40,7 @@ fn add_bounds(
     entities: &[Entity],
     into: &mut Vec<usize>,
 ) -> Result<(), AllocError>
-    ensures { OnOk result (into.new.items ≡ into.old.items ++ in_bounds text.now d.now entities.now) }
+    ensures { OnOk result (into.new.items ≡ into.old.items ++ named_in text.now d.now entities.now) }
 {
     for e in entities {
         add_named(text, d, e, into)?;
@@ -53,7 +54,7 @@ fn add_requirement(
     r: &ReqDecl,
     into: &mut Vec<usize>,
 ) -> Result<(), AllocError>
-    ensures { OnOk result (into.new.items ≡ into.old.items ++ in_requirement text.now d.now r.now) }
+    ensures { OnOk result (into.new.items ≡ into.old.items ++ inherited_in text.now d.now r.now) }
 {
     match r {
         ReqDecl::Bound { subject, bounds } => {
@@ -73,7 +74,7 @@ fn add_clause(
     clause: &[ReqDecl],
     into: &mut Vec<usize>,
 ) -> Result<(), AllocError>
-    ensures { OnOk result (into.new.items ≡ into.old.items ++ in_clause text.now d.now clause.now) }
+    ensures { OnOk result (into.new.items ≡ into.old.items ++ inherited_in_clause text.now d.now clause.now) }
 {
     for r in clause {
         add_requirement(text, d, r, into)?;
@@ -87,7 +88,7 @@ fn add_members(
     members: &[AssocDecl],
     into: &mut Vec<usize>,
 ) -> Result<(), AllocError>
-    ensures { OnOk result (into.new.items ≡ into.old.items ++ flat_map (λ m. in_clause text.now d.now m.clause) members.now) }
+    ensures { OnOk result (into.new.items ≡ into.old.items ++ flat_map (λ m. inherited_in_clause text.now d.now m.clause) members.now) }
 {
     for m in members {
         add_clause(text, d, m.clause.items(), into)?;
@@ -102,7 +103,7 @@ fn direct(
     d: &Declared,
     p: &ProtocolDecl,
 ) -> Result<Seq<usize>, AllocError>
-    ensures { IfOk result (λ places. places ≡ direct text.now d.now p.now) }
+    ensures { IfOk result (λ places. places ≡ walked_direct text.now d.now p.now) }
 {
     let mut into = Vec::new(alloc);
     add_bounds(text, d, p.inherits.items(), &mut into)?;
@@ -118,7 +119,7 @@ fn all_direct(
     d: &Declared,
     protocols: &[ProtocolDecl],
 ) -> Result<Vec<Seq<usize>>, AllocError>
-    ensures { IfOk result (λ all. all.items ≡ map (direct text.now d.now) protocols.now) }
+    ensures { IfOk result (λ all. all.items ≡ map (walked_direct text.now d.now) protocols.now) }
 {
     let mut all = Vec::new(alloc);
     for p in protocols {

@@ -3,7 +3,8 @@
 ghost use Rattle.std.specs.Prelude.{◌≡◌, ◌↔◌, ◌++◌, ◌∷◌, [], ℕ, List, Contains, IfOk, OnOk};
 ghost use Rattle.std.specs.List.{flat_map};
 ghost use Rattle.swreq_names.specs.Spaces.{word};
-ghost use Rattle.swreq_names.specs.Mentioned.{member_of, in_step, in_type, in_entity, in_bounds, in_requirement, in_clause, in_member, in_protocol, in_param, in_function, in_struct, in_ask, in_query, mentioned};
+ghost use Rattle.swreq_names.specs.Mentioned.{member_of, mentioned};
+ghost use Rattle.swreq_names.specs.Walk.{in_step, in_type, in_entity, in_bounds, in_requirement, in_clause, in_member, in_protocol, in_param, in_function, in_struct, in_ask, in_query, walked};
 
 use crate::words::word;
 use std::alloc::{AllocError, Global};
@@ -264,7 +265,7 @@ impl Mentions for QueryDecl {
 }
 
 fn all_mentioned(alloc: Global, text: &[u8], s: &Skeleton) -> Result<Vec<Seq<u8>>, AllocError>
-    ensures { IfOk result (λ names. names.items ≡ mentioned text.now s.now) }
+    ensures { IfOk result (λ names. names.items ≡ walked text.now s.now) }
 {
     let mut names = Vec::new(alloc);
     add_all(alloc, text, s.protocols.items(), &mut names)?;
