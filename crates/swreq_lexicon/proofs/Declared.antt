@@ -1,17 +1,18 @@
 -- The names that protocols declare.
-use Rattle.std.proofs.Common.{◌≡◌, ◌+◌, ◌<◌, ⊎_elim, List, [], ◌∷◌, ◌++◌, length, Some, Contains, refl, sym, ap, subst, ◌∙◌, arith, length-append}
+use Rattle.std.proofs.Common.{◌≡◌, ◌+◌, ◌<◌, ⊎_elim, List, [], ◌∷◌, length, Some, Contains, refl, sym, ap, subst, ◌∙◌, length-append}
 use Rattle.std.specs.List.{flat_map}
 use Rattle.std.proofs.lemmas.List.{length-map}
 use Rattle.std.proofs.lemmas.List.Concat.{flat_map-cons}
 use Rattle.std.proofs.lemmas.List.Elements.{Contains-append_left, Contains-append_right, Contains-append_cases}
 use Rattle.std.proofs.lemmas.Option.{slice_get-get_or}
-use Rattle.swreq_orders.proofs.Members.{no_member, member_cases, first_member, later_member}
+use Rattle.swreq_orders.proofs.Members.{no_member, member_cases, first_member, later_member, contains_map}
 use Rattle.swreq_decl.specs.declared.skeleton.AssocDecl.{AssocDecl}
 use Rattle.swreq_decl.specs.declared.skeleton.ProtocolDecl.{ProtocolDecl}
 use Rattle.swreq_decl.specs.declared.skeleton.Skeleton.{Skeleton}
 use Rattle.swreq_names.specs.Spaces.{word}
 use Rattle.swreq_names.specs.Mentioned as names
 use Rattle.swreq_names.specs.Mentioned.{mentioned}
+use Rattle.swreq_names.specs.Parts.{types}
 use Rattle.swreq_lexicon.specs.declared.pair.ProtocolName.{ProtocolName}
 use Rattle.swreq_lexicon.specs.Lexicons.{pair, proto_by, name_by}
 use Rattle.swreq_rank.specs.Ranks.{Bytes, IsRanking, bytes_cmp, rank}
@@ -54,13 +55,8 @@ module _ (text : Bytes) (s : Skeleton) (protocols ranking : List Bytes) where
   mentions : (p : ProtocolDecl) (m : AssocDecl) → Contains s.protocols p → Contains p.members m → Contains (mentioned text s) (word text m.name)
   mentions p m c d =
       let w = word text m.name in
-      Contains-append_left (flat_map (names.in_protocol text) s.protocols)
-      (flat_map (names.in_struct text) s.structs ++ (flat_map (names.in_function text) s.functions ++ flat_map (names.in_query text) s.queries)) w
-      (in_pieces (names.in_protocol text) s.protocols p w c
-      (Contains-append_right (names.in_bounds text p.inherits) (names.in_clause text p.clause ++ flat_map (names.in_member text) p.members) w
-      (Contains-append_right (names.in_clause text p.clause) (flat_map (names.in_member text) p.members) w
-      (in_pieces (names.in_member text) p.members m w d
-      (Contains-append_left (w ∷ []) (names.in_bounds text m.inherits ++ names.in_clause text m.clause) w (0, omega arith, refl))))))
+      Contains-append_left (flat_map (names.declared_by text) s.protocols) (flat_map (λ t. names.members_in text t.1) (types s)) w
+      (in_pieces (names.declared_by text) s.protocols p w c (contains_map (λ (n : AssocDecl). word text n.name) p.members m d))
 
   rank_within : IsRanking bytes_cmp (Contains (mentioned text s)) ranking → (w : Bytes) → Contains (mentioned text s) w → rank ranking w < length ranking
   rank_within are w c =

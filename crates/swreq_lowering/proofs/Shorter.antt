@@ -29,7 +29,8 @@ use Rattle.swreq_decl.specs.Skeletons.{StandsFor, skeleton_of, protocol_of, stru
 use Rattle.swreq_names.specs.declared.directory.Declaration.{Declaration}
 use Rattle.swreq_names.specs.declared.signature.Signature.{Signature}
 use Rattle.swreq_names.specs.declared.signature.Signature.TheVariants.{Struct, Function, Nested}
-use Rattle.swreq_names.specs.Mentioned as names
+use Rattle.swreq_names.specs.Walk as names
+use Rattle.swreq_names.proofs.Walked.{same_names}
 use Rattle.swreq_names.specs.Spaces.{spaces, declaration, declarations, of_params, outer_params as declared_outer, own_params as declared_own}
 use Rattle.swreq_rank.specs.Ranks.{bytes_cmp}
 use Rattle.swreq_lexicon.specs.Texts.{IsSmall}
@@ -148,7 +149,7 @@ module _ (text : List ℕ) where
   query_names : (q : QueryDecl) → length (names.in_query text q) ≤ query_size q
   query_names q = ask_names q.ask
 
-  all_names : (s : Skeleton) → length (names.mentioned text s) ≤ skeleton_size s
+  all_names : (s : Skeleton) → length (names.walked text s) ≤ skeleton_size s
   unfolding skeleton_size
   all_names s =
       let ps = flat_map (names.in_protocol text) s.protocols in
@@ -311,7 +312,7 @@ module _ (text : List ℕ) (s : Skeleton) where
     associated = let i = pieces_sum (λ (p : ProtocolDecl). p.members) protocol_size s.protocols (λ p. let j = count_sum member_size p.members (λ m. omega arith) in omega arith) in omega arith;
     names = λ ranking are.
         let i = all_names text s in
-        let j = few_names ranking (names.mentioned text s) (rising_from_sorted bytes_cmp ranking are.sorted) (λ q h. (are.same q).0 h) in
+        let j = few_names ranking (names.walked text s) (rising_from_sorted bytes_cmp ranking are.sorted) (λ q h. (same_names text s q).1 ((are.same q).0 h)) in
         omega arith;
   }
 

@@ -15,14 +15,13 @@ use Rattle.swreq_decl.specs.declared.skeleton.Span.{Span}
 use Rattle.swreq_decl.specs.declared.skeleton.StepDecl.{StepDecl}
 use Rattle.swreq_derive.specs.Derivation.TermRequirement.{Conforms, IsAnyObject}
 use Rattle.swreq_orders.proofs.Members.{no_member, only_member}
-use Rattle.swreq_names.specs.Inheritance as inheritance
-use Rattle.swreq_names.specs.Inheritance.{direct, is_bare, named_by}
+use Rattle.swreq_names.specs.Inheritance.{direct, is_bare, named_by, named_in}
+use Rattle.swreq_names.specs.Walk.{inherited_in, inherited_in_clause}
+use Rattle.swreq_names.proofs.Walked.{same_direct}
 use Rattle.swreq_names.specs.Spaces.{self_bytes, Spaces, protocol_of, word}
 use Rattle.swreq_lexicon.proofs.Declared.{from_pieces, in_pieces}
 use Rattle.swreq_lowering.specs.declared.scope.Scope.TheVariants.{Protocol}
-use Rattle.swreq_lowering.specs.Requirements.{PlacedRequirement, bound_of, in_bound, in_bounds, in_protocol, of_one_side}
-use Rattle.swreq_lowering.specs.Walk.{in_clause, in_member, in_members, in_requirement}
-use Rattle.swreq_lowering.proofs.Walked.{protocol_walked}
+use Rattle.swreq_lowering.specs.Requirements.{PlacedRequirement, bound_of, in_bound, in_bounds, in_clause, in_member, in_members, in_protocol, in_requirement, of_one_side}
 use Rattle.swreq_lowering.specs.Types.{member_named, step_of, type_in}
 use Rattle.swreq_lowering.specs.Words.{WordsView, proto_of}
 
@@ -67,14 +66,14 @@ module _ (d : Spaces) (w : WordsView) (j : ℕ) where
       by true l h = no_member j h
       by false l h = of l (protocol_of d (word w.text e.span)) refl h
 
-  bounds_say : (at : ℕ) (es : List Entity) → Contains (inheritance.in_bounds w.text d es) j → Says d w (in_bounds w Protocol self at es) j
+  bounds_say : (at : ℕ) (es : List Entity) → Contains (named_in w.text d es) j → Says d w (in_bounds w Protocol self at es) j
   bounds_say at es c =
       let (e, m, h) = from_pieces (λ (e : Entity). option_to_list (named_by w.text d e)) es j c in
       more (in_bound w Protocol self at e) (in_bounds w Protocol self at es) (λ r k. in_pieces (in_bound w Protocol self at) es e r m k) (bound_says at e h)
 
   -- ---- clauses
 
-  requirement_says : (q : ReqDecl) → Contains (inheritance.in_requirement w.text d q) j → Says d w (in_requirement w Protocol q) j
+  requirement_says : (q : ReqDecl) → Contains (inherited_in w.text d q) j → Says d w (in_requirement w Protocol q) j
   requirement_says (Bound t bounds) c = by (bytes_eq self_bytes (word w.text t.head) && is_bare t.steps) refl c
     where
       is_self : (bytes_eq self_bytes (word w.text t.head) && is_bare t.steps) ≡ true → type_in w Protocol t ≡ self
@@ -84,27 +83,27 @@ module _ (d : Spaces) (w : WordsView) (j : ℕ) where
           λ i. with_steps (cond (begins i) self (member_named w self t.head)) (map (step_of w) (ends i))
 
       by : (b : Bool) → (bytes_eq self_bytes (word w.text t.head) && is_bare t.steps) ≡ b
-          → Contains (cond b (inheritance.in_bounds w.text d bounds) []) j → Says d w (in_requirement w Protocol (Bound t bounds)) j
+          → Contains (cond b (named_in w.text d bounds) []) j → Says d w (in_requirement w Protocol (Bound t bounds)) j
       by true e h = subst (λ u. Says d w (in_bounds w Protocol u t.head.start bounds) j) (sym (is_self e)) (bounds_say t.head.start bounds h)
       by false e h = no_member j h
   requirement_says (Same t u) c = no_member j c
 
-  clause_says : (clause : List ReqDecl) → Contains (inheritance.in_clause w.text d clause) j → Says d w (in_clause w Protocol clause) j
+  clause_says : (clause : List ReqDecl) → Contains (inherited_in_clause w.text d clause) j → Says d w (in_clause w Protocol clause) j
   clause_says clause c =
-      let (q, m, h) = from_pieces (inheritance.in_requirement w.text d) clause j c in
+      let (q, m, h) = from_pieces (inherited_in w.text d) clause j c in
       more (in_requirement w Protocol q) (in_clause w Protocol clause) (λ r k. in_pieces (in_requirement w Protocol) clause q r m k) (requirement_says q h)
 
   -- ---- protocols
 
-  member_says : (m : AssocDecl) → Contains (inheritance.in_clause w.text d m.clause) j → Says d w (in_member w m) j
+  member_says : (m : AssocDecl) → Contains (inherited_in_clause w.text d m.clause) j → Says d w (in_member w m) j
   member_says m c =
       more (in_clause w Protocol m.clause) (in_member w m)
       (Contains-append_right (in_bounds w Protocol (member_named w self m.name) m.name.start m.inherits) (in_clause w Protocol m.clause))
       (clause_says m.clause c)
 
-  members_say : (ms : List AssocDecl) → Contains (flat_map (λ (m : AssocDecl). inheritance.in_clause w.text d m.clause) ms) j → Says d w (in_members w ms) j
+  members_say : (ms : List AssocDecl) → Contains (flat_map (λ (m : AssocDecl). inherited_in_clause w.text d m.clause) ms) j → Says d w (in_members w ms) j
   members_say ms c =
-      let (m, k, h) = from_pieces (λ (m : AssocDecl). inheritance.in_clause w.text d m.clause) ms j c in
+      let (m, k, h) = from_pieces (λ (m : AssocDecl). inherited_in_clause w.text d m.clause) ms j c in
       more (in_member w m) (in_members w ms) (λ r l. in_pieces (in_member w) ms m r k l) (member_says m h)
 
   pub direct_says : (p : ProtocolDecl) → Contains (direct w.text d p) j → Says d w (in_protocol w p) j
@@ -112,12 +111,11 @@ module _ (d : Spaces) (w : WordsView) (j : ℕ) where
       let head = in_bounds w Protocol self p.name.start p.inherits in
       let clause = in_clause w Protocol p.clause in
       let members = in_members w p.members in
-      let clause_of = inheritance.in_clause w.text d p.clause in
-      let members_of = flat_map (λ (m : AssocDecl). inheritance.in_clause w.text d m.clause) p.members in
-      subst (λ rs. Says d w rs j) (sym (protocol_walked w p))
-      (⊎_elim (λ h. more head (head ++ (clause ++ members)) (Contains-append_left head (clause ++ members)) (bounds_say p.name.start p.inherits h))
-      (λ rest. more (clause ++ members) (head ++ (clause ++ members)) (Contains-append_right head (clause ++ members))
+      let clause_of = inherited_in_clause w.text d p.clause in
+      let members_of = flat_map (λ (m : AssocDecl). inherited_in_clause w.text d m.clause) p.members in
+      ⊎_elim (λ h. more head (in_protocol w p) (Contains-append_left head (clause ++ members)) (bounds_say p.name.start p.inherits h))
+      (λ rest. more (clause ++ members) (in_protocol w p) (Contains-append_right head (clause ++ members))
       (⊎_elim (λ h. more clause (clause ++ members) (Contains-append_left clause members) (clause_says p.clause h))
       (λ h. more members (clause ++ members) (Contains-append_right clause members) (members_say p.members h))
       (Contains-append_cases clause_of members_of j rest)))
-      (Contains-append_cases (inheritance.in_bounds w.text d p.inherits) (clause_of ++ members_of) j c))
+      (Contains-append_cases (named_in w.text d p.inherits) (clause_of ++ members_of) j (subst (λ (js : List ℕ). Contains js j) (sym (same_direct w.text d p)) c))

@@ -13,7 +13,7 @@ use Rattle.swreq_derive.specs.Derivation.TermRequirement.{Conforms, IsAnyObject}
 use Rattle.swreq_resolve.specs.declared.refusal.Fault.TheVariants.{NotAProtocol, ConcreteType, NoSuchMember}
 use Rattle.swreq_resolve.specs.declared.refusal.Refusal.{Refusal}
 use Rattle.swreq_resolve.specs.First.{when}
-use Rattle.swreq_names.specs.Mentioned as names
+use Rattle.swreq_names.specs.Walk as names
 use Rattle.swreq_resolve.specs.Refusals.{of_bound, of_step, of_named, of_protocol_name, of_type, of_entity, of_requirement}
 use Rattle.swreq_names.specs.Spaces.{word, protocol_of, declares}
 use Rattle.swreq_param.specs.declared.ids.ParamId.{ParamId}

@@ -7,7 +7,7 @@ use Rattle.swreq_decl.specs.declared.skeleton.AssocDecl.{AssocDecl}
 use Rattle.swreq_decl.specs.declared.skeleton.ProtocolDecl.{ProtocolDecl}
 use Rattle.swreq_decl.specs.declared.skeleton.Span.{Span}
 use Rattle.swreq_names.specs.declared.directory.Declaration.{Declaration}
-use Rattle.swreq_names.specs.Mentioned as names
+use Rattle.swreq_names.specs.Walk as names
 use Rattle.swreq_resolve.specs.Refusals.{begins_in_protocol, duplicates, of_primaries, of_entity, of_requirement, of_member, of_members}
 use Rattle.swreq_names.specs.Spaces.{self_bytes, word, protocol_of, has_member}
 use Rattle.swreq_resolve.specs.Refusals as refusals

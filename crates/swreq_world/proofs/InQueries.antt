@@ -16,7 +16,7 @@ use Rattle.swreq_decl.specs.declared.skeleton.TypeDecl.{TypeDecl}
 use Rattle.swreq_resolve.specs.declared.refusal.Fault.TheVariants.{UnknownSignature}
 use Rattle.swreq_names.specs.declared.signature.Signature.{Signature}
 use Rattle.swreq_names.specs.declared.signature.Signature.TheVariants.{Struct, Function, Nested}
-use Rattle.swreq_names.specs.Mentioned as names
+use Rattle.swreq_names.specs.Walk as names
 use Rattle.swreq_resolve.specs.Refusals.{begins_in_signature, of_named, of_type, of_entity, of_protocol_name, of_ask, of_asked, of_nested_query, of_query_in, of_query}
 use Rattle.swreq_names.specs.Spaces.{Spaces, spaces, word, declarations, place, protocol_of, struct_of, function_of, signature_of, nested_in}
 use Rattle.swreq_param.specs.Terms.{Term, head}

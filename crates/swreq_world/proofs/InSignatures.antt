@@ -13,7 +13,7 @@ use Rattle.swreq_resolve.specs.declared.refusal.Refusal.{Refusal}
 use Rattle.swreq_names.specs.declared.signature.Param.TheVariants.{Own}
 use Rattle.swreq_names.specs.declared.signature.Signature.{Signature}
 use Rattle.swreq_names.specs.declared.signature.Signature.TheVariants.{Struct, Function, Nested}
-use Rattle.swreq_names.specs.Mentioned as names
+use Rattle.swreq_names.specs.Walk as names
 use Rattle.swreq_resolve.specs.Refusals.{begins_in_signature, duplicates, of_param, of_requirement, of_signature, by_place}
 use Rattle.swreq_resolve.specs.Refusals as refusals
 use Rattle.swreq_names.specs.Spaces.{Spaces, spaces, word, declaration, of_params, param_of}

@@ -20,7 +20,9 @@ use Rattle.swreq_resolve.specs.declared.refusal.Fault.{Fault}
 use Rattle.swreq_resolve.specs.declared.refusal.Fault.TheVariants.{NoSuchMember}
 use Rattle.swreq_resolve.specs.declared.refusal.Refusal.{Refusal}
 use Rattle.swreq_resolve.specs.First.{when}
-use Rattle.swreq_names.specs.Mentioned as names
+use Rattle.swreq_names.specs.Mentioned.{mentioned}
+use Rattle.swreq_names.specs.Walk as names
+use Rattle.swreq_names.proofs.Walked.{same_names}
 use Rattle.swreq_resolve.specs.Resolving.{HasNames}
 use Rattle.swreq_resolve.specs.Refusals.{duplicates, of_spaces, of_protocol, of_primaries, primary_of, of_entity, of_requirement, of_members, begins_in_protocol, of_struct, of_function, of_query, refusals_in, by_place}
 use Rattle.swreq_names.specs.Spaces.{Spaces, spaces, word, declaration, declarations, place, offset_of, is_declared, is_declared_before, refers_to, protocol_of, declares, has_member, any_below}
@@ -226,10 +228,10 @@ module _ (text : Bytes) (s : Skeleton) (x : LexiconView) (is : IsLexiconOf text 
     abbrev in_queries : List Bytes
     in_queries = flat_map (names.in_query text) s.queries
 
-    ranked : All (IsRanked words) (names.mentioned text s)
+    ranked : All (IsRanked words) (names.walked text s)
     ranked k n l =
-        let name = get_or (names.mentioned text s) k n in
-        slice_get_within x.names (rank x.names name) name (rank_is (Contains (names.mentioned text s)) x.names is.names name (Contains-get_or (names.mentioned text s) k n l))
+        let name = get_or (names.walked text s) k n in
+        slice_get_within x.names (rank x.names name) name (rank_is (Contains (mentioned text s)) x.names is.names name ((same_names text s name).0 (Contains-get_or (names.walked text s) k n l)))
 
     ranked_after : All (IsRanked words) (in_structs ++ (in_functions ++ in_queries))
     ranked_after = all_right (IsRanked words) in_protocols (in_structs ++ (in_functions ++ in_queries)) ranked
