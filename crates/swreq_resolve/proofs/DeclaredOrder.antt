@@ -1,5 +1,5 @@
 -- The names that a text declares stand in order in their lists.
-use Rattle.std.proofs.Common.{◌≡◌, ℕ, zero, suc, ◌≤◌, ◌<◌, ◌⊎◌, inl, inr, ⊎_elim, List, [], ◌∷◌, ◌++◌, map, get_or, Contains, refl, sym, ap, subst, ◌∙◌, arith}
+use Rattle.std.proofs.Common.{◌≡◌, ℕ, zero, suc, ◌≤◌, inl, inr, ⊎_elim, List, [], ◌∷◌, ◌++◌, map, get_or, Contains, sym, ap, subst, ◌∙◌, arith}
 use Rattle.std.specs.List.{AllByRecursion, filter_map}
 use Rattle.std.specs.Str.{chars}
 use Rattle.swreq_orders.proofs.Members.{no_member, first_member, later_member, member_cases}
@@ -22,7 +22,7 @@ use Rattle.swreq_decl.specs.declared.skeleton.Skeleton.{Skeleton}
 use Rattle.swreq_decl.specs.Terminals.{number, with_terminals}
 use Rattle.swreq_decl.specs.Source as lines
 use Rattle.swreq_decl.specs.Source.{Line, after, before, or_else, separated, in_angles}
-use Rattle.swreq_decl.specs.Skeletons.{StandsFor, protocol_of, struct_of, function_of, skeleton_of}
+use Rattle.swreq_decl.specs.Skeletons.{StandsFor, struct_of, function_of, skeleton_of}
 use Rattle.swreq_decl.proofs.SameTexts.{Tokens}
 use Rattle.swreq_decl.proofs.WrittenOrder.{Starts, starts_left, starts_right, item_stands}
 use Rattle.swreq_names.specs.declared.directory.Declaration.{Declaration}

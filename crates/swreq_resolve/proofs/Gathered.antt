@@ -1,5 +1,5 @@
 -- The refusals of a text, gathered by the parts of the text that they are of.
-use Rattle.std.proofs.Common.{◌≡◌, ℕ, ◌+◌, Bool, cond, true, List, [], ◌∷◌, ◌++◌, length, map, get_or, Option, None, Some, Contains, refl, sym, ap, subst, ◌∙◌, append_assoc}
+use Rattle.std.proofs.Common.{◌≡◌, ℕ, ◌+◌, Bool, true, List, [], ◌∷◌, ◌++◌, map, get_or, Option, None, Some, refl, sym, ap, ◌∙◌, append_assoc}
 use Rattle.std.specs.List.{flat_map, slice_get}
 use Rattle.std.specs.Option.{option_map}
 use Rattle.std.proofs.lemmas.List.{append-nil}
@@ -19,7 +19,6 @@ use Rattle.swreq_decl.specs.declared.skeleton.Ask.{Ask}
 use Rattle.swreq_decl.specs.declared.skeleton.Ask.TheVariants as asks
 use Rattle.swreq_decl.specs.declared.skeleton.QueryDecl.{QueryDecl}
 use Rattle.swreq_decl.specs.declared.skeleton.Skeleton.{Skeleton}
-use Rattle.swreq_names.specs.declared.directory.Declaration.{Declaration}
 use Rattle.swreq_names.specs.declared.signature.Signature.{Signature}
 use Rattle.swreq_names.specs.declared.signature.Signature.TheVariants.{Struct, Function, Nested}
 use Rattle.swreq_names.specs.Parts as parts
@@ -28,8 +27,8 @@ use Rattle.swreq_names.specs.Spaces.{word, struct_of, signature_of, nested_in, n
 use Rattle.swreq_resolve.specs.declared.refusal.Refusal.{Refusal}
 use Rattle.swreq_resolve.specs.declared.refusal.Fault.TheVariants.{UnknownSignature}
 use Rattle.swreq_resolve.specs.First.{when}
-use Rattle.swreq_resolve.specs.Refusals.{by_place, duplicates, begins_in_protocol, begins_in_signature, primary_of, of_primaries, of_named, of_type, of_entity, of_requirement, of_member, of_param, of_ask, of_members, of_protocol, of_signature, of_function, of_nested, of_struct, of_asked, of_nested_query, of_query_in, of_query, of_spaces, of_signatures, refusals}
-use Rattle.swreq_resolve.proofs.SameMembers.{Same, equal, itself, turned, then, both, moved, parted, each, split, nested, by_number, unnumbered, number_of}
+use Rattle.swreq_resolve.specs.Refusals.{by_place, duplicates, begins_in_protocol, begins_in_signature, primary_of, of_named, of_type, of_entity, of_requirement, of_member, of_param, of_ask, of_protocol, of_signature, of_function, of_nested, of_struct, of_asked, of_nested_query, of_query_in, of_query, of_spaces, of_signatures, refusals}
+use Rattle.swreq_resolve.proofs.SameMembers.{Same, equal, itself, then, both, moved, parted, each, split, nested, by_number, unnumbered, number_of}
 
 -- ---- constraints
 
@@ -71,7 +70,7 @@ module _ (text : List ℕ) (d : Spaces) (begins : List ℕ → Bool) where
 
   protocol_same : (p : ProtocolDecl)
       → Same (flat_map (of_entity text d begins) p.inherits ++ (flat_map (of_requirement text d begins) p.clause ++ flat_map (of_member text d begins) p.members))
-        (flat_map said (parts.of_protocol p))
+      (flat_map said (parts.of_protocol p))
   protocol_same p =
       both (entities_same p.inherits)
       (then (both (clause_same p.clause) (members_same p.members))
@@ -229,7 +228,7 @@ module _ (text : List ℕ) (s : Skeleton) (inherits : ℕ → ℕ → Bool) wher
 
   all_nested : (i : ℕ) (fs : List FunctionDecl)
       → Same (by_place (of_nested text d i) 0 fs)
-        (flat_map (again_in_nested i) (numbered 0 fs) ++ flat_map said_at (flat_map (parts.in_nested_at i) (numbered 0 fs)))
+      (flat_map (again_in_nested i) (numbered 0 fs) ++ flat_map said_at (flat_map (parts.in_nested_at i) (numbered 0 fs)))
   all_nested i fs =
       let ns = numbered 0 fs in
       then (equal (by_place (of_nested text d i) 0 fs) (flat_map (λ f. of_nested text d i f.0 f.1) ns) (by_number (of_nested text d i) 0 fs))

@@ -5,5 +5,7 @@ pub mod SameMembers
 pub mod Gathered
 pub mod Meaning
 pub mod References
-pub mod RefusedNames
+pub mod Duplicates
+pub mod Refusing
+pub mod Found
 pub mod DeclaredOrder

@@ -1,11 +1,10 @@
 -- What the tests of names mean.
-use Rattle.std.proofs.Common.{◌≡◌, ◌⊎◌, inl, inr, ⊎_elim, ◌↔◌, ℕ, zero, suc, ◌+◌, ◌<◌, ◌≤◌, Bool, true, false, cond, ◌&&◌, ◌||◌, List, [], ◌∷◌, ◌++◌, length, map, get_or, slice_get, Option, None, Some, Contains, nat_lt, refl, sym, ap, subst, ◌∙◌, arith, true≢false}
+use Rattle.std.proofs.Common.{◌≡◌, ◌⊎◌, inl, inr, ⊎_elim, ℕ, zero, suc, ◌+◌, ◌<◌, ◌≤◌, Bool, true, false, cond, ◌&&◌, List, [], ◌∷◌, ◌++◌, length, get_or, slice_get, Option, None, Some, Contains, nat_lt, refl, sym, ap, subst, ◌∙◌, arith, true≢false}
 use Rattle.std.specs.List.{position_from}
 use Rattle.std.specs.Option.{option_map, is_some}
 use Rattle.std.specs.Str.{bytes_eq}
 use Rattle.std.proofs.lemmas.Bool.{ltb-true, lt-ltb, cases_eq, or_cases, or_left, or_right, and_parts, and_from}
 use Rattle.std.proofs.lemmas.List.{map-append}
-use Rattle.std.proofs.lemmas.Option.{same_Some}
 use Rattle.std.proofs.lemmas.List.Elements.{Contains-append_left, Contains-append_right, Contains-append_cases}
 use Rattle.std.proofs.lemmas.Slice.Eq.{bytes_eq-Decides}
 use Rattle.swreq_orders.proofs.Elements.{get_contains}
@@ -17,7 +16,7 @@ use Rattle.swreq_names.specs.declared.signature.Param.{Param}
 use Rattle.swreq_names.specs.declared.signature.Param.TheVariants.{Outer, Own}
 use Rattle.swreq_names.specs.Directories.{names_of}
 use Rattle.swreq_names.specs.Inheritance.{Tells}
-use Rattle.swreq_names.specs.Spaces.{place, is_declared, offset_of, is_declared_before, self_bytes, outer_params, own_params, param_of, declares, any_below, has_member, Spaces, spaces}
+use Rattle.swreq_names.specs.Spaces.{place, is_declared, offset_of, is_declared_before, self_bytes, outer_params, own_params, declares, any_below, has_member, Spaces, spaces}
 use Rattle.swreq_resolve.specs.Refused.{HasEarlier, Declares, HasMember, HasParameter}
 use Rattle.swreq_resolve.specs.Refusals.{begins_in_protocol, begins_in_signature}
 
@@ -30,7 +29,8 @@ found_to : (name : List ℕ) (names : List (List ℕ)) (i : ℕ) → is_some (po
 found_to name [] i e = absurd (true≢false (sym e))
 found_to name (x ∷ xs) i e = by (bytes_eq name x) refl e (found_to name xs (i + 1))
   where
-    by : (b : Bool) → bytes_eq name x ≡ b → is_some (cond b (Some i) (position_from (bytes_eq name) (i + 1) xs)) ≡ true
+    by : (b : Bool) → bytes_eq name x ≡ b
+        → is_some (cond b (Some i) (position_from (bytes_eq name) (i + 1) xs)) ≡ true
         → (is_some (position_from (bytes_eq name) (i + 1) xs) ≡ true → Contains xs name) → Contains (x ∷ xs) name
     by true h e more = subst (λ y. Contains (x ∷ xs) y) (sym ((bytes_eq-Decides name x).0 h)) (first_member x xs)
     by false h e more = later_member x name xs (more e)
@@ -109,7 +109,8 @@ first_at (d ∷ ds) name i e c same o = by (bytes_eq name d.name) refl (λ h. fi
 
     behind : bytes_eq name d.name ≡ false → Contains ds e
     behind h =
-        ⊎_elim (λ s. absurd (true≢false (sym (same_name name d.name (sym same ∙ ap (λ (x : Declaration). x.name) s)) ∙ h))) (λ b. b) (member_cases d e ds c)
+        ⊎_elim (λ s. absurd (true≢false (sym (same_name name d.name (sym same ∙ ap (λ (x : Declaration). x.name) s)) ∙ h))) (λ b. b)
+        (member_cases d e ds c)
 
     by : (b : Bool) → bytes_eq name d.name ≡ b → (Contains ds e → IsFoundBy ds (i + 1) e.at (position_from (bytes_eq name) (i + 1) (names_of ds)))
         → IsFoundBy (d ∷ ds) i e.at (cond b (Some i) (position_from (bytes_eq name) (i + 1) (names_of ds)))
@@ -194,7 +195,9 @@ module _ (text : List ℕ) (s : Skeleton) where
   -- ---- generic parameters
 
   pub parameter_to : (g : Signature) (name : List ℕ) → begins_in_signature d g name ≡ true → HasParameter text s g name
-  parameter_to g name e = subst (λ ns. Contains ns name) (sym (map-append (λ (x : Declaration). x.name) (outer_params d g) (own_params d g))) (by (place (outer_params d g) name) refl e)
+  parameter_to g name e =
+      subst (λ ns. Contains ns name) (sym (map-append (λ (x : Declaration). x.name) (outer_params d g) (own_params d g)))
+      (by (place (outer_params d g) name) refl e)
     where
       own_to : (o : Option ℕ) → place (own_params d g) name ≡ o → is_some (option_map Own o) ≡ true → Contains (names_of (own_params d g)) name
       own_to None p e = absurd (true≢false (sym e))
@@ -203,8 +206,10 @@ module _ (text : List ℕ) (s : Skeleton) where
       by : (o : Option ℕ) → place (outer_params d g) name ≡ o
           → is_some (elim o as (λ _. Option Param) [ None ↦ option_map Own (place (own_params d g) name) | Some k ↦ Some (Outer k) ]) ≡ true
           → Contains (names_of (outer_params d g) ++ names_of (own_params d g)) name
-      by None p e = Contains-append_right (names_of (outer_params d g)) (names_of (own_params d g)) name (own_to (place (own_params d g) name) refl e)
-      by (Some k) p e = Contains-append_left (names_of (outer_params d g)) (names_of (own_params d g)) name (declared_to (outer_params d g) name (ap is_some p))
+      by None p e =
+          Contains-append_right (names_of (outer_params d g)) (names_of (own_params d g)) name (own_to (place (own_params d g) name) refl e)
+      by (Some k) p e =
+          Contains-append_left (names_of (outer_params d g)) (names_of (own_params d g)) name (declared_to (outer_params d g) name (ap is_some p))
 
   pub parameter_from : (g : Signature) (name : List ℕ) → HasParameter text s g name → begins_in_signature d g name ≡ true
   parameter_from g name c = by (place (outer_params d g) name) refl

@@ -1,17 +1,17 @@
 -- What names refer to.
-use Rattle.std.proofs.Common.{◌≡◌, ◌⊎◌, inl, inr, ⊎_elim, ℕ, zero, suc, ◌+◌, ◌<◌, ◌≤◌, Bool, true, false, cond, List, [], ◌∷◌, ◌++◌, get_or, slice_get, Option, None, Some, Contains, nat_lt, refl, sym, ap, subst, ◌∙◌, arith, true≢false}
+use Rattle.std.proofs.Common.{◌≡◌, ⊎_elim, ℕ, zero, suc, ◌+◌, ◌≤◌, Bool, true, false, cond, List, [], ◌∷◌, ◌++◌, get_or, slice_get, Option, None, Some, nat_lt, refl, sym, ap, subst, ◌∙◌, arith, true≢false}
 use Rattle.std.specs.Option.{option_map}
 use Rattle.std.proofs.lemmas.Bool.{ltb-true, cases_lt, cases_order, false_from_ne_true}
 use Rattle.std.proofs.lemmas.Option.{same_Some}
-use Rattle.std.proofs.lemmas.List.Elements.{Contains-append_left, Contains-append_right, Contains-append_cases}
+use Rattle.std.proofs.lemmas.List.Elements.{Contains-append_left, Contains-append_right}
 use Rattle.swreq_orders.proofs.Elements.{get_contains}
 use Rattle.swreq_decl.specs.declared.skeleton.Span.{Span}
 use Rattle.swreq_decl.specs.declared.skeleton.Skeleton.{Skeleton}
 use Rattle.swreq_names.specs.declared.directory.Declaration.{Declaration}
 use Rattle.swreq_names.specs.declared.signature.Signature.{Signature}
 use Rattle.swreq_names.specs.declared.signature.Signature.TheVariants.{Struct, Function, Nested}
-use Rattle.swreq_names.specs.Spaces.{word, place, offset_of, is_declared_before, refers_to, protocol_of, struct_of, function_of, signature_of, nested_in, Spaces, spaces}
-use Rattle.swreq_resolve.specs.Refused.{protocols_and_structs, structs_and_functions, declarations_of, HasEarlier, Means, NamesProtocol, NamesStruct, NamesFunction, NamesInner, NamesSignature}
+use Rattle.swreq_names.specs.Spaces.{word, place, offset_of, is_declared_before, refers_to, protocol_of, struct_of, function_of, nested_in, Spaces, spaces}
+use Rattle.swreq_resolve.specs.Refused.{HasEarlier, Means, NamesProtocol, NamesStruct, NamesFunction, NamesInner, NamesSignature}
 use Rattle.swreq_resolve.proofs.Meaning.{AreInOrder, IsInOrder, some_number, placed_at, offset_at, first_at, earlier_to, earlier_from, earlier_left, earlier_right, earlier_cases}
 use Rattle.swreq_resolve.proofs.Gathered.{signature_asked}
 

@@ -1,7 +1,8 @@
 use Rattle.swreq_names.specs.Spaces.{spaces}
 use Rattle.swreq_resolve.proofs.Meaning.{IsInOrder}
 use Rattle.swreq_resolve.proofs.DeclaredOrder.{declared_in_order}
-use Rattle.swreq_resolve.proofs.RefusedNames.{refusals_to, refusals_from}
+use Rattle.swreq_resolve.proofs.Found.{refusals_from}
+use Rattle.swreq_resolve.proofs.Refusing.{refusals_to}
 use Rattle.swreq_resolve.proofs.laws.refusals_are_the_refused.Goals as goal
 
 pub returns : goal.returns
