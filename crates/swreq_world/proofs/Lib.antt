@@ -14,6 +14,8 @@ pub mod GenericParams
 pub mod InSignatures
 pub mod Standing
 pub mod InQueries
-pub mod ProtocolOffsets
+pub mod Offsets
 pub mod OnceDeclared
+pub mod AsDeclared
+pub mod EachOnce
 pub mod Closing

@@ -1,6 +1,7 @@
 pub mod Places
 pub mod Worlds
 pub mod ByTable
+pub mod Declarations
 pub mod Text
 pub mod WorldOf
 pub mod Filling

@@ -1,14 +1,31 @@
 //! What holds of the world of each text.
-ghost use Rattle.std.specs.Prelude.{All, List, ℕ};
+ghost use Rattle.std.specs.Prelude.{◌≡◌, All, List, Some, map, slice_get, ℕ};
 ghost use Rattle.swreq_decl.specs.declared.skeleton.Skeleton.{Skeleton};
+ghost use Rattle.swreq_decl.specs.Signatures.{signatures};
 ghost use Rattle.swreq_decl.specs.Skeletons.{StandsFor};
+ghost use Rattle.swreq_names.specs.declared.signature.Signature.{Signature};
 ghost use Rattle.swreq_resolve.specs.Resolving.{Resolve};
 ghost use Rattle.swreq_lowering.specs.Heads.{IsOverSelf};
+ghost use Rattle.swreq_lowering.specs.Signatures.{func_id, in_order};
 ghost use Rattle.swreq_world.specs.Closed.{IsClosed};
+ghost use Rattle.swreq_world.specs.Declarations.{HasSignature, declaration_of};
 ghost use Rattle.swreq_world.specs.WorldOf.{IsWorldOf};
 ghost use Rattle.swreq_world.specs.Worlds.{TextWorld};
 
 use swreq_lex::laws::tokens_are_slices;
+
+/// Each signature that a skeleton declares stands at its place among the signatures, and nowhere else.
+pub fn signatures_have_places()
+    ensures at { (s : Skeleton) (g : Signature) → HasSignature s g → slice_get (in_order s) (func_id (in_order s) g).place ≡ Some g }
+    ensures once { (s : Skeleton) (g : Signature) → HasSignature s g → (k : ℕ) → slice_get (in_order s) k ≡ Some g → (func_id (in_order s) g).place ≡ k }
+{}
+
+/// The signatures of a text in their order are those of its declarations, in written order.
+pub fn signatures_in_written_order(text: &[u8])
+    ensures { (s : Skeleton) → StandsFor text.now s → map (declaration_of s) (in_order s) ≡ map (λ d. Some d) (signatures s) }
+{
+    tokens_are_slices(text);
+}
 
 /// The requirements of protocols are over `τ_0_0` alone.
 pub fn protocols_require_of_self()
