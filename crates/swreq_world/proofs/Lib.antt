@@ -17,5 +17,8 @@ pub mod InQueries
 pub mod Offsets
 pub mod OnceDeclared
 pub mod AsDeclared
+pub mod Inheriting
+pub mod Conforming
+pub mod Leading
 pub mod EachOnce
 pub mod Closing

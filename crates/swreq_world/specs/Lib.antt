@@ -9,6 +9,7 @@ pub mod Entries
 pub mod Inside
 pub mod Lookups
 pub mod FactsAt
+pub mod Inheritance
 pub mod Made
 pub mod Ready
 pub mod Closed

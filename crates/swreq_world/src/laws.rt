@@ -1,14 +1,18 @@
 //! What holds of the world of each text.
-ghost use Rattle.std.specs.Prelude.{◌≡◌, All, List, Some, map, slice_get, ℕ};
+ghost use Rattle.std.specs.Prelude.{◌≡◌, ◌↔◌, All, IsTrue, List, Some, map, slice_get, ℕ};
 ghost use Rattle.swreq_decl.specs.declared.skeleton.Skeleton.{Skeleton};
 ghost use Rattle.swreq_decl.specs.Signatures.{signatures};
 ghost use Rattle.swreq_decl.specs.Skeletons.{StandsFor};
 ghost use Rattle.swreq_names.specs.declared.signature.Signature.{Signature};
+ghost use Rattle.swreq_param.specs.declared.ids.ProtoId.{ProtoId};
 ghost use Rattle.swreq_resolve.specs.Resolving.{Resolve};
+ghost use Rattle.swreq_lexicon.specs.Views.{IsProtocol, inherits};
 ghost use Rattle.swreq_lowering.specs.Heads.{IsOverSelf};
 ghost use Rattle.swreq_lowering.specs.Signatures.{func_id, in_order};
 ghost use Rattle.swreq_world.specs.Closed.{IsClosed};
 ghost use Rattle.swreq_world.specs.Declarations.{HasSignature, declaration_of};
+ghost use Rattle.swreq_world.specs.FactsAt.{facts_of};
+ghost use Rattle.swreq_world.specs.Inheritance.{LeadsOnTo};
 ghost use Rattle.swreq_world.specs.WorldOf.{IsWorldOf};
 ghost use Rattle.swreq_world.specs.Worlds.{TextWorld};
 
@@ -31,6 +35,13 @@ pub fn signatures_in_written_order(text: &[u8])
 pub fn protocols_require_of_self()
     ensures { (text : List ℕ) (s : Skeleton) (w : TextWorld) → IsWorldOf text s w
         → All (All (λ r. IsOverSelf r.requirement)) w.requirements }
+{}
+
+/// Where the names of a text resolve, a protocol inherits another exactly where a chain of written conformances of the bare `Self`,
+/// one or more, leads there.
+pub fn inheritance_is_what_is_written()
+    ensures { (text : List ℕ) (s : Skeleton) (w : TextWorld) → IsWorldOf text s w → Resolve text s
+        → (p q : ProtoId) → IsProtocol w.lexicon p → IsProtocol w.lexicon q → IsTrue (inherits w.lexicon p q) ↔ LeadsOnTo (facts_of w) p q }
 {}
 
 /// Where the names of a text resolve, all that is written in its world is of the world.
