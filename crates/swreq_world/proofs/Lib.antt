@@ -21,4 +21,9 @@ pub mod Inheriting
 pub mod Conforming
 pub mod Leading
 pub mod EachOnce
+pub mod Apart
+pub mod Named
+pub mod OneNamed
+pub mod ParamNames
+pub mod Finding
 pub mod Closing
