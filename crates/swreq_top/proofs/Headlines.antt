@@ -28,7 +28,7 @@ use Rattle.swreq_lowering.specs.Requirements.{PlacedRequirement}
 use Rattle.swreq_world.specs.Closed.{IsClosed, IsQueryOf}
 use Rattle.swreq_world.specs.Worlds.{SignatureOver, TextWorld, signature_at}
 use Rattle.swreq_world.proofs.Closing.{closed}
-use Rattle.swreq_world.proofs.ProtocolOffsets.{protocols_rising}
+use Rattle.swreq_world.proofs.Offsets.{protocols_rising}
 use Rattle.swreq_symbols.specs.Meaning.{facts_of}
 use Rattle.swreq_print.specs.Names.{Text}
 use Rattle.swreq_query.specs.Answers.{Answer, HasValidSides, IsAnswer, IsLeastEqual, answer_line, asked}

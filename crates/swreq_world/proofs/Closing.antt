@@ -1,9 +1,8 @@
 -- All that is written in the world of a text is of the world, where the names of the text resolve.
-use Rattle.std.proofs.Common.{◌≡◌, ℕ, cond, List, Some, length, get_or, slice_get, Contains, sym, ap, subst, ◌∙◌, arith}
+use Rattle.std.proofs.Common.{◌≡◌, ℕ, cond, length, get_or, Contains, sym, ap, subst, ◌∙◌, arith}
 use Rattle.std.proofs.lemmas.Cmp.{then_total, on_total, back_total, nat_cmp_total}
 use Rattle.std.proofs.lemmas.List.{length-map}
 use Rattle.std.proofs.lemmas.List.Elements.{All-map}
-use Rattle.std.proofs.lemmas.Option.{slice_get-get_or}
 use Rattle.std.specs.Cmp.{IsTotalOrder}
 use Rattle.std.specs.List.{All, IsDistinct}
 use Rattle.std.specs.Ordering.{nat_cmp, then_cmp, on}
@@ -32,7 +31,7 @@ use Rattle.swreq_world.proofs.InProtocols.{protocols_are}
 use Rattle.swreq_world.proofs.InQueries.{queries_are}
 use Rattle.swreq_world.proofs.InSignatures.{signatures_are}
 use Rattle.swreq_world.proofs.OnceDeclared.{protocols_differ}
-use Rattle.swreq_world.proofs.ProtocolOffsets.{AreRising, name_start}
+use Rattle.swreq_world.proofs.Offsets.{AreRising, name_start}
 use Rattle.swreq_world.proofs.Resolving.{protocol_is, resolved}
 use Rattle.swreq_world.proofs.Standing.{outer_within}
 use Rattle.swreq_orders.proofs.Elements.{contains_get, get_contains}

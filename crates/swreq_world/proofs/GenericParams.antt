@@ -66,31 +66,31 @@ module _ (words : Bytes) (s : Skeleton) where
   named : (ps : List ParamDecl) → length (of_params words ps) ≡ length ps
   named ps = length-map (map (λ (g : ParamDecl). g.name) ps) (declaration words) ∙ length-map ps (λ (g : ParamDecl). g.name)
 
-  of_structs : (i : ℕ) (o : Option StructDecl) → slice_get s.structs i ≡ o → length (get_or (spaces words s).struct_params i []) ≡ length (params_of_struct o)
-  of_structs i None e = ap length (past_mapped (λ (t : StructDecl). of_params words t.params) s.structs i [] e)
-  of_structs i (Some t) e = ap length (at_mapped (λ (t : StructDecl). of_params words t.params) s.structs i t [] e) ∙ named t.params
+  of_structs : (i : ℕ) (o : Option StructDecl) → slice_get s.structs i ≡ o → get_or (spaces words s).struct_params i [] ≡ of_params words (params_of_struct o)
+  of_structs i None e = past_mapped (λ (t : StructDecl). of_params words t.params) s.structs i [] e
+  of_structs i (Some t) e = at_mapped (λ (t : StructDecl). of_params words t.params) s.structs i t [] e
 
-  of_functions : (fs : List FunctionDecl) (j : ℕ) (o : Option FunctionDecl) → slice_get fs j ≡ o → length (get_or (map (λ f. of_params words f.params) fs) j []) ≡ length (params_of_function o)
-  of_functions fs j None e = ap length (past_mapped (λ (f : FunctionDecl). of_params words f.params) fs j [] e)
-  of_functions fs j (Some f) e = ap length (at_mapped (λ (f : FunctionDecl). of_params words f.params) fs j f [] e) ∙ named f.params
+  of_functions : (fs : List FunctionDecl) (j : ℕ) (o : Option FunctionDecl) → slice_get fs j ≡ o → get_or (map (λ f. of_params words f.params) fs) j [] ≡ of_params words (params_of_function o)
+  of_functions fs j None e = past_mapped (λ (f : FunctionDecl). of_params words f.params) fs j [] e
+  of_functions fs j (Some f) e = at_mapped (λ (f : FunctionDecl). of_params words f.params) fs j f [] e
 
   of_nested_functions : (i j : ℕ) (o : Option StructDecl) → slice_get s.structs i ≡ o
-      → length (get_or (get_or (spaces words s).nested_params i []) j []) ≡ length (params_of_function (slice_get (functions_of o) j))
+      → get_or (get_or (spaces words s).nested_params i []) j [] ≡ of_params words (params_of_function (slice_get (functions_of o) j))
   of_nested_functions i j None e =
-      ap (λ (ds : List (List Declaration)). length (get_or ds j [])) (past_mapped (λ (t : StructDecl). map (λ (f : FunctionDecl). of_params words f.params) t.functions) s.structs i [] e)
+      ap (λ (ds : List (List Declaration)). get_or ds j []) (past_mapped (λ (t : StructDecl). map (λ (f : FunctionDecl). of_params words f.params) t.functions) s.structs i [] e)
   of_nested_functions i j (Some t) e =
-      ap (λ (ds : List (List Declaration)). length (get_or ds j [])) (at_mapped (λ (t : StructDecl). map (λ (f : FunctionDecl). of_params words f.params) t.functions) s.structs i t [] e)
+      ap (λ (ds : List (List Declaration)). get_or ds j []) (at_mapped (λ (t : StructDecl). map (λ (f : FunctionDecl). of_params words f.params) t.functions) s.structs i t [] e)
       ∙ of_functions t.functions j (slice_get t.functions j) refl
 
-  outer_length : (g : Signature) → length (declarations.outer_params (spaces words s) g) ≡ length (outer_params s g)
-  outer_length (Struct i) = refl
-  outer_length (Function i) = refl
-  outer_length (Nested i j) = of_structs i (slice_get s.structs i) refl
+  pub outer_declared : (g : Signature) → declarations.outer_params (spaces words s) g ≡ of_params words (outer_params s g)
+  outer_declared (Struct i) = refl
+  outer_declared (Function i) = refl
+  outer_declared (Nested i j) = of_structs i (slice_get s.structs i) refl
 
-  own_length : (g : Signature) → length (declarations.own_params (spaces words s) g) ≡ length (own_params s g)
-  own_length (Struct i) = of_structs i (slice_get s.structs i) refl
-  own_length (Function i) = of_functions s.functions i (slice_get s.functions i) refl
-  own_length (Nested i j) = of_nested_functions i j (slice_get s.structs i) refl
+  pub own_declared : (g : Signature) → declarations.own_params (spaces words s) g ≡ of_params words (own_params s g)
+  own_declared (Struct i) = of_structs i (slice_get s.structs i) refl
+  own_declared (Function i) = of_functions s.functions i (slice_get s.functions i) refl
+  own_declared (Nested i j) = of_nested_functions i j (slice_get s.structs i) refl
 
 -- ---- what a name refers to
 
@@ -104,9 +104,9 @@ named_is w same g name e = by (param_of (declared w) g name) refl e
     by None n e = absurd cc
     by (Some (Outer k)) n e =
         let l = outer_below (declared w) g name k n in
-        let m = ap (λ (d : Spaces). length (declarations.outer_params d g)) same ∙ outer_length w.text w.skeleton g in
+        let m = ap (λ (d : Spaces). length (declarations.outer_params d g)) same ∙ ap length (outer_declared w.text w.skeleton g) ∙ named w.text w.skeleton (outer_params w.skeleton g) in
         outer_is (outer_params w.skeleton g) (own_params w.skeleton g) k (omega arith)
     by (Some (Own k)) n e =
         let l = own_below (declared w) g name k n in
-        let m = ap (λ (d : Spaces). length (declarations.own_params d g)) same ∙ own_length w.text w.skeleton g in
+        let m = ap (λ (d : Spaces). length (declarations.own_params d g)) same ∙ ap length (own_declared w.text w.skeleton g) ∙ named w.text w.skeleton (own_params w.skeleton g) in
         own_is (outer_params w.skeleton g) (own_params w.skeleton g) k (omega arith)

@@ -1,24 +1,20 @@
 -- What a query asks, where its names resolve.
-use Rattle.std.proofs.Common.{◌≡◌, ℕ, Bool, true, false, cond, [], Option, Some, None, length, get_or, map, slice_get, refl, sym, ap, subst, ◌∙◌}
+use Rattle.std.proofs.Common.{◌≡◌, ℕ, Bool, true, false, cond, [], Option, Some, None, length, get_or, map, refl, sym, ap, subst}
 use Rattle.std.proofs.lemmas.List.Elements.{All-map}
-use Rattle.std.proofs.lemmas.Option.{slice_get_within, get_or_from_slice_get, same_Some}
+use Rattle.std.proofs.lemmas.Option.{slice_get_within, get_or_from_slice_get}
 use Rattle.std.specs.List.{All, flat_map}
-use Rattle.std.specs.Option.{option_map}
 use Rattle.swreq_decl.specs.declared.skeleton.Ask.{Ask}
 use Rattle.swreq_decl.specs.declared.skeleton.Ask.TheVariants as asked_for
 use Rattle.swreq_decl.specs.declared.skeleton.Entity.{Entity}
-use Rattle.swreq_decl.specs.declared.skeleton.FunctionDecl.{FunctionDecl}
 use Rattle.swreq_decl.specs.declared.skeleton.QueryDecl.{QueryDecl}
 use Rattle.swreq_decl.specs.declared.skeleton.Skeleton.{Skeleton}
 use Rattle.swreq_decl.specs.declared.skeleton.Span.{Span}
-use Rattle.swreq_decl.specs.declared.skeleton.StructDecl.{StructDecl}
 use Rattle.swreq_decl.specs.declared.skeleton.TypeDecl.{TypeDecl}
 use Rattle.swreq_resolve.specs.declared.refusal.Fault.TheVariants.{UnknownSignature}
 use Rattle.swreq_names.specs.declared.signature.Signature.{Signature}
-use Rattle.swreq_names.specs.declared.signature.Signature.TheVariants.{Struct, Function, Nested}
 use Rattle.swreq_names.specs.Walk as names
 use Rattle.swreq_resolve.specs.Refusals.{begins_in_signature, of_named, of_type, of_entity, of_protocol_name, of_ask, of_asked, of_nested_query, of_query_in, of_query}
-use Rattle.swreq_names.specs.Spaces.{Spaces, spaces, word, declarations, place, protocol_of, struct_of, function_of, signature_of, nested_in}
+use Rattle.swreq_names.specs.Spaces.{spaces, word, protocol_of, struct_of, signature_of, nested_in}
 use Rattle.swreq_param.specs.Terms.{Term, head}
 use Rattle.swreq_rank.specs.Ranks.{Bytes}
 use Rattle.swreq_lowering.specs.declared.ids.FuncId.{FuncId}
@@ -34,54 +30,17 @@ use Rattle.swreq_world.specs.Text.{signature_in, signatures}
 use Rattle.swreq_world.specs.WorldOf.{words_of}
 use Rattle.swreq_world.specs.Worlds.{TextWorld, SignatureOver, signature_at, no_signature}
 use Rattle.swreq_world.proofs.Constraints.{parts, type_is, named_is}
-use Rattle.swreq_world.proofs.Everywhere.{all_left, at_mapped, stands_mapped}
+use Rattle.swreq_world.proofs.Everywhere.{all_left}
 use Rattle.swreq_world.proofs.InSignatures.{starts}
-use Rattle.swreq_world.proofs.Resolving.{Never, AreResolved, Resolved, refused, referred, declared_at}
-use Rattle.swreq_world.proofs.Standing.{IsIn, stands}
+use Rattle.swreq_world.proofs.Resolving.{Never, AreResolved, Resolved, refused}
+use Rattle.swreq_world.proofs.Named.{found}
+use Rattle.swreq_world.proofs.Standing.{IsIn, stands, signature_stands}
 
 -- ---- the signature that is asked
 
-module _ (w : WordsView) (same : declared w ≡ spaces w.text w.skeleton) where
-  struct_at : (name : Bytes) (i : ℕ) → struct_of (declared w) name ≡ Some i → (t : StructDecl) × (slice_get w.skeleton.structs i ≡ Some t) × (word w.text t.name ≡ name)
-  struct_at name i e =
-      let h : struct_of (spaces w.text w.skeleton) name ≡ Some i = subst (λ (d : Spaces). struct_of d name ≡ Some i) same e in
-      declared_at w.text (λ (t : StructDecl). t.name) w.skeleton.structs name i (referred (spaces w.text w.skeleton).structs (spaces w.text w.skeleton).functions name i h)
-
-  function_at : (name : Bytes) (k : ℕ) → function_of (declared w) name ≡ Some k → (f : FunctionDecl) × (slice_get w.skeleton.functions k ≡ Some f) × (word w.text f.name ≡ name)
-  function_at name k e =
-      let h : function_of (spaces w.text w.skeleton) name ≡ Some k = subst (λ (d : Spaces). function_of d name ≡ Some k) same e in
-      declared_at w.text (λ (f : FunctionDecl). f.name) w.skeleton.functions name k (referred (spaces w.text w.skeleton).functions (spaces w.text w.skeleton).structs name k h)
-
-  top_is_in : (name : Bytes) (g : Signature) → signature_of (declared w) name ≡ Some g → IsIn w.skeleton g
-  top_is_in name g e = by (struct_of (declared w) name) (function_of (declared w) name) refl refl e
-    where
-      by : (o p : Option ℕ) → struct_of (declared w) name ≡ o → function_of (declared w) name ≡ p
-          → (elim o as (λ _. Option Signature) [ None ↦ option_map Function p | Some i ↦ Some (Struct i) ]) ≡ Some g → IsIn w.skeleton g
-      by (Some i) p n m e = let t = struct_at name i n in subst (IsIn w.skeleton) (same_Some (Struct i) g e) (slice_get_within w.skeleton.structs i t.0 t.1)
-      by None (Some k) n m e = let f = function_at name k m in subst (IsIn w.skeleton) (same_Some (Function k) g e) (slice_get_within w.skeleton.functions k f.0 f.1)
-      by None None n m e = absurd cc
-
-  nested_is_in : (i : ℕ) (t : StructDecl) (name : Bytes) (g : Signature) → slice_get w.skeleton.structs i ≡ Some t → nested_in (declared w) i name ≡ Some g → IsIn w.skeleton g
-  nested_is_in i t name g at e = by (place (declarations w.text (map (λ (f : FunctionDecl). f.name) t.functions)) name) refl (sym is ∙ e)
-    where
-      is : nested_in (declared w) i name ≡ option_map (Nested i) (place (declarations w.text (map (λ (f : FunctionDecl). f.name) t.functions)) name)
-      is =
-          ap (λ (d : Spaces). nested_in d i name) same
-          ∙ ap (λ ds. option_map (Nested i) (place ds name)) (at_mapped (λ (s : StructDecl). declarations w.text (map (λ (f : FunctionDecl). f.name) s.functions)) w.skeleton.structs i t [] at)
-
-      by : (o : Option ℕ) → place (declarations w.text (map (λ (f : FunctionDecl). f.name) t.functions)) name ≡ o → option_map (Nested i) o ≡ Some g → IsIn w.skeleton g
-      by None n e = absurd cc
-      by (Some j) n e =
-          let f = declared_at w.text (λ (f : FunctionDecl). f.name) t.functions name j n in
-          subst (IsIn w.skeleton) (same_Some (Nested i j) g e) (t, at, slice_get_within t.functions j f.0 f.1)
-
-  named_is_in : (outer : Option Span) (f : Span) (g : Signature) → signature_named w outer f ≡ Some g → IsIn w.skeleton g
-  named_is_in None f g e = top_is_in (word w.text f) g e
-  named_is_in (Some s) f g e = by (struct_of (declared w) (word w.text s)) refl e
-    where
-      by : (o : Option ℕ) → struct_of (declared w) (word w.text s) ≡ o → (elim o as (λ _. Option Signature) [ None ↦ None | Some i ↦ nested_in (declared w) i (word w.text f) ]) ≡ Some g → IsIn w.skeleton g
-      by None n e = absurd cc
-      by (Some i) n e = let t = struct_at (word w.text s) i n in nested_is_in i t.0 (word w.text f) g t.1 e
+named_is_in : (w : WordsView) → declared w ≡ spaces w.text w.skeleton → (outer : Option Span) (f : Span) (g : Signature) → signature_named w outer f ≡ Some g → IsIn w.skeleton g
+named_is_in w same None f g e = (found w same None (word w.text f) g e).is_in
+named_is_in w same (Some s) f g e = (found w same (Some (word w.text s)) (word w.text f) g e).is_in
 
 module _ (w : WordsView) (q : QueryDecl) where
   -- The query asks this signature.
@@ -140,15 +99,11 @@ module _ (text : Bytes) (s : Skeleton) (v : TextWorld) where
           (at, type_asked t p.0, type_asked u p.1)
 
     module _ (is : v.signatures ≡ signatures words) where
-      signature_stands : (g : Signature) → IsIn s g → slice_get v.signatures (func_id (in_order s) g).place ≡ Some (signature_in words (in_order s) g)
-      signature_stands g h =
-          ap (λ gs. slice_get gs (func_id (in_order s) g).place) is ∙ stands_mapped (signature_in words (in_order s)) (in_order s) (func_id (in_order s) g).place g (stands s g h)
-
       query_is : (q : QueryDecl) → Resolved words (of_query text (declared words) q) (names.in_query text q) → IsQueryOf v (query_of words (in_order s) q)
       query_is q h =
           let a = asks words q q.outer h.0 in
           let f = func_id (in_order s) a.0 in
-          let there = signature_stands a.0 (named_is_in words same q.outer q.function a.0 a.1) in
+          let there = signature_stands words v.signatures is f a.0 (stands s a.0 (named_is_in words same q.outer q.function a.0 a.1)) in
           let at = slice_get_within v.signatures f.place (signature_in words (in_order s) a.0) there in
           let params = ap (λ (o : SignatureOver PlacedRequirement). o.params) (sym (get_or_from_slice_get v.signatures f.place (signature_in words (in_order s) a.0) no_signature there)) in
           subst (λ g. IsQueryOf v (asked_of words g (func_id (in_order s) g) q.ask)) (sym (ap asked_signature a.1)) (ask_is a.0 f at params q.ask (a.2, h.1))

@@ -14,6 +14,16 @@ pub mod GenericParams
 pub mod InSignatures
 pub mod Standing
 pub mod InQueries
-pub mod ProtocolOffsets
+pub mod Offsets
 pub mod OnceDeclared
+pub mod AsDeclared
+pub mod Inheriting
+pub mod Conforming
+pub mod Leading
+pub mod EachOnce
+pub mod Apart
+pub mod Named
+pub mod OneNamed
+pub mod ParamNames
+pub mod Finding
 pub mod Closing

@@ -1,24 +1,30 @@
 -- Each signature of a text stands at its place in written order.
-use Rattle.std.proofs.Common.{◌≡◌, ℕ, zero, suc, ◌+◌, ◌-◌, ◌<◌, ◌≤◌, ◌⊎◌, inl, inr, ⊎_elim, true, List, [], ◌∷◌, ◌++◌, Option, Some, None, unwrap_or, length, get_or, drop, slice_get, nat_eq, refl, sym, ap, subst, ◌∙◌, arith, eqb-true, eq-eqb}
+use Rattle.std.proofs.Common.{◌≡◌, ℕ, zero, suc, ◌+◌, ◌-◌, ◌<◌, ◌≤◌, ◌⊎◌, ⊎_elim, true, List, [], ◌∷◌, ◌++◌, Option, Some, None, unwrap_or, length, get_or, drop, slice_get, nat_eq, refl, sym, ap, subst, ◌∙◌, arith, eqb-true, eq-eqb}
 use Rattle.std.proofs.lemmas.Bool.{cases_lt, and_parts}
 use Rattle.std.proofs.lemmas.Iterator.Adapters.{position_from-zero}
 use Rattle.std.proofs.lemmas.List.Elements.{Contains-append_left, Contains-append_right}
 use Rattle.std.proofs.lemmas.List.Quantifiers.{position-Some}
 use Rattle.std.proofs.lemmas.Option.{slice_get-get_or, slice_get_within, same_Some}
 use Rattle.std.specs.List.{Contains, prefix_len}
+use Rattle.std.specs.Option.{option_map}
 use Rattle.swreq_decl.specs.declared.skeleton.FunctionDecl.{FunctionDecl}
 use Rattle.swreq_decl.specs.declared.skeleton.Skeleton.{Skeleton}
 use Rattle.swreq_decl.specs.declared.skeleton.StructDecl.{StructDecl}
-use Rattle.swreq_decl.specs.Signatures.{stands_before}
+use Rattle.swreq_decl.specs.Signatures.{of_struct, of_inner, of_function, stands_before}
 use Rattle.swreq_names.specs.declared.signature.Signature.{Signature}
 use Rattle.swreq_names.specs.declared.signature.Signature.TheVariants.{Struct, Function, Nested}
 use Rattle.swreq_lexicon.proofs.Positions.{fails_all}
 use Rattle.swreq_lexicon.proofs.SymbolPlaces.{get_left}
 use Rattle.swreq_lowering.specs.Signatures.{nested_from, functions_from, with_nested, merged, in_order, is_signature, place_in, func_id}
 use Rattle.swreq_lowering.specs.declared.ids.FuncId.{FuncId}
+use Rattle.swreq_lowering.specs.Requirements.{PlacedRequirement}
+use Rattle.swreq_lowering.specs.Words.{WordsView}
 use Rattle.swreq_lowering.proofs.Referring.{from_below}
 use Rattle.swreq_lowering.proofs.Shorter.{nested_count}
-use Rattle.swreq_world.specs.Text.{outer_of}
+use Rattle.swreq_world.specs.Declarations.{nested_declaration, HasSignature}
+use Rattle.swreq_world.specs.Text.{outer_of, signature_in, signatures}
+use Rattle.swreq_world.specs.Worlds.{SignatureOver}
+use Rattle.swreq_world.proofs.Everywhere.{stands_mapped}
 use Rattle.swreq_world.proofs.WrittenOrder.{length_rest}
 use Rattle.swreq_orders.proofs.Elements.{get_either, get_after}
 
@@ -187,6 +193,29 @@ stands s (Nested i j) h =
     let z : i - 0 ≡ i = omega arith in
     let same = same_Some h.0 f.is (sym h.1 ∙ ap (slice_get s.structs) (sym z) ∙ f.stands) in
     ap (λ o. slice_get (in_order s) (unwrap_or o 0 + (1 + j))) p.1 ∙ f.functions j (subst (λ (t : StructDecl). j < length t.functions) same h.2)
+
+-- ---- each signature that is declared
+
+some_mapped : {A B : Type 0} (f : A → B) (o : Option A) (y : B) → option_map f o ≡ Some y → (x : A) × (o ≡ Some x)
+some_mapped f None y e = absurd cc
+some_mapped f (Some x) y e = (x, refl)
+
+pub is_in : (s : Skeleton) (g : Signature) → HasSignature s g → IsIn s g
+is_in s (Struct i) h = let t = some_mapped of_struct (slice_get s.structs i) h.0 h.1 in slice_get_within s.structs i t.0 t.1
+is_in s (Function k) h = let f = some_mapped of_function (slice_get s.functions k) h.0 h.1 in slice_get_within s.functions k f.0 f.1
+is_in s (Nested i j) h = by (slice_get s.structs i) refl h.1
+  where
+    by : (o : Option StructDecl) → slice_get s.structs i ≡ o → nested_declaration o j ≡ Some h.0 → IsIn s (Nested i j)
+    by None n e = absurd cc
+    by (Some t) n e = let f = some_mapped (of_inner t) (slice_get t.functions j) h.0 e in (t, n, slice_get_within t.functions j f.0 f.1)
+
+pub has_place : (s : Skeleton) (g : Signature) → HasSignature s g → slice_get (in_order s) (func_id (in_order s) g).place ≡ Some g
+has_place s g h = stands s g (is_in s g h)
+
+pub signature_stands : (w : WordsView) (gs : List (SignatureOver PlacedRequirement)) → gs ≡ signatures w → (f : FuncId) (g : Signature) → slice_get (in_order w.skeleton) f.place ≡ Some g
+    → slice_get gs f.place ≡ Some (signature_in w (in_order w.skeleton) g)
+signature_stands w gs is f g e =
+    ap (λ hs. slice_get hs f.place) is ∙ stands_mapped (signature_in w (in_order w.skeleton)) (in_order w.skeleton) f.place g e
 
 -- ---- the struct around a signature
 

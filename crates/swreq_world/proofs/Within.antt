@@ -1,5 +1,5 @@
 -- Places are within their lists.
-use Rattle.std.proofs.Common.{◌≡◌, ℕ, zero, suc, ◌≤◌, ◌<◌, List, [], ◌∷◌, Option, Some, None, length, get_or, slice_get, unwrap_or, refl, subst, arith}
+use Rattle.std.proofs.Common.{◌≡◌, ℕ, ◌≤◌, ◌<◌, List, [], Option, Some, None, length, get_or, unwrap_or, refl, subst, arith}
 use Rattle.std.specs.Option.{option_map}
 use Rattle.swreq_decl.specs.declared.skeleton.Span.{Span}
 use Rattle.swreq_names.specs.declared.signature.Signature.{Signature}

@@ -1,6 +1,7 @@
 pub mod Places
 pub mod Worlds
 pub mod ByTable
+pub mod Declarations
 pub mod Text
 pub mod WorldOf
 pub mod Filling
@@ -8,6 +9,7 @@ pub mod Entries
 pub mod Inside
 pub mod Lookups
 pub mod FactsAt
+pub mod Inheritance
 pub mod Made
 pub mod Ready
 pub mod Closed

@@ -1,12 +1,14 @@
 -- What the look-ups of a world answer.
-use Rattle.std.specs.Prelude.{ℕ, Bool, true, false, List, Option, Some, None, map}
+use Rattle.std.specs.Prelude.{◌≡◌, ◌<◌, ℕ, zero, suc, Bool, true, false, List, [], ◌∷◌, length, Option, Some, None, map, slice_get}
 use Rattle.std.specs.Option.{option_map}
 use Rattle.swreq_param.specs.declared.ids.ParamId.{ParamId}
+use Rattle.swreq_decl.specs.declared.skeleton.ParamDecl.{ParamDecl}
+use Rattle.swreq_decl.specs.declared.skeleton.Skeleton.{Skeleton}
 use Rattle.swreq_names.specs.declared.signature.Signature.{Signature}
 use Rattle.swreq_names.specs.declared.signature.Signature.TheVariants.{Struct}
-use Rattle.swreq_names.specs.Spaces.{Spaces, signature_of, nested_of, param_of}
+use Rattle.swreq_names.specs.Spaces.{Spaces, word, signature_of, nested_of, param_of}
 use Rattle.swreq_lowering.specs.declared.ids.FuncId.{FuncId}
-use Rattle.swreq_lowering.specs.Signatures.{func_id}
+use Rattle.swreq_lowering.specs.Signatures.{func_id, outer_params, own_params}
 use Rattle.swreq_lowering.specs.Types.{param_id}
 use Rattle.swreq_world.specs.Worlds.{WorldOver, signature_at}
 
@@ -35,3 +37,25 @@ param_of_signature w f name = option_map (param_id (signature_at w f).own_depth)
 abbrev pub outer_name : {R Q : Type 0} → WorldOver R Q → Option FuncId → Option (List ℕ)
 outer_name w None = None
 outer_name w (Some g) = Some (signature_at w g).name
+
+-- ---- what has a name
+
+-- The signature at this place has this name, and is a function of the struct of the other name, or without that name is none of a struct.
+abbrev pub IsNamedAt : {R Q : Type 0} → WorldOver R Q → Option (List ℕ) → List ℕ → FuncId → Type 0
+IsNamedAt w outer name f = (f.place < length w.signatures) × ((signature_at w f).name ≡ name) × (outer_name w (signature_at w f).outer ≡ outer)
+
+-- the generic parameters of a depth, of those around a signature and its own
+abbrev pub params_of_depth : List ParamDecl → List ParamDecl → ℕ → List ParamDecl
+params_of_depth [] own zero = own
+params_of_depth [] own (suc d) = []
+params_of_depth (g ∷ gs) own zero = g ∷ gs
+params_of_depth (g ∷ gs) own (suc zero) = own
+params_of_depth (g ∷ gs) own (suc (suc d)) = []
+
+-- the declaration of a generic parameter of a signature
+abbrev pub param_declaration : Skeleton → Signature → ParamId → Option ParamDecl
+param_declaration s g p = slice_get (params_of_depth (outer_params s g) (own_params s g) p.depth) p.index
+
+-- The generic parameter of the signature has this name.
+abbrev pub IsParamNamed : List ℕ → Skeleton → Signature → List ℕ → ParamId → Type 0
+IsParamNamed text s g name p = (q : ParamDecl) × (param_declaration s g p ≡ Some q) × (word text q.name ≡ name)

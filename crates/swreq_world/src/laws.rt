@@ -1,19 +1,70 @@
 //! What holds of the world of each text.
-ghost use Rattle.std.specs.Prelude.{All, List, ℕ};
+ghost use Rattle.std.specs.Prelude.{◌≡◌, ◌↔◌, ◌<◌, All, IsTrue, List, None, Option, Some, length, map, slice_get, ℕ};
 ghost use Rattle.swreq_decl.specs.declared.skeleton.Skeleton.{Skeleton};
+ghost use Rattle.swreq_decl.specs.Signatures.{signatures};
 ghost use Rattle.swreq_decl.specs.Skeletons.{StandsFor};
+ghost use Rattle.swreq_names.specs.declared.signature.Signature.{Signature};
+ghost use Rattle.swreq_param.specs.declared.ids.ParamId.{ParamId};
+ghost use Rattle.swreq_param.specs.declared.ids.ProtoId.{ProtoId};
+ghost use Rattle.swreq_param.specs.Terms.{Term};
 ghost use Rattle.swreq_resolve.specs.Resolving.{Resolve};
+ghost use Rattle.swreq_lexicon.specs.Views.{IsProtocol, inherits};
+ghost use Rattle.swreq_lowering.specs.declared.ids.FuncId.{FuncId};
 ghost use Rattle.swreq_lowering.specs.Heads.{IsOverSelf};
+ghost use Rattle.swreq_lowering.specs.Signatures.{func_id, in_order};
+ghost use Rattle.swreq_world.specs.ByTable.{world_by};
 ghost use Rattle.swreq_world.specs.Closed.{IsClosed};
+ghost use Rattle.swreq_world.specs.Declarations.{HasSignature, declaration_of};
+ghost use Rattle.swreq_world.specs.FactsAt.{facts_of};
+ghost use Rattle.swreq_world.specs.Inheritance.{LeadsOnTo};
+ghost use Rattle.swreq_world.specs.Lookups.{func_named, param_of_signature, IsNamedAt, IsParamNamed};
 ghost use Rattle.swreq_world.specs.WorldOf.{IsWorldOf};
-ghost use Rattle.swreq_world.specs.Worlds.{TextWorld};
+ghost use Rattle.swreq_world.specs.Worlds.{IdWorld, TextWorld, signature_at};
 
 use swreq_lex::laws::tokens_are_slices;
+
+/// Each signature that a skeleton declares stands at its place among the signatures, and nowhere else.
+pub fn signatures_have_places()
+    ensures at { (s : Skeleton) (g : Signature) → HasSignature s g → slice_get (in_order s) (func_id (in_order s) g).place ≡ Some g }
+    ensures once { (s : Skeleton) (g : Signature) → HasSignature s g → (k : ℕ) → slice_get (in_order s) k ≡ Some g → (func_id (in_order s) g).place ≡ k }
+{}
+
+/// The signatures of a text in their order are those of its declarations, in written order.
+pub fn signatures_in_written_order(text: &[u8])
+    ensures { (s : Skeleton) → StandsFor text.now s → map (declaration_of s) (in_order s) ≡ map (λ d. Some d) (signatures s) }
+{
+    tokens_are_slices(text);
+}
+
+/// Where the names of a text resolve, what is found by names is the one signature that has them.
+pub fn signatures_are_found_by_name(text: &[u8])
+    ensures { (terms : List Term) (s : Skeleton) (w : IdWorld) → StandsFor text.now s → IsWorldOf text.now s (world_by terms w) → Resolve text.now s
+        → (outer : Option (List ℕ)) (name : List ℕ) (f : FuncId) → (func_named w outer name ≡ Some f) ↔ IsNamedAt w outer name f }
+{
+    tokens_are_slices(text);
+}
+
+/// What is found by name in a signature is a generic parameter of it that has the name, and nothing is found only where none has it.
+pub fn generic_parameters_are_found_by_name()
+    ensures found { (text : List ℕ) (terms : List Term) (s : Skeleton) (w : IdWorld) → IsWorldOf text s (world_by terms w)
+        → (f : FuncId) → f.place < length w.signatures → (name : List ℕ) (p : ParamId) → param_of_signature w f name ≡ Some p
+        → IsParamNamed text s (signature_at w f).signature name p }
+    ensures none { (text : List ℕ) (terms : List Term) (s : Skeleton) (w : IdWorld) → IsWorldOf text s (world_by terms w)
+        → (f : FuncId) → f.place < length w.signatures → (name : List ℕ) → param_of_signature w f name ≡ None
+        → (p : ParamId) → IsParamNamed text s (signature_at w f).signature name p → ⊥ }
+{}
 
 /// The requirements of protocols are over `τ_0_0` alone.
 pub fn protocols_require_of_self()
     ensures { (text : List ℕ) (s : Skeleton) (w : TextWorld) → IsWorldOf text s w
         → All (All (λ r. IsOverSelf r.requirement)) w.requirements }
+{}
+
+/// Where the names of a text resolve, a protocol inherits another exactly where a chain of written conformances of the bare `Self`,
+/// one or more, leads there.
+pub fn inheritance_is_what_is_written()
+    ensures { (text : List ℕ) (s : Skeleton) (w : TextWorld) → IsWorldOf text s w → Resolve text s
+        → (p q : ProtoId) → IsProtocol w.lexicon p → IsProtocol w.lexicon q → IsTrue (inherits w.lexicon p q) ↔ LeadsOnTo (facts_of w) p q }
 {}
 
 /// Where the names of a text resolve, all that is written in its world is of the world.

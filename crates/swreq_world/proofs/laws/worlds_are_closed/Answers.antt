@@ -1,7 +1,7 @@
 use Rattle.std.specs.Str.{chars}
 use Rattle.swreq_lex.specs.Tokens.{first_offset}
 use Rattle.swreq_world.proofs.Closing.{closed}
-use Rattle.swreq_world.proofs.ProtocolOffsets.{protocols_rising}
+use Rattle.swreq_world.proofs.Offsets.{protocols_rising}
 use Rattle.swreq_world.proofs.laws.worlds_are_closed.Goals as goal
 
 pub returns : goal.returns

@@ -1,0 +1,154 @@
+-- The names of the protocols, of the structs and of the functions at the top of a text stand in the order of each of these lists.
+use Rattle.std.proofs.Common.{◌≡◌, ℕ, zero, suc, ◌≤◌, ◌<◌, inl, inr, List, [], ◌∷◌, ◌++◌, Option, Some, None, drop, slice_get, refl, sym, ap, subst, arith}
+use Rattle.std.proofs.lemmas.Option.{same_Some}
+use Rattle.std.specs.List.{cons_option, filter_map}
+use Rattle.std.specs.Str.{chars}
+use Rattle.swreq_lex.specs.declared.token.Token as lexed
+use Rattle.swreq_lex.specs.Slices.{AreSlices, next}
+use Rattle.swreq_lex.specs.Tokens.{HasTokens, first_offset}
+use Rattle.swreq_grammar.specs.declared.token.Token.{Token}
+use Rattle.swreq_grammar.specs.Grammar.{Matches, Parts}
+use Rattle.swreq_decl.specs.declared.terminal.Terminal.{Terminal}
+use Rattle.swreq_decl.specs.declared.skeleton.FunctionDecl.{FunctionDecl}
+use Rattle.swreq_decl.specs.declared.skeleton.ProtocolDecl.{ProtocolDecl}
+use Rattle.swreq_decl.specs.declared.skeleton.StructDecl.{StructDecl}
+use Rattle.swreq_decl.specs.declared.skeleton.Skeleton.{Skeleton}
+use Rattle.swreq_decl.specs.declared.skeleton.Item.{Item}
+use Rattle.swreq_decl.specs.declared.skeleton.Item.TheVariants as items
+use Rattle.swreq_decl.specs.Terminals.{number, with_terminals}
+use Rattle.swreq_decl.specs.Source as lines
+use Rattle.swreq_decl.specs.Skeletons.{StandsFor, protocol_of, struct_of, function_of}
+use Rattle.swreq_decl.proofs.SameTexts.{Tokens}
+use Rattle.swreq_decl.proofs.WrittenOrder.{Starts, Stands, item_stands}
+
+-- ---- rising offsets
+
+module _ {A : Type 0} (start : A → ℕ) where
+  -- Each item starts before those after it, and none before the offset.
+  abbrev pub AreRising : ℕ → List A → Type 0
+  AreRising from [] = Unit {0}
+  AreRising from (x ∷ xs) = (from ≤ start x) × AreRising (suc (start x)) xs
+
+  rising_sooner : (from to : ℕ) → from ≤ to → (xs : List A) → AreRising to xs → AreRising from xs
+  rising_sooner from to l [] r = tt
+  rising_sooner from to l (x ∷ xs) r = (let k = r.0 in omega arith, r.1)
+
+  pub rising_left : (from : ℕ) (xs ys : List A) → AreRising from (xs ++ ys) → AreRising from xs
+  rising_left from [] ys r = tt
+  rising_left from (x ∷ xs) ys r = (r.0, rising_left (suc (start x)) xs ys r.1)
+
+  pub rising_after : (from : ℕ) (xs ys : List A) → AreRising from (xs ++ ys) → AreRising from ys
+  rising_after from [] ys r = r
+  rising_after from (x ∷ xs) ys r =
+      let k = r.0 in rising_sooner from (suc (start x)) (omega arith) ys (rising_after (suc (start x)) xs ys r.1)
+
+  pub rising_drop : (from n : ℕ) (xs : List A) → AreRising from xs → AreRising from (drop n xs)
+  rising_drop from zero xs r = r
+  rising_drop from (suc n) [] r = tt
+  rising_drop from (suc n) (x ∷ xs) r =
+      let k = r.0 in rising_sooner from (suc (start x)) (omega arith) (drop n xs) (rising_drop (suc (start x)) n xs r.1)
+
+  pub starts_from : (from : ℕ) (xs : List A) → AreRising from xs → (j : ℕ) (y : A) → slice_get xs j ≡ Some y → from ≤ start y
+  starts_from from [] r j y e = absurd cc
+  starts_from from (x ∷ xs) r zero y e = let k = r.0 in let s = ap start (same_Some x y e) in omega (arith, k, s)
+  starts_from from (x ∷ xs) r (suc j) y e = let k = r.0 in let l = starts_from (suc (start x)) xs r.1 j y e in omega arith
+
+  pub starts_before : (from : ℕ) (xs : List A) → AreRising from xs → (i j : ℕ) (x y : A) → slice_get xs i ≡ Some x → slice_get xs j ≡ Some y
+      → i < j → start x < start y
+  starts_before from [] r i j x y e f l = absurd cc
+  starts_before from (z ∷ zs) r i zero x y e f l = absurd (omega arith)
+  starts_before from (z ∷ zs) r zero (suc j) x y e f l =
+      let s = ap start (same_Some z x e) in let k = starts_from (suc (start z)) zs r.1 j y f in omega (arith, s, k)
+  starts_before from (z ∷ zs) r (suc i) (suc j) x y e f l = starts_before (suc (start z)) zs r.1 i j x y e f (omega arith)
+
+-- ---- tokens
+
+abbrev pub start_of : Token Terminal → ℕ
+start_of t = t.start
+
+pub slices_rising : (text : List ℕ) (from : ℕ) (ts : List lexed.Token) → AreSlices text from ts
+    → AreRising start_of from (with_terminals text ts)
+slices_rising text from [] s = tt
+slices_rising text from (t ∷ ts) (next a b c d e s) =
+    (a, rising_sooner start_of (suc t.start) t.end (omega arith) (with_terminals text ts) (slices_rising text t.end ts s))
+
+-- What comes after tokens starts after each of them.
+pub rising_past : (from n : ℕ) (xs ys : Tokens) → AreRising start_of from (xs ++ ys) → Starts n xs → (from ≤ n) × AreRising start_of (suc n) ys
+rising_past from n [] ys r h = absurd h
+rising_past from n (t ∷ xs) ys r (inl e) =
+    let k = r.0 in
+    (omega arith, rising_sooner start_of (suc n) (suc t.start) (omega arith) ys (rising_after start_of (suc t.start) xs ys r.1))
+rising_past from n (t ∷ xs) ys r (inr h) =
+    let k = r.0 in let p = rising_past (suc t.start) n xs ys r.1 h in let l = p.0 in (omega arith, p.1)
+
+pub rising_rest : (from : ℕ) (ts a b : Tokens) → ts ≡ a ++ b → AreRising start_of from ts → AreRising start_of from b
+rising_rest from ts a b s r = rising_after start_of from a b (subst (AreRising start_of from) s r)
+
+-- ---- the parts of a text
+
+-- what is picked of the parts, where its start is that of a token of its part
+module _ {A : Type 0} (pick : Item → Option A) (start : A → ℕ) (stands : (v : Item) (x : A) (ts : Tokens) → pick v ≡ Some x → Stands v ts → Starts (start x) ts) where
+  joined : (from : ℕ) (o : Option A) (xs : List A) (a b : Tokens) → AreRising start_of from (a ++ b) → ((x : A) → o ≡ Some x → Starts (start x) a)
+      → ((to : ℕ) → AreRising start_of to b → AreRising start to xs) → AreRising start from (cons_option o xs)
+  joined from None xs a b r starts later = later from (rising_after start_of from a b r)
+  joined from (Some x) xs a b r starts later = let q = rising_past from (start x) a b r (starts x refl) in (q.0, later (suc (start x)) q.1)
+
+  pub parts_rising : (from : ℕ) (vs : List Item) (ts : Tokens) → Parts (Matches number lines.item) ts vs → AreRising start_of from ts
+      → AreRising start from (filter_map pick vs)
+  parts_rising from [] ts e r = tt
+  parts_rising from (v ∷ vs) ts (a, b, s, m, ms) r =
+      joined from (pick v) (filter_map pick vs) a b (subst (AreRising start_of from) s r) (λ x e. stands v x a e (item_stands a v m))
+      (λ to. parts_rising to vs b ms)
+
+  picked_rising : (text : List ℕ) (s : Skeleton)
+      → ((ts : List lexed.Token) → HasTokens text ts → AreSlices text (first_offset (chars text)) ts) → (stands_for : StandsFor text s)
+      → AreRising start (first_offset (chars text)) (filter_map pick stands_for.2.0)
+  unfolding lines.source
+  picked_rising text s slices (found, tokens, (parts, m, e)) =
+      let from = first_offset (chars text) in
+      parts_rising from parts (with_terminals text found) m.0 (slices_rising text from found (slices found tokens))
+
+-- ---- the protocols, the structs and the functions at the top
+
+abbrev pub name_start : ProtocolDecl → ℕ
+name_start p = p.name.start
+
+abbrev pub struct_start : StructDecl → ℕ
+struct_start t = t.name.start
+
+abbrev pub function_start : FunctionDecl → ℕ
+function_start f = f.name.start
+
+protocol_starts : (v : Item) (p : ProtocolDecl) (ts : Tokens) → protocol_of v ≡ Some p → Stands v ts → Starts (name_start p) ts
+protocol_starts (items.Protocol q) p ts e h = subst (λ (r : ProtocolDecl). Starts (name_start r) ts) (same_Some q p e) h
+protocol_starts (items.Struct t) p ts e h = absurd cc
+protocol_starts (items.Function f) p ts e h = absurd cc
+protocol_starts (items.Query q) p ts e h = absurd cc
+
+pub struct_starts : (v : Item) (t : StructDecl) (ts : Tokens) → struct_of v ≡ Some t → Stands v ts → Starts (struct_start t) ts
+struct_starts (items.Struct u) t ts e h = subst (λ (r : StructDecl). Starts (struct_start r) ts) (same_Some u t e) h
+struct_starts (items.Protocol p) t ts e h = absurd cc
+struct_starts (items.Function f) t ts e h = absurd cc
+struct_starts (items.Query q) t ts e h = absurd cc
+
+pub function_starts : (v : Item) (f : FunctionDecl) (ts : Tokens) → function_of v ≡ Some f → Stands v ts → Starts (function_start f) ts
+function_starts (items.Function g) f ts e h = subst (λ (r : FunctionDecl). Starts (function_start r) ts) (same_Some g f e) h
+function_starts (items.Protocol p) f ts e h = absurd cc
+function_starts (items.Struct t) f ts e h = absurd cc
+function_starts (items.Query q) f ts e h = absurd cc
+
+module _ (text : List ℕ) (s : Skeleton) (slices : (ts : List lexed.Token) → HasTokens text ts → AreSlices text (first_offset (chars text)) ts) (stands : StandsFor text s) where
+  pub protocols_rising : AreRising name_start (first_offset (chars text)) s.protocols
+  protocols_rising =
+      subst (λ (u : Skeleton). AreRising name_start (first_offset (chars text)) u.protocols) (sym stands.2.2)
+      (picked_rising protocol_of name_start protocol_starts text s slices stands)
+
+  pub structs_rising : AreRising struct_start (first_offset (chars text)) s.structs
+  structs_rising =
+      subst (λ (u : Skeleton). AreRising struct_start (first_offset (chars text)) u.structs) (sym stands.2.2)
+      (picked_rising struct_of struct_start struct_starts text s slices stands)
+
+  pub functions_rising : AreRising function_start (first_offset (chars text)) s.functions
+  functions_rising =
+      subst (λ (u : Skeleton). AreRising function_start (first_offset (chars text)) u.functions) (sym stands.2.2)
+      (picked_rising function_of function_start function_starts text s slices stands)
