@@ -19,8 +19,9 @@ use Rattle.swreq_decl.specs.declared.skeleton.StepDecl.{StepDecl}
 use Rattle.swreq_decl.specs.declared.skeleton.TypeDecl.{TypeDecl}
 use Rattle.swreq_derive.specs.Derivation.TermRequirement.{Conforms, IsAnyObject, Equals}
 use Rattle.swreq_names.specs.declared.directory.Declaration.{Declaration}
-use Rattle.swreq_names.specs.Inheritance as inheritance
-use Rattle.swreq_names.specs.Inheritance.{direct, is_bare, named_by}
+use Rattle.swreq_names.specs.Inheritance.{direct, is_bare, named_by, named_in}
+use Rattle.swreq_names.specs.Walk.{inherited_in, inherited_in_clause}
+use Rattle.swreq_names.proofs.Walked.{same_direct}
 use Rattle.swreq_names.specs.Spaces.{self_bytes, Spaces, protocol_of, word}
 use Rattle.swreq_resolve.specs.declared.refusal.Fault.TheVariants.{NotAProtocol}
 use Rattle.swreq_resolve.specs.Refusals.{begins_in_protocol, duplicates, of_entity, of_member, of_members, of_named, of_primaries, of_protocol_name, of_requirement, of_type}
@@ -28,7 +29,9 @@ use Rattle.swreq_resolve.specs.Refusals as refusals
 use Rattle.swreq_rank.specs.Ranks.{Bytes}
 use Rattle.swreq_lexicon.proofs.Declared.{from_pieces, in_pieces}
 use Rattle.swreq_lowering.specs.declared.scope.Scope.TheVariants.{Protocol}
-use Rattle.swreq_lowering.specs.Requirements.{PlacedRequirement, argument, arguments, bound_of, equality, in_bound, in_bounds, in_clause, in_member, in_members, in_protocol, in_requirement, of_one_side}
+use Rattle.swreq_lowering.specs.Requirements.{PlacedRequirement, argument, arguments, bound_of, equality, in_bound, in_bounds, in_protocol, of_one_side}
+use Rattle.swreq_lowering.specs.Walk.{in_clause, in_member, in_members, in_requirement}
+use Rattle.swreq_lowering.proofs.Walked.{protocol_walked}
 use Rattle.swreq_lowering.specs.Types.{member_named, step_of, type_in}
 use Rattle.swreq_lowering.specs.Words.{WordsView, primaries_named, proto_of}
 use Rattle.swreq_world.proofs.Everywhere.{all_left, all_right, each_piece}
@@ -123,37 +126,37 @@ module _ (w : WordsView) (q : ProtoId) where
 
       -- Bounds say so of `Self` alone.
       bounds_inherit : (t : Term) (at : ℕ) (es : List Entity) → All Never (flat_map (of_entity w.text d begins) es)
-          → (r : PlacedRequirement) → Contains (in_bounds w Protocol t at es) r → Says r → (t ≡ self) × Inherits (inheritance.in_bounds w.text d es)
+          → (r : PlacedRequirement) → Contains (in_bounds w Protocol t at es) r → Says r → (t ≡ self) × Inherits (named_in w.text d es)
       bounds_inherit t at es none r c says =
           let (e, m, k) = from_pieces (in_bound w Protocol t at) es r c in
           let bound = is_bound t e (said_by t at e r k says) in
           let meant = All-contains IsMeant es e (each_piece Never (of_entity w.text d begins) es none) m in (
             bound.subject,
-            more (option_to_list (named_by w.text d e)) (inheritance.in_bounds w.text d es) (λ i. in_pieces (λ (e : Entity). option_to_list (named_by w.text d e)) es e i m) (bound_inherits t e (named_of e meant) bound),
+            more (option_to_list (named_by w.text d e)) (named_in w.text d es) (λ i. in_pieces (λ (e : Entity). option_to_list (named_by w.text d e)) es e i m) (bound_inherits t e (named_of e meant) bound),
           )
 
       -- ---- clauses
 
       requirement_inherits : (t : ReqDecl) → All Never (of_requirement w.text d begins t)
-          → (r : PlacedRequirement) → Contains (in_requirement w Protocol t) r → Says r → Inherits (inheritance.in_requirement w.text d t)
+          → (r : PlacedRequirement) → Contains (in_requirement w Protocol t) r → Says r → Inherits (inherited_in w.text d t)
       requirement_inherits (Bound t bounds) none r c says =
           let b = bounds_inherit (type_in w Protocol t) t.head.start bounds (all_right Never (of_type w.text d begins t) (flat_map (of_entity w.text d begins) bounds) none) r c says in
-          subst (λ b. Inherits (cond b (inheritance.in_bounds w.text d bounds) [])) (sym (bare_self w t b.0)) b.1
+          subst (λ b. Inherits (cond b (named_in w.text d bounds) [])) (sym (bare_self w t b.0)) b.1
       requirement_inherits (Same t u) none r c says =
           let same = only_member (equality (type_in w Protocol t) t.head.start (type_in w Protocol u) u.head.start) r c in
           absurd (not_an_equality (type_in w Protocol t) (type_in w Protocol u) (sym (ap (λ (p : PlacedRequirement). p.requirement) same) ∙ says))
 
       clause_inherits : (clause : List ReqDecl) → All Never (flat_map (of_requirement w.text d begins) clause)
-          → (r : PlacedRequirement) → Contains (in_clause w Protocol clause) r → Says r → Inherits (inheritance.in_clause w.text d clause)
+          → (r : PlacedRequirement) → Contains (in_clause w Protocol clause) r → Says r → Inherits (inherited_in_clause w.text d clause)
       clause_inherits clause none r c says =
           let (t, m, k) = from_pieces (in_requirement w Protocol) clause r c in
           let meant = All-contains (λ t. All Never (of_requirement w.text d begins t)) clause t (each_piece Never (of_requirement w.text d begins) clause none) m in
-          more (inheritance.in_requirement w.text d t) (inheritance.in_clause w.text d clause) (λ i. in_pieces (inheritance.in_requirement w.text d) clause t i m) (requirement_inherits t meant r k says)
+          more (inherited_in w.text d t) (inherited_in_clause w.text d clause) (λ i. in_pieces (inherited_in w.text d) clause t i m) (requirement_inherits t meant r k says)
 
       -- ---- associated types
 
       member_inherits : (m : AssocDecl) → All Never (of_member w.text d begins m)
-          → (r : PlacedRequirement) → Contains (in_member w m) r → Says r → Inherits (inheritance.in_clause w.text d m.clause)
+          → (r : PlacedRequirement) → Contains (in_member w m) r → Says r → Inherits (inherited_in_clause w.text d m.clause)
       member_inherits m none r c says =
           let of_inherits = flat_map (of_entity w.text d begins) m.inherits in
           let of_clause = flat_map (of_requirement w.text d begins) m.clause in
@@ -166,11 +169,11 @@ module _ (w : WordsView) (q : ProtoId) where
           not_self e = absurd cc
 
       members_inherit : (ms : List AssocDecl) → All Never (flat_map (of_member w.text d begins) ms)
-          → (r : PlacedRequirement) → Contains (in_members w ms) r → Says r → Inherits (flat_map (λ (m : AssocDecl). inheritance.in_clause w.text d m.clause) ms)
+          → (r : PlacedRequirement) → Contains (in_members w ms) r → Says r → Inherits (flat_map (λ (m : AssocDecl). inherited_in_clause w.text d m.clause) ms)
       members_inherit ms none r c says =
           let (m, k, l) = from_pieces (in_member w) ms r c in
           let meant = All-contains (λ m. All Never (of_member w.text d begins m)) ms m (each_piece Never (of_member w.text d begins) ms none) k in
-          let clause_of = λ (m : AssocDecl). inheritance.in_clause w.text d m.clause in
+          let clause_of = λ (m : AssocDecl). inherited_in_clause w.text d m.clause in
           more (clause_of m) (flat_map clause_of ms) (λ i. in_pieces clause_of ms m i k) (member_inherits m meant r l says)
 
     -- ---- protocols
@@ -186,15 +189,16 @@ module _ (w : WordsView) (q : ProtoId) where
         let some = all_right Never (of_primaries d inherits i) (of_inherits ++ (of_clause ++ (duplicates members members ++ of_each))) none in
         let rest = all_right Never of_inherits (of_clause ++ (duplicates members members ++ of_each)) some in
         let last = all_right Never of_clause (duplicates members members ++ of_each) rest in
-        let head = inheritance.in_bounds w.text d p.inherits in
-        let clause = inheritance.in_clause w.text d p.clause in
-        let each = flat_map (λ (m : AssocDecl). inheritance.in_clause w.text d m.clause) p.members in
-        ⊎_elim (λ k. more head (direct w.text d p) (Contains-append_left head (clause ++ each))
+        let head = named_in w.text d p.inherits in
+        let clause = inherited_in_clause w.text d p.clause in
+        let each = flat_map (λ (m : AssocDecl). inherited_in_clause w.text d m.clause) p.members in
+        subst Inherits (same_direct w.text d p)
+        (⊎_elim (λ k. more head (head ++ (clause ++ each)) (Contains-append_left head (clause ++ each))
         (bounds_inherit begins self p.name.start p.inherits (all_left Never of_inherits (of_clause ++ (duplicates members members ++ of_each)) some) r k says).1)
-        (λ k. more (clause ++ each) (direct w.text d p) (Contains-append_right head (clause ++ each))
+        (λ k. more (clause ++ each) (head ++ (clause ++ each)) (Contains-append_right head (clause ++ each))
         (⊎_elim (λ l. more clause (clause ++ each) (Contains-append_left clause each)
         (clause_inherits begins p.clause (all_left Never of_clause (duplicates members members ++ of_each) rest) r l says))
         (λ l. more each (clause ++ each) (Contains-append_right clause each)
         (members_inherit begins p.members (all_right Never (duplicates members members) of_each last) r l says))
         (Contains-append_cases (in_clause w Protocol p.clause) (in_members w p.members) r k)))
-        (Contains-append_cases (in_bounds w Protocol self p.name.start p.inherits) (in_clause w Protocol p.clause ++ in_members w p.members) r c)
+        (Contains-append_cases (in_bounds w Protocol self p.name.start p.inherits) (in_clause w Protocol p.clause ++ in_members w p.members) r (subst (λ (rs : List PlacedRequirement). Contains rs r) (protocol_walked w p) c)))

@@ -21,7 +21,9 @@ use Rattle.swreq_names.proofs.Walked.{same_direct}
 use Rattle.swreq_names.specs.Spaces.{self_bytes, Spaces, protocol_of, word}
 use Rattle.swreq_lexicon.proofs.Declared.{from_pieces, in_pieces}
 use Rattle.swreq_lowering.specs.declared.scope.Scope.TheVariants.{Protocol}
-use Rattle.swreq_lowering.specs.Requirements.{PlacedRequirement, bound_of, in_bound, in_bounds, in_clause, in_member, in_members, in_protocol, in_requirement, of_one_side}
+use Rattle.swreq_lowering.specs.Requirements.{PlacedRequirement, bound_of, in_bound, in_bounds, in_protocol, of_one_side}
+use Rattle.swreq_lowering.specs.Walk.{in_clause, in_member, in_members, in_requirement}
+use Rattle.swreq_lowering.proofs.Walked.{protocol_walked}
 use Rattle.swreq_lowering.specs.Types.{member_named, step_of, type_in}
 use Rattle.swreq_lowering.specs.Words.{WordsView, proto_of}
 
@@ -113,9 +115,10 @@ module _ (d : Spaces) (w : WordsView) (j : ℕ) where
       let members = in_members w p.members in
       let clause_of = inherited_in_clause w.text d p.clause in
       let members_of = flat_map (λ (m : AssocDecl). inherited_in_clause w.text d m.clause) p.members in
-      ⊎_elim (λ h. more head (in_protocol w p) (Contains-append_left head (clause ++ members)) (bounds_say p.name.start p.inherits h))
-      (λ rest. more (clause ++ members) (in_protocol w p) (Contains-append_right head (clause ++ members))
+      subst (λ rs. Says d w rs j) (sym (protocol_walked w p))
+      (⊎_elim (λ h. more head (head ++ (clause ++ members)) (Contains-append_left head (clause ++ members)) (bounds_say p.name.start p.inherits h))
+      (λ rest. more (clause ++ members) (head ++ (clause ++ members)) (Contains-append_right head (clause ++ members))
       (⊎_elim (λ h. more clause (clause ++ members) (Contains-append_left clause members) (clause_says p.clause h))
       (λ h. more members (clause ++ members) (Contains-append_right clause members) (members_say p.members h))
       (Contains-append_cases clause_of members_of j rest)))
-      (Contains-append_cases (named_in w.text d p.inherits) (clause_of ++ members_of) j (subst (λ (js : List ℕ). Contains js j) (sym (same_direct w.text d p)) c))
+      (Contains-append_cases (named_in w.text d p.inherits) (clause_of ++ members_of) j (subst (λ (js : List ℕ). Contains js j) (sym (same_direct w.text d p)) c)))
