@@ -172,32 +172,32 @@ rising_in_angles b = at_after (at_before (rising_separated b))
 
 -- ---- the lines of the source
 
-abbrev span_start : Span → ℕ
+abbrev pub span_start : Span → ℕ
 span_start s = s.start
 
-abbrev member_start : AssocDecl → ℕ
+abbrev pub member_start : AssocDecl → ℕ
 member_start m = m.name.start
 
-abbrev protocol_start : ProtocolDecl → ℕ
+abbrev pub protocol_start : ProtocolDecl → ℕ
 protocol_start p = p.name.start
 
-abbrev param_start : ParamDecl → ℕ
+abbrev pub param_start : ParamDecl → ℕ
 param_start g = g.name.start
 
-abbrev function_start : FunctionDecl → ℕ
+abbrev pub function_start : FunctionDecl → ℕ
 function_start f = f.name.start
 
-abbrev struct_start : StructDecl → ℕ
+abbrev pub struct_start : StructDecl → ℕ
 struct_start t = t.name.start
 
 -- The names that a part declares stand in order.
-abbrev IsRisenProtocol : ProtocolDecl → Type 0
+abbrev pub IsRisenProtocol : ProtocolDecl → Type 0
 IsRisenProtocol p = AreRising span_start 0 p.primaries × AreRising member_start 0 p.members
 
-abbrev IsRisenFunction : FunctionDecl → Type 0
+abbrev pub IsRisenFunction : FunctionDecl → Type 0
 IsRisenFunction f = AreRising param_start 0 f.params
 
-abbrev IsRisenStruct : StructDecl → Type 0
+abbrev pub IsRisenStruct : StructDecl → Type 0
 IsRisenStruct t = AreRising param_start 0 t.params × (AreRising function_start 0 t.functions × AllByRecursion IsRisenFunction t.functions)
 
 abbrev IsRisenItem : Item → Type 0
@@ -267,7 +267,7 @@ item_risen = at_before bare_item_risen
 -- ---- skeletons
 
 -- No two have one place.
-abbrev AreApart : List StructDecl → List FunctionDecl → Type 0
+abbrev pub AreApart : List StructDecl → List FunctionDecl → Type 0
 AreApart ts fs = (t : StructDecl) (f : FunctionDecl) → Contains ts t → Contains fs f → struct_start t ≡ function_start f → ⊥
 
 starts_from : {A : Type 0} (start : A → ℕ) (from : ℕ) (xs : List A) → AreRising start from xs → (y : A) → Contains xs y → from ≤ start y
@@ -289,14 +289,14 @@ one_more_function f ts fs r a t g c d e =
     (λ h. a t g c h e) (member_cases f g fs d)
 
 -- The names that the parts of a skeleton declare stand in order, and so do the names of the parts of each kind.
-record IsRisen (from : ℕ) (s : Skeleton) : Type 0 where
-  protocols : AreRising protocol_start from s.protocols
-  structs : AreRising struct_start from s.structs
-  functions : AreRising function_start from s.functions
-  each_protocol : AllByRecursion IsRisenProtocol s.protocols
-  each_struct : AllByRecursion IsRisenStruct s.structs
-  each_function : AllByRecursion IsRisenFunction s.functions
-  apart : AreApart s.structs s.functions
+pub record IsRisen (from : ℕ) (s : Skeleton) : Type 0 where
+  pub protocols : AreRising protocol_start from s.protocols
+  pub structs : AreRising struct_start from s.structs
+  pub functions : AreRising function_start from s.functions
+  pub each_protocol : AllByRecursion IsRisenProtocol s.protocols
+  pub each_struct : AllByRecursion IsRisenStruct s.structs
+  pub each_function : AllByRecursion IsRisenFunction s.functions
+  pub apart : AreApart s.structs s.functions
 
 sooner : (from to : ℕ) → from ≤ to → (s : Skeleton) → IsRisen to s → IsRisen from s
 sooner from to l s r = record {
@@ -367,6 +367,13 @@ parts_risen from (items.Query q ∷ vs) ts (a, b, s, m, ms) r =
       each_function = all.each_function;
       apart = all.apart;
     }
+
+pub text_risen : (text : List ℕ) (s : Skeleton) → ((ts : List lexed.Token) → HasTokens text ts → AreSlices text (first_offset (chars text)) ts)
+    → StandsFor text s → IsRisen (first_offset (chars text)) s
+unfolding lines.source
+text_risen text s slices (found, tokens, (parts, m, e)) =
+    let from = first_offset (chars text) in
+    subst (IsRisen from) (sym e) (parts_risen from parts (with_terminals text found) m.0 (slices_rising text from found (slices found tokens)))
 
 -- ---- declared names
 
@@ -456,8 +463,4 @@ module _ (text : List ℕ) where
 
   pub declared_in_order : (s : Skeleton) → ((ts : List lexed.Token) → HasTokens text ts → AreSlices text (first_offset (chars text)) ts)
       → StandsFor text s → IsInOrder (spaces text s)
-  unfolding lines.source
-  declared_in_order s slices (found, tokens, (parts, m, e)) =
-      let from = first_offset (chars text) in
-      let r = parts_risen from parts (with_terminals text found) m.0 (slices_rising text from found (slices found tokens)) in
-      subst (λ (u : Skeleton). IsInOrder (spaces text u)) (sym e) (all_in_order from (skeleton_of parts) r)
+  declared_in_order s slices stands = all_in_order (first_offset (chars text)) s (text_risen text s slices stands)

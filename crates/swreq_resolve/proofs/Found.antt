@@ -267,7 +267,7 @@ module _ (text : List ℕ) (s : Skeleton) (inherits : ℕ → ℕ → Bool) (tel
   scope_begins g (in_query k) (q, e, m) =
       let h = (signature text s order q.outer q.function).from g m in
       ap (λ (p : Option QueryDecl). option_map (begins_in_signature d)
-          (elim p as (λ _. Option Signature) [ None ↦ None | Some q ↦ signature_asked text s q.outer q.function ])) e
+      (elim p as (λ _. Option Signature) [ None ↦ None | Some q ↦ signature_asked text s q.outer q.function ])) e
       ∙ ap (option_map (begins_in_signature d)) h
 
   some_begins : (scope : Scope) → IsLookedAt text s scope → (b : Begins) × (begins_at text s inherits scope ≡ Some b)

@@ -114,7 +114,7 @@ module _ (text : List ℕ) (s : Skeleton) (inherits : ℕ → ℕ → Bool) (tel
   module _ (q : QueryDecl) (c : Contains s.queries q) (r : Refusal) where
     top_to : q.outer ≡ None → (a b : Option ℕ) → struct_of d (word text q.function) ≡ a → function_of d (word text q.function) ≡ b
         → Contains (unknown_signature text s inherits q
-            (elim a as (λ _. Option Signature) [ None ↦ option_map Function b | Some i ↦ Some (Struct i) ])) r
+        (elim a as (λ _. Option Signature) [ None ↦ option_map Function b | Some i ↦ Some (Struct i) ])) r
         → IsRefused text s r
     top_to e None None f g k =
         let no_structs = none_to (struct_of d (word text q.function)) (NamesStruct text s q.function) (struct text s order q.function) f in
@@ -185,7 +185,7 @@ module _ (text : List ℕ) (s : Skeleton) (inherits : ℕ → ℕ → Bool) (tel
     protocol_name_to : e.layout ≡ false → (o : Option ℕ) → protocol_of d (word text e.span) ≡ o
         → Contains (of_protocol_name d e.span (length e.args) o) r → IsRefused text s r
     protocol_name_to n None h c =
-        turned (refused NotAProtocol e.span.start) r (only_member (refused NotAProtocol e.span.start) r c) 
+        turned (refused NotAProtocol e.span.start) r (only_member (refused NotAProtocol e.span.start) r c)
         (no_protocol (stands n) (none_to (protocol_of d (word text e.span)) (NamesProtocol text s e.span) (protocol text s order e.span) h))
     protocol_name_to n (Some i) h c =
         wrong_to n i h (nat_eq (length e.args) 0) (nat_eq (length e.args) (length (get_or d.primaries i []))) refl refl c
@@ -232,7 +232,7 @@ module _ (text : List ℕ) (s : Skeleton) (inherits : ℕ → ℕ → Bool) (tel
   bound_to : (scope : Scope) (t : TypeDecl) → HasType text s scope t → (p a : Span) → Contains t.steps (steps.Bound p a)
       → (o : Option ℕ) → protocol_of d (word text p) ≡ o → (r : Refusal) → Contains (of_bound text d p a o) r → IsRefused text s r
   bound_to scope t w p a c None h r k =
-      turned (refused NotAProtocol p.start) r (only_member (refused NotAProtocol p.start) r k) 
+      turned (refused NotAProtocol p.start) r (only_member (refused NotAProtocol p.start) r k)
       (no_protocol_in_brackets w c (none_to (protocol_of d (word text p)) (NamesProtocol text s p) (protocol text s order p) h))
   bound_to scope t w p a c (Some i) h r k =
       let e = when_to (not (declares d i (word text a))) NoSuchMember a.start r k in

@@ -17,6 +17,7 @@ use Rattle.swreq_names.specs.Spaces.{word, self_bytes, outer_params, own_params,
 use Rattle.swreq_resolve.specs.declared.refusal.Fault.{Fault}
 use Rattle.swreq_resolve.specs.declared.refusal.Fault.TheVariants.{Duplicate, NotAProtocol, ConcreteType, NoSuchMember, UnknownSignature, WrongArity}
 use Rattle.swreq_resolve.specs.declared.refusal.Refusal.{Refusal}
+use Rattle.swreq_resolve.specs.First.{precedes}
 
 -- ---- spaces
 
@@ -195,3 +196,8 @@ pub data IsRefused (text : List ℕ) (s : Skeleton) : Refusal → Type 0 where
       → NamesStruct text s outer i
       → ((j : ℕ) → NamesInner text s i q.function j → ⊥)
       → IsRefused text s (refused UnknownSignature q.function.start)
+
+-- It is refused, and none that is refused precedes it.
+pub record IsFirstRefused (text : List ℕ) (s : Skeleton) (r : Refusal) : Type 0 where
+  pub is : IsRefused text s r
+  pub first : (q : Refusal) → IsRefused text s q → precedes q r ≡ false

@@ -7,8 +7,8 @@ ghost use Rattle.swreq_names.specs.Inheritance.{Tells};
 ghost use Rattle.swreq_resolve.specs.declared.refusal.NameErr.{NameErr};
 ghost use Rattle.swreq_resolve.specs.declared.refusal.Refusal.{Refusal};
 ghost use Rattle.swreq_resolve.specs.Refusals.{refusals};
-ghost use Rattle.swreq_resolve.specs.Refused.{IsRefused};
-ghost use Rattle.swreq_resolve.specs.Resolving.{Refuses, Resolve};
+ghost use Rattle.swreq_resolve.specs.Refused.{IsFirstRefused, IsRefused};
+ghost use Rattle.swreq_resolve.specs.Resolving.{HasNames, Refuses, RefusesName, Resolve};
 
 use swreq_decl::Skeleton;
 use swreq_lex::laws::tokens_are_slices;
@@ -22,11 +22,14 @@ pub fn one_answer(text: &[u8], s: &Skeleton)
     ensures one { (e f : NameErr) → Refuses text.now s.now e → Refuses text.now s.now f → e ≡ f }
 {}
 
-/// What the names of a text are refused for, as the code goes through them, is what the rules refuse. That is said over a table that
-/// tells which protocol inherits which.
+/// The list of the refusals of names, in the order in which the code looks at them, has exactly the refused names of a text. That is
+/// said over a table that tells which protocol inherits which. So where a text is refused for a name, it is the first of the refused
+/// names, and where its names resolve, none is refused.
 pub fn refusals_are_the_refused(text: &[u8], s: &Skeleton)
-    ensures { StandsFor text.now s.now → (inherits : ℕ → ℕ → Bool) → Tells text.now s.now inherits
+    ensures all { StandsFor text.now s.now → (inherits : ℕ → ℕ → Bool) → Tells text.now s.now inherits
         → (r : Refusal) → Contains (refusals text.now inherits s.now) r ↔ IsRefused text.now s.now r }
+    ensures first { StandsFor text.now s.now → (r : Refusal) → RefusesName text.now s.now r → IsFirstRefused text.now s.now r }
+    ensures none { StandsFor text.now s.now → HasNames text.now s.now → (r : Refusal) → ¬ (IsRefused text.now s.now r) }
 {
     tokens_are_slices(text);
 }
