@@ -1,4 +1,4 @@
--- Which names of a skeleton are refused, one line a rule.
+-- The names of a skeleton that are refused, as a list in the order in which the code looks at them. `Refused` says which they are.
 use Rattle.std.specs.Prelude.{ℕ, nat_eq, Bool, true, cond, not, ◌||◌, List, [], ◌∷◌, ◌++◌, Option, Some, None, is_some, slice_index_or, length, ◌+◌}
 use Rattle.std.specs.List.{flat_map}
 use Rattle.std.specs.Str.{bytes_eq}
