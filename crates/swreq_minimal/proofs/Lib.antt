@@ -12,7 +12,5 @@ pub mod Completing
 pub mod Passing
 pub mod Telling
 pub mod Whole
-pub mod Inheriting
-pub mod Leading
 pub mod PlainTypes
 pub mod Showing

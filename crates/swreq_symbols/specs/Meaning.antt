@@ -1,12 +1,11 @@
 -- What machines take from the world of a text: the symbols of its words, and the facts from which requirements are derived.
 use Rattle.std.specs.Prelude.{ℕ, List, map, position, unwrap_or, slice_index_or}
 use Rattle.swreq_param.specs.declared.ids.AssocId.{AssocId}
-use Rattle.swreq_derive.specs.Derivation.{TermFacts}
 use Rattle.swreq_lexicon.specs.declared.pair.ProtocolName.{ProtocolName}
-use Rattle.swreq_lexicon.specs.Lexicons.{pair, is_pair, associated_types}
+use Rattle.swreq_lexicon.specs.Lexicons.{pair, is_pair}
 use Rattle.swreq_lexicon.specs.Views.{LexiconView}
 use Rattle.swreq_correspondence.specs.Symbols.{Symbols, MemberName}
-use Rattle.swreq_world.specs.Worlds.{TextWorld, requirements_of}
+pub use Rattle.swreq_world.specs.FactsAt.{facts_of}
 
 abbrev pub member_name : ProtocolName → MemberName
 member_name d = record { proto = d.proto; name = d.name }
@@ -25,11 +24,4 @@ symbols_of x = record {
   protocols = x.written_order;
   members = map member_name x.symbols;
   rank_of = λ d. rank_in x.symbols (associated_at x d);
-}
-
--- the associated types, and the requirements of each protocol
-abbrev pub facts_of : TextWorld → TermFacts
-facts_of w = record {
-  associated_types = associated_types w.lexicon.associated;
-  of_protocol = λ p. map (λ r. r.requirement) (requirements_of w p);
 }
