@@ -20,7 +20,7 @@ use Rattle.swreq_decl.specs.Source as lines
 use Rattle.swreq_decl.specs.Skeletons.{StandsFor, struct_of, function_of}
 use Rattle.swreq_decl.proofs.SameTexts.{Tokens}
 use Rattle.swreq_decl.proofs.WrittenOrder.{Starts, starts_left, starts_right, item_stands}
-use Rattle.swreq_world.proofs.Offsets.{AreRising, rising_left, rising_past, rising_rest, slices_rising, starts_from, start_of, struct_start, function_start, function_starts, struct_starts, parts_rising}
+use Rattle.swreq_world.proofs.Offsets.{AreRising, rising_first, rising_past, rising_rest, slices_rising, starts_from, start_of, struct_start, function_start, function_starts, struct_starts, parts_rising}
 
 -- ---- the functions of a struct
 
@@ -51,7 +51,7 @@ structure_rising from ts t (p, (q, (a, b, s, m, (c, d, r, n, (a1, b1, s1, m1, (a
     let at_b1 = rising_rest from d a1 b1 s1 at_d in
     let at_b2 = rising_rest from b1 a2 b2 s2 at_b1 in
     let at_b3 = rising_rest from b2 a3 b3 s3 at_b2 in
-    let at_a4 = rising_left start_of from a4 b4 (subst (AreRising start_of from) s4 at_b3) in
+    let at_a4 = rising_first from b3 a4 b4 s4 at_b3 in
     let same : v4.0 ≡ t.functions = e4 ∙ e3 ∙ ap (λ x. x.1.1.1) e ∙ ap (λ (u : StructDecl). u.functions) k in
     subst (AreRising function_start from) same (inner_rising from v4.0 a4 m4.0 at_a4)
 
@@ -79,7 +79,7 @@ bare_in_order from ts v (inr (inr (q, m, e))) r = subst HasInOrder e tt
 
 item_in_order : (from : ℕ) (ts : Tokens) (v : Item) → Matches number lines.item ts v → AreRising start_of from ts → HasInOrder v
 unfolding lines.item
-item_in_order from ts v (w, (a, b, s, m, n), e) r = subst HasInOrder e (bare_in_order from a w.0 m (rising_left start_of from a b (subst (AreRising start_of from) s r)))
+item_in_order from ts v (w, (a, b, s, m, n), e) r = subst HasInOrder e (bare_in_order from a w.0 m (rising_first from ts a b s r))
 
 -- ---- the items of a text
 
@@ -90,7 +90,7 @@ is_struct (items.Function f) t h e = absurd cc
 is_struct (items.Query q) t h e = absurd cc
 
 -- what is picked first, or later
-picked_cases : {A B : Type 0} (o : Option A) (xs : List A) (x : A) → Contains (cons_option o xs) x → ((o ≡ Some x) → B) → (Contains xs x → B) → B
+pub picked_cases : {A B : Type 0} (o : Option A) (xs : List A) (x : A) → Contains (cons_option o xs) x → ((o ≡ Some x) → B) → (Contains xs x → B) → B
 picked_cases None xs x c first later = later c
 picked_cases (Some y) xs x c first later = ⊎_elim (λ e. first (ap Some (sym e))) later (member_cases y x xs c)
 
@@ -99,7 +99,7 @@ all_in_order : (from : ℕ) (vs : List Item) (ts : Tokens) → Parts (Matches nu
 all_in_order from [] ts e r t c = no_member t c
 all_in_order from (v ∷ vs) ts (a, b, s, m, ms) r t c =
     picked_cases (struct_of v) (filter_map struct_of vs) t c
-    (λ e. is_struct v t (item_in_order from a v m (rising_left start_of from a b (subst (AreRising start_of from) s r))) e)
+    (λ e. is_struct v t (item_in_order from a v m (rising_first from ts a b s r)) e)
     (all_in_order from vs b ms (rising_rest from ts a b s r) t)
 
 -- No struct starts where a function at the top does.

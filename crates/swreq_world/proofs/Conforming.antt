@@ -106,7 +106,9 @@ module _ (w : WordsView) (q : ProtoId) where
     more ps qs to i = record { name = i.name; place = i.place; refers = i.refers; among = to i.place i.among; is = i.is }
 
     bound_inherits : (t : Term) (e : Entity) → All Never (of_named w.text d e) → IsBound t e → Inherits (option_to_list (named_by w.text d e))
-    bound_inherits t e none bound = by (protocol_of d (word w.text e.span)) refl (subst (λ b. All Never (cond b [] (of_protocol_name d e.span (length e.args) (protocol_of d (word w.text e.span))))) bound.protocol none)
+    bound_inherits t e none bound =
+        by (protocol_of d (word w.text e.span)) refl
+        (subst (λ b. All Never (cond b [] (of_protocol_name d e.span (length e.args) (protocol_of d (word w.text e.span))))) bound.protocol none)
       where
         by : (o : Option ℕ) → protocol_of d (word w.text e.span) ≡ o → All Never (of_protocol_name d e.span (length e.args) (protocol_of d (word w.text e.span)))
             → Inherits (option_to_list (named_by w.text d e))
@@ -132,7 +134,8 @@ module _ (w : WordsView) (q : ProtoId) where
           let bound = is_bound t e (said_by t at e r k says) in
           let meant = All-contains IsMeant es e (each_piece Never (of_entity w.text d begins) es none) m in (
             bound.subject,
-            more (option_to_list (named_by w.text d e)) (named_in w.text d es) (λ i. in_pieces (λ (e : Entity). option_to_list (named_by w.text d e)) es e i m) (bound_inherits t e (named_of e meant) bound),
+            more (option_to_list (named_by w.text d e)) (named_in w.text d es) (λ i. in_pieces (λ (e : Entity). option_to_list (named_by w.text d e)) es e i m)
+                (bound_inherits t e (named_of e meant) bound),
           )
 
       -- ---- clauses
@@ -140,7 +143,8 @@ module _ (w : WordsView) (q : ProtoId) where
       requirement_inherits : (t : ReqDecl) → All Never (of_requirement w.text d begins t)
           → (r : PlacedRequirement) → Contains (in_requirement w Protocol t) r → Says r → Inherits (inherited_in w.text d t)
       requirement_inherits (Bound t bounds) none r c says =
-          let b = bounds_inherit (type_in w Protocol t) t.head.start bounds (all_right Never (of_type w.text d begins t) (flat_map (of_entity w.text d begins) bounds) none) r c says in
+          let meant = all_right Never (of_type w.text d begins t) (flat_map (of_entity w.text d begins) bounds) none in
+          let b = bounds_inherit (type_in w Protocol t) t.head.start bounds meant r c says in
           subst (λ b. Inherits (cond b (named_in w.text d bounds) [])) (sym (bare_self w t b.0)) b.1
       requirement_inherits (Same t u) none r c says =
           let same = only_member (equality (type_in w Protocol t) t.head.start (type_in w Protocol u) u.head.start) r c in
@@ -151,7 +155,8 @@ module _ (w : WordsView) (q : ProtoId) where
       clause_inherits clause none r c says =
           let (t, m, k) = from_pieces (in_requirement w Protocol) clause r c in
           let meant = All-contains (λ t. All Never (of_requirement w.text d begins t)) clause t (each_piece Never (of_requirement w.text d begins) clause none) m in
-          more (inherited_in w.text d t) (inherited_in_clause w.text d clause) (λ i. in_pieces (inherited_in w.text d) clause t i m) (requirement_inherits t meant r k says)
+          more (inherited_in w.text d t) (inherited_in_clause w.text d clause) (λ i. in_pieces (inherited_in w.text d) clause t i m)
+          (requirement_inherits t meant r k says)
 
       -- ---- associated types
 

@@ -1,9 +1,11 @@
 -- What the look-ups of a world find.
-use Rattle.std.proofs.Common.{◌≡◌, ◌↔◌, ℕ, zero, suc, ◌<◌, List, [], ◌∷◌, Option, Some, None, length, get_or, map, slice_get, refl, sym, ap, subst, ◌∙◌, arith}
+use Rattle.std.proofs.Common.{◌≡◌, ◌↔◌, ℕ, zero, suc, ◌<◌, List, [], ◌∷◌, Option, Some, None, length, get_or, map, slice_get, Contains, refl, sym, ap, subst, ◌∙◌, arith}
 use Rattle.std.proofs.lemmas.List.{length-map}
 use Rattle.std.proofs.lemmas.Option.{slice_get_within, get_or_from_slice_get, same_Some}
 use Rattle.std.specs.Option.{option_map}
+use Rattle.swreq_decl.specs.declared.skeleton.FunctionDecl.{FunctionDecl}
 use Rattle.swreq_decl.specs.declared.skeleton.Skeleton.{Skeleton}
+use Rattle.swreq_decl.specs.declared.skeleton.StructDecl.{StructDecl}
 use Rattle.swreq_names.specs.declared.signature.Signature.{Signature}
 use Rattle.swreq_names.specs.declared.signature.Signature.TheVariants.{Struct, Function, Nested}
 use Rattle.swreq_names.specs.Spaces.{Spaces, param_of}
@@ -26,7 +28,9 @@ use Rattle.swreq_world.specs.Worlds.{IdWorld, SignatureOver, TextWorld, no_signa
 use Rattle.swreq_world.proofs.EachOnce.{own_place}
 use Rattle.swreq_world.proofs.Named.{IsNamed, found, is_found, item_at, outer_name_of}
 use Rattle.swreq_world.proofs.OneNamed.{StandApart, one}
-use Rattle.swreq_world.proofs.ParamNames.{meant, param_found, param_finds}
+use Rattle.swreq_world.proofs.Offsets.{AreRising}
+use Rattle.swreq_world.proofs.ParamNames.{meant, param_named, told_apart}
+use Rattle.swreq_world.proofs.ParamsApart.{AreParamsInOrder, param_start}
 use Rattle.swreq_world.proofs.Standing.{IsIn, is_in, signature_stands, stands}
 
 module _ (text : Bytes) (s : Skeleton) (v : TextWorld) (is : IsWorldOf text s v) where
@@ -36,6 +40,7 @@ module _ (text : Bytes) (s : Skeleton) (v : TextWorld) (is : IsWorldOf text s v)
   abbrev order : List Signature
   order = in_order s
 
+  -- the signature that stands at a place
   at_place : (f : FuncId) (g : Signature) → slice_get order f.place ≡ Some g → signature_at v f ≡ signature_in words order g
   at_place f g e = get_or_from_slice_get v.signatures f.place (signature_in words order g) no_signature (signature_stands words v.signatures is.signatures f g e)
 
@@ -54,6 +59,7 @@ module _ (text : Bytes) (s : Skeleton) (v : TextWorld) (is : IsWorldOf text s v)
   outer_is (Nested i j) (t, at, l) =
       ap (λ (h : SignatureOver PlacedRequirement). Some h.name) (at_place (func_id order (Struct i)) (Struct i) (stands s (Struct i) (slice_get_within s.structs i t at)))
 
+  -- A signature has its names at its place.
   named_at : (outer : Option Bytes) (name : Bytes) (g : Signature) → IsNamed words outer name g → IsNamedAt v outer name (func_id order g)
   named_at outer name g named =
       let there = stands s g named.is_in in
@@ -154,19 +160,24 @@ module _ (terms : List Term) (w : IdWorld) where
       λ at. sym (func_by outer name) ∙ named_found text s (world_by terms w) is names stand has outer name f (named_from outer name f at),
     )
 
-    -- The signature at a place, of which a name refers to what it means there.
-    meant_at : (f : FuncId) → f.place < length w.signatures → ((name : Bytes) → param_of_signature w f name ≡ meant text s (signature_at w f).signature name)
-    meant_at f within name =
-        let count = sym (length-map w.signatures (signature_by terms)) ∙ ap length is.signatures ∙ length-map (in_order s) (signature_in (words_of text s (world_by terms w)) (in_order s)) in
+    -- the signature that stands at a place
+    signature_here : (f : FuncId) → f.place < length w.signatures → (g : Signature) × (slice_get (in_order s) f.place ≡ Some g) × (g ≡ (signature_at w f).signature)
+    signature_here f within =
+        let words = words_of text s (world_by terms w) in
+        let count = sym (length-map w.signatures (signature_by terms)) ∙ ap length is.signatures ∙ length-map (in_order s) (signature_in words (in_order s)) in
         let (g, at) = item_at (in_order s) f.place (omega (arith, within, count)) in
-        let same : g ≡ (signature_at w f).signature =
-        sym (ap (λ (h : SignatureOver PlacedRequirement). h.signature) (at_place text s (world_by terms w) is f g at)) ∙ ap (λ (h : SignatureOver PlacedRequirement). h.signature) (by_table w.signatures f.place) in
-        sym (param_by f name) ∙ param_meant text s (world_by terms w) is f g at name ∙ ap (λ h. meant text s h name) same
+        let signature = λ (h : SignatureOver PlacedRequirement). h.signature in
+        (g, at, sym (ap signature (at_place text s (world_by terms w) is f g at)) ∙ ap signature (by_table w.signatures f.place))
 
-    pub param_named : (f : FuncId) → f.place < length w.signatures → (name : Bytes) (p : ParamId) → param_of_signature w f name ≡ Some p
-        → IsParamNamed text s (signature_at w f).signature name p
-    param_named f within name p e = param_found text s (signature_at w f).signature name p (sym (meant_at f within name) ∙ e)
-
-    pub no_param_named : (f : FuncId) → f.place < length w.signatures → (name : Bytes) → param_of_signature w f name ≡ None
-        → (p : ParamId) → IsParamNamed text s (signature_at w f).signature name p → ⊥
-    no_param_named f within name e p called = param_finds text s (signature_at w f).signature name p called (sym (meant_at f within name) ∙ e)
+    pub param_found : HasNames text s → ((t : StructDecl) → Contains s.structs t → AreParamsInOrder t)
+        → ((f : FunctionDecl) → Contains s.functions f → (from : ℕ) × AreRising param_start from f.params)
+        → ((k : ℕ) (g : Signature) → slice_get (in_order s) k ≡ Some g → HasSignature s g)
+        → (f : FuncId) → f.place < length w.signatures → (name : Bytes) (p : ParamId)
+        → (param_of_signature w f name ≡ Some p) ↔ IsParamNamed text s (signature_at w f).signature name p
+    param_found names of_structs of_functions has f within name p =
+        let (g, at, is_here) = signature_here f within in
+        let meaning = sym (param_by f name) ∙ param_meant text s (world_by terms w) is f g at name in
+        let told = param_named text s g (told_apart text s names of_structs of_functions g (is_in s g (has f.place g at))) name p in (
+          λ e. subst (λ h. IsParamNamed text s h name p) is_here (told.0 (sym meaning ∙ e)),
+          λ called. meaning ∙ told.1 (subst (λ h. IsParamNamed text s h name p) (sym is_here) called),
+        )

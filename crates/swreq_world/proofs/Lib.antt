@@ -24,6 +24,7 @@ pub mod EachOnce
 pub mod Apart
 pub mod Named
 pub mod OneNamed
+pub mod ParamsApart
 pub mod ParamNames
 pub mod Finding
 pub mod Closing

@@ -5,10 +5,12 @@ use Rattle.std.specs.List.{All}
 use Rattle.std.specs.Option.{option_map}
 use Rattle.swreq_decl.specs.declared.skeleton.FunctionDecl.{FunctionDecl}
 use Rattle.swreq_decl.specs.declared.skeleton.StructDecl.{StructDecl}
+use Rattle.swreq_names.specs.declared.directory.Declaration.{Declaration}
 use Rattle.swreq_names.specs.declared.signature.Signature.{Signature}
 use Rattle.swreq_names.specs.declared.signature.Signature.TheVariants.{Struct, Function, Nested}
 use Rattle.swreq_names.specs.Spaces.{Spaces, spaces, word, declarations, place, struct_of, function_of, signature_of, nested_in}
-use Rattle.swreq_resolve.specs.Refusals.{duplicates, of_space}
+use Rattle.swreq_resolve.specs.declared.refusal.Refusal.{Refusal}
+use Rattle.swreq_resolve.specs.Refusals.{duplicates}
 use Rattle.swreq_resolve.specs.Resolving.{HasNames}
 use Rattle.swreq_rank.specs.Ranks.{Bytes}
 use Rattle.swreq_lowering.specs.Signatures.{functions_of}
@@ -34,6 +36,10 @@ pub record IsNamed (w : WordsView) (outer : Option Bytes) (name : Bytes) (g : Si
   pub around : outer_name_of w g ≡ outer
 
 -- ---- what is found
+
+-- the names of the functions of a struct
+abbrev pub inner_names : WordsView → StructDecl → List Declaration
+inner_names w t = declarations w.text (map (λ (f : FunctionDecl). f.name) t.functions)
 
 module _ (w : WordsView) (same : declared w ≡ spaces w.text w.skeleton) where
   struct_at : (name : Bytes) (i : ℕ) → struct_of (declared w) name ≡ Some i → (t : StructDecl) × (slice_get w.skeleton.structs i ≡ Some t) × (word w.text t.name ≡ name)
@@ -67,14 +73,14 @@ module _ (w : WordsView) (same : declared w ≡ spaces w.text w.skeleton) where
 
   nested_found : (outer name : Bytes) (i : ℕ) (t : StructDecl) (g : Signature) → slice_get w.skeleton.structs i ≡ Some t → word w.text t.name ≡ outer
       → nested_in (declared w) i name ≡ Some g → IsNamed w (Some outer) name g
-  nested_found outer name i t g at called e = by (place (declarations w.text (map (λ (f : FunctionDecl). f.name) t.functions)) name) refl (sym is ∙ e)
+  nested_found outer name i t g at called e = by (place (inner_names w t) name) refl (sym is ∙ e)
     where
-      is : nested_in (declared w) i name ≡ option_map (Nested i) (place (declarations w.text (map (λ (f : FunctionDecl). f.name) t.functions)) name)
+      is : nested_in (declared w) i name ≡ option_map (Nested i) (place (inner_names w t) name)
       is =
           ap (λ (d : Spaces). nested_in d i name) same
-          ∙ ap (λ ds. option_map (Nested i) (place ds name)) (at_mapped (λ (s : StructDecl). declarations w.text (map (λ (f : FunctionDecl). f.name) s.functions)) w.skeleton.structs i t [] at)
+          ∙ ap (λ ds. option_map (Nested i) (place ds name)) (at_mapped (inner_names w) w.skeleton.structs i t [] at)
 
-      by : (o : Option ℕ) → place (declarations w.text (map (λ (f : FunctionDecl). f.name) t.functions)) name ≡ o → option_map (Nested i) o ≡ Some g → IsNamed w (Some outer) name g
+      by : (o : Option ℕ) → place (inner_names w t) name ≡ o → option_map (Nested i) o ≡ Some g → IsNamed w (Some outer) name g
       by None n e = absurd cc
       by (Some j) n e =
           let f = declared_at w.text (λ (f : FunctionDecl). f.name) t.functions name j n in
@@ -104,20 +110,39 @@ module _ (w : WordsView) (names : HasNames w.text w.skeleton) where
   abbrev d : Spaces
   d = spaces w.text w.skeleton
 
-  pub none_of : All Never (of_space d.structs d.functions)
+  abbrev among_structs : List Refusal
+  among_structs = duplicates d.structs d.structs
+
+  abbrev structs_by_functions : List Refusal
+  structs_by_functions = duplicates d.functions d.structs
+
+  abbrev functions_by_structs : List Refusal
+  functions_by_structs = duplicates d.structs d.functions
+
+  abbrev among_functions : List Refusal
+  among_functions = duplicates d.functions d.functions
+
+  none_of : All Never (among_structs ++ (structs_by_functions ++ (functions_by_structs ++ among_functions)))
   none_of = none_of_signatures w.text w.skeleton names
 
-  -- A struct is no function before it, and the other way round.
-  pub structs_alone : All Never (duplicates d.functions d.structs)
-  structs_alone =
-      all_left Never (duplicates d.functions d.structs) (duplicates d.structs d.functions ++ duplicates d.functions d.functions)
-      (all_right Never (duplicates d.structs d.structs) (duplicates d.functions d.structs ++ (duplicates d.structs d.functions ++ duplicates d.functions d.functions)) none_of)
+  none_later : All Never (structs_by_functions ++ (functions_by_structs ++ among_functions))
+  none_later = all_right Never among_structs (structs_by_functions ++ (functions_by_structs ++ among_functions)) none_of
 
-  pub functions_alone : All Never (duplicates d.structs d.functions)
-  functions_alone =
-      all_left Never (duplicates d.structs d.functions) (duplicates d.functions d.functions)
-      (all_right Never (duplicates d.functions d.structs) (duplicates d.structs d.functions ++ duplicates d.functions d.functions)
-      (all_right Never (duplicates d.structs d.structs) (duplicates d.functions d.structs ++ (duplicates d.structs d.functions ++ duplicates d.functions d.functions)) none_of))
+  none_last : All Never (functions_by_structs ++ among_functions)
+  none_last = all_right Never structs_by_functions (functions_by_structs ++ among_functions) none_later
+
+  pub structs_differ : All Never among_structs
+  structs_differ = all_left Never among_structs (structs_by_functions ++ (functions_by_structs ++ among_functions)) none_of
+
+  pub functions_differ : All Never among_functions
+  functions_differ = all_right Never functions_by_structs among_functions none_last
+
+  -- No struct has the name of a function before it, and the other way round.
+  pub structs_alone : All Never structs_by_functions
+  structs_alone = all_left Never structs_by_functions (functions_by_structs ++ among_functions) none_later
+
+  pub functions_alone : All Never functions_by_structs
+  functions_alone = all_left Never functions_by_structs among_functions none_last
 
   -- A look-up at the top finds something.
   abbrev FindsTop : Bytes → Type 0
@@ -150,9 +175,8 @@ module _ (w : WordsView) (names : HasNames w.text w.skeleton) where
   module _ (from : ℕ) (rising : AreRising struct_start from w.skeleton.structs) where
     struct_meant : (i : ℕ) (t : StructDecl) → slice_get w.skeleton.structs i ≡ Some t → struct_of d (word w.text t.name) ≡ Some i
     struct_meant i t at =
-        let differ = all_left Never (duplicates d.structs d.structs) (duplicates d.functions d.structs ++ (duplicates d.structs d.functions ++ duplicates d.functions d.functions)) none_of in
         refers w.text (λ (t : StructDecl). t.name) w.skeleton.structs d.functions structs_alone (word w.text t.name) i
-        (first w.text (λ (t : StructDecl). t.name) w.skeleton.structs from rising differ i t at)
+        (first w.text (λ (t : StructDecl). t.name) w.skeleton.structs from rising structs_differ i t at)
 
     nested_named : (i j : ℕ) (t : StructDecl) (f : FunctionDecl) → slice_get w.skeleton.structs i ≡ Some t → slice_get t.functions j ≡ Some f
         → (g : Signature) × (signature_named d (Some (word w.text t.name)) (word w.text f.name) ≡ Some g)
@@ -161,7 +185,7 @@ module _ (w : WordsView) (names : HasNames w.text w.skeleton) where
         let k = some_place_of w.text (λ (f : FunctionDecl). f.name) t.functions j f there in (
           Nested i k.0,
           ap (λ o. elim o as (λ _. Option Signature) [ None ↦ None | Some i ↦ nested_in d i name ]) (struct_meant i t at)
-              ∙ ap (λ ds. option_map (Nested i) (place ds name)) (at_mapped (λ (s : StructDecl). declarations w.text (map (λ (f : FunctionDecl). f.name) s.functions)) w.skeleton.structs i t [] at)
+              ∙ ap (λ ds. option_map (Nested i) (place ds name)) (at_mapped (inner_names w) w.skeleton.structs i t [] at)
               ∙ ap (option_map (Nested i)) k.1,
         )
 

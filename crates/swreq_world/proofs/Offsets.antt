@@ -81,6 +81,9 @@ rising_past from n (t ∷ xs) ys r (inl e) =
 rising_past from n (t ∷ xs) ys r (inr h) =
     let k = r.0 in let p = rising_past (suc t.start) n xs ys r.1 h in let l = p.0 in (omega arith, p.1)
 
+pub rising_first : (from : ℕ) (ts a b : Tokens) → ts ≡ a ++ b → AreRising start_of from ts → AreRising start_of from a
+rising_first from ts a b s r = rising_left start_of from a b (subst (AreRising start_of from) s r)
+
 pub rising_rest : (from : ℕ) (ts a b : Tokens) → ts ≡ a ++ b → AreRising start_of from ts → AreRising start_of from b
 rising_rest from ts a b s r = rising_after start_of from a b (subst (AreRising start_of from) s r)
 

@@ -1,6 +1,7 @@
 -- Names that are declared once: a name refers to its declaration, and the names of a list differ.
 use Rattle.std.proofs.Common.{◌≡◌, ℕ, ◌≤◌, ◌<◌, ⊎_elim, ◌+◌, Bool, true, false, cond, Option, List, ◌++◌, length, get_or, map, slice_get, Some, None, nat_lt, refl, sym, ap, subst, ◌∙◌, arith}
 use Rattle.std.proofs.lemmas.Bool.{cases_lt, lt-ltb, false_from_ne_true}
+use Rattle.std.proofs.lemmas.Bool.Decides.{nat_tests}
 use Rattle.std.proofs.lemmas.Iterator.Adapters.{position_from-zero}
 use Rattle.std.proofs.lemmas.List.Elements.{All-nil}
 use Rattle.std.proofs.lemmas.List.Quantifiers.{position-Some}
@@ -10,6 +11,7 @@ use Rattle.std.proofs.lemmas.Slice.Eq.{bytes_eq-Decides}
 use Rattle.std.specs.List.{All, IsDistinct, flat_map, position_from}
 use Rattle.std.specs.Str.{bytes_eq}
 use Rattle.swreq_orders.proofs.Elements.{get_contains}
+use Rattle.swreq_decl.specs.declared.skeleton.FunctionDecl.{FunctionDecl}
 use Rattle.swreq_decl.specs.declared.skeleton.ProtocolDecl.{ProtocolDecl}
 use Rattle.swreq_decl.specs.declared.skeleton.Skeleton.{Skeleton}
 use Rattle.swreq_decl.specs.declared.skeleton.Span.{Span}
@@ -39,6 +41,12 @@ first_place names name k i e at = ⊎_elim (λ l. absurd (passed l)) (λ h. h) (
         let yes = (bytes_eq-Decides name (get_or names i name)).1 (sym (get_or_from_slice_get names i name name at)) in
         let clash : true ≡ false = sym yes ∙ no in
         absurd cc
+
+-- A name that a list does not have before an offset stands there or later.
+pub not_earlier : (ds : List Declaration) (name : Bytes) (at k : ℕ) → place ds name ≡ Some k → is_declared_before ds name at ≡ false → at ≤ offset_of ds k
+not_earlier ds name at k e none =
+    let test : nat_lt (offset_of ds k) at ≡ false = sym (ap (λ o. elim o [ None ↦ false | Some j ↦ nat_lt (offset_of ds j) at ]) e) ∙ none in
+    grind (arith, nat_tests, test)
 
 module _ {A : Type 0} (text : Bytes) (span : A → Span) (xs : List A) where
   abbrev declared : List Declaration
@@ -164,6 +172,14 @@ module _ (text : Bytes) (s : Skeleton) (resolve : HasNames text s) where
       let first : 0 + i ≡ i = omega arith in
       placed_piece Never (of_struct text d) 0 s.structs i i t first at
       (all_left Never (by_place (of_struct text d) 0 s.structs) (by_place (of_function text d) 0 s.functions)
+      (all_left Never (of_signatures text d s) of_queries
+      (all_right Never of_protocols (of_signatures text d s ++ of_queries) (all_right Never (of_spaces d) (of_protocols ++ (of_signatures text d s ++ of_queries)) none))))
+
+  pub none_of_function : (k : ℕ) (f : FunctionDecl) → slice_get s.functions k ≡ Some f → All Never (of_function text d k f)
+  none_of_function k f at =
+      let first : 0 + k ≡ k = omega arith in
+      placed_piece Never (of_function text d) 0 s.functions k k f first at
+      (all_right Never (by_place (of_struct text d) 0 s.structs) (by_place (of_function text d) 0 s.functions)
       (all_left Never (of_signatures text d s) of_queries
       (all_right Never of_protocols (of_signatures text d s ++ of_queries) (all_right Never (of_spaces d) (of_protocols ++ (of_signatures text d s ++ of_queries)) none))))
 

@@ -1,6 +1,5 @@
 -- No two signatures of a text have the same names, where its names resolve.
-use Rattle.std.proofs.Common.{◌≡◌, ℕ, ◌≤◌, false, List, [], ◌++◌, Option, Some, None, get_or, map, nat_lt, slice_get, Contains, sym, ap, subst, ◌∙◌, arith}
-use Rattle.std.proofs.lemmas.Bool.Decides.{nat_tests}
+use Rattle.std.proofs.Common.{◌≡◌, ℕ, ◌≤◌, List, [], ◌++◌, Option, Some, None, get_or, slice_get, Contains, sym, ap, subst, ◌∙◌, arith}
 use Rattle.std.proofs.lemmas.Option.{same_Some}
 use Rattle.std.specs.List.{All}
 use Rattle.swreq_orders.proofs.Elements.{get_contains}
@@ -9,7 +8,7 @@ use Rattle.swreq_decl.specs.declared.skeleton.StructDecl.{StructDecl}
 use Rattle.swreq_names.specs.declared.directory.Declaration.{Declaration}
 use Rattle.swreq_names.specs.declared.signature.Signature.{Signature}
 use Rattle.swreq_names.specs.declared.signature.Signature.TheVariants.{Struct, Function, Nested}
-use Rattle.swreq_names.specs.Spaces.{Spaces, spaces, word, declarations, place, offset_of, is_declared_before}
+use Rattle.swreq_names.specs.Spaces.{Spaces, spaces, word, place, offset_of}
 use Rattle.swreq_resolve.specs.Refusals.{by_place, duplicates, of_nested, of_signature}
 use Rattle.swreq_resolve.specs.Resolving.{HasNames}
 use Rattle.swreq_rank.specs.Ranks.{Bytes}
@@ -18,15 +17,10 @@ use Rattle.swreq_lowering.specs.Words.{WordsView}
 use Rattle.swreq_world.specs.Text.{struct_name, function_name, name_of}
 use Rattle.swreq_world.proofs.Apart.{AreInOrder}
 use Rattle.swreq_world.proofs.Everywhere.{all_left, all_right, at_mapped}
-use Rattle.swreq_world.proofs.Named.{IsNamed, item_at, structs_alone, functions_alone, none_of}
+use Rattle.swreq_world.proofs.Named.{IsNamed, inner_names, item_at, structs_alone, functions_alone, structs_differ, functions_differ}
 use Rattle.swreq_world.proofs.Offsets.{AreRising, struct_start, function_start}
-use Rattle.swreq_world.proofs.OnceDeclared.{first, not_before, none_of_struct, stands}
+use Rattle.swreq_world.proofs.OnceDeclared.{first, not_before, not_earlier, none_of_struct, stands}
 use Rattle.swreq_world.proofs.Resolving.{Never}
-
-not_earlier : (ds : List Declaration) (name : Bytes) (at k : ℕ) → place ds name ≡ Some k → is_declared_before ds name at ≡ false → at ≤ offset_of ds k
-not_earlier ds name at k e none =
-    let test : nat_lt (offset_of ds k) at ≡ false = sym (ap (λ o. elim o [ None ↦ false | Some j ↦ nat_lt (offset_of ds j) at ]) e) ∙ none in
-    grind (arith, nat_tests, test)
 
 -- the signatures of a text, as they stand in it
 pub record StandApart (w : WordsView) : Type 0 where
@@ -55,19 +49,13 @@ module _ (w : WordsView) (names : HasNames w.text w.skeleton) (stand : StandApar
   -- ---- places
 
   struct_first : (i : ℕ) (t : StructDecl) → StructAt i t → place d.structs (name_of_struct t) ≡ Some i
-  struct_first =
-      first w.text (λ (t : StructDecl). t.name) w.skeleton.structs stand.from stand.structs
-      (all_left Never (duplicates d.structs d.structs) (duplicates d.functions d.structs ++ (duplicates d.structs d.functions ++ duplicates d.functions d.functions)) (none_of w names))
+  struct_first = first w.text (λ (t : StructDecl). t.name) w.skeleton.structs stand.from stand.structs (structs_differ w names)
 
   function_first : (k : ℕ) (f : FunctionDecl) → FunctionAt k f → place d.functions (name_of_function f) ≡ Some k
-  function_first =
-      first w.text (λ (f : FunctionDecl). f.name) w.skeleton.functions stand.from stand.functions
-      (all_right Never (duplicates d.structs d.functions) (duplicates d.functions d.functions)
-      (all_right Never (duplicates d.functions d.structs) (duplicates d.structs d.functions ++ duplicates d.functions d.functions)
-      (all_right Never (duplicates d.structs d.structs) (duplicates d.functions d.structs ++ (duplicates d.structs d.functions ++ duplicates d.functions d.functions)) (none_of w names))))
+  function_first = first w.text (λ (f : FunctionDecl). f.name) w.skeleton.functions stand.from stand.functions (functions_differ w names)
 
   inner_first : (i : ℕ) (t : StructDecl) → StructAt i t → (j : ℕ) (f : FunctionDecl) → slice_get t.functions j ≡ Some f
-      → place (declarations w.text (map (λ (f : FunctionDecl). f.name) t.functions)) (name_of_function f) ≡ Some j
+      → place (inner_names w t) (name_of_function f) ≡ Some j
   inner_first i t at =
       let r = stand.inner t (get_contains w.skeleton.structs i t at) in
       first w.text (λ (f : FunctionDecl). f.name) t.functions r.0 r.1 (subst (λ ds. All Never (duplicates ds ds)) same none)
@@ -75,8 +63,8 @@ module _ (w : WordsView) (names : HasNames w.text w.skeleton) (stand : StandApar
       nested : List Declaration
       nested = get_or d.nested i []
 
-      same : nested ≡ declarations w.text (map (λ (f : FunctionDecl). f.name) t.functions)
-      same = at_mapped (λ (t : StructDecl). declarations w.text (map (λ (f : FunctionDecl). f.name) t.functions)) w.skeleton.structs i t [] at
+      same : nested ≡ inner_names w t
+      same = at_mapped (inner_names w) w.skeleton.structs i t [] at
 
       none : All Never (duplicates nested nested)
       none =
@@ -95,7 +83,7 @@ module _ (w : WordsView) (names : HasNames w.text w.skeleton) (stand : StandApar
   one_inner : (i : ℕ) (t : StructDecl) → StructAt i t → (j l : ℕ) (f g : FunctionDecl) → slice_get t.functions j ≡ Some f → slice_get t.functions l ≡ Some g
       → name_of_function f ≡ name_of_function g → j ≡ l
   one_inner i t at j l f g e h same =
-      same_Some j l (sym (inner_first i t at j f e) ∙ ap (place (declarations w.text (map (λ (f : FunctionDecl). f.name) t.functions))) same ∙ inner_first i t at l g h)
+      same_Some j l (sym (inner_first i t at j f e) ∙ ap (place (inner_names w t)) same ∙ inner_first i t at l g h)
 
   not_both : (i k : ℕ) (t : StructDecl) (f : FunctionDecl) → StructAt i t → FunctionAt k f → name_of_struct t ≡ name_of_function f → ⊥
   not_both i k t f e h same =

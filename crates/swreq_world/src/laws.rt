@@ -1,5 +1,5 @@
 //! What holds of the world of each text.
-ghost use Rattle.std.specs.Prelude.{◌≡◌, ◌↔◌, ◌<◌, All, IsTrue, List, None, Option, Some, length, map, slice_get, ℕ};
+ghost use Rattle.std.specs.Prelude.{◌≡◌, ◌↔◌, ◌<◌, All, IsTrue, List, Option, Some, length, map, slice_get, ℕ};
 ghost use Rattle.swreq_decl.specs.declared.skeleton.Skeleton.{Skeleton};
 ghost use Rattle.swreq_decl.specs.Signatures.{signatures};
 ghost use Rattle.swreq_decl.specs.Skeletons.{StandsFor};
@@ -44,15 +44,14 @@ pub fn signatures_are_found_by_name(text: &[u8])
     tokens_are_slices(text);
 }
 
-/// What is found by name in a signature is a generic parameter of it that has the name, and nothing is found only where none has it.
-pub fn generic_parameters_are_found_by_name()
-    ensures found { (text : List ℕ) (terms : List Term) (s : Skeleton) (w : IdWorld) → IsWorldOf text s (world_by terms w)
-        → (f : FuncId) → f.place < length w.signatures → (name : List ℕ) (p : ParamId) → param_of_signature w f name ≡ Some p
-        → IsParamNamed text s (signature_at w f).signature name p }
-    ensures none { (text : List ℕ) (terms : List Term) (s : Skeleton) (w : IdWorld) → IsWorldOf text s (world_by terms w)
-        → (f : FuncId) → f.place < length w.signatures → (name : List ℕ) → param_of_signature w f name ≡ None
-        → (p : ParamId) → IsParamNamed text s (signature_at w f).signature name p → ⊥ }
-{}
+/// Where the names of a text resolve, what is found by name in a signature is the one generic parameter of it that has the name.
+pub fn generic_parameters_are_found_by_name(text: &[u8])
+    ensures { (terms : List Term) (s : Skeleton) (w : IdWorld) → StandsFor text.now s → IsWorldOf text.now s (world_by terms w) → Resolve text.now s
+        → (f : FuncId) → f.place < length w.signatures → (name : List ℕ) (p : ParamId)
+        → (param_of_signature w f name ≡ Some p) ↔ IsParamNamed text.now s (signature_at w f).signature name p }
+{
+    tokens_are_slices(text);
+}
 
 /// The requirements of protocols are over `τ_0_0` alone.
 pub fn protocols_require_of_self()
