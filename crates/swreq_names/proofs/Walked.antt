@@ -125,7 +125,8 @@ module _ (text : List ℕ) where
   in_standing_type t = walk.in_type text t.1
 
   standing_named : (scope : Scope) (params : List ParamDecl) (clause : List ReqDecl)
-      → flat_map in_standing (standing scope (of_signature params clause)) ≡ flat_map (walk.in_param text) params ++ walk.in_clause text clause
+      → flat_map in_standing (standing scope (of_signature params clause))
+      ≡ flat_map (walk.in_param text) params ++ walk.in_clause text clause
   standing_named scope params clause = pieces_standing in_constraint scope (of_signature params clause) ∙ signature_named params clause
 
   functions_named : (fs : List FunctionDecl)
@@ -175,9 +176,8 @@ module _ (text : List ℕ) where
   protocol_named : (p : ProtocolDecl) → flat_map in_constraint (of_protocol p) ≡ in_protocol_types p
   protocol_named p =
       let members = pieces_of_pieces in_constraint of_member p.members ∙ (λ i. flat_map (λ m. member_named m i) p.members) in
-      let rest =
-      flat_map-append in_constraint (of_clause p.clause) (flat_map of_member p.members)
-      ∙ (λ i. clause_named p.clause i ++ members i) in
+      let clause = clause_named p.clause in
+      let rest = flat_map-append in_constraint (of_clause p.clause) (flat_map of_member p.members) ∙ (λ i. clause i ++ members i) in
       λ i. bounds_named p.inherits i ++ rest i
 
   protocols_named : (ps : List ProtocolDecl)
@@ -239,14 +239,16 @@ module _ (text : List ℕ) where
         ∙ ap (λ ys. flat_map in_standing of_protocols ++ ys) (flat_map-append in_standing of_structs of_functions)
         ∙ (λ i. protocols_named s.protocols i ++ (structs_named s.structs i ++ functions_named s.functions i))
 
+    constrained_named : flat_map in_standing_type (flat_map types_at (constraints s)) ≡ in_protocols ++ (in_structs ++ in_functions)
+    constrained_named =
+        pieces_of_pieces in_standing_type types_at (constraints s)
+        ∙ (λ i. flat_map (λ c. pieces_standing (walk.in_type text) c.0 (types_of c.1) i) (constraints s)) ∙ constraints_named
+
     types_named : flat_map (λ t. members_in text t.1) (types s) ≡ in_protocols ++ (in_structs ++ (in_functions ++ in_queries))
     types_named =
-        let of_constraints =
-        pieces_of_pieces in_standing_type types_at (constraints s)
-        ∙ (λ i. flat_map (λ c. pieces_standing (walk.in_type text) c.0 (types_of c.1) i) (constraints s)) ∙ constraints_named in
         sym (λ i. flat_map (λ t. flat_map_single (λ m. word text (member_of m)) t.1.steps i) (types s))
         ∙ flat_map-append in_standing_type (flat_map types_at (constraints s)) (flat_map asked_at (numbered 0 s.queries))
-        ∙ (λ i. of_constraints i ++ queries_named s.queries i)
+        ∙ (λ i. constrained_named i ++ queries_named s.queries i)
         ∙ append_assoc in_protocols (in_structs ++ in_functions) in_queries
         ∙ ap (λ ys. in_protocols ++ ys) (append_assoc in_structs in_functions in_queries)
 
@@ -281,8 +283,8 @@ module _ (text : List ℕ) (d : Spaces) where
   same_direct p =
       let by = inherited_by text d in
       let members = pieces_of_pieces by of_member p.members ∙ (λ i. flat_map (λ (m : AssocDecl). clause_inherits m.clause i) p.members) in
-      let rest =
-      flat_map-append by (of_clause p.clause) (flat_map of_member p.members) ∙ (λ i. clause_inherits p.clause i ++ members i) in
+      let clause = clause_inherits p.clause in
+      let rest = flat_map-append by (of_clause p.clause) (flat_map of_member p.members) ∙ (λ i. clause i ++ members i) in
       sym (ap (λ ys. named_in text d p.inherits ++ ys) rest)
 
   pub same_inheritance : (ps : List ProtocolDecl) → map (walked_direct text d) ps ≡ map (direct text d) ps
