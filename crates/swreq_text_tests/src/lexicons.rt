@@ -14,8 +14,8 @@ use swreq_samples::{lexicon_of, with_collections};
 /// By their bytes the names of the first text are Element, Index, Indices, Iterator and SubSequence. BidirectionalCollection inherits
 /// two protocols, Collection one, and the others none, so within a name they come in that order; of IteratorProtocol and Sequence, which
 /// both declare Element, the former has the lesser name. Of associated types of one name those that no inherited protocol declares come
-/// first, as in the second text: there Late.Next comes before Early.Next, but heirs come first among member symbols. Names alone would
-/// have it otherwise there for associated types, and for member symbols in the third text.
+/// first, as in the second text: there Late.Next comes before Early.Next, but heirs come first among member symbols, as in the third text,
+/// where Derived is the greater name.
 const SYMBOLS: &[(&str, &str)] = &[
     (
         "(collections)\n",
