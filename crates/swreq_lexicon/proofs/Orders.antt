@@ -33,6 +33,7 @@ tied m n o e = ap (λ c. ordering_then c o) (sym (nat_cmp_is m n Equal e))
 -- ---- associated types
 
 module _ (inherits : ProtoId → ProtoId → Bool) (associated : List ProtocolName) where
+  -- what tells roots apart tells whether P inherits the name
   module _ (p : ProtoId) (a : NameId) where
     abbrev test : ProtocolName → Bool
     test d = nat_eq a.rank d.name.rank && inherits p d.proto

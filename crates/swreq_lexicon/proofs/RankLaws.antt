@@ -116,7 +116,7 @@ assoc_total inherits associated =
 
 -- ---- by name first
 
--- in a sorted list an item that is neither the other one nor after it
+-- Of two items of a sorted list the one stands first where they are not the same and the other is not less.
 pub stands_first : {K : Type 0} (cmp : K → K → Ordering) (xs : List K) → IsStrictlySortedBy cmp xs
     → (i j : ℕ) (x y : K) → slice_get xs i ≡ Some x → slice_get xs j ≡ Some y → (x ≡ y → ⊥) → (cmp y x ≡ Less → ⊥) → i < j
 stands_first cmp xs sorted i j x y f g other not_less =
