@@ -74,7 +74,7 @@ ordered_apart (t ∷ xs) ys o n m (inr h) k = ordered_apart xs ys o.1 n m h k
 
 -- ---- the name of a part is one of its tokens
 
-name_starts : (ts : Tokens) (s : Span) → Matches number lines.name ts s → Starts s.start ts
+pub name_starts : (ts : Tokens) (s : Span) → Matches number lines.name ts s → Starts s.start ts
 unfolding lines.name
 name_starts ts s (t, (e, h), k) = subst (λ (us : Tokens). Starts s.start us) (sym e) (inl (sym (ap (λ (x : Span). x.start) k)))
 

@@ -13,6 +13,7 @@ use Rattle.swreq_names.specs.Spaces.{word}
 use Rattle.swreq_names.specs.Mentioned as names
 use Rattle.swreq_names.specs.Mentioned.{mentioned}
 use Rattle.swreq_names.specs.Parts.{types}
+pub use Rattle.swreq_names.proofs.Pieces.{from_pieces, in_pieces}
 use Rattle.swreq_lexicon.specs.declared.pair.ProtocolName.{ProtocolName}
 use Rattle.swreq_lexicon.specs.Lexicons.{pair, proto_by, name_by}
 use Rattle.swreq_rank.specs.Ranks.{Bytes, IsRanking, bytes_cmp, rank}
@@ -22,20 +23,6 @@ use Rattle.swreq_lexicon.proofs.Positions.{rank_of_there}
 use Rattle.swreq_rank.proofs.Rising.{rising_from_sorted}
 
 module _ {A B : Type 0} (f : A → List B) where
-  -- an item of a piece, and the piece of an item
-  pub in_pieces : (xs : List A) (x : A) (y : B) → Contains xs x → Contains (f x) y → Contains (flat_map f xs) y
-  in_pieces [] x y c d = no_member x c
-  in_pieces (z ∷ zs) x y c d =
-      subst (λ ys. Contains ys y) (sym (flat_map-cons f z zs))
-      (⊎_elim (λ e. Contains-append_left (f z) (flat_map f zs) y (subst (λ w. Contains (f w) y) e d))
-      (λ b. Contains-append_right (f z) (flat_map f zs) y (in_pieces zs x y b d)) (member_cases z x zs c))
-
-  pub from_pieces : (xs : List A) (y : B) → Contains (flat_map f xs) y → (x : A) × Contains xs x × Contains (f x) y
-  from_pieces [] y c = no_member y c
-  from_pieces (z ∷ zs) y c =
-      ⊎_elim (λ h. (z, first_member z zs, h)) (λ h. let s = from_pieces zs y h in (s.0, later_member z s.0 zs s.1, s.2))
-      (Contains-append_cases (f z) (flat_map f zs) y (subst (λ ys. Contains ys y) (flat_map-cons f z zs) c))
-
   pub same_sizes : {C : Type 0} (g : A → List C) → ((x : A) → length (f x) ≡ length (g x)) → (xs : List A) → length (flat_map f xs) ≡ length (flat_map g xs)
   same_sizes g same [] = refl
   same_sizes g same (z ∷ zs) =

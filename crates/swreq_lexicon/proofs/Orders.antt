@@ -23,9 +23,6 @@ lesser_first cmp total xs sorted i j x y f g h =
     (λ s. let clash : Equal ≡ Less = sym (tied_itself total x) ∙ ap (cmp x) s ∙ h in absurd cc)
     (λ l. let clash : Less ≡ Greater = sym h ∙ total.antisymm x y ∙ ap ordering_reverse l in absurd cc)
 
-less : (m n : ℕ) → m < n → nat_cmp m n ≡ Less
-less m n h = sym (nat_cmp_is m n Less h)
-
 -- numbers that are equal leave the order to what comes next
 tied : (m n : ℕ) (o : Ordering) → m ≡ n → ordering_then (nat_cmp m n) o ≡ o
 tied m n o e = ap (λ c. ordering_then c o) (sym (nat_cmp_is m n Equal e))
@@ -65,7 +62,7 @@ module _ (inherits : ProtoId → ProtoId → Bool) (associated : List ProtocolNa
     pub lesser_protocol : InheritsName inherits associated p a ↔ InheritsName inherits associated q a → p.rank < q.rank → assoc_cmp inherits associated (pair p a) (pair q a) ≡ Less
     lesser_protocol same h =
         let e = same_bool (inherits_name inherits associated p a) (inherits_name inherits associated q a) (λ y. name_to q a (same.0 (name_from p a y))) (λ y. name_to p a (same.1 (name_from q a y))) in
-        tied a.rank a.rank of_kinds refl ∙ tied (kind (pair p a)) (kind (pair q a)) (nat_cmp p.rank q.rank) (ap (λ b. cond (not b) 0 1) e) ∙ less p.rank q.rank h
+        tied a.rank a.rank of_kinds refl ∙ tied (kind (pair p a)) (kind (pair q a)) (nat_cmp p.rank q.rank) (ap (λ b. cond (not b) 0 1) e) ∙ sym (nat_cmp_is p.rank q.rank Less h)
 
 -- ---- member symbols
 
@@ -81,7 +78,7 @@ module _ (inherits : ProtoId → ProtoId → Bool) (n : ℕ) where
     of_protocols e = tied a.rank a.rank (order_cmp inherits n p q) refl ∙ e
 
     pub deeper_first : depth inherits n q < depth inherits n p → symbol_cmp inherits n (pair p a) (pair q a) ≡ Less
-    deeper_first h = of_protocols (ap (λ o. ordering_then o (nat_cmp p.rank q.rank)) (less (depth inherits n q) (depth inherits n p) h))
+    deeper_first h = of_protocols (ap (λ o. ordering_then o (nat_cmp p.rank q.rank)) (sym (nat_cmp_is (depth inherits n q) (depth inherits n p) Less h)))
 
     pub symbol_lesser_protocol : depth inherits n p ≡ depth inherits n q → p.rank < q.rank → symbol_cmp inherits n (pair p a) (pair q a) ≡ Less
-    symbol_lesser_protocol e h = of_protocols (tied (depth inherits n q) (depth inherits n p) (nat_cmp p.rank q.rank) (sym e) ∙ less p.rank q.rank h)
+    symbol_lesser_protocol e h = of_protocols (tied (depth inherits n q) (depth inherits n p) (nat_cmp p.rank q.rank) (sym e) ∙ sym (nat_cmp_is p.rank q.rank Less h))

@@ -20,7 +20,7 @@ below_to test zero e = absurd (true≢false (sym e))
 below_to test (suc n) e =
     ⊎_elim (λ h. (n, omega arith, h)) (λ h. let k = below_to test n h in let l = k.1 in (k.0, omega arith, k.2)) (or_cases (test n) (any_below test n) e)
 
-below_from : (test : ℕ → Bool) (n j : ℕ) → j < n → test j ≡ true → any_below test n ≡ true
+pub below_from : (test : ℕ → Bool) (n j : ℕ) → j < n → test j ≡ true → any_below test n ≡ true
 below_from test zero j h e = absurd (omega arith)
 below_from test (suc n) j h e =
     ⊎_elim (λ s. or_left (test n) (any_below test n) (ap test (sym s) ∙ e)) (λ m. or_right (test n) (any_below test n) (below_from test n j (omega arith) e)) (cases_eq j n)

@@ -24,16 +24,11 @@ use Rattle.swreq_names.specs.Mentioned.{declared_by, member_of, members_in, ment
 use Rattle.swreq_names.specs.Parts.{Constraint, Scope, asked_at, constraints, in_function_at, in_nested_at, in_protocol_at, in_struct_at, numbered, of_clause, of_member, of_param, of_protocol, of_requirement, of_signature, standing, types, types_at, types_of, types_of_ask, types_of_entity}
 use Rattle.swreq_names.specs.Parts.Scope.{in_protocol, in_query, in_signature}
 use Rattle.swreq_names.specs.Spaces.{Spaces, word}
+use Rattle.swreq_names.proofs.Pieces.{pieces_of_pieces}
 use Rattle.swreq_names.specs.Walk as walk
 use Rattle.swreq_names.specs.Walk.{walked, walked_direct}
 
 -- ---- pieces
-
-pieces_of_pieces : {A B C : Type 0} (f : B → List C) (g : A → List B) (xs : List A)
-    → flat_map f (flat_map g xs) ≡ flat_map (λ x. flat_map f (g x)) xs
-pieces_of_pieces f g [] = refl
-pieces_of_pieces f g (x ∷ xs) =
-    flat_map-append f (g x) (flat_map g xs) ∙ ap (λ ys. flat_map f (g x) ++ ys) (pieces_of_pieces f g xs)
 
 -- of items with their places, where no piece asks for the place
 pieces_numbered : {A B C : Type 0} (f : B → List C) (g : ℕ × A → List B) (h : A → List C)

@@ -6,6 +6,7 @@ use Rattle.std.proofs.Math.ListN.{get_or-map}
 use Rattle.swreq_param.specs.Terms.{Term}
 use Rattle.swreq_text.specs.Joined.{GrewByPart}
 use Rattle.swreq_lowering.specs.declared.ids.FuncId.{FuncId}
+use Rattle.swreq_world.proofs.Finding.{outer_by}
 use Rattle.swreq_world.specs.ByTable.{signature_by, world_by}
 use Rattle.swreq_world.specs.Lookups.{outer_name}
 use Rattle.swreq_world.specs.Worlds.{IdWorld, no_signature, signature_at}
@@ -21,12 +22,8 @@ module _ (terms : List Term) (w : IdWorld) where
   name_is : (f : FuncId) → (signature_at (world_by terms w) f).name ≡ (signature_at w f).name
   name_is f = ap (λ g. g.name) (signature_is f)
 
-  outer_same : (outer : Option FuncId) → outer_name (world_by terms w) outer ≡ outer_name w outer
-  outer_same None = refl
-  outer_same (Some g) = ap Some (name_is g)
-
   outer_is : (f : FuncId) → outer_name (world_by terms w) (signature_at (world_by terms w) f).outer ≡ outer_name w (signature_at w f).outer
-  outer_is f = ap (λ g. outer_name (world_by terms w) g.outer) (signature_is f) ∙ outer_same (signature_at w f).outer
+  outer_is f = ap (λ g. outer_name (world_by terms w) g.outer) (signature_is f) ∙ outer_by terms w (signature_at w f).outer
 
   -- its name, by what the code reads
   full_name_is : (f : FuncId) → full_name (world_by terms w) (signature_at (world_by terms w) f)

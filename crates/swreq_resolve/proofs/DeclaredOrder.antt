@@ -39,34 +39,34 @@ module _ {A : Type 0} (start : A → ℕ) where
   AreRising from [] = Unit {0}
   AreRising from (x ∷ xs) = (from ≤ start x) × AreRising (suc (start x)) xs
 
-  rising_sooner : (from to : ℕ) → from ≤ to → (xs : List A) → AreRising to xs → AreRising from xs
+  pub rising_sooner : (from to : ℕ) → from ≤ to → (xs : List A) → AreRising to xs → AreRising from xs
   rising_sooner from to l [] r = tt
   rising_sooner from to l (x ∷ xs) r = (let k = r.0 in omega arith, r.1)
 
-  rising_front : (from : ℕ) (xs ys : List A) → AreRising from (xs ++ ys) → AreRising from xs
+  pub rising_front : (from : ℕ) (xs ys : List A) → AreRising from (xs ++ ys) → AreRising from xs
   rising_front from [] ys r = tt
   rising_front from (x ∷ xs) ys r = (r.0, rising_front (suc (start x)) xs ys r.1)
 
-  rising_after : (from : ℕ) (xs ys : List A) → AreRising from (xs ++ ys) → AreRising from ys
+  pub rising_after : (from : ℕ) (xs ys : List A) → AreRising from (xs ++ ys) → AreRising from ys
   rising_after from [] ys r = r
   rising_after from (x ∷ xs) ys r =
       let k = r.0 in rising_sooner from (suc (start x)) (omega arith) ys (rising_after (suc (start x)) xs ys r.1)
 
 -- ---- tokens
 
-abbrev start_of : Token Terminal → ℕ
+abbrev pub start_of : Token Terminal → ℕ
 start_of t = t.start
 
 abbrev Rising : ℕ → Tokens → Type 0
 Rising from ts = AreRising start_of from ts
 
-slices_rising : (text : List ℕ) (from : ℕ) (ts : List lexed.Token) → AreSlices text from ts → Rising from (with_terminals text ts)
+pub slices_rising : (text : List ℕ) (from : ℕ) (ts : List lexed.Token) → AreSlices text from ts → Rising from (with_terminals text ts)
 slices_rising text from [] s = tt
 slices_rising text from (t ∷ ts) (next a b c d e s) =
     (a, rising_sooner start_of (suc t.start) t.end (omega arith) (with_terminals text ts) (slices_rising text t.end ts s))
 
 -- What comes after tokens starts after each of them.
-rising_past : (from n : ℕ) (xs ys : Tokens) → Rising from (xs ++ ys) → Starts n xs → (from ≤ n) × Rising (suc n) ys
+pub rising_past : (from n : ℕ) (xs ys : Tokens) → Rising from (xs ++ ys) → Starts n xs → (from ≤ n) × Rising (suc n) ys
 rising_past from n [] ys r h = absurd h
 rising_past from n (t ∷ xs) ys r (inl e) =
     let k = r.0 in

@@ -28,7 +28,8 @@ use Rattle.swreq_resolve.specs.declared.refusal.Refusal.{Refusal}
 use Rattle.swreq_resolve.specs.declared.refusal.Fault.TheVariants.{UnknownSignature}
 use Rattle.swreq_resolve.specs.First.{when}
 use Rattle.swreq_resolve.specs.Refusals.{by_place, duplicates, begins_in_protocol, begins_in_signature, primary_of, of_named, of_type, of_entity, of_requirement, of_member, of_param, of_ask, of_protocol, of_signature, of_function, of_nested, of_struct, of_asked, of_nested_query, of_query_in, of_query, of_spaces, of_signatures, refusals}
-use Rattle.swreq_resolve.proofs.SameMembers.{Same, equal, itself, then, both, moved, parted, each, split, nested, by_number, unnumbered, number_of}
+use Rattle.swreq_names.proofs.Pieces.{pieces_of_pieces}
+use Rattle.swreq_resolve.proofs.SameMembers.{Same, equal, itself, then, both, moved, parted, each, split, by_number, unnumbered, number_of}
 
 -- ---- constraints
 
@@ -45,7 +46,7 @@ module _ (text : List ℕ) (d : Spaces) (begins : List ℕ → Bool) where
       then (split (of_named text d) (λ (e : Entity). flat_map (of_type text d begins) e.args) es)
       (both (itself (flat_map (of_named text d) es))
       (equal (flat_map (λ (e : Entity). flat_map (of_type text d begins) e.args) es) (flat_map (of_type text d begins) (flat_map parts.types_of_entity es))
-      (sym (nested (of_type text d begins) parts.types_of_entity es))))
+      (sym (pieces_of_pieces (of_type text d begins) parts.types_of_entity es))))
 
   requirement_same : (r : ReqDecl) → Same (of_requirement text d begins r) (said (parts.of_requirement r))
   requirement_same (requirements.Bound t bounds) =
@@ -66,7 +67,7 @@ module _ (text : List ℕ) (d : Spaces) (begins : List ℕ → Bool) where
   members_same : (ms : List AssocDecl) → Same (flat_map (of_member text d begins) ms) (flat_map said (flat_map parts.of_member ms))
   members_same ms =
       then (each (of_member text d begins) (λ m. flat_map said (parts.of_member m)) ms (λ m c. member_same m))
-      (equal (flat_map (λ m. flat_map said (parts.of_member m)) ms) (flat_map said (flat_map parts.of_member ms)) (sym (nested said parts.of_member ms)))
+      (equal (flat_map (λ m. flat_map said (parts.of_member m)) ms) (flat_map said (flat_map parts.of_member ms)) (sym (pieces_of_pieces said parts.of_member ms)))
 
   protocol_same : (p : ProtocolDecl)
       → Same (flat_map (of_entity text d begins) p.inherits ++ (flat_map (of_requirement text d begins) p.clause ++ flat_map (of_member text d begins) p.members))
@@ -158,11 +159,11 @@ module _ (text : List ℕ) (s : Skeleton) (inherits : ℕ → ℕ → Bool) wher
       (then (each named (λ c. flat_map named_at (parts.entities_at c)) cs
       (λ c h. equal (named c) (flat_map named_at (parts.entities_at c)) (sym (flat_map-map named_at (λ e. (c.0, e)) (parts.entities_of c.1)))))
       (equal (flat_map (λ c. flat_map named_at (parts.entities_at c)) cs) (flat_map named_at (flat_map parts.entities_at cs))
-      (sym (nested named_at parts.entities_at cs))))
+      (sym (pieces_of_pieces named_at parts.entities_at cs))))
       (then (each typed (λ c. flat_map typed_at (parts.types_at c)) cs
       (λ c h. equal (typed c) (flat_map typed_at (parts.types_at c)) (sym (flat_map-map typed_at (λ t. (c.0, t)) (parts.types_of c.1)))))
       (equal (flat_map (λ c. flat_map typed_at (parts.types_at c)) cs) (flat_map typed_at (flat_map parts.types_at cs))
-      (sym (nested typed_at parts.types_at cs)))))
+      (sym (pieces_of_pieces typed_at parts.types_at cs)))))
 
   -- ---- protocols
 
@@ -236,7 +237,7 @@ module _ (text : List ℕ) (s : Skeleton) (inherits : ℕ → ℕ → Bool) wher
       (then (split (again_in_nested i) (λ f. flat_map said_at (parts.in_nested_at i f)) ns)
       (both (itself (flat_map (again_in_nested i) ns))
       (equal (flat_map (λ f. flat_map said_at (parts.in_nested_at i f)) ns) (flat_map said_at (flat_map (parts.in_nested_at i) ns))
-      (sym (nested said_at (parts.in_nested_at i) ns))))))
+      (sym (pieces_of_pieces said_at (parts.in_nested_at i) ns))))))
 
   abbrev pub again_in_struct : ℕ × StructDecl → List Refusal
   again_in_struct t =
@@ -269,7 +270,7 @@ module _ (text : List ℕ) (s : Skeleton) (inherits : ℕ → ℕ → Bool) wher
       (then (each (λ x. f x.0 x.1) (λ x. g x ++ flat_map said_at (h x)) ns (λ x c. one x))
       (then (split g (λ x. flat_map said_at (h x)) ns)
       (both (itself (flat_map g ns))
-      (equal (flat_map (λ x. flat_map said_at (h x)) ns) (flat_map said_at (flat_map h ns)) (sym (nested said_at h ns))))))
+      (equal (flat_map (λ x. flat_map said_at (h x)) ns) (flat_map said_at (flat_map h ns)) (sym (pieces_of_pieces said_at h ns))))))
 
   -- ---- queries
 
@@ -350,7 +351,7 @@ module _ (text : List ℕ) (s : Skeleton) (inherits : ℕ → ℕ → Bool) wher
       (both (equal (flat_map (λ q. unknown q.1) ns) (flat_map unknown s.queries) (unnumbered unknown 0 s.queries))
       (then (split named typed ns)
       (equal (flat_map named ns ++ flat_map typed ns) (asked_named ++ asked_typed)
-      (λ i. sym (nested named_at parts.asked_entities_at ns) i ++ sym (nested typed_at parts.asked_at ns) i))))))
+      (λ i. sym (pieces_of_pieces named_at parts.asked_entities_at ns) i ++ sym (pieces_of_pieces typed_at parts.asked_at ns) i))))))
 
   -- ---- all
 

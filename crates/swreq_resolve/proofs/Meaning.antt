@@ -6,6 +6,7 @@ use Rattle.std.specs.Str.{bytes_eq}
 use Rattle.std.proofs.lemmas.Bool.{ltb-true, lt-ltb, cases_eq, or_cases, or_left, or_right, and_parts, and_from}
 use Rattle.std.proofs.lemmas.List.{map-append}
 use Rattle.std.proofs.lemmas.List.Elements.{Contains-append_left, Contains-append_right, Contains-append_cases}
+use Rattle.std.proofs.lemmas.Option.{same_Some}
 use Rattle.std.proofs.lemmas.Slice.Eq.{bytes_eq-Decides}
 use Rattle.swreq_orders.proofs.Elements.{get_contains}
 use Rattle.swreq_orders.proofs.Members.{no_member, first_member, later_member, member_cases}
@@ -17,11 +18,10 @@ use Rattle.swreq_names.specs.declared.signature.Param.TheVariants.{Outer, Own}
 use Rattle.swreq_names.specs.Directories.{names_of}
 use Rattle.swreq_names.specs.Inheritance.{Tells}
 use Rattle.swreq_names.specs.Spaces.{place, is_declared, offset_of, is_declared_before, self_bytes, outer_params, own_params, declares, any_below, has_member, Spaces, spaces}
+use Rattle.swreq_names.proofs.Beginnings.{below_from}
+use Rattle.swreq_names.proofs.Firsts.{same_true}
 use Rattle.swreq_resolve.specs.Refused.{HasEarlier, Declares, HasMember, HasParameter}
 use Rattle.swreq_resolve.specs.Refusals.{begins_in_protocol, begins_in_signature}
-
-same_name : (q name : List ℕ) → q ≡ name → bytes_eq q name ≡ true
-same_name q name e = (bytes_eq-Decides q name).1 e
 
 -- ---- a name that a list has
 
@@ -42,7 +42,7 @@ found_from name (x ∷ xs) i c = by (bytes_eq name x) refl (found_from name xs (
     by : (b : Bool) → bytes_eq name x ≡ b → (Contains xs name → is_some (position_from (bytes_eq name) (i + 1) xs) ≡ true)
         → is_some (cond b (Some i) (position_from (bytes_eq name) (i + 1) xs)) ≡ true
     by true h more = refl
-    by false h more = ⊎_elim (λ e. absurd (true≢false (sym (same_name name x e) ∙ h))) more (member_cases x name xs c)
+    by false h more = ⊎_elim (λ e. absurd (true≢false (sym (same_true name x e) ∙ h))) more (member_cases x name xs c)
 
 declared_to : (ds : List Declaration) (name : List ℕ) → is_declared ds name ≡ true → Contains (names_of ds) name
 declared_to ds name e = found_to name (names_of ds) 0 e
@@ -69,9 +69,6 @@ pub record IsInOrder (d : Spaces) : Type 0 where
   pub outer : (g : Signature) → AreInOrder (outer_params d g)
   pub apart : (x y : Declaration) → Contains d.structs x → Contains d.functions y → x.at ≡ y.at → ⊥
 
-pub some_number : (i k : ℕ) → Some i ≡ Some k → i ≡ k
-some_number i k e = cc
-
 -- what stands at the place of a name
 placed_from : (ds : List Declaration) (name : List ℕ) (i k : ℕ) → position_from (bytes_eq name) i (names_of ds) ≡ Some k
     → (j : ℕ) × (d : Declaration) × (k ≡ i + j) × (slice_get ds j ≡ Some d) × (d.name ≡ name)
@@ -82,7 +79,7 @@ placed_from (d ∷ ds) name i k e = by (bytes_eq name d.name) refl e (placed_fro
         → (position_from (bytes_eq name) (i + 1) (names_of ds) ≡ Some k
         → (j : ℕ) × (e : Declaration) × (k ≡ i + 1 + j) × (slice_get ds j ≡ Some e) × (e.name ≡ name))
         → (j : ℕ) × (e : Declaration) × (k ≡ i + j) × (slice_get (d ∷ ds) j ≡ Some e) × (e.name ≡ name)
-    by true h f more = (0, d, (let s = some_number i k f in omega (arith, s)), refl, sym ((bytes_eq-Decides name d.name).0 h))
+    by true h f more = (0, d, (let s = same_Some i k f in omega (arith, s)), refl, sym ((bytes_eq-Decides name d.name).0 h))
     by false h f more = let r = more f in (suc r.0, r.1, (let s = r.2 in omega (arith, s)), r.3, r.4)
 
 pub placed_at : (ds : List Declaration) (name : List ℕ) (k : ℕ) → place ds name ≡ Some k → (d : Declaration) × (slice_get ds k ≡ Some d) × (d.name ≡ name)
@@ -109,7 +106,7 @@ first_at (d ∷ ds) name i e c same o = by (bytes_eq name d.name) refl (λ h. fi
 
     behind : bytes_eq name d.name ≡ false → Contains ds e
     behind h =
-        ⊎_elim (λ s. absurd (true≢false (sym (same_name name d.name (sym same ∙ ap (λ (x : Declaration). x.name) s)) ∙ h))) (λ b. b)
+        ⊎_elim (λ s. absurd (true≢false (sym (same_true name d.name (sym same ∙ ap (λ (x : Declaration). x.name) s)) ∙ h))) (λ b. b)
         (member_cases d e ds c)
 
     by : (b : Bool) → bytes_eq name d.name ≡ b → (Contains ds e → IsFoundBy ds (i + 1) e.at (position_from (bytes_eq name) (i + 1) (names_of ds)))
@@ -163,18 +160,9 @@ earlier_cases ds es name at h =
 
 -- ---- members of protocols
 
-any_to : (test : ℕ → Bool) (n : ℕ) → any_below test n ≡ true → (j : ℕ) × (test j ≡ true)
+pub any_to : (test : ℕ → Bool) (n : ℕ) → any_below test n ≡ true → (j : ℕ) × (test j ≡ true)
 any_to test zero e = absurd (true≢false (sym e))
 any_to test (suc n) e = ⊎_elim (λ h. (n, h)) (λ h. any_to test n h) (or_cases (test n) (any_below test n) e)
-
-any_from : (test : ℕ → Bool) (n j : ℕ) → j < n → test j ≡ true → any_below test n ≡ true
-any_from test zero j l e = absurd (omega arith)
-any_from test (suc n) j l e =
-    ⊎_elim (λ s. or_left (test n) (any_below test n) (ap test (sym s) ∙ e))
-    (λ d. or_right (test n) (any_below test n) (any_from test n j (below j n l d) e)) (cases_eq j n)
-  where
-    below : (j n : ℕ) → j < suc n → (j ≡ n → ⊥) → j < n
-    below j n l d = omega arith
 
 -- a list of lists has something only within
 something_within : (dss : List (List Declaration)) (j : ℕ) (name : List ℕ) → Contains (names_of (get_or dss j [])) name → j < length dss
@@ -248,7 +236,7 @@ module _ (text : List ℕ) (s : Skeleton) where
     member_from (inl c) = or_left (declares d i name) (any_below inherited (length d.members)) (declares_from i name c)
     member_from (inr (j, k, c)) =
         or_right (declares d i name) (any_below inherited (length d.members))
-        (any_from inherited (length d.members) j (something_within d.members j name c)
+        (below_from inherited (length d.members) j (something_within d.members j name c)
         (and_from (inherits i j) (declares d j name) ((tells i j).1 k) (declares_from j name c)))
 
     pub begins_to : begins_in_protocol d inherits i name ≡ true → (name ≡ self_bytes) ⊎ HasMember text s i name
@@ -257,5 +245,5 @@ module _ (text : List ℕ) (s : Skeleton) where
         (or_cases (bytes_eq self_bytes name) (has_member d inherits i name) e)
 
     pub begins_from : (name ≡ self_bytes) ⊎ HasMember text s i name → begins_in_protocol d inherits i name ≡ true
-    begins_from (inl e) = or_left (bytes_eq self_bytes name) (has_member d inherits i name) (same_name self_bytes name (sym e))
+    begins_from (inl e) = or_left (bytes_eq self_bytes name) (has_member d inherits i name) (same_true self_bytes name (sym e))
     begins_from (inr h) = or_right (bytes_eq self_bytes name) (has_member d inherits i name) (member_from h)

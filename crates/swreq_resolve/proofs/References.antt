@@ -12,7 +12,7 @@ use Rattle.swreq_names.specs.declared.signature.Signature.{Signature}
 use Rattle.swreq_names.specs.declared.signature.Signature.TheVariants.{Struct, Function, Nested}
 use Rattle.swreq_names.specs.Spaces.{word, place, offset_of, is_declared_before, refers_to, protocol_of, struct_of, function_of, nested_in, Spaces, spaces}
 use Rattle.swreq_resolve.specs.Refused.{HasEarlier, Means, NamesProtocol, NamesStruct, NamesFunction, NamesInner, NamesSignature}
-use Rattle.swreq_resolve.proofs.Meaning.{AreInOrder, IsInOrder, some_number, placed_at, offset_at, first_at, earlier_to, earlier_from, earlier_left, earlier_right, earlier_cases}
+use Rattle.swreq_resolve.proofs.Meaning.{AreInOrder, IsInOrder, placed_at, offset_at, first_at, earlier_to, earlier_from, earlier_left, earlier_right, earlier_cases}
 use Rattle.swreq_resolve.proofs.Gathered.{signature_asked}
 
 -- The answer is what has the property, where there is such a thing.
@@ -76,7 +76,7 @@ module _ (ds others : List Declaration) (o : AreInOrder ds) (p : AreInOrder othe
   means_at k i e true h f = absurd cc
   means_at k i e false h f =
       let r = placed_at ds name k e in
-      let s : k ≡ i = some_number k i f in
+      let s : k ≡ i = same_Some k i f in
       record {
         declaration = r.0;
         place = subst (λ n. slice_get ds n ≡ Some r.0) s r.1;

@@ -6,22 +6,8 @@ use Rattle.std.proofs.lemmas.List.Concat.{flat_map-append}
 use Rattle.std.proofs.lemmas.List.Elements.{Contains-append_left, Contains-append_right, Contains-append_cases}
 use Rattle.swreq_orders.proofs.Members.{no_member, first_member, later_member, member_cases}
 use Rattle.swreq_names.specs.Parts.{numbered}
+pub use Rattle.swreq_names.proofs.Pieces.{from_pieces, in_pieces}
 use Rattle.swreq_resolve.specs.Refusals.{by_place}
-
--- ---- members of a list that is made of pieces
-
-module _ {A B : Type 0} (f : A → List B) where
-  pub in_pieces : (xs : List A) (x : A) (y : B) → Contains xs x → Contains (f x) y → Contains (flat_map f xs) y
-  in_pieces [] x y c d = no_member x c
-  in_pieces (z ∷ zs) x y c d =
-      ⊎_elim (λ e. Contains-append_left (f z) (flat_map f zs) y (subst (λ w. Contains (f w) y) e d))
-      (λ b. Contains-append_right (f z) (flat_map f zs) y (in_pieces zs x y b d)) (member_cases z x zs c)
-
-  pub from_pieces : (xs : List A) (y : B) → Contains (flat_map f xs) y → (x : A) × Contains xs x × Contains (f x) y
-  from_pieces [] y c = no_member y c
-  from_pieces (z ∷ zs) y c =
-      ⊎_elim (λ h. (z, first_member z zs, h)) (λ h. let s = from_pieces zs y h in (s.0, later_member z s.0 zs s.1, s.2))
-      (Contains-append_cases (f z) (flat_map f zs) y c)
 
 -- ---- the same members
 
@@ -75,11 +61,6 @@ module _ {A B : Type 0} where
   pub split : (f g : A → List B) (xs : List A) → Same (flat_map (λ x. f x ++ g x) xs) (flat_map f xs ++ flat_map g xs)
   split f g [] = itself []
   split f g (x ∷ xs) = then (both (itself (f x ++ g x)) (split f g xs)) (parted (f x) (g x) (flat_map f xs) (flat_map g xs))
-
--- the pieces of pieces
-pub nested : {A B C : Type 0} (f : B → List C) (g : A → List B) (xs : List A) → flat_map f (flat_map g xs) ≡ flat_map (λ x. flat_map f (g x)) xs
-nested f g [] = refl
-nested f g (x ∷ xs) = flat_map-append f (g x) (flat_map g xs) ∙ ap (λ ys. flat_map f (g x) ++ ys) (nested f g xs)
 
 -- ---- items with their places
 

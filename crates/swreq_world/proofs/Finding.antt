@@ -3,6 +3,7 @@ use Rattle.std.proofs.Common.{◌≡◌, ◌↔◌, ℕ, zero, suc, ◌<◌, Lis
 use Rattle.std.proofs.lemmas.List.{length-map}
 use Rattle.std.proofs.lemmas.Option.{slice_get_within, get_or_from_slice_get, same_Some}
 use Rattle.std.specs.Option.{option_map}
+use Rattle.swreq_orders.proofs.Elements.{there_is}
 use Rattle.swreq_decl.specs.declared.skeleton.FunctionDecl.{FunctionDecl}
 use Rattle.swreq_decl.specs.declared.skeleton.Skeleton.{Skeleton}
 use Rattle.swreq_decl.specs.declared.skeleton.StructDecl.{StructDecl}
@@ -26,7 +27,7 @@ use Rattle.swreq_world.specs.Text.{outer_of, signature_in}
 use Rattle.swreq_world.specs.WorldOf.{IsWorldOf, words_of}
 use Rattle.swreq_world.specs.Worlds.{IdWorld, SignatureOver, TextWorld, no_signature, signature_at}
 use Rattle.swreq_world.proofs.EachOnce.{own_place}
-use Rattle.swreq_world.proofs.Named.{IsNamed, found, is_found, item_at, outer_name_of}
+use Rattle.swreq_world.proofs.Named.{IsNamed, found, is_found, outer_name_of}
 use Rattle.swreq_world.proofs.OneNamed.{StandApart, one}
 use Rattle.swreq_world.proofs.Offsets.{AreRising}
 use Rattle.swreq_world.proofs.ParamNames.{meant, param_named, told_apart}
@@ -82,7 +83,7 @@ module _ (text : Bytes) (s : Skeleton) (v : TextWorld) (is : IsWorldOf text s v)
     named_back : (outer : Option Bytes) (name : Bytes) (f : FuncId) → IsNamedAt v outer name f → (g : Signature) × (slice_get order f.place ≡ Some g) × IsNamed words outer name g
     named_back outer name f (within, called, around) =
         let count = ap length is.signatures ∙ length-map order (signature_in words order) in
-        let (g, at) = item_at order f.place (omega (arith, within, count)) in
+        let (g, at) = there_is order f.place (omega (arith, within, count)) in
         let e = at_place f g at in
         let there = is_in s g (has f.place g at) in (
           g,
@@ -125,7 +126,7 @@ module _ (terms : List Term) (w : IdWorld) where
   func_by : (outer : Option Bytes) (name : Bytes) → func_named (world_by terms w) outer name ≡ func_named w outer name
   func_by outer name = ap (λ gs. option_map (func_id gs) (signature_named w.lexicon.resolved.declared outer name)) (order_by w.signatures)
 
-  outer_by : (o : Option FuncId) → outer_name (world_by terms w) o ≡ outer_name w o
+  pub outer_by : (o : Option FuncId) → outer_name (world_by terms w) o ≡ outer_name w o
   outer_by None = refl
   outer_by (Some f) = ap (λ (h : SignatureOver PlacedRequirement). Some h.name) (by_table w.signatures f.place)
 
@@ -165,7 +166,7 @@ module _ (terms : List Term) (w : IdWorld) where
     signature_here f within =
         let words = words_of text s (world_by terms w) in
         let count = sym (length-map w.signatures (signature_by terms)) ∙ ap length is.signatures ∙ length-map (in_order s) (signature_in words (in_order s)) in
-        let (g, at) = item_at (in_order s) f.place (omega (arith, within, count)) in
+        let (g, at) = there_is (in_order s) f.place (omega (arith, within, count)) in
         let signature = λ (h : SignatureOver PlacedRequirement). h.signature in
         (g, at, sym (ap signature (at_place text s (world_by terms w) is f g at)) ∙ ap signature (by_table w.signatures f.place))
 

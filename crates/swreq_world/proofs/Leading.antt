@@ -4,6 +4,7 @@ use Rattle.std.specs.List.{All}
 use Rattle.std.proofs.lemmas.Option.{same_Some, slice_get-get_or}
 use Rattle.swreq_closure.specs.Chains.{Leads, next}
 use Rattle.swreq_closure.specs.Chains.Leads.{more, step}
+use Rattle.swreq_closure.proofs.Marks.{chain_on}
 use Rattle.swreq_decl.specs.declared.skeleton.ProtocolDecl.{ProtocolDecl}
 use Rattle.swreq_decl.specs.declared.skeleton.Skeleton.{Skeleton}
 use Rattle.swreq_derive.specs.Derivation.{TermFacts}
@@ -33,11 +34,6 @@ use Rattle.swreq_world.proofs.Everywhere.{at_mapped}
 use Rattle.swreq_world.proofs.Inheriting.{direct_says}
 use Rattle.swreq_world.proofs.OnceDeclared.{protocol_meant}
 use Rattle.swreq_world.proofs.Resolving.{Never, declared_at, protocol_is, referred, resolved}
-
--- a chain with one more step at its end
-one_more : (graph : List (List ℕ)) {i j : ℕ} (k : ℕ) → Leads graph i j → Contains (next graph j) k → Leads graph i k
-one_more graph k (step c) d = more c (step d)
-one_more graph k (more c rest) d = more c (one_more graph k rest d)
 
 module _ (text : Bytes) (s : Skeleton) (names : HasNames text s) (w : TextWorld) (is : IsWorldOf text s w) where
   abbrev d : Spaces
@@ -143,7 +139,7 @@ module _ (text : Bytes) (s : Skeleton) (names : HasNames text s) (w : TextWorld)
   all_written p r q h (further {q = o} l b) c =
       let so = all_written p o r h l b in
       let one = one_written r q so.0 c in
-      (one.0, one_more (inheritance text s) (place_of x q) so.1 one.1)
+      (one.0, chain_on (inheritance text s) (place_of x q) so.1 one.1)
 
   pub inheritance_written : (p q : ProtoId) → IsProtocol x p → IsProtocol x q → IsTrue (inherits x p q) ↔ LeadsOnTo f p q
   inheritance_written p q h k = (

@@ -3,6 +3,7 @@ use Rattle.std.proofs.Common.{◌≡◌, ℕ, zero, suc, ◌<◌, List, [], ◌�
 use Rattle.std.proofs.lemmas.Option.{slice_get_within, same_Some}
 use Rattle.std.specs.List.{All}
 use Rattle.std.specs.Option.{option_map}
+use Rattle.swreq_orders.proofs.Elements.{there_is}
 use Rattle.swreq_decl.specs.declared.skeleton.FunctionDecl.{FunctionDecl}
 use Rattle.swreq_decl.specs.declared.skeleton.StructDecl.{StructDecl}
 use Rattle.swreq_names.specs.declared.directory.Declaration.{Declaration}
@@ -101,11 +102,6 @@ module _ (w : WordsView) (same : declared w ≡ spaces w.text w.skeleton) where
 
 -- ---- what has the names is found
 
-pub item_at : {A : Type 0} (xs : List A) (i : ℕ) → i < length xs → (x : A) × (slice_get xs i ≡ Some x)
-item_at [] i h = absurd (omega (arith, h))
-item_at (x ∷ xs) zero h = (x, refl)
-item_at (x ∷ xs) (suc i) h = item_at xs i (omega (arith, h))
-
 module _ (w : WordsView) (names : HasNames w.text w.skeleton) where
   abbrev d : Spaces
   d = spaces w.text w.skeleton
@@ -195,13 +191,13 @@ module _ (w : WordsView) (names : HasNames w.text w.skeleton) where
 
     finds : (g : Signature) → IsIn w.skeleton g → Finds (outer_name_of w g) (name_of w g)
     finds (Struct i) h =
-        let t = item_at w.skeleton.structs i h in
+        let t = there_is w.skeleton.structs i h in
         subst (Finds None) (sym (ap (struct_name w) t.1)) (struct_named i t.0 t.1)
     finds (Function k) h =
-        let f = item_at w.skeleton.functions k h in
+        let f = there_is w.skeleton.functions k h in
         subst (Finds None) (sym (ap (function_name w) f.1)) (function_named k f.0 f.1)
     finds (Nested i j) (t, at, l) =
-        let f = item_at t.functions j l in
+        let f = there_is t.functions j l in
         subst (λ outer. Finds (Some outer) (name_of w (Nested i j))) (sym (ap (struct_name w) at))
         (subst (Finds (Some (word w.text t.name))) (sym (ap (λ o. function_name w (slice_get (functions_of o) j)) at ∙ ap (function_name w) f.1)) (nested_named i j t f.0 at f.1))
 

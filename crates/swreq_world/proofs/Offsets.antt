@@ -20,40 +20,23 @@ use Rattle.swreq_decl.specs.Source as lines
 use Rattle.swreq_decl.specs.Skeletons.{StandsFor, protocol_of, struct_of, function_of}
 use Rattle.swreq_decl.proofs.SameTexts.{Tokens}
 use Rattle.swreq_decl.proofs.WrittenOrder.{Starts, Stands, item_stands}
+pub use Rattle.swreq_resolve.proofs.DeclaredOrder.{AreRising, rising_after, rising_front, rising_past, rising_sooner, slices_rising, start_of}
 
 -- ---- rising offsets
 
 module _ {A : Type 0} (start : A → ℕ) where
-  -- Each item starts before those after it, and none before the offset.
-  abbrev pub AreRising : ℕ → List A → Type 0
-  AreRising from [] = Unit {0}
-  AreRising from (x ∷ xs) = (from ≤ start x) × AreRising (suc (start x)) xs
-
-  rising_sooner : (from to : ℕ) → from ≤ to → (xs : List A) → AreRising to xs → AreRising from xs
-  rising_sooner from to l [] r = tt
-  rising_sooner from to l (x ∷ xs) r = (let k = r.0 in omega arith, r.1)
-
-  pub rising_left : (from : ℕ) (xs ys : List A) → AreRising from (xs ++ ys) → AreRising from xs
-  rising_left from [] ys r = tt
-  rising_left from (x ∷ xs) ys r = (r.0, rising_left (suc (start x)) xs ys r.1)
-
-  pub rising_after : (from : ℕ) (xs ys : List A) → AreRising from (xs ++ ys) → AreRising from ys
-  rising_after from [] ys r = r
-  rising_after from (x ∷ xs) ys r =
-      let k = r.0 in rising_sooner from (suc (start x)) (omega arith) ys (rising_after (suc (start x)) xs ys r.1)
-
-  pub rising_drop : (from n : ℕ) (xs : List A) → AreRising from xs → AreRising from (drop n xs)
+  pub rising_drop : (from n : ℕ) (xs : List A) → AreRising start from xs → AreRising start from (drop n xs)
   rising_drop from zero xs r = r
   rising_drop from (suc n) [] r = tt
   rising_drop from (suc n) (x ∷ xs) r =
-      let k = r.0 in rising_sooner from (suc (start x)) (omega arith) (drop n xs) (rising_drop (suc (start x)) n xs r.1)
+      let k = r.0 in rising_sooner start from (suc (start x)) (omega arith) (drop n xs) (rising_drop (suc (start x)) n xs r.1)
 
-  pub starts_from : (from : ℕ) (xs : List A) → AreRising from xs → (j : ℕ) (y : A) → slice_get xs j ≡ Some y → from ≤ start y
+  pub starts_from : (from : ℕ) (xs : List A) → AreRising start from xs → (j : ℕ) (y : A) → slice_get xs j ≡ Some y → from ≤ start y
   starts_from from [] r j y e = absurd cc
   starts_from from (x ∷ xs) r zero y e = let k = r.0 in let s = ap start (same_Some x y e) in omega (arith, k, s)
   starts_from from (x ∷ xs) r (suc j) y e = let k = r.0 in let l = starts_from (suc (start x)) xs r.1 j y e in omega arith
 
-  pub starts_before : (from : ℕ) (xs : List A) → AreRising from xs → (i j : ℕ) (x y : A) → slice_get xs i ≡ Some x → slice_get xs j ≡ Some y
+  pub starts_before : (from : ℕ) (xs : List A) → AreRising start from xs → (i j : ℕ) (x y : A) → slice_get xs i ≡ Some x → slice_get xs j ≡ Some y
       → i < j → start x < start y
   starts_before from [] r i j x y e f l = absurd cc
   starts_before from (z ∷ zs) r i zero x y e f l = absurd (omega arith)
@@ -63,26 +46,8 @@ module _ {A : Type 0} (start : A → ℕ) where
 
 -- ---- tokens
 
-abbrev pub start_of : Token Terminal → ℕ
-start_of t = t.start
-
-pub slices_rising : (text : List ℕ) (from : ℕ) (ts : List lexed.Token) → AreSlices text from ts
-    → AreRising start_of from (with_terminals text ts)
-slices_rising text from [] s = tt
-slices_rising text from (t ∷ ts) (next a b c d e s) =
-    (a, rising_sooner start_of (suc t.start) t.end (omega arith) (with_terminals text ts) (slices_rising text t.end ts s))
-
--- What comes after tokens starts after each of them.
-pub rising_past : (from n : ℕ) (xs ys : Tokens) → AreRising start_of from (xs ++ ys) → Starts n xs → (from ≤ n) × AreRising start_of (suc n) ys
-rising_past from n [] ys r h = absurd h
-rising_past from n (t ∷ xs) ys r (inl e) =
-    let k = r.0 in
-    (omega arith, rising_sooner start_of (suc n) (suc t.start) (omega arith) ys (rising_after start_of (suc t.start) xs ys r.1))
-rising_past from n (t ∷ xs) ys r (inr h) =
-    let k = r.0 in let p = rising_past (suc t.start) n xs ys r.1 h in let l = p.0 in (omega arith, p.1)
-
 pub rising_first : (from : ℕ) (ts a b : Tokens) → ts ≡ a ++ b → AreRising start_of from ts → AreRising start_of from a
-rising_first from ts a b s r = rising_left start_of from a b (subst (AreRising start_of from) s r)
+rising_first from ts a b s r = rising_front start_of from a b (subst (AreRising start_of from) s r)
 
 pub rising_rest : (from : ℕ) (ts a b : Tokens) → ts ≡ a ++ b → AreRising start_of from ts → AreRising start_of from b
 rising_rest from ts a b s r = rising_after start_of from a b (subst (AreRising start_of from) s r)

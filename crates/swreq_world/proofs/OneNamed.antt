@@ -2,7 +2,7 @@
 use Rattle.std.proofs.Common.{◌≡◌, ℕ, ◌≤◌, List, [], ◌++◌, Option, Some, None, get_or, slice_get, Contains, sym, ap, subst, ◌∙◌, arith}
 use Rattle.std.proofs.lemmas.Option.{same_Some}
 use Rattle.std.specs.List.{All}
-use Rattle.swreq_orders.proofs.Elements.{get_contains}
+use Rattle.swreq_orders.proofs.Elements.{get_contains, there_is}
 use Rattle.swreq_decl.specs.declared.skeleton.FunctionDecl.{FunctionDecl}
 use Rattle.swreq_decl.specs.declared.skeleton.StructDecl.{StructDecl}
 use Rattle.swreq_names.specs.declared.directory.Declaration.{Declaration}
@@ -17,7 +17,7 @@ use Rattle.swreq_lowering.specs.Words.{WordsView}
 use Rattle.swreq_world.specs.Text.{struct_name, function_name, name_of}
 use Rattle.swreq_world.proofs.Apart.{AreInOrder}
 use Rattle.swreq_world.proofs.Everywhere.{all_left, all_right, at_mapped}
-use Rattle.swreq_world.proofs.Named.{IsNamed, inner_names, item_at, structs_alone, functions_alone, structs_differ, functions_differ}
+use Rattle.swreq_world.proofs.Named.{IsNamed, inner_names, structs_alone, functions_alone, structs_differ, functions_differ}
 use Rattle.swreq_world.proofs.Offsets.{AreRising, struct_start, function_start}
 use Rattle.swreq_world.proofs.OnceDeclared.{first, not_before, not_earlier, none_of_struct, stands}
 use Rattle.swreq_world.proofs.Resolving.{Never}
@@ -111,26 +111,26 @@ module _ (w : WordsView) (names : HasNames w.text w.skeleton) (stand : StandApar
 
   pub one : (outer : Option Bytes) (name : Bytes) (g h : Signature) → IsNamed w outer name g → IsNamed w outer name h → g ≡ h
   one outer name (Struct i) (Struct k) m n =
-      let (t, at) = item_at w.skeleton.structs i m.is_in in
-      let (u, there) = item_at w.skeleton.structs k n.is_in in
+      let (t, at) = there_is w.skeleton.structs i m.is_in in
+      let (u, there) = there_is w.skeleton.structs k n.is_in in
       ap Struct (one_struct i k t u at there (sym (ap (struct_name w) at) ∙ m.called ∙ sym n.called ∙ ap (struct_name w) there))
   one outer name (Function i) (Function k) m n =
-      let (f, at) = item_at w.skeleton.functions i m.is_in in
-      let (g, there) = item_at w.skeleton.functions k n.is_in in
+      let (f, at) = there_is w.skeleton.functions i m.is_in in
+      let (g, there) = there_is w.skeleton.functions k n.is_in in
       ap Function (one_function i k f g at there (sym (ap (function_name w) at) ∙ m.called ∙ sym n.called ∙ ap (function_name w) there))
   one outer name (Struct i) (Function k) m n =
-      let (t, at) = item_at w.skeleton.structs i m.is_in in
-      let (f, there) = item_at w.skeleton.functions k n.is_in in
+      let (t, at) = there_is w.skeleton.structs i m.is_in in
+      let (f, there) = there_is w.skeleton.functions k n.is_in in
       absurd (not_both i k t f at there (sym (ap (struct_name w) at) ∙ m.called ∙ sym n.called ∙ ap (function_name w) there))
   one outer name (Function k) (Struct i) m n =
-      let (t, at) = item_at w.skeleton.structs i n.is_in in
-      let (f, there) = item_at w.skeleton.functions k m.is_in in
+      let (t, at) = there_is w.skeleton.structs i n.is_in in
+      let (f, there) = there_is w.skeleton.functions k m.is_in in
       absurd (not_both i k t f at there (sym (ap (struct_name w) at) ∙ n.called ∙ sym m.called ∙ ap (function_name w) there))
   one outer name (Nested i j) (Nested k l) m n =
       let (t, at, within) = m.is_in in
       let (u, there, inside) = n.is_in in
-      let (f, at_f) = item_at t.functions j within in
-      let (g, at_g) = item_at u.functions l inside in
+      let (f, at_f) = there_is t.functions j within in
+      let (g, at_g) = there_is u.functions l inside in
       let structs = same_Some (name_of w (Struct i)) (name_of w (Struct k)) (m.around ∙ sym n.around) in
       let same = one_struct i k t u at there (sym (ap (struct_name w) at) ∙ structs ∙ ap (struct_name w) there) in
       let struct_same = same_Some t u (sym at ∙ ap (slice_get w.skeleton.structs) same ∙ there) in

@@ -4,7 +4,7 @@ use Rattle.std.proofs.lemmas.List.Elements.{All-nil}
 use Rattle.std.proofs.lemmas.Option.{same_Some}
 use Rattle.std.specs.List.{All, flat_map}
 use Rattle.std.specs.Option.{option_map}
-use Rattle.swreq_orders.proofs.Elements.{get_contains}
+use Rattle.swreq_orders.proofs.Elements.{get_contains, there_is}
 use Rattle.swreq_orders.proofs.Members.{no_member}
 use Rattle.swreq_decl.specs.declared.skeleton.FunctionDecl.{FunctionDecl}
 use Rattle.swreq_decl.specs.declared.skeleton.ParamDecl.{ParamDecl}
@@ -28,7 +28,6 @@ use Rattle.swreq_lowering.specs.Types.{param_id}
 use Rattle.swreq_world.specs.Lookups.{params_of_depth, IsParamNamed}
 use Rattle.swreq_world.proofs.Everywhere.{all_left, all_right, placed_piece}
 use Rattle.swreq_world.proofs.GenericParams.{outer_declared, own_declared}
-use Rattle.swreq_world.proofs.Named.{item_at}
 use Rattle.swreq_world.proofs.Offsets.{AreRising, starts_from}
 use Rattle.swreq_world.proofs.OnceDeclared.{first, none_of_function, none_of_struct, not_before, not_earlier, stands}
 use Rattle.swreq_world.proofs.ParamsApart.{AreParamsInOrder, param_start}
@@ -234,7 +233,7 @@ module _ (text : Bytes) (s : Skeleton) (names : HasNames text s) (of_structs : (
 
   pub told_apart : (g : Signature) → IsIn s g → AreToldApart text (outer_params s g) (own_params s g)
   told_apart (Struct i) h =
-      let (t, at) = item_at s.structs i h in
+      let (t, at) = there_is s.structs i h in
       let order = of_structs t (get_contains s.structs i t at) in
       let functions : List Declaration = get_or d.nested i [] in
       top (Struct i) t.params (ap params_of_struct at) refl order.from order.own
@@ -242,7 +241,7 @@ module _ (text : Bytes) (s : Skeleton) (names : HasNames text s) (of_structs : (
       (all_left Never (of_signature text d (Struct i) t.params t.clause) (duplicates functions functions ++ by_place (of_nested text d i) 0 t.functions)
       (none_of_struct text s names i t at)))
   told_apart (Function k) h =
-      let (f, at) = item_at s.functions k h in
+      let (f, at) = there_is s.functions k h in
       let order = of_functions f (get_contains s.functions k f at) in
       top (Function k) f.params (ap params_of_function at) refl order.0 order.1 (once (Function k) f.params f.clause (none_of_function text s names k f at))
-  told_apart (Nested i j) (t, at, l) = let (f, there) = item_at t.functions j l in nested i j t f at there
+  told_apart (Nested i j) (t, at, l) = let (f, there) = there_is t.functions j l in nested i j t f at there

@@ -21,7 +21,7 @@ use Rattle.swreq_decl.specs.Source as lines
 use Rattle.swreq_decl.specs.Source.{after}
 use Rattle.swreq_decl.specs.Skeletons.{StandsFor, struct_of, function_of}
 use Rattle.swreq_decl.proofs.SameTexts.{Tokens}
-use Rattle.swreq_decl.proofs.WrittenOrder.{Starts, starts_left, starts_right}
+use Rattle.swreq_decl.proofs.WrittenOrder.{Starts, starts_left, starts_right, name_starts}
 use Rattle.swreq_world.proofs.Apart.{picked_cases}
 use Rattle.swreq_world.proofs.Offsets.{AreRising, rising_first, rising_past, rising_rest, slices_rising, start_of}
 
@@ -29,10 +29,6 @@ abbrev pub param_start : ParamDecl → ℕ
 param_start p = p.name.start
 
 -- ---- generic parameters
-
-name_starts : (ts : Tokens) (s : Span) → Matches number lines.name ts s → Starts s.start ts
-unfolding lines.name
-name_starts ts s (t, (e, h), k) = subst (λ (us : Tokens). Starts s.start us) (sym e) (inl (sym (ap (λ (x : Span). x.start) k)))
 
 param_starts : (ts : Tokens) (p : ParamDecl) → Matches number lines.param ts p → Starts (param_start p) ts
 unfolding lines.param

@@ -25,6 +25,7 @@ use Rattle.swreq_names.specs.Walk as names
 use Rattle.swreq_names.proofs.Walked.{same_names}
 use Rattle.swreq_resolve.specs.Resolving.{HasNames}
 use Rattle.swreq_resolve.specs.Refusals.{duplicates, of_spaces, of_protocol, of_primaries, primary_of, of_entity, of_requirement, of_members, begins_in_protocol, of_struct, of_function, of_query, refusals_in, by_place}
+use Rattle.swreq_resolve.proofs.Meaning.{any_to}
 use Rattle.swreq_names.specs.Spaces.{Spaces, spaces, word, declaration, declarations, place, offset_of, is_declared, is_declared_before, refers_to, protocol_of, declares, has_member, any_below}
 use Rattle.swreq_lexicon.specs.declared.pair.ProtocolName.{ProtocolName}
 use Rattle.swreq_lexicon.specs.Lexicons.{pair, proto_by, name_by, assoc_by}
@@ -82,15 +83,11 @@ pub declared_at : {A : Type 0} (text : Bytes) (span : A → Span) (xs : List A) 
 declared_at text span xs name k e =
     mapped_from (λ x. word text (span x)) xs k name (ap (λ ns. slice_get ns k) (sym (declared_words text span xs)) ∙ place_at (declarations text (map span xs)) name k e)
 
-some_below : (test : ℕ → Bool) (n : ℕ) → any_below test n ≡ true → (j : ℕ) × (test j ≡ true)
-some_below test zero e = absurd cc
-some_below test (suc n) e = ⊎_elim (λ h. (n, h)) (λ h. some_below test n h) (or_cases (test n) (any_below test n) e)
-
 -- Some protocol declares the name.
 declared_somewhere : (d : Spaces) (inherits : ℕ → ℕ → Bool) (k : ℕ) (name : Bytes) → has_member d inherits k name ≡ true → (j : ℕ) × (declares d j name ≡ true)
 declared_somewhere d inherits k name e =
     ⊎_elim (λ h. (k, h))
-    (λ h. let s = some_below (λ j. inherits k j && declares d j name) (length d.members) h in (s.0, (and_parts (inherits k s.0) (declares d s.0 name) s.1).1))
+    (λ h. let s = any_to (λ j. inherits k j && declares d j name) (length d.members) h in (s.0, (and_parts (inherits k s.0) (declares d s.0 name) s.1).1))
     (or_cases (declares d k name) (any_below (λ j. inherits k j && declares d j name) (length d.members)) e)
 
 -- ---- where the names of a text resolve
