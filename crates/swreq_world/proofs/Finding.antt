@@ -42,7 +42,7 @@ module _ (text : Bytes) (s : Skeleton) (v : TextWorld) (is : IsWorldOf text s v)
   order = in_order s
 
   -- the signature that stands at a place
-  at_place : (f : FuncId) (g : Signature) → slice_get order f.place ≡ Some g → signature_at v f ≡ signature_in words order g
+  pub at_place : (f : FuncId) (g : Signature) → slice_get order f.place ≡ Some g → signature_at v f ≡ signature_in words order g
   at_place f g e = get_or_from_slice_get v.signatures f.place (signature_in words order g) no_signature (signature_stands words v.signatures is.signatures f g e)
 
   -- ---- signatures
@@ -61,7 +61,7 @@ module _ (text : Bytes) (s : Skeleton) (v : TextWorld) (is : IsWorldOf text s v)
       ap (λ (h : SignatureOver PlacedRequirement). Some h.name) (at_place (func_id order (Struct i)) (Struct i) (stands s (Struct i) (slice_get_within s.structs i t at)))
 
   -- A signature has its names at its place.
-  named_at : (outer : Option Bytes) (name : Bytes) (g : Signature) → IsNamed words outer name g → IsNamedAt v outer name (func_id order g)
+  pub named_at : (outer : Option Bytes) (name : Bytes) (g : Signature) → IsNamed words outer name g → IsNamedAt v outer name (func_id order g)
   named_at outer name g named =
       let there = stands s g named.is_in in
       let e = at_place (func_id order g) g there in (

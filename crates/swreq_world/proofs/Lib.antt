@@ -28,3 +28,7 @@ pub mod ParamsApart
 pub mod ParamNames
 pub mod Finding
 pub mod Closing
+pub mod Subjects
+pub mod Unrefused
+pub mod Saying
+pub mod SayingQueries

@@ -52,7 +52,7 @@ module _ (text : Bytes) (outer own : List ParamDecl) where
     at_outer [] e = absurd cc
     at_outer (g ∷ gs) e = e
 
-    at_own : (os : List ParamDecl) → slice_get own k ≡ Some q → slice_get (params_of_depth os own (depth_within os)) k ≡ Some q
+    pub at_own : (os : List ParamDecl) → slice_get own k ≡ Some q → slice_get (params_of_depth os own (depth_within os)) k ≡ Some q
     at_own [] e = e
     at_own (g ∷ gs) e = e
 
@@ -135,9 +135,12 @@ module _ (text : Bytes) (s : Skeleton) (g : Signature) where
   param_is name =
       λ i. elim (place (outer_declared text s g i) name) as (λ _. Option Param) [ None ↦ option_map Own (place (own_declared text s g i) name) | Some k ↦ Some (Outer k) ]
 
+  pub param_says : (name : Bytes) (p : ParamId) → meant name ≡ Some p → IsParamNamed text s g name p
+  param_says name p e = found text (outer_params s g) (own_params s g) name p (sym (ap (option_map (param_id (own_depth s g))) (param_is name)) ∙ e)
+
   pub param_named : AreToldApart text (outer_params s g) (own_params s g) → (name : Bytes) (p : ParamId) → (meant name ≡ Some p) ↔ IsParamNamed text s g name p
   param_named told name p = (
-    λ e. found text (outer_params s g) (own_params s g) name p (sym (ap (option_map (param_id (own_depth s g))) (param_is name)) ∙ e),
+    param_says name p,
     λ called.
         ap (option_map (param_id (own_depth s g))) (param_is name)
         ∙ ap (λ n. option_map (param_id (own_depth s g)) (param_in text (outer_params s g) (own_params s g) n)) (sym called.2)

@@ -9,6 +9,7 @@ use Rattle.std.specs.List.{All, Contains, flat_map}
 use Rattle.std.specs.Str.{bytes_eq}
 use Rattle.std.proofs.lemmas.Bool.{and_parts, or_cases}
 use Rattle.swreq_orders.proofs.Elements.{get_contains}
+use Rattle.swreq_orders.proofs.Members.{contains_map}
 use Rattle.swreq_decl.specs.declared.skeleton.AssocDecl.{AssocDecl}
 use Rattle.swreq_decl.specs.declared.skeleton.FunctionDecl.{FunctionDecl}
 use Rattle.swreq_decl.specs.declared.skeleton.ProtocolDecl.{ProtocolDecl}
@@ -84,7 +85,7 @@ declared_at text span xs name k e =
     mapped_from (λ x. word text (span x)) xs k name (ap (λ ns. slice_get ns k) (sym (declared_words text span xs)) ∙ place_at (declarations text (map span xs)) name k e)
 
 -- Some protocol declares the name.
-declared_somewhere : (d : Spaces) (inherits : ℕ → ℕ → Bool) (k : ℕ) (name : Bytes) → has_member d inherits k name ≡ true → (j : ℕ) × (declares d j name ≡ true)
+pub declared_somewhere : (d : Spaces) (inherits : ℕ → ℕ → Bool) (k : ℕ) (name : Bytes) → has_member d inherits k name ≡ true → (j : ℕ) × (declares d j name ≡ true)
 declared_somewhere d inherits k name e =
     ⊎_elim (λ h. (k, h))
     (λ h. let s = any_to (λ j. inherits k j && declares d j name) (length d.members) h in (s.0, (and_parts (inherits k s.0) (declares d s.0 name) s.1).1))
@@ -120,7 +121,7 @@ module _ (text : Bytes) (s : Skeleton) (x : LexiconView) (is : IsLexiconOf text 
   words = record { text = text; skeleton = s; lexicon = x }
 
   -- the protocol of this name
-  protocol_named : (name : Bytes) (k : ℕ) → protocol_of (declared words) name ≡ Some k → (p : ProtocolDecl) × (slice_get s.protocols k ≡ Some p) × (word text p.name ≡ name)
+  pub protocol_named : (name : Bytes) (k : ℕ) → protocol_of (declared words) name ≡ Some k → (p : ProtocolDecl) × (slice_get s.protocols k ≡ Some p) × (word text p.name ≡ name)
   protocol_named name k e =
       let h : protocol_of (spaces text s) name ≡ Some k = subst (λ (d : Spaces). protocol_of d name ≡ Some k) is.resolved.declared e in
       declared_at text (λ (p : ProtocolDecl). p.name) s.protocols name k (referred (spaces text s).protocols (spaces text s).structs name k h)
@@ -141,37 +142,50 @@ module _ (text : Bytes) (s : Skeleton) (x : LexiconView) (is : IsLexiconOf text 
   abbrev pair_of : ProtocolDecl → AssocDecl → ProtocolName
   pair_of p m = pair (proto_by x.protocols (word text p.name)) (name_by x.names (word text m.name))
 
-  -- the pair of a protocol and a name that it declares
-  declared_pair : (k : ℕ) (name : Bytes) → declares (declared words) k name ≡ true
-      → (p : ProtocolDecl) × (slice_get s.protocols k ≡ Some p) × Contains (declared_in text x.protocols x.names s.protocols) (pair (proto_by x.protocols (word text p.name)) (name_by x.names name))
-  declared_pair k name e = by (slice_get s.protocols k) refl
+  -- A name that a protocol declares is that of an associated type of it.
+  pub declared_member : (k : ℕ) (name : Bytes) → declares (declared words) k name ≡ true
+      → (p : ProtocolDecl) × (m : AssocDecl) × (slice_get s.protocols k ≡ Some p) × Contains p.members m × (word text m.name ≡ name)
+  declared_member k name e = by (slice_get s.protocols k) refl
     where
       h : is_declared (get_or (map members_of s.protocols) k []) name ≡ true
       h = subst (λ (d : Spaces). declares d k name ≡ true) is.resolved.declared e
 
       by : (o : Option ProtocolDecl) → slice_get s.protocols k ≡ o
-          → (p : ProtocolDecl) × (slice_get s.protocols k ≡ Some p) × Contains (declared_in text x.protocols x.names s.protocols) (pair (proto_by x.protocols (word text p.name)) (name_by x.names name))
+          → (p : ProtocolDecl) × (m : AssocDecl) × (slice_get s.protocols k ≡ Some p) × Contains p.members m × (word text m.name ≡ name)
       by None n = let f : is_declared [] name ≡ true = subst (λ ds. is_declared ds name ≡ true) (past_mapped members_of s.protocols k [] n) h in absurd cc
       by (Some p) n =
           let f : is_declared (members_of p) name ≡ true = subst (λ ds. is_declared ds name ≡ true) (at_mapped members_of s.protocols k p [] n) h in
           let j = some_of (place (members_of p) name) f in
           let m = declared_at text (λ (m : AssocDecl). m.name) p.members name j.0 j.1 in
-          let c = get_contains (map (pair_of p) p.members) j.0 (pair_of p m.0) (stands_mapped (pair_of p) p.members j.0 m.0 m.1) in (
-            p,
-            n,
-            in_pieces (declared_by text x.protocols x.names) s.protocols p (pair (proto_by x.protocols (word text p.name)) (name_by x.names name)) (get_contains s.protocols k p n)
-                (subst (λ b. Contains (map (pair_of p) p.members) (pair (proto_by x.protocols (word text p.name)) (name_by x.names b))) m.2 c),
-          )
+          (p, m.0, n, get_contains p.members j.0 m.0 m.1, m.2)
 
-  associated_is : (p a : Bytes) (k : ℕ) → protocol_of (declared words) p ≡ Some k → declares (declared words) k a ≡ true
-      → (assoc_by x.associated (proto_by x.protocols p) (name_by x.names a)).rank < length x.associated
-  associated_is p a k e h =
+  -- the pair of a protocol and a name that it declares
+  declared_pair : (k : ℕ) (name : Bytes) → declares (declared words) k name ≡ true
+      → (p : ProtocolDecl) × (slice_get s.protocols k ≡ Some p) × Contains (declared_in text x.protocols x.names s.protocols) (pair (proto_by x.protocols (word text p.name)) (name_by x.names name))
+  declared_pair k name e =
+      let (p, m, at, c, called) = declared_member k name e in (
+        p,
+        at,
+        in_pieces (declared_by text x.protocols x.names) s.protocols p (pair (proto_by x.protocols (word text p.name)) (name_by x.names name)) (get_contains s.protocols k p at)
+            (subst (λ b. Contains (map (pair_of p) p.members) (pair (proto_by x.protocols (word text p.name)) (name_by x.names b))) called (contains_map (pair_of p) p.members m c)),
+      )
+
+  -- The associated type of a protocol and a name that it declares stands at its rank.
+  pub associated_stands : (p a : Bytes) (k : ℕ) → protocol_of (declared words) p ≡ Some k → declares (declared words) k a ≡ true
+      → slice_get x.associated (assoc_by x.associated (proto_by x.protocols p) (name_by x.names a)).rank ≡ Some (pair (proto_by x.protocols p) (name_by x.names a))
+  associated_stands p a k e h =
       let q = protocol_named p k e in
       let r = declared_pair k a h in
       let same : word text r.0.name ≡ p = ap (λ (t : ProtocolDecl). word text t.name) (same_Some r.0 q.0 (sym r.1 ∙ q.1)) ∙ q.2 in
       let d = pair (proto_by x.protocols p) (name_by x.names a) in
       let there_too = subst (λ b. Contains (declared_in text x.protocols x.names s.protocols) (pair (proto_by x.protocols b) (name_by x.names a))) same r.2 in
-      slice_get_within x.associated (assoc_by x.associated (proto_by x.protocols p) (name_by x.names a)).rank d (assoc_is x.associated d ((is.associated.same d).1 there_too))
+      assoc_is x.associated d ((is.associated.same d).1 there_too)
+
+  associated_is : (p a : Bytes) (k : ℕ) → protocol_of (declared words) p ≡ Some k → declares (declared words) k a ≡ true
+      → (assoc_by x.associated (proto_by x.protocols p) (name_by x.names a)).rank < length x.associated
+  associated_is p a k e h =
+      let d = pair (proto_by x.protocols p) (name_by x.names a) in
+      slice_get_within x.associated (assoc_by x.associated (proto_by x.protocols p) (name_by x.names a)).rank d (associated_stands p a k e h)
 
   member_is : (inherits : ℕ → ℕ → Bool) (k : ℕ) (name : Bytes) → has_member (declared words) inherits k name ≡ true → IsName x (name_by x.names name)
   member_is inherits k name e =

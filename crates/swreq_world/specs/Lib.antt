@@ -13,3 +13,4 @@ pub mod Inheritance
 pub mod Made
 pub mod Ready
 pub mod Closed
+pub mod ReadBack

@@ -1,24 +1,34 @@
 //! What holds of the world of each text.
-ghost use Rattle.std.specs.Prelude.{◌≡◌, ◌↔◌, ◌<◌, All, IsTrue, List, Option, Some, length, map, slice_get, ℕ};
+ghost use Rattle.std.specs.Prelude.{◌≡◌, ◌↔◌, ◌<◌, All, Contains, IsTrue, List, Option, Some, false, length, map, slice_get, ℕ};
+ghost use Rattle.swreq_decl.specs.declared.skeleton.Entity.{Entity};
+ghost use Rattle.swreq_decl.specs.declared.skeleton.ProtocolDecl.{ProtocolDecl};
+ghost use Rattle.swreq_decl.specs.declared.skeleton.QueryDecl.{QueryDecl};
 ghost use Rattle.swreq_decl.specs.declared.skeleton.Skeleton.{Skeleton};
+ghost use Rattle.swreq_decl.specs.declared.skeleton.TypeDecl.{TypeDecl};
 ghost use Rattle.swreq_decl.specs.Signatures.{signatures};
 ghost use Rattle.swreq_decl.specs.Skeletons.{StandsFor};
 ghost use Rattle.swreq_names.specs.declared.signature.Signature.{Signature};
+ghost use Rattle.swreq_names.specs.Parts as parts;
+ghost use Rattle.swreq_names.specs.Parts.{Constraint};
 ghost use Rattle.swreq_param.specs.declared.ids.ParamId.{ParamId};
 ghost use Rattle.swreq_param.specs.declared.ids.ProtoId.{ProtoId};
 ghost use Rattle.swreq_param.specs.Terms.{Term};
 ghost use Rattle.swreq_resolve.specs.Resolving.{Resolve};
 ghost use Rattle.swreq_lexicon.specs.Views.{IsProtocol, inherits};
 ghost use Rattle.swreq_lowering.specs.declared.ids.FuncId.{FuncId};
+ghost use Rattle.swreq_lowering.specs.declared.scope.Scope.{Scope};
 ghost use Rattle.swreq_lowering.specs.Heads.{IsOverSelf};
+ghost use Rattle.swreq_lowering.specs.Queries.{TermQuery};
 ghost use Rattle.swreq_lowering.specs.Signatures.{func_id, in_order};
+ghost use Rattle.swreq_lowering.specs.Words.{proto_of};
 ghost use Rattle.swreq_world.specs.ByTable.{world_by};
 ghost use Rattle.swreq_world.specs.Closed.{IsClosed};
 ghost use Rattle.swreq_world.specs.Declarations.{HasSignature, declaration_of};
 ghost use Rattle.swreq_world.specs.FactsAt.{facts_of};
 ghost use Rattle.swreq_world.specs.Inheritance.{LeadsOnTo};
 ghost use Rattle.swreq_world.specs.Lookups.{func_named, param_of_signature, IsNamedAt, IsParamNamed};
-ghost use Rattle.swreq_world.specs.WorldOf.{IsWorldOf};
+ghost use Rattle.swreq_world.specs.ReadBack.{IsReadIn, IsSaid, SayNames, SaysConstraint, SaysProtocol, SaysQuery};
+ghost use Rattle.swreq_world.specs.WorldOf.{IsWorldOf, words_of};
 ghost use Rattle.swreq_world.specs.Worlds.{IdWorld, TextWorld, signature_at};
 
 use swreq_lex::laws::tokens_are_slices;
@@ -64,6 +74,25 @@ pub fn protocols_require_of_self()
 pub fn inheritance_is_what_is_written()
     ensures { (text : List ℕ) (s : Skeleton) (w : TextWorld) → IsWorldOf text s w → Resolve text s
         → (p q : ProtoId) → IsProtocol w.lexicon p → IsProtocol w.lexicon q → IsTrue (inherits w.lexicon p q) ↔ LeadsOnTo (facts_of w) p q }
+{}
+
+/// Where the names of a text resolve, the ids of its world say the very words that are written: of each written type, of each protocol on
+/// the right of a colon, of all that a constraint names, of the names that a protocol declares, and of each query.
+pub fn ids_say_what_is_written()
+    ensures types { (text : List ℕ) (s : Skeleton) (w : TextWorld) → IsWorldOf text s w → Resolve text s
+        → (part : parts.Scope) (t : TypeDecl) → Contains (parts.types s) (part, t)
+        → (scope : Scope) → IsReadIn (words_of text s w) part scope → IsSaid (words_of text s w) scope t }
+    ensures entities { (text : List ℕ) (s : Skeleton) (w : TextWorld) → IsWorldOf text s w → Resolve text s
+        → (part : parts.Scope) (e : Entity) → Contains (parts.entities s) (part, e) → e.layout ≡ false
+        → SaysProtocol text w.lexicon (proto_of (words_of text s w) e.span) e.span }
+    ensures constraints { (text : List ℕ) (s : Skeleton) (w : TextWorld) → IsWorldOf text s w → Resolve text s
+        → (part : parts.Scope) (c : Constraint) → Contains (parts.constraints s) (part, c)
+        → (scope : Scope) → IsReadIn (words_of text s w) part scope → SaysConstraint (words_of text s w) scope c }
+    ensures declared { (text : List ℕ) (s : Skeleton) (w : TextWorld) → IsWorldOf text s w → Resolve text s
+        → (p : ProtocolDecl) → Contains s.protocols p → SayNames (words_of text s w) p }
+    ensures queries { (text : List ℕ) (s : Skeleton) (w : TextWorld) → IsWorldOf text s w → Resolve text s
+        → (k : ℕ) (q : QueryDecl) → slice_get s.queries k ≡ Some q
+        → (a : TermQuery) × (slice_get w.queries k ≡ Some a) × SaysQuery text s w a q }
 {}
 
 /// Where the names of a text resolve, all that is written in its world is of the world.
