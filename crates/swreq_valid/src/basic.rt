@@ -77,36 +77,42 @@ fn names_end(world: &World) -> u64
     u64::from(world.member_at(count - 1).name.rank) + 1
 }
 
-/// Puts the equations of the member names of the protocol last, by the ranks of their symbols.
+/// Puts the equations of the member names of the protocol last, by the ranks of their symbols, where all names have ranks below `end`.
 fn add_names(
     alloc: Global,
     world: &World,
+    end: u64,
     p: ProtoId,
     v: &mut Vec<(Word, Word)>,
 ) -> Result<(), AllocError>
-    requires { AreIds world.now.lexicon }
+    requires ids { AreIds world.now.lexicon }
+    requires above { (k : ℕ) (s : ProtocolName) → slice_get world.now.lexicon.symbols k ≡ Some s → s.name.rank < end }
+    requires within { end ≤ 4294967296 }
     ensures { OnOk result (v.new.items ≡ v.old.items ++ given.named_from p 0 (symbols_of world.now.lexicon).members) }
 {
-    for rank in 0..names_end(world) {
+    for rank in 0..end {
         let a = NameId { rank: rank as u32 };
         add_name(alloc, world, p, a, v)?;
     }
     Ok(())
 }
 
-/// Puts the basic equations of the protocol last.
+/// Puts the basic equations of the protocol last, where all names have ranks below `end`.
 fn add_protocol(
     alloc: Global,
     world: &World,
+    end: u64,
     p: ProtoId,
     v: &mut Vec<(Word, Word)>,
 ) -> Result<(), AllocError>
-    requires { AreIds world.now.lexicon }
+    requires ids { AreIds world.now.lexicon }
+    requires above { (k : ℕ) (s : ProtocolName) → slice_get world.now.lexicon.symbols k ≡ Some s → s.name.rank < end }
+    requires within { end ≤ 4294967296 }
     ensures { OnOk result (v.new.items ≡ v.old.items ++ (given.doubled p ∷ given.named_from p 0 (symbols_of world.now.lexicon).members)) }
 {
     let e = doubled(alloc, p)?;
     v.push(e)?;
-    add_names(alloc, world, p, v)
+    add_names(alloc, world, end, p, v)
 }
 
 /// The basic equations: for each protocol in written order the one of its symbol, and then those of its member names.
@@ -114,10 +120,11 @@ pub(crate) fn basic(alloc: Global, world: &World) -> Result<Vec<(Word, Word)>, A
     requires { AreIds world.now.lexicon }
     ensures { IfOk result (λ v. v.items ≡ given.basic_equations (symbols_of world.now.lexicon)) }
 {
+    let end = names_end(world);
     let mut v = Vec::new(alloc);
     for k in 0..world.protocols() {
         let p = world.proto_at(k);
-        add_protocol(alloc, world, p, &mut v)?;
+        add_protocol(alloc, world, end, p, &mut v)?;
     }
     Ok(v)
 }
@@ -131,13 +138,14 @@ pub(crate) fn first_basic(
     requires { AreIds world.now.lexicon }
     ensures { IfOk result (λ v. IsFront v.items (given.basic_equations (symbols_of world.now.lexicon))) }
 {
+    let end = names_end(world);
     let mut v = Vec::new(alloc);
     for k in 0..world.protocols() {
         if v.len() > enough as usize {
             return Ok(v);
         }
         let p = world.proto_at(k);
-        add_protocol(alloc, world, p, &mut v)?;
+        add_protocol(alloc, world, end, p, &mut v)?;
     }
     Ok(v)
 }
