@@ -17,3 +17,4 @@ pub mod Mapped
 pub mod Keyed
 pub mod PairKeys
 pub mod PairPlaces
+pub mod Known

@@ -38,7 +38,7 @@ module _ (order : List ProtoId) (has : ProtoId → NameId → Bool) where
   pub having_le : (a : NameId) → length (having order has a) ≤ length order
   having_le a = subst (λ n. n ≤ length order) (sym (length-filter (λ p. has p a) order)) (count_by-le-length (λ p. has p a) order)
 
-  length_more : (n : ℕ) → length (symbols_below order has (suc n)) ≡ length (symbols_below order has n) + length (having order has (name n))
+  pub length_more : (n : ℕ) → length (symbols_below order has (suc n)) ≡ length (symbols_below order has n) + length (having order has (name n))
   length_more n = length-append (symbols_below order has n) (symbols_of order has (name n)) ∙ ap (λ k. length (symbols_below order has n) + k) (length_of (name n))
 
   pub length_below : (n : ℕ) → length order ≤ 1048576 → length (symbols_below order has n) ≤ n * 1048576

@@ -1,5 +1,5 @@
 -- Member symbols by rank, where the protocols stand in their order within each name.
-use Rattle.std.specs.Prelude.{◌≡◌, ◌↔◌, ◌<◌, ◌≤◌, ◌+◌, ◌&&◌, ◌||◌, ℕ, zero, suc, Bool, nat_eq, List, [], ◌++◌, length, map, filter, slice_index, slice_index_or, Contains}
+use Rattle.std.specs.Prelude.{◌≡◌, ◌↔◌, ◌<◌, ◌≤◌, ◌+◌, ◌&&◌, ◌||◌, ℕ, zero, suc, Bool, nat_eq, List, [], ◌++◌, Option, Some, length, map, filter, slice_get, slice_index, slice_index_or, Contains}
 use Rattle.std.specs.List.{list_any}
 use Rattle.swreq_param.specs.declared.ids.NameId.{NameId}
 use Rattle.swreq_param.specs.declared.ids.ProtoId.{ProtoId}
@@ -38,7 +38,21 @@ module _ (order : List ProtoId) (has : ProtoId → NameId → Bool) where
 abbrev pub AreDeclarers : List ProtocolName → List (List ProtoId) → Type 0
 AreDeclarers associated lists = (p : ProtoId) (a : NameId) → Contains (slice_index_or lists a.rank []) p ↔ Contains associated (pair p a)
 
--- The protocols in their order, and where the member symbols of each name begin.
+-- what rows by name say of a protocol and a name, if they say it
+abbrev pub known : List (List Bool) → ProtoId → NameId → Option Bool
+known rows p a = slice_get (slice_index_or rows a.rank []) p.rank
+
+module _ (has : ProtoId → NameId → Bool) where
+  -- What the row says of the name is right.
+  abbrev pub IsRow : NameId → List Bool → Type 0
+  IsRow a row = (p : ProtoId) (b : Bool) → slice_get row p.rank ≡ Some b → has p a ≡ b
+
+  -- What the rows say is right.
+  abbrev pub AreKnown : List (List Bool) → Type 0
+  AreKnown rows = (p : ProtoId) (a : NameId) (b : Bool) → known rows p a ≡ Some b → has p a ≡ b
+
+-- The protocols in their order, where the member symbols of each name begin, and what is kept of who has which name.
 pub record SymbolsView : Type 0 where
   pub order : List ProtoId
   pub starts : List ℕ
+  pub known : List (List Bool)

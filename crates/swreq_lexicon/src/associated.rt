@@ -16,6 +16,9 @@ use std::marker::Model;
 use swreq_param::{AssocId, NameId, ProtoId};
 use swreq_rank::{Lists, Ranked};
 
+/// Of a name that no more protocols than this declare, going through them takes less time than keeping who has it.
+const FEW: usize = 8;
+
 /// By what associated types are ranked: their name, whether their protocol inherits one that declares it, and their protocol.
 #[derive(Clone, Copy, PartialEq, Eq, PartialOrd, Ord)]
 pub struct AssocKey {
@@ -107,6 +110,11 @@ impl Associated {
             proto: key.proto,
             name: key.name,
         }
+    }
+
+    /// Whether few protocols declare the name. Only the time that is taken rests on it.
+    pub fn is_declared_by_few(&self, a: NameId) -> bool {
+        self.declarers.at(a.rank as usize).len() <= FEW
     }
 
     /// Whether the protocol, or one that it inherits, declares the name.

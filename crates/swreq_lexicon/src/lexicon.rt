@@ -35,7 +35,7 @@ pub struct Lexicon {
 
 impl Model for Lexicon {
     ghost use Rattle.std.specs.Prelude.{length, ◌≤◌};
-    ghost use Rattle.swreq_lexicon.specs.Symbols.{has_member, symbols_below, AreStarts};
+    ghost use Rattle.swreq_lexicon.specs.Symbols.{has_member, symbols_below, AreKnown, AreStarts};
     ghost use Rattle.swreq_lexicon.specs.Views.{LexiconView, inherits_by};
 
     ghost Value = { LexiconView };
@@ -51,7 +51,8 @@ impl Model for Lexicon {
     } };
 
     ghost invariant = { λ x. (length x.names ≤ 1048576) × (length x.symbols.order ≤ 1048576)
-        × AreStarts x.symbols.order (has_member (inherits_by x.protocols.places x.protocols.resolved.inherits) x.associated) (length x.names) x.symbols.starts };
+        × AreStarts x.symbols.order (has_member (inherits_by x.protocols.places x.protocols.resolved.inherits) x.associated) (length x.names) x.symbols.starts
+        × AreKnown (has_member (inherits_by x.protocols.places x.protocols.resolved.inherits) x.associated) x.symbols.known };
 }
 
 impl Lexicon {
@@ -215,7 +216,8 @@ impl Lexicon {
     pub fn has_member(&self, p: ProtoId, a: NameId) -> bool
         ensures { IsTrue result ↔ HasMember self.now p a }
     {
-        self.associated.has_member(&self.protocols, p, a)
+        self.symbols
+            .has_member(&self.protocols, &self.associated, p, a)
     }
 
     /// The rank of the member symbol `[P:A]`, or None exactly where there is none.

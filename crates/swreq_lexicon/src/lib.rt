@@ -4,6 +4,7 @@
 mod associated;
 pub mod laws;
 mod lexicon;
+mod members;
 mod pair;
 mod protocols;
 mod symbols;

@@ -5,10 +5,11 @@ ghost use Rattle.swreq_lexicon.specs.Associated.{name, order_cmp};
 ghost use Rattle.swreq_lexicon.specs.Keys.{order_keys};
 ghost use Rattle.swreq_lexicon.specs.Lexicons.{pair};
 ghost use Rattle.swreq_rank.specs.Ranks.{IsRanking};
-ghost use Rattle.swreq_lexicon.specs.Symbols.{has_member, having, symbols_below, AreCounts, AreStarts};
+ghost use Rattle.swreq_lexicon.specs.Symbols.{has_member, having, symbols_below, AreCounts, AreKnown, AreStarts};
 ghost use Rattle.swreq_lexicon.specs.Views.{inherits_by};
 
 use crate::associated::Associated;
+use crate::members::Members;
 use crate::pair::ProtocolName;
 use crate::protocols::Protocols;
 use std::alloc::{AllocError, Global};
@@ -31,6 +32,7 @@ pub struct OrderKey {
 pub struct Symbols {
     order: Vec<ProtoId>,
     starts: Vec<u64>,
+    members: Members,
 }
 
 impl Model for Symbols {
@@ -38,7 +40,7 @@ impl Model for Symbols {
 
     ghost Value = { SymbolsView };
 
-    ghost view = { λ s. record { order = s.order.items; starts = s.starts.items } };
+    ghost view = { λ s. record { order = s.order.items; starts = s.starts.items; known = s.members } };
 }
 
 impl Symbols {
@@ -54,11 +56,17 @@ impl Symbols {
             (λ p. p.rank < length protocols.now.protocols) s.order) }
         ensures few { IfOk result (λ s. length s.order ≤ 1048576) }
         ensures starts { IfOk result (λ s. AreStarts s.order (has_member (inherits_by protocols.now.places protocols.now.resolved.inherits) associated.now) names s.starts) }
+        ensures known { IfOk result (λ s. AreKnown (has_member (inherits_by protocols.now.places protocols.now.resolved.inherits) associated.now) s.known) }
     {
         let order = order(alloc, protocols)?;
-        let counts = counts(alloc, protocols, associated, &order, names)?;
+        let members = Members::of(alloc, protocols, associated, names)?;
+        let counts = counts(alloc, protocols, associated, &members, &order, names)?;
         let starts = starts(alloc, &counts)?;
-        Ok(Symbols { order, starts })
+        Ok(Symbols {
+            order,
+            starts,
+            members,
+        })
     }
 
     /// How many there are of `names` names.
@@ -67,6 +75,20 @@ impl Symbols {
         ensures { result ≡ slice_index self.now.starts names }
     {
         self.starts[names]
+    }
+
+    /// Whether the protocol, or one that it inherits, declares the name.
+    pub fn has_member(
+        &self,
+        protocols: &Protocols,
+        associated: &Associated,
+        p: ProtoId,
+        a: NameId,
+    ) -> bool
+        requires { AreKnown (has_member (inherits_by protocols.now.places protocols.now.resolved.inherits) associated.now) self.now.known }
+        ensures { result ≡ has_member (inherits_by protocols.now.places protocols.now.resolved.inherits) associated.now p a }
+    {
+        self.members.has(protocols, associated, p, a)
     }
 
     /// The rank of the member symbol of a protocol and a name.
@@ -81,14 +103,22 @@ impl Symbols {
         requires names { names ≤ 1048576 }
         requires few { length self.now.order ≤ 1048576 }
         requires starts { AreStarts self.now.order (has_member (inherits_by protocols.now.places protocols.now.resolved.inherits) associated.now) names self.now.starts }
+        requires known { AreKnown (has_member (inherits_by protocols.now.places protocols.now.resolved.inherits) associated.now) self.now.known }
         ensures { MatchOption result
             (Contains (symbols_below self.now.order (has_member (inherits_by protocols.now.places protocols.now.resolved.inherits) associated.now) names) (pair p a) → ⊥)
             (λ m. slice_get (symbols_below self.now.order (has_member (inherits_by protocols.now.places protocols.now.resolved.inherits) associated.now) names) m ≡ Some (pair p a)) }
     {
-        if (a.rank as usize) < names && associated.has_member(protocols, p, a) {
+        if (a.rank as usize) < names && self.members.has(protocols, associated, p, a) {
             match place_of(&self.order, p) {
                 Some(place) => {
-                    let before = count_before(protocols, associated, &self.order, place, a);
+                    let before = count_before(
+                        protocols,
+                        associated,
+                        &self.members,
+                        &self.order,
+                        place,
+                        a,
+                    );
                     Some(self.starts[a.rank as usize] + before as u64)
                 }
                 None => None,
@@ -108,6 +138,7 @@ impl Symbols {
     ) -> ProtocolName
         requires names { names ≤ 1048576 }
         requires starts { AreStarts self.now.order (has_member (inherits_by protocols.now.places protocols.now.resolved.inherits) associated.now) names self.now.starts }
+        requires known { AreKnown (has_member (inherits_by protocols.now.places protocols.now.resolved.inherits) associated.now) self.now.known }
         requires within { m < length (symbols_below self.now.order (has_member (inherits_by protocols.now.places protocols.now.resolved.inherits) associated.now) names) }
         ensures { slice_get (symbols_below self.now.order (has_member (inherits_by protocols.now.places protocols.now.resolved.inherits) associated.now) names) m ≡ Some result }
     {
@@ -116,6 +147,7 @@ impl Symbols {
         let proto = nth(
             protocols,
             associated,
+            &self.members,
             &self.order,
             name,
             m - self.starts[rank],
@@ -158,7 +190,14 @@ fn order(alloc: Global, protocols: &Protocols) -> Result<Vec<ProtoId>, AllocErro
 }
 
 /// Counts the member symbols of one protocol, each at its name.
-fn count(protocols: &Protocols, associated: &Associated, p: ProtoId, counts: &mut Vec<u64>)
+fn count(
+    protocols: &Protocols,
+    associated: &Associated,
+    members: &Members,
+    p: ProtoId,
+    counts: &mut Vec<u64>,
+)
+    requires known { AreKnown (has_member (inherits_by protocols.now.places protocols.now.resolved.inherits) associated.now) members.now }
     requires names { length counts.old.items ≤ 1048576 }
     requires small { (a : ℕ) → a < length counts.old.items → slice_index counts.old.items a < 1048576 }
     ensures len { length counts.new.items ≡ length counts.old.items }
@@ -166,7 +205,7 @@ fn count(protocols: &Protocols, associated: &Associated, p: ProtoId, counts: &mu
         ≡ slice_index counts.old.items a + cond (has_member (inherits_by protocols.now.places protocols.now.resolved.inherits) associated.now p (name a)) 1 0 }
 {
     for rank in 0..counts.len() {
-        if associated.has_member(protocols, p, NameId { rank: rank as u32 }) {
+        if members.has(protocols, associated, p, NameId { rank: rank as u32 }) {
             counts[rank] += 1;
         }
     }
@@ -177,16 +216,18 @@ fn counts(
     alloc: Global,
     protocols: &Protocols,
     associated: &Associated,
+    members: &Members,
     order: &[ProtoId],
     names: usize,
 ) -> Result<Vec<u64>, AllocError>
+    requires known { AreKnown (has_member (inherits_by protocols.now.places protocols.now.resolved.inherits) associated.now) members.now }
     requires few { length order.now ≤ 1048576 }
     requires names { names ≤ 1048576 }
     ensures { IfOk result (λ counts. AreCounts order.now (has_member (inherits_by protocols.now.places protocols.now.resolved.inherits) associated.now) names counts.items) }
 {
     let mut counts = vec![in alloc; 0; names]?;
     for p in order {
-        count(protocols, associated, *p, &mut counts);
+        count(protocols, associated, members, *p, &mut counts);
     }
     Ok(counts)
 }
@@ -219,17 +260,23 @@ fn place_of(order: &[ProtoId], p: ProtoId) -> Option<usize>
 fn count_before(
     protocols: &Protocols,
     associated: &Associated,
+    members: &Members,
     order: &[ProtoId],
     place: usize,
     a: NameId,
 ) -> usize
-    requires { place ≤ length order.now }
+    requires known { AreKnown (has_member (inherits_by protocols.now.places protocols.now.resolved.inherits) associated.now) members.now }
+    requires within { place ≤ length order.now }
     ensures { result ≡ length (filter (λ q. has_member (inherits_by protocols.now.places protocols.now.resolved.inherits) associated.now q a) (take place order.now)) }
 {
-    order[..place]
-        .iter()
-        .filter(|q| associated.has_member(protocols, **q, a))
-        .count()
+    let mut count = 0;
+    for k in 0..place {
+        let here = members.has(protocols, associated, order[k], a);
+        if here {
+            count += 1;
+        }
+    }
+    count
 }
 
 /// The last of the first `names` places that begins at `m` or before.
@@ -258,16 +305,18 @@ fn last_from(starts: &[u64], names: usize, m: u64) -> usize
 fn nth(
     protocols: &Protocols,
     associated: &Associated,
+    members: &Members,
     order: &[ProtoId],
     a: NameId,
     place: u64,
 ) -> ProtoId
-    requires { place < length (having order.now (has_member (inherits_by protocols.now.places protocols.now.resolved.inherits) associated.now) a) }
+    requires known { AreKnown (has_member (inherits_by protocols.now.places protocols.now.resolved.inherits) associated.now) members.now }
+    requires within { place < length (having order.now (has_member (inherits_by protocols.now.places protocols.now.resolved.inherits) associated.now) a) }
     ensures { slice_get (having order.now (has_member (inherits_by protocols.now.places protocols.now.resolved.inherits) associated.now) a) place ≡ Some result }
 {
     let mut left = place;
     for q in order {
-        let here = associated.has_member(protocols, *q, a);
+        let here = members.has(protocols, associated, *q, a);
         if here && left == 0 {
             return *q;
         }

@@ -15,4 +15,4 @@ returns-then-left-eq0 c =
     let order = c.args.order.now in
     let i = c.loop-q.q-index in
     ap (slice_get (having order has c.args.a)) (reached c.loop-q.left (length (having (take i order) has c.args.a)) c.args.place c.loop-q.invariant c.if-left-eq0.true)
-    ∙ filter_place (λ q. has q c.args.a) order i first c.loop-q-test.true (sym c.has_member-here.ensures ∙ c.if-here.true)
+    ∙ filter_place (λ q. has q c.args.a) order i first c.loop-q-test.true (sym c.has-here.ensures ∙ c.if-here.true)

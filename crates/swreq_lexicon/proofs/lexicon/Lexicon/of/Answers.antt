@@ -19,6 +19,7 @@ invariant_of-result c = (
   c.in_ok-symbols.ensures.few,
   subst (λ n. AreStarts c.in_ok-symbols.symbols.order (has_member (inherits_by c.in_ok-protocols.protocols.places c.in_ok-protocols.protocols.resolved.inherits) c.in_ok-associated.associated) n c.in_ok-symbols.symbols.starts)
       c.len-2.ensures.len c.in_ok-symbols.ensures.starts,
+  c.in_ok-symbols.ensures.known,
 )
 
 pub returns : goal.returns

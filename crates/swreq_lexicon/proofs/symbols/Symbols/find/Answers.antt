@@ -1,10 +1,20 @@
-use Rattle.std.proofs.Common.{◌≡◌, ◌∙◌, ◌+◌, nat_eq, List, length, get_or, take, position, slice_get, Some, ap, sym, arith}
+use Rattle.std.proofs.Common.{◌≡◌, ◌∙◌, ◌+◌, nat_eq, List, length, get_or, take, position, slice_get, Some, ap, sym, subst, arith}
 use Rattle.swreq_param.specs.declared.ids.ProtoId.{ProtoId}
-use Rattle.swreq_lexicon.specs.Symbols.{has_member, having, symbols_below, SymbolsView}
+use Rattle.swreq_lexicon.specs.Symbols.{has_member, having, symbols_below, AreKnown, SymbolsView}
 use Rattle.swreq_lexicon.specs.Views.{inherits_by}
 use Rattle.swreq_lexicon.proofs.SymbolRanks.{start_is, rank_found, rank_nowhere, rank_not_had, rank_past, rank_fits}
 use Rattle.swreq_lexicon.proofs.symbols.Symbols.find.Goals as goal
-use Rattle.swreq_lexicon.proofs.symbols.Symbols.find.Goals.{else-a-names-via-then-a-names+else-has_member, else-a-names-via-else-a-names}
+use Rattle.swreq_lexicon.proofs.symbols.Symbols.find.Goals.{else-a-names-via-then-a-names+else-has, else-a-names-via-else-a-names}
+
+pub has-requires : goal.has-requires
+has-requires c =
+    let has = has_member (inherits_by c.args.protocols.now.places c.args.protocols.now.resolved.inherits) c.args.associated.now in
+    subst (AreKnown has) (sym (ap (λ (v : SymbolsView). v.known) c.self.view_is)) c.requires.known
+
+pub count_before-before-requires-clause-known : goal.count_before-before-requires-clause-known
+count_before-before-requires-clause-known c =
+    let has = has_member (inherits_by c.args.protocols.now.places c.args.protocols.now.resolved.inherits) c.args.associated.now in
+    subst (AreKnown has) (sym (ap (λ (v : SymbolsView). v.known) c.self.view_is)) c.requires.known
 
 pub overflow_add-result : goal.overflow_add-result
 overflow_add-result c =
@@ -36,7 +46,7 @@ returns-in-Some c =
     c.count_before-before.ensures
     ∙ ap (λ (ps : List ProtoId). length (having (take c.in-Some.place ps) has c.args.a)) (c.deref-in-Some.ensures.value ∙ ap (λ (v : SymbolsView). v.order) c.self.view_is) in
     (λ i. slice_get (symbols_below order has c.args.names) (start i + before i))
-    ∙ rank_found order has c.args.names c.args.p c.args.a c.in-Some.place placed below (sym c.has_member.ensures ∙ c.if-has_member.true)
+    ∙ rank_found order has c.args.names c.args.p c.args.a c.in-Some.place placed below (sym c.has.ensures ∙ c.if-has.true)
 
 pub returns-in-None : goal.returns-in-None
 returns-in-None c =
@@ -48,6 +58,6 @@ pub returns-else-a-names : goal.returns-else-a-names
 returns-else-a-names c s =
     let has = has_member (inherits_by c.args.protocols.now.places c.args.protocols.now.resolved.inherits) c.args.associated.now in
     elim c.else-a-names.branch [
-      | else-a-names-via-then-a-names+else-has_member w ↦ rank_not_had c.args.self.now.order has c.args.names c.args.p c.args.a (sym w.has_member.ensures ∙ w.if-has_member.false) s
+      | else-a-names-via-then-a-names+else-has w ↦ rank_not_had c.args.self.now.order has c.args.names c.args.p c.args.a (sym w.has.ensures ∙ w.if-has.false) s
       | else-a-names-via-else-a-names w ↦ rank_past c.args.self.now.order has c.args.names c.args.p c.args.a w.if-a-names.false s
     ]

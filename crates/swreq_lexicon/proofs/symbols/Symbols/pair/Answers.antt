@@ -1,10 +1,39 @@
-use Rattle.std.proofs.Common.{◌≡◌, ◌∙◌, ◌-◌, ◌≤◌, ℕ, List, length, get_or, slice_get, ap, sym, subst, arith}
+use Rattle.std.proofs.Common.{◌≡◌, ◌∙◌, ◌+◌, ◌-◌, ◌<◌, ◌≤◌, ℕ, List, length, get_or, slice_get, ap, sym, subst, arith, add-one}
 use Rattle.swreq_param.specs.declared.ids.ProtoId.{ProtoId}
 use Rattle.swreq_lexicon.specs.Associated.{name}
-use Rattle.swreq_lexicon.specs.Symbols.{has_member, having, symbols_below, SymbolsView}
+use Rattle.swreq_lexicon.specs.Symbols.{has_member, having, symbols_below, AreKnown, SymbolsView}
 use Rattle.swreq_lexicon.specs.Views.{inherits_by}
+use Rattle.swreq_lexicon.proofs.SymbolPlaces.{length_more}
 use Rattle.swreq_lexicon.proofs.SymbolRanks.{start_is, pair_at}
 use Rattle.swreq_lexicon.proofs.symbols.Symbols.pair.Goals as goal
+
+pub nth-proto-requires-clause-known : goal.nth-proto-requires-clause-known
+nth-proto-requires-clause-known c =
+    let has = has_member (inherits_by c.args.protocols.now.places c.args.protocols.now.resolved.inherits) c.args.associated.now in
+    subst (AreKnown has) (sym (ap (λ (v : SymbolsView). v.known) c.self.view_is)) c.requires.known
+
+pub nth-proto-requires-clause-within : goal.nth-proto-requires-clause-within
+nth-proto-requires-clause-within c =
+    let has = has_member (inherits_by c.args.protocols.now.places c.args.protocols.now.resolved.inherits) c.args.associated.now in
+    let order = c.args.self.now.order in
+    let starts = c.args.self.now.starts in
+    let a = c.last_from-rank.result in
+    let within = c.last_from-rank.ensures.within in
+    let start : c.index.result.now ≡ length (symbols_below order has a) =
+    c.index.ensures ∙ ap (λ (v : SymbolsView). get_or v.starts a c.index.result.now) c.self.view_is
+    ∙ start_is order has c.args.names starts c.requires.starts a c.index.result.now (omega (arith, within)) in
+    let from : length (symbols_below order has a) ≤ c.args.m =
+    subst (λ k. k ≤ c.args.m)
+    (ap (λ (xs : List ℕ). get_or xs a 0) c.deref.ensures.value ∙ ap (λ (v : SymbolsView). get_or v.starts a 0) c.self.view_is
+    ∙ start_is order has c.args.names starts c.requires.starts a 0 (omega (arith, within))) c.last_from-rank.ensures.from in
+    let to : c.args.m < length (symbols_below order has a) + length (having order has (name a)) =
+    subst (λ k. c.args.m < k)
+    (ap (λ (xs : List ℕ). get_or xs (a + 1) 0) c.deref.ensures.value ∙ ap (λ (v : SymbolsView). get_or v.starts (a + 1) 0) c.self.view_is
+    ∙ start_is order has c.args.names starts c.requires.starts (a + 1) 0 (omega (arith, within))
+    ∙ ap (λ k. length (symbols_below order has k)) (add-one a) ∙ length_more order has a) c.last_from-rank.ensures.to in
+    let left : c.args.m - c.index.result.now < length (having order has (name a)) = omega (arith, start, from, to) in
+    subst (λ (ps : List ProtoId). c.args.m - c.index.result.now < length (having ps has (name a)))
+    (sym (c.deref-2.ensures.value ∙ ap (λ (v : SymbolsView). v.order) c.self.view_is)) left
 
 pub returns : goal.returns
 returns c =
