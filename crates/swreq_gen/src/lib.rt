@@ -5,6 +5,3 @@ mod generate;
 mod lines;
 
 pub use generate::text;
-
-#[cfg(test)]
-mod tests;

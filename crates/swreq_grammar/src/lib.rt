@@ -11,6 +11,3 @@ pub use laws::{Language, one_refused_token, one_value, refusals_are_read, texts_
 pub use repetition::{Part, at_most, many};
 pub use stop::Stop;
 pub use token::Token;
-
-#[cfg(test)]
-mod tests;

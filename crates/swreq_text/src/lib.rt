@@ -21,6 +21,3 @@ pub use seq::Seq;
 pub use standard::{StdSink, StdSource};
 pub use streams::{IoFailed, Sink, Source};
 pub use whole::{ReadErr, WriteFault, read_all, write_all};
-
-#[cfg(test)]
-mod tests;

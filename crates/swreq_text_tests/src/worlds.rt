@@ -383,6 +383,32 @@ fn add_query(
     out.extend_from_slice(b"\n")
 }
 
+/// The requirements of each protocol.
+fn add_protocols(
+    alloc: Global,
+    world: &World,
+    page: &Page<'_>,
+    out: &mut Vec<u8>,
+) -> Result<(), AllocError> {
+    for rank in 0..world.protocols() {
+        add_lines(alloc, page, world.requirements(ProtoId { rank }), out)?;
+    }
+    Ok(())
+}
+
+/// Each signature.
+fn add_signatures(
+    alloc: Global,
+    world: &World,
+    page: &Page<'_>,
+    out: &mut Vec<u8>,
+) -> Result<(), AllocError> {
+    for place in 0..world.functions() {
+        add_signature(alloc, world, page, place, out)?;
+    }
+    Ok(())
+}
+
 /// A world as lines.
 fn lines_of(alloc: Global, world: &World, table: &ParamTable) -> Result<Vec<u8>, AllocError> {
     let page = Page {
@@ -390,13 +416,8 @@ fn lines_of(alloc: Global, world: &World, table: &ParamTable) -> Result<Vec<u8>,
         table,
     };
     let mut out = Vec::new(alloc);
-    for rank in 0..world.protocols() {
-        let list = world.requirements(ProtoId { rank });
-        add_lines(alloc, &page, list, &mut out)?;
-    }
-    for place in 0..world.functions() {
-        add_signature(alloc, world, &page, place, &mut out)?;
-    }
+    add_protocols(alloc, world, &page, &mut out)?;
+    add_signatures(alloc, world, &page, &mut out)?;
     for query in world.queries() {
         add_query(alloc, world, &page, *query, &mut out)?;
     }

@@ -91,11 +91,7 @@ impl Asked {
 fn flags(alloc: Global, count: usize, flag: bool) -> Result<Vec<bool>, AllocError>
     ensures { IfOk result (λ v. AreFlags (λ k. flag) count v.items) }
 {
-    let mut flags = Vec::new(alloc);
-    for _ in 0..count {
-        flags.push(flag)?;
-    }
-    Ok(flags)
+    vec![in alloc; flag; count]
 }
 
 /// Of each signature, whether some query asks for its minimised list.

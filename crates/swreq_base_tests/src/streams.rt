@@ -1,14 +1,14 @@
 ghost use Rattle.std.specs.Prelude.{◌≤◌};
 
-use crate::{
-    CountSink, MemSink, MemSource, ReadErr, Seq, StdSink, StdSource, SureSource, WriteFault,
-    read_all, write_all,
-};
 use std::alloc::Global;
 use std::cmp::Ordering;
 use std::io::{self, ErrorKind, Read, Write};
 use std::process::Abort;
 use std::test::Fail;
+use swreq_text::{
+    CountSink, MemSink, MemSource, ReadErr, Seq, StdSink, StdSource, SureSource, WriteFault,
+    read_all, write_all,
+};
 
 const LIMIT: u32 = 1_048_576;
 

@@ -3,9 +3,9 @@
 ghost use Rattle.std.specs.Prelude.{◌≡◌, ◌++◌, ⊤};
 ghost use Rattle.std.specs.Fmt.{decimal};
 
-use crate::{Print, append_bytes, append_number, put_joined};
 use std::alloc::AllocError;
 use std::test::Fail;
+use swreq_text::{Print, append_bytes, append_number, put_joined};
 
 // Prints numbers in decimal.
 struct Decimal;

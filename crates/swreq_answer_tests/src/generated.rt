@@ -2,10 +2,10 @@
 
 ghost use Rattle.std.specs.Prelude.{◌≤◌};
 
-use crate::text;
 use std::alloc::Global;
 use std::process::Abort;
 use std::test::Fail;
+use swreq_gen::text;
 
 const ONE: &str = "protocol L1 { associatedtype A1: L1 }
 func f<T: L1, U: L1>() where T.A1 == U.A1 { }

@@ -4,9 +4,9 @@ ghost use Rattle.std.specs.Prelude.{◌∷◌, []};
 ghost use Rattle.swreq_grammar.specs.Grammar.{mapped, terminal};
 ghost use Rattle.swreq_grammar.specs.Reader.{read};
 
-use crate::{Part, Stop, Token, at_most, many};
 use std::alloc::Global;
 use std::test::Fail;
+use swreq_grammar::{Part, Stop, Token, at_most, many};
 
 /// The letter `a`, which stands for its place.
 struct LetterA;

@@ -1,4 +1,0 @@
-//! Worked streams and printed texts.
-
-mod appended;
-mod streams;
