@@ -14,40 +14,41 @@ use swreq_rule::{Birth, Place, Rule, RuleList};
 use swreq_sample_rules::rule;
 use swreq_word::{Symbol, Word};
 
-/// The symbols but the layout, by their letters.
-const LETTERS: &[(char, Symbol)] = &[
-    ('N', Symbol::Proto(0)),
-    ('M', Symbol::Proto(1)),
-    ('a', Symbol::Member(0)),
-    ('b', Symbol::Member(1)),
-    ('T', Symbol::Param(0, 0)),
-    ('U', Symbol::Param(0, 1)),
-    ('V', Symbol::Param(0, 2)),
-    ('A', Symbol::Name(0)),
-    ('B', Symbol::Name(1)),
-    ('C', Symbol::Name(2)),
-    ('D', Symbol::Name(3)),
-];
-
 /// A protocol N with a member A that conforms to N.
 pub(crate) const PROTOCOL: &str = "NN=N NA=a NAN=NA";
 
 fn symbol(letter: char) -> Symbol {
-    for (other, symbol) in LETTERS {
-        if *other == letter {
-            return *symbol;
-        }
+    match letter {
+        'N' => Symbol::Proto(0),
+        'M' => Symbol::Proto(1),
+        'a' => Symbol::Member(0),
+        'b' => Symbol::Member(1),
+        'T' => Symbol::Param(0, 0),
+        'U' => Symbol::Param(0, 1),
+        'V' => Symbol::Param(0, 2),
+        'A' => Symbol::Name(0),
+        'B' => Symbol::Name(1),
+        'C' => Symbol::Name(2),
+        'D' => Symbol::Name(3),
+        _ => Symbol::Layout,
     }
-    Symbol::Layout
 }
 
 fn letter(symbol: Symbol) -> char {
-    for (letter, other) in LETTERS {
-        if *other == symbol {
-            return *letter;
-        }
+    match symbol {
+        Symbol::Proto(0) => 'N',
+        Symbol::Proto(_) => 'M',
+        Symbol::Member(0) => 'a',
+        Symbol::Member(_) => 'b',
+        Symbol::Param(_, 0) => 'T',
+        Symbol::Param(_, 1) => 'U',
+        Symbol::Param(..) => 'V',
+        Symbol::Name(0) => 'A',
+        Symbol::Name(1) => 'B',
+        Symbol::Name(2) => 'C',
+        Symbol::Name(_) => 'D',
+        Symbol::Layout => 'L',
     }
-    'L'
 }
 
 /// The word of these letters.
