@@ -14,6 +14,7 @@ use Rattle.swreq_world.specs.ByTable.{IsOverTable, signature_by, world_by}
 use Rattle.swreq_world.specs.Closed.{HasOwn, IsClosed, IsOfSignature}
 use Rattle.swreq_world.specs.WorldOf.{IsWorldOf}
 use Rattle.swreq_world.specs.Worlds.{IdWorld, SignatureOver, TextWorld, no_signature, signature_at}
+use Rattle.swreq_symbols.proofs.OfText.{signature_written as is_written}
 use Rattle.swreq_symbols.specs.Known.{IsTextOver}
 use Rattle.swreq_valid.specs.Plans.{AreWritten}
 use Rattle.swreq_minimal.specs.Inheritance.{IsInheritanceWritten}
@@ -33,19 +34,7 @@ inheritance_over text s terms (Ok w) law is ok = law text s (world_by terms w) i
 inheritance_over text s terms (Err e) law is ok = tt
 
 module _ (w : IdWorld) (terms : List Term) (text : IsTextOver terms w) where
-  own_written : (f : FuncId) → f.place < length w.signatures → AreWritten terms w.lexicon (signature_at w f).requirements
-  own_written f l r c =
-      let own : List Written = (signature_at w f).requirements in
-      let within : f.place < length (map (signature_by terms) w.signatures) = subst (λ n. f.place < n) (sym (length-map w.signatures (signature_by terms))) l in
-      let closed = All-get_or (HasOwn w.lexicon) (map (signature_by terms) w.signatures) f.place no_signature within text.closed.signatures in
-      let known : HasOwn w.lexicon (signature_by terms (signature_at w f)) =
-      subst (HasOwn w.lexicon) (get_or-map (signature_by terms) w.signatures f.place no_signature no_signature l) closed in (
-        All-contains (λ (q : Written). HasIdsOf terms q.requirement) own r
-            (All-get_or (λ (g : SignatureOver Written). AreOf terms g.requirements) w.signatures f.place no_signature l text.table.signatures) c,
-        (All-contains (IsOfSignature w.lexicon (signature_at w f).params) (placed terms own) (placed_by terms r) known (contains_map (placed_by terms) own r c)).0,
-      )
-
   -- the list of a signature is of the table and of the text
   pub signature_written : (f : FuncId) → f.place < length w.signatures → (list : List Written) → list ≡ (signature_at w f).requirements
       → AreWritten terms w.lexicon list
-  signature_written f l list e r c = own_written f l r (subst (λ z. Contains z r) e c)
+  signature_written f l list e r c = is_written w terms text f l r (subst (λ z. Contains z r) e c)

@@ -1,56 +1,19 @@
--- A table that grows keeps what is of the text.
-use Rattle.std.proofs.Common.{◌≡◌, refl, sym, ap₂, subst, arith, suc, List, [], ◌∷◌, map, Contains}
-use Rattle.std.specs.Prelude.{All}
-use Rattle.std.proofs.lemmas.List.Elements.{All-weaker}
+-- A table that grows keeps requirements of the text.
+use Rattle.std.proofs.Common.{◌≡◌, refl, sym, ap₂, subst, List, [], ◌∷◌, Contains}
 use Rattle.swreq_param.specs.Tables.{Extends}
 use Rattle.swreq_param.specs.Terms.{Term}
 use Rattle.swreq_derive.specs.declared.requirements.Requirement.{Requirement}
 use Rattle.swreq_derive.specs.declared.requirements.Requirement.TheVariants.{Conf, Layout, Same}
 use Rattle.swreq_derive.specs.Facts.{requirement_of}
 use Rattle.swreq_orders.proofs.Members.{first_member, later_member}
-use Rattle.swreq_lowering.specs.declared.ids.Written.{Written}
-use Rattle.swreq_lowering.specs.ByTable.{AreOf, HasIdsOf, HasQueryIdsOf, placed, query_by}
-use Rattle.swreq_lowering.proofs.Growing.{are_of_stay, ids_stay, placed_stay}
-use Rattle.swreq_world.specs.ByTable.{IsOverTable, signature_by, world_by}
-use Rattle.swreq_world.specs.Closed.{IsClosed, IsRequirementOf}
-use Rattle.swreq_world.specs.Worlds.{IdWorld, SignatureOver}
-use Rattle.swreq_world.proofs.Filled.{query_of_stay, query_stays}
+use Rattle.swreq_lowering.specs.ByTable.{HasIdsOf}
+use Rattle.swreq_lowering.proofs.Growing.{ids_stay}
+use Rattle.swreq_world.specs.Closed.{IsRequirementOf}
 use Rattle.swreq_lexicon.specs.Views.{LexiconView}
-use Rattle.swreq_symbols.specs.Known.{IsRequirementIn, IsTextOver}
+use Rattle.swreq_symbols.specs.Known.{IsRequirementIn}
 use Rattle.swreq_valid.specs.Plans.{AreKnown, listed}
 
-same_maps : {A B : Type 0} (f g : A → B) (P : A → Type 0) → ((x : A) → P x → f x ≡ g x) → (xs : List A) → All P xs → map f xs ≡ map g xs
-same_maps f g P same [] h = refl
-same_maps f g P same (x ∷ xs) h = ap₂ ◌∷◌ (same x (h 0 x (omega arith))) (same_maps f g P same xs (λ k d l. h (suc k) d (omega arith)))
-
 module _ (old new : List Term) (more : Extends old new) where
-  module _ (w : IdWorld) (over : IsOverTable old w) where
-    -- the world is the same
-    pub world_stays : world_by new w ≡ world_by old w
-    world_stays =
-        let rs : map (placed new) w.requirements ≡ map (placed old) w.requirements
-        = same_maps (placed new) (placed old) (AreOf old) (λ r h. placed_stay old new r more h) w.requirements over.requirements in
-        let gs : map (signature_by new) w.signatures ≡ map (signature_by old) w.signatures
-        = same_maps (signature_by new) (signature_by old) (λ (g : SignatureOver Written). AreOf old g.requirements)
-        (λ g h. let e = placed_stay old new g.requirements more h in
-        λ i. record { signature = g.signature; name = g.name; outer = g.outer; own_depth = g.own_depth; params = g.params; requirements = e i }) w.signatures over.signatures in
-        let qs : map (query_by new) w.queries ≡ map (query_by old) w.queries
-        = same_maps (query_by new) (query_by old) (HasQueryIdsOf old) (λ q h. query_stays old new q more h) w.queries over.queries in
-        λ i. record { lexicon = w.lexicon; requirements = rs i; signatures = gs i; queries = qs i }
-
-    pub over_stays : IsOverTable new w
-    over_stays = record {
-      requirements = All-weaker (AreOf old) (AreOf new) (λ r h. are_of_stay old new r more h) w.requirements over.requirements;
-      signatures = All-weaker (λ (g : SignatureOver Written). AreOf old g.requirements) (λ g. AreOf new g.requirements)
-          (λ g h. are_of_stay old new g.requirements more h) w.signatures over.signatures;
-      queries = All-weaker (HasQueryIdsOf old) (HasQueryIdsOf new) (λ q h. query_of_stay old new q more h) w.queries over.queries;
-    }
-
-  pub text_stays : (w : IdWorld) → IsTextOver old w → IsTextOver new w
-  text_stays w text = record { table = over_stays w text.table; closed = subst IsClosed (sym (world_stays w text.table)) text.closed }
-
-  -- ---- requirements
-
   pub requirement_stays : (r : Requirement) → HasIdsOf old r → requirement_of new r ≡ requirement_of old r
   requirement_stays (Conf t p) h = let e = more.stands t h in cc
   requirement_stays (Layout t) h = let e = more.stands t h in cc

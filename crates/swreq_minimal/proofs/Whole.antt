@@ -32,7 +32,7 @@ use Rattle.swreq_minimal.specs.Inheritance.{IsInheritanceWritten}
 use Rattle.swreq_minimal.specs.Passed.{IsPassed, IsPassedOf, IsSifted}
 use Rattle.swreq_minimal.specs.Told.{TellsFailure, TellsParts}
 use Rattle.swreq_minimal.proofs.Completing.{completed}
-use Rattle.swreq_minimal.proofs.Growing.{world_stays}
+use Rattle.swreq_symbols.proofs.Growing.{world_stays}
 use Rattle.swreq_minimal.proofs.Telling.{failure_of, tells_of}
 
 -- A machine of a list over a table that grew since, and the candidates that were read off it.

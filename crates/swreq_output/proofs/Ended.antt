@@ -24,7 +24,7 @@ use Rattle.swreq_valid.specs.Machines.{list_of, protocols_of}
 use Rattle.swreq_minimal.specs.Inheritance.{IsInheritanceWritten}
 use Rattle.swreq_minimal.proofs.Named.{members_named}
 use Rattle.swreq_output.specs.Ended.{HasEnded}
-use Rattle.swreq_output.specs.Signatures.{written_list}
+use Rattle.swreq_world.specs.FactsAt.{written_list}
 
 -- no rules have pairs
 none_meet : PairsMeet []

@@ -24,7 +24,8 @@ use Rattle.swreq_valid.specs.Machines.{IsMachineOf, MachineView}
 use Rattle.swreq_valid.specs.Plans.{listed}
 use Rattle.swreq_valid.specs.Rounds.{last_rules}
 use Rattle.swreq_print.specs.Signatures.{signature_text}
-use Rattle.swreq_output.specs.Signatures.{IsMinimisedLine, written_list}
+use Rattle.swreq_output.specs.Signatures.{IsMinimisedLine}
+use Rattle.swreq_world.specs.FactsAt.{written_list}
 use Rattle.swreq_output.specs.Systems.{IsSystemText, system_text}
 use Rattle.swreq_output.proofs.Reading.{params_are}
 

@@ -17,7 +17,7 @@ use Rattle.swreq_minimal.specs.Passed.{IsPassedOf}
 use Rattle.swreq_minimal.specs.Told.{TellsFailure, TellsParts}
 use Rattle.swreq_minimal.proofs.Telling.{wants_memory}
 use Rattle.swreq_output.specs.Minimising.{MinimisingFails, MinimisingTells}
-use Rattle.swreq_output.specs.Signatures.{written_list}
+use Rattle.swreq_world.specs.FactsAt.{written_list}
 
 module _ (limits : Limits) (w : TextWorld) (rules : List Rule) (g : SignatureOver PlacedRequirement) (old new : Option (List Event)) where
   -- the lists that minimising may complete, with these generic parameters

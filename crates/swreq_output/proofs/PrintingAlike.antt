@@ -34,7 +34,8 @@ use Rattle.swreq_minimal.specs.Inheritance.{IsInheritanceWritten}
 use Rattle.swreq_print.specs.Reading.{HasNumbers, IsRequirementOf, IsSignatureOf}
 use Rattle.swreq_print.specs.Signatures.{signature_text}
 use Rattle.swreq_output.specs.Ended.{HasEnded}
-use Rattle.swreq_output.specs.Signatures.{IsMinimisedLine, written_list}
+use Rattle.swreq_output.specs.Signatures.{IsMinimisedLine}
+use Rattle.swreq_world.specs.FactsAt.{written_list}
 use Rattle.swreq_output.proofs.Agreeing.{same_by_one}
 use Rattle.swreq_output.proofs.Ended.{completed}
 use Rattle.swreq_orders.proofs.Members.{each_by_recursion}

@@ -2,28 +2,25 @@
 use Rattle.std.proofs.Common.{◌≡◌, ◌∙◌, refl, sym, ap, append_assoc, subst, ℕ, List, [], ◌++◌, Option, Some, None}
 use Rattle.std.specs.Option.{option_map_or}
 use Rattle.std.specs.Prelude.{codes}
-use Rattle.std.proofs.Math.ListN.{get_or-map}
 use Rattle.swreq_param.specs.Terms.{Term}
 use Rattle.swreq_text.specs.Joined.{GrewByPart}
 use Rattle.swreq_lowering.specs.declared.ids.FuncId.{FuncId}
 use Rattle.swreq_world.proofs.Finding.{outer_by}
 use Rattle.swreq_world.specs.ByTable.{signature_by, world_by}
 use Rattle.swreq_world.specs.Lookups.{outer_name}
-use Rattle.swreq_world.specs.Worlds.{IdWorld, no_signature, signature_at}
+use Rattle.swreq_world.specs.Worlds.{IdWorld, signature_at}
+use Rattle.swreq_symbols.proofs.OfText.{signature_is}
 use Rattle.swreq_output.specs.Signatures.{full_name}
 
 module _ (terms : List Term) (w : IdWorld) where
-  signature_is : (f : FuncId) → signature_at (world_by terms w) f ≡ signature_by terms (signature_at w f)
-  signature_is f = get_or-map (signature_by terms) w.signatures f.place no_signature
-
   pub params_are : (f : FuncId) → (signature_at (world_by terms w) f).params ≡ (signature_at w f).params
-  params_are f = ap (λ g. g.params) (signature_is f)
+  params_are f = ap (λ g. g.params) (signature_is w terms f)
 
   name_is : (f : FuncId) → (signature_at (world_by terms w) f).name ≡ (signature_at w f).name
-  name_is f = ap (λ g. g.name) (signature_is f)
+  name_is f = ap (λ g. g.name) (signature_is w terms f)
 
   outer_is : (f : FuncId) → outer_name (world_by terms w) (signature_at (world_by terms w) f).outer ≡ outer_name w (signature_at w f).outer
-  outer_is f = ap (λ g. outer_name (world_by terms w) g.outer) (signature_is f) ∙ outer_by terms w (signature_at w f).outer
+  outer_is f = ap (λ g. outer_name (world_by terms w) g.outer) (signature_is w terms f) ∙ outer_by terms w (signature_at w f).outer
 
   -- its name, by what the code reads
   full_name_is : (f : FuncId) → full_name (world_by terms w) (signature_at (world_by terms w) f)

@@ -11,7 +11,7 @@ use Rattle.swreq_lowering.specs.Requirements.{PlacedRequirement}
 use Rattle.swreq_world.specs.WorldOf.{IsWorldOf}
 use Rattle.swreq_world.specs.Worlds.{SignatureOver, TextWorld}
 use Rattle.swreq_valid.specs.Machines.{list_of, protocols_of}
-use Rattle.swreq_output.specs.Signatures.{written_list}
+use Rattle.swreq_world.specs.FactsAt.{written_list}
 
 -- The rounds of the protocols come to rules within the limits, and over these the rounds of the signature's list do.
 pub record HasEnded (limits : Limits) (w : TextWorld) (g : SignatureOver PlacedRequirement) : Type 0 where

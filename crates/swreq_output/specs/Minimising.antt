@@ -12,7 +12,7 @@ use Rattle.swreq_symbols.specs.Meaning.{facts_of, symbols_of}
 use Rattle.swreq_valid.specs.Machines.{list_of}
 use Rattle.swreq_minimal.specs.Passed.{IsPassedOf}
 use Rattle.swreq_minimal.specs.Told.{AreParts, FailsBy}
-use Rattle.swreq_output.specs.Signatures.{written_list}
+use Rattle.swreq_world.specs.FactsAt.{written_list}
 
 -- a list that minimising the signature may complete
 abbrev pub IsMet : TextWorld → SignatureOver PlacedRequirement → List TermRequirement → Type 0

@@ -1,25 +1,17 @@
 -- What is printed of a signature: its name, and its minimised list.
-use Rattle.std.specs.Prelude.{◌≡◌, ◌++◌, List, [], map, codes}
+use Rattle.std.specs.Prelude.{◌≡◌, ◌++◌, List, [], codes}
 use Rattle.std.specs.Option.{option_map_or}
-use Rattle.swreq_derive.specs.Derivation.{Source, TermRequirement}
-use Rattle.swreq_derive.specs.Derivation.Source.{Written}
+use Rattle.swreq_derive.specs.Derivation.{TermRequirement}
 use Rattle.swreq_derive.specs.Equivalence.{AreEquivalent}
 use Rattle.swreq_derive.specs.Facts.{generic_params}
 use Rattle.swreq_lowering.specs.Requirements.{PlacedRequirement}
+use Rattle.swreq_world.specs.FactsAt.{written_list}
 use Rattle.swreq_world.specs.Lookups.{outer_name}
 use Rattle.swreq_world.specs.Worlds.{SignatureOver, TextWorld}
 use Rattle.swreq_symbols.specs.Meaning.{facts_of}
 use Rattle.swreq_canonical.specs.Minimised.{IsMinimised}
 use Rattle.swreq_print.specs.Names.{Text}
 use Rattle.swreq_print.specs.Signatures.{signature_text}
-
--- the requirements of a signature
-abbrev pub written_list : SignatureOver PlacedRequirement → List TermRequirement
-written_list g = map (λ (r : PlacedRequirement). r.requirement) g.requirements
-
--- the list from which one derives what a signature implies
-abbrev pub source_of : SignatureOver PlacedRequirement → Source
-source_of g = Written (generic_params g.params) (written_list g)
 
 -- `f`, and `S.f` for a function f of a struct S
 abbrev pub full_name : TextWorld → SignatureOver PlacedRequirement → Text

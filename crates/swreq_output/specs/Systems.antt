@@ -10,7 +10,8 @@ use Rattle.swreq_correspondence.specs.Equations.{AreCongruent}
 use Rattle.swreq_symbols.specs.Meaning.{facts_of, symbols_of}
 use Rattle.swreq_print.specs.Names.{Text}
 use Rattle.swreq_print.specs.Rules.{rule_text}
-use Rattle.swreq_output.specs.Signatures.{full_name, source_of}
+use Rattle.swreq_output.specs.Signatures.{full_name}
+use Rattle.swreq_world.specs.FactsAt.{source_of}
 
 -- a rule, after two spaces
 abbrev pub rule_line : LexiconView → Rule → Text

@@ -7,7 +7,8 @@ ghost use Rattle.swreq_lowering.specs.Requirements.{PlacedRequirement};
 ghost use Rattle.swreq_world.specs.Worlds.{SignatureOver, TextWorld};
 ghost use Rattle.swreq_symbols.specs.Meaning.{facts_of};
 ghost use Rattle.swreq_output.specs.Ended.{HasEnded, IsWorldOfText};
-ghost use Rattle.swreq_output.specs.Signatures.{IsMinimisedLine, written_list};
+ghost use Rattle.swreq_output.specs.Signatures.{IsMinimisedLine};
+ghost use Rattle.swreq_world.specs.FactsAt.{written_list};
 
 use swreq_lowering::laws::lists_are_short;
 use swreq_minimal::laws::inheritance_is_written;

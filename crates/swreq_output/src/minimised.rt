@@ -16,7 +16,8 @@ ghost use Rattle.swreq_world.specs.Worlds.{signature_at};
 ghost use Rattle.swreq_minimal.specs.Inheritance.{IsInheritanceWritten};
 ghost use Rattle.swreq_print.specs.Signatures.{signature_text};
 ghost use Rattle.swreq_output.specs.Minimising.{MinimisingFails, MinimisingTells};
-ghost use Rattle.swreq_output.specs.Signatures.{IsMinimisedLine, written_list};
+ghost use Rattle.swreq_output.specs.Signatures.{IsMinimisedLine};
+ghost use Rattle.swreq_world.specs.FactsAt.{written_list};
 
 use std::alloc::{AllocError, Global};
 use swreq_complete::{Failed, Limits};

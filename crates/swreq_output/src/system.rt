@@ -6,7 +6,8 @@ ghost use Rattle.swreq_symbols.specs.Known.{IsTextOver};
 ghost use Rattle.swreq_valid.specs.Machines.{IsMachineOf};
 ghost use Rattle.swreq_world.specs.ByTable.{world_by};
 ghost use Rattle.swreq_world.specs.Worlds.{signature_at};
-ghost use Rattle.swreq_output.specs.Signatures.{full_name, written_list};
+ghost use Rattle.swreq_output.specs.Signatures.{full_name};
+ghost use Rattle.swreq_world.specs.FactsAt.{written_list};
 ghost use Rattle.swreq_output.specs.Systems.{IsSystemText, rule_line, system_text};
 
 use crate::names::full_name;

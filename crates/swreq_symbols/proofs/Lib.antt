@@ -4,3 +4,5 @@ pub mod Walking
 pub mod Giving
 pub mod Fronts
 pub mod LeastWords
+pub mod OfText
+pub mod Growing

@@ -34,7 +34,8 @@ use Rattle.swreq_print.specs.Names.{Text}
 use Rattle.swreq_query.specs.Answers.{Answer, HasValidSides, IsAnswer, IsLeastEqual, answer_line, asked}
 use Rattle.swreq_query.specs.Answers.Answer.{Invalid, Yes, No, Reduced}
 use Rattle.swreq_query.proofs.OneAnswer.{one_line}
-use Rattle.swreq_output.specs.Signatures.{IsMinimisedLine, full_name, source_of, written_list}
+use Rattle.swreq_output.specs.Signatures.{IsMinimisedLine, full_name}
+use Rattle.swreq_world.specs.FactsAt.{source_of, written_list}
 use Rattle.swreq_output.proofs.PrintingAlike.{lines_alike}
 use Rattle.swreq_top.specs.declared.outcome.Outcome.{Outcome}
 use Rattle.swreq_top.specs.Headline.{IsEqualAndIndependent, IsImplied, IsLeastWhereValid, IsYesWhereImplied, PrintsOf, SayAlike, SayEqualLists, SayTheLeast, SayYesWhereImplied, TakenSay}

@@ -25,7 +25,7 @@ use Rattle.swreq_valid.specs.Machines.{MachineView}
 use Rattle.swreq_query.specs.Answers.{IsAnswerLine}
 use Rattle.swreq_query.specs.Asked.{AppendsAnswer}
 use Rattle.swreq_query.proofs.Along.{along}
-use Rattle.swreq_output.specs.Signatures.{source_of, written_list}
+use Rattle.swreq_world.specs.FactsAt.{source_of, written_list}
 use Rattle.swreq_top.specs.Lines.{AreLines, count_of, last_line}
 use Rattle.swreq_top.specs.Lines.AreLines.{none, more}
 use Rattle.swreq_top.specs.Outputs.{AnswersByTypes, ArePrinted, IsLineOf, IsOutput, signature_of}

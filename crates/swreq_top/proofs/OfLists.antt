@@ -16,6 +16,7 @@ use Rattle.swreq_lowering.specs.Requirements.{PlacedRequirement}
 use Rattle.swreq_world.specs.ByTable.{signature_by, world_by}
 use Rattle.swreq_world.specs.Closed.{HasOwn, IsOfSignature}
 use Rattle.swreq_world.specs.Worlds.{IdWorld, SignatureOver, no_signature, signature_at}
+use Rattle.swreq_symbols.proofs.OfText.{requirements_placed, signature_is, signature_written as is_written}
 use Rattle.swreq_symbols.specs.Known.{IsTextOver}
 use Rattle.swreq_symbols.specs.Meaning.{facts_of}
 use Rattle.swreq_rounds.specs.Plan.{Plan}
@@ -25,33 +26,23 @@ use Rattle.swreq_valid.specs.Plans.{AreWritten, bare, listed}
 use Rattle.swreq_valid.specs.Sides.{Side, list_sides, sides}
 use Rattle.swreq_valid.specs.declared.refused.Refused.{Refused}
 use Rattle.swreq_valid.specs.declared.refused.Refused.TheVariants.{Memory}
-use Rattle.swreq_output.specs.Signatures.{source_of, written_list}
+use Rattle.swreq_world.specs.FactsAt.{source_of, written_list}
 use Rattle.swreq_top.specs.Checks.{ChecksOne}
 use Rattle.swreq_top.specs.Machines.{SignaturesCome}
 use Rattle.swreq_top.proofs.Checked.{comes_at}
-use Rattle.swreq_top.proofs.OfSignatures.{list_is, one_done, one_lost, one_refused, plan_is, sides_are, signature_is}
+use Rattle.swreq_top.proofs.OfSignatures.{one_done, one_lost, one_refused, plan_is, sides_are}
 
 module _ (w : IdWorld) (terms : List Term) (f : FuncId) where
   -- the list of a signature is of the table and of the text
   pub signature_written : IsTextOver terms w → f.place < length w.signatures → (list : List Written) → list ≡ (signature_at w f).requirements
       → AreWritten terms w.lexicon list
-  signature_written text l list e r c =
-      let g : SignatureOver Written = signature_at w f in
-      let member : Contains g.requirements r = subst (λ (rs : List Written). Contains rs r) e c in
-      let within : f.place < length (map (signature_by terms) w.signatures) = omega (arith, length-map w.signatures (signature_by terms), l) in
-      let own : HasOwn w.lexicon (signature_by terms g) = subst (HasOwn w.lexicon) (signature_is w terms f)
-      (All-get_or (HasOwn w.lexicon) (map (signature_by terms) w.signatures) f.place no_signature within text.closed.signatures) in (
-        All-contains (λ (q : Written). HasIdsOf terms q.requirement) g.requirements r
-            (All-get_or (λ (h : SignatureOver Written). AreOf terms h.requirements) w.signatures f.place no_signature l text.table.signatures) member,
-        (All-contains (IsOfSignature w.lexicon g.params) (placed terms g.requirements) (placed_by terms r) own
-            (contains_map (placed_by terms) g.requirements r member)).0,
-      )
+  signature_written text l list e r c = is_written w terms text f l r (subst (λ (rs : List Written). Contains rs r) e c)
 
   -- a machine of the list that the world has is one of the signature
   pub machine_is : (list : List Written) (m : MachineView) → list ≡ (signature_at w f).requirements
       → IsMachineOf (world_by terms w) (listed terms (bare list)) m → IsMachineOf (world_by terms w) (written_list (signature_at (world_by terms w) f)) m
   machine_is list m e h = subst (λ (rs : List TermRequirement). IsMachineOf (world_by terms w) rs m)
-      (ap (λ (xs : List Written). listed terms (bare xs)) e ∙ list_is terms (signature_at w f).requirements ∙ sym (ap written_list (signature_is w terms f))) h
+      (ap (λ (xs : List Written). listed terms (bare xs)) e ∙ requirements_placed terms (signature_at w f).requirements ∙ sym (ap written_list (signature_is w terms f))) h
 
   -- its generic parameters are those that the world has
   pub params_are : (params own : Params) → own ≡ params → params ≡ (signature_at w f).params → own ≡ (signature_at (world_by terms w) f).params

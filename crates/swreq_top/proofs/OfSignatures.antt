@@ -2,7 +2,6 @@
 use Rattle.std.proofs.Common.{◌≡◌, ◌⊎◌, ◌∙◌, inl, inr, refl, sym, ap, subst, ℕ, zero, suc, ◌+◌, ◌<◌, ◌≤◌, List, [], ◌∷◌, ◌++◌, append-nil, take, drop, length, map, slice_get, Option, Some, None, Result, Ok, Err}
 use Rattle.std.proofs.lemmas.List.{get_or_default, take-append-drop, take_all, take_more}
 use Rattle.std.proofs.lemmas.Option.{same_Some}
-use Rattle.std.proofs.Math.ListN.{get_or-map}
 use Rattle.swreq_derive.specs.Derivation.{TermRequirement}
 use Rattle.swreq_derive.specs.Derivation.Source.{Written as WrittenList}
 use Rattle.swreq_derive.specs.Facts.{generic_params, requirement_of}
@@ -18,6 +17,7 @@ use Rattle.swreq_lowering.specs.ByTable.{placed}
 use Rattle.swreq_lowering.specs.Requirements.{PlacedRequirement}
 use Rattle.swreq_world.specs.ByTable.{signature_by, world_by}
 use Rattle.swreq_world.specs.Worlds.{IdWorld, SignatureOver, TextWorld, no_signature, signature_at}
+use Rattle.swreq_symbols.proofs.OfText.{requirements_placed, signature_is}
 use Rattle.swreq_symbols.specs.Meaning.{facts_of}
 use Rattle.swreq_valid.specs.Built.{Builds}
 use Rattle.swreq_valid.specs.Machines.{AreRulesOf, list_of, protocols_of}
@@ -28,7 +28,7 @@ use Rattle.swreq_valid.specs.declared.refused.Refused.TheVariants.{Limit, NotATy
 use Rattle.swreq_valid.specs.Rounds.{last_rules}
 use Rattle.swreq_top.specs.declared.checking.Checked.{Checked}
 use Rattle.swreq_complete.specs.declared.limit.Limits.{Limits}
-use Rattle.swreq_output.specs.Signatures.{source_of, written_list}
+use Rattle.swreq_world.specs.FactsAt.{source_of, written_list}
 use Rattle.swreq_top.specs.Machines.{SignatureComes, SignaturesCome}
 use Rattle.swreq_top.specs.Machines.IsChecked.{protocols_built, protocols_refused}
 use Rattle.swreq_top.specs.Machines.SignaturesCome.{all, next, stopped}
@@ -40,15 +40,6 @@ use Rattle.swreq_top.proofs.Checked.{come_on, tell_on}
 
 -- ---- one signature
 
-pub signature_is : (w : IdWorld) (terms : List Term) (f : FuncId)
-    → signature_at (world_by terms w) f ≡ signature_by terms (signature_at w f)
-signature_is w terms f = get_or-map (signature_by terms) w.signatures f.place no_signature
-
-pub list_is : (terms : List Term) (rs : List Written)
-    → listed terms (bare rs) ≡ map (λ (r : PlacedRequirement). r.requirement) (placed terms rs)
-list_is terms [] = refl
-list_is terms (r ∷ rs) = ap (λ (xs : List TermRequirement). requirement_of terms r.requirement ∷ xs) (list_is terms rs)
-
 -- the rounds and the sides of the list of a signature
 module _ (w : IdWorld) (terms : List Term) (base : List Rule) (f : FuncId) where
   abbrev own : SignatureOver Written
@@ -59,13 +50,13 @@ module _ (w : IdWorld) (terms : List Term) (base : List Rule) (f : FuncId) where
 
   pub plan_is : list_of (world_by terms w) base own.params (listed terms (bare own.requirements)) ≡ list_of (world_by terms w) base meant.params (written_list meant)
   plan_is =
-      ap (λ (rs : List TermRequirement). list_of (world_by terms w) base own.params rs) (list_is terms own.requirements)
+      ap (λ (rs : List TermRequirement). list_of (world_by terms w) base own.params rs) (requirements_placed terms own.requirements)
       ∙ sym (ap (λ (g : SignatureOver PlacedRequirement). list_of (world_by terms w) base g.params (written_list g)) (signature_is w terms f))
 
   pub sides_are : sides (WrittenList (generic_params own.params) (listed terms (bare own.requirements))) (placed terms own.requirements)
       ≡ sides (source_of meant) meant.requirements
   sides_are =
-      ap (λ (rs : List TermRequirement). sides (WrittenList (generic_params own.params) rs) (placed terms own.requirements)) (list_is terms own.requirements)
+      ap (λ (rs : List TermRequirement). sides (WrittenList (generic_params own.params) rs) (placed terms own.requirements)) (requirements_placed terms own.requirements)
       ∙ sym (ap (λ (g : SignatureOver PlacedRequirement). sides (source_of g) g.requirements) (signature_is w terms f))
 
 module _ (limits : Limits) (w : TextWorld) (base : List Rule) (g : SignatureOver PlacedRequirement) (old new : Option (List Event)) where

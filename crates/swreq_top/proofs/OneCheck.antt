@@ -14,7 +14,7 @@ use Rattle.swreq_valid.specs.declared.refused.Refused.{Refused}
 use Rattle.swreq_valid.specs.declared.refused.Refused.TheVariants.{Limit, NotATypeParameter, Memory}
 use Rattle.swreq_valid.proofs.Building.{only_built}
 use Rattle.swreq_complete.specs.declared.limit.Limits.{Limits}
-use Rattle.swreq_output.specs.Signatures.{source_of, written_list}
+use Rattle.swreq_world.specs.FactsAt.{source_of, written_list}
 use Rattle.swreq_top.specs.Machines.{IsChecked, ProtocolsCome, SignatureComes, SignaturesCome}
 use Rattle.swreq_top.specs.Machines.IsChecked.{protocols_built, protocols_refused}
 use Rattle.swreq_top.specs.Machines.SignaturesCome.{all, next, stopped}

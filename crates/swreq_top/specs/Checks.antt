@@ -12,7 +12,7 @@ use Rattle.swreq_valid.specs.Machines.{AreRulesOf, list_of}
 use Rattle.swreq_valid.specs.Rounds.{last_rules}
 use Rattle.swreq_valid.specs.declared.refused.Refused.{Refused}
 use Rattle.swreq_valid.specs.declared.refused.Refused.TheVariants.{Limit, NotATypeParameter, Memory}
-use Rattle.swreq_output.specs.Signatures.{written_list}
+use Rattle.swreq_world.specs.FactsAt.{written_list}
 use Rattle.swreq_top.specs.declared.checking.Checked.{Checked}
 use Rattle.swreq_top.specs.Machines.{IsBuiltOver, IsChecked, SignatureComes, SignaturesCome}
 use Rattle.swreq_top.specs.Made.{IsMadeOf}

@@ -21,7 +21,8 @@ use Rattle.swreq_print.specs.Names.{Text}
 use Rattle.swreq_print.specs.Signatures.{signature_text}
 use Rattle.swreq_print.specs.Types.{type_text}
 use Rattle.swreq_query.specs.Answers.{IsLeastEqual, asked}
-use Rattle.swreq_output.specs.Signatures.{full_name, source_of, written_list}
+use Rattle.swreq_output.specs.Signatures.{full_name}
+use Rattle.swreq_world.specs.FactsAt.{source_of, written_list}
 use Rattle.swreq_top.specs.Lines.{AreLines}
 use Rattle.swreq_output.specs.Ended.{IsWorldOfText}
 use Rattle.swreq_top.specs.Outputs.{ArePrinted, printed_text, signature_of}

@@ -11,7 +11,7 @@ use Rattle.swreq_valid.specs.declared.refused.Refused.TheVariants.{Memory}
 use Rattle.swreq_valid.specs.Built.{IsBuilt}
 use Rattle.swreq_valid.specs.Machines.{list_of, protocols_of}
 use Rattle.swreq_valid.specs.Sides.{protocol_sides, sides}
-use Rattle.swreq_output.specs.Signatures.{source_of, written_list}
+use Rattle.swreq_world.specs.FactsAt.{source_of, written_list}
 
 module _ (limits : Limits) (w : TextWorld) where
   -- The rounds of the protocols come to rules that show each side of their requirements, or to a refusal, and tell these events.

@@ -11,7 +11,8 @@ use Rattle.swreq_lowering.specs.Queries.TermQuery.{AsksSignature, AsksReduced, A
 use Rattle.swreq_world.specs.Worlds.{TextWorld, signature_at}
 use Rattle.swreq_symbols.specs.Meaning.{facts_of}
 use Rattle.swreq_query.specs.Answers.{IsAnswerLine}
-use Rattle.swreq_output.specs.Signatures.{IsMinimisedLine, IsNamedLine, source_of}
+use Rattle.swreq_output.specs.Signatures.{IsMinimisedLine, IsNamedLine}
+use Rattle.swreq_world.specs.FactsAt.{source_of}
 use Rattle.swreq_output.specs.Systems.{IsSystemText}
 use Rattle.swreq_top.specs.Lines.{AreLines, count_of, last_line}
 

@@ -14,7 +14,7 @@ use Rattle.swreq_lowering.specs.declared.ids.FuncId.{FuncId}
 use Rattle.swreq_world.specs.Worlds.{SignatureOver, TextWorld, signature_at}
 use Rattle.swreq_valid.specs.Machines.{list_of, protocols_of}
 use Rattle.swreq_output.specs.Minimising.{MinimisingFails, MinimisingTells}
-use Rattle.swreq_output.specs.Signatures.{written_list}
+use Rattle.swreq_world.specs.FactsAt.{written_list}
 use Rattle.swreq_top.specs.Machines.{IsBuiltOver, ProtocolsCome, SignatureComes}
 
 -- The command asks for the minimised list of the signature: `answer` and `gen` where a query asks for it, `signatures` of each, and

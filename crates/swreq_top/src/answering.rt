@@ -2,7 +2,8 @@
 ghost use Rattle.std.specs.Prelude.{◌≡◌, ◌+◌, ◌<◌, length, slice_get, Contains, IfOk, IfSome, OnOk, true};
 ghost use Rattle.std.specs.List.{filter};
 ghost use Rattle.swreq_map.specs.Follows.{IsMapOf};
-ghost use Rattle.swreq_output.specs.Signatures.{IsMinimisedLine, written_list};
+ghost use Rattle.swreq_output.specs.Signatures.{IsMinimisedLine};
+ghost use Rattle.swreq_world.specs.FactsAt.{written_list};
 ghost use Rattle.swreq_query.specs.Asked.{IsOfTypes, IsRoomFor};
 ghost use Rattle.swreq_symbols.specs.Known.{IsTextOver};
 ghost use Rattle.swreq_valid.specs.Machines.{IsMachineOf};

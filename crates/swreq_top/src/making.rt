@@ -1,6 +1,6 @@
 //! What is made of each machine while it stands.
 ghost use Rattle.std.specs.Prelude.{◌≡◌, ◌+◌, ◌<◌, ◌++◌, [], List, length, OnOk, take};
-ghost use Rattle.swreq_output.specs.Signatures.{written_list};
+ghost use Rattle.swreq_world.specs.FactsAt.{written_list};
 ghost use Rattle.swreq_symbols.specs.Known.{IsTextOver};
 ghost use Rattle.swreq_valid.specs.Machines.{IsMachineOf};
 ghost use Rattle.swreq_world.specs.ByTable.{world_by};

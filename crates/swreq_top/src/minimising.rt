@@ -3,7 +3,8 @@ ghost use Rattle.std.specs.Prelude.{◌≡◌, ◌<◌, List, length, IfErr, IfO
 ghost use Rattle.swreq_complete.specs.Limits.{AreInRange};
 ghost use Rattle.swreq_minimal.specs.Inheritance.{IsInheritanceWritten};
 ghost use Rattle.swreq_output.specs.Minimising.{MinimisingFails, MinimisingTells};
-ghost use Rattle.swreq_output.specs.Signatures.{IsMinimisedLine, written_list};
+ghost use Rattle.swreq_output.specs.Signatures.{IsMinimisedLine};
+ghost use Rattle.swreq_world.specs.FactsAt.{written_list};
 ghost use Rattle.swreq_symbols.specs.Known.{IsTextOver};
 ghost use Rattle.swreq_valid.specs.Machines.{IsMachineOf};
 ghost use Rattle.swreq_valid.specs.Rounds.{last_rules};

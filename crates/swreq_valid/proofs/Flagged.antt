@@ -70,10 +70,6 @@ chosen_map g (x ∷ xs) [] = refl
 chosen_map g (x ∷ xs) (true ∷ bs) = ap (λ z. g x ∷ z) (chosen_map g xs bs)
 chosen_map g (x ∷ xs) (false ∷ bs) = chosen_map g xs bs
 
-pub map_map : {A B C : Type 0} (h : B → C) (g : A → B) (xs : List A) → map h (map g xs) ≡ map (λ x. h (g x)) xs
-map_map h g [] = refl
-map_map h g (x ∷ xs) = ap (λ z. h (g x) ∷ z) (map_map h g xs)
-
 pub map_one_if : {A B : Type 0} (h : A → B) (b : Bool) (x : A) → map h (if b then x ∷ [] else []) ≡ (if b then h x ∷ [] else [])
 map_one_if h true x = refl
 map_one_if h false x = refl

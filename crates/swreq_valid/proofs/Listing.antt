@@ -1,6 +1,7 @@
 -- The plan of a list, and the requirements that stand in it.
 use Rattle.std.proofs.Common.{◌≡◌, sym, ap, ap₂, subst, ◌∙◌, ℕ, ◌<◌, ◌≤◌, ◌+◌, List, [], ◌∷◌, ◌++◌, length, map, drop, get_or, append_assoc, Contains, Option, Ok}
 use Rattle.std.proofs.lemmas.List.{append-nil, drop_more, drop_all}
+use Rattle.std.proofs.lemmas.Simd.{map-map}
 use Rattle.swreq_param.specs.Terms.{Term}
 use Rattle.swreq_derive.specs.declared.known.Params.{Params}
 use Rattle.swreq_derive.specs.declared.requirements.Requirement.{Requirement}
@@ -27,7 +28,6 @@ use Rattle.swreq_valid.specs.Answers.{Answers}
 use Rattle.swreq_valid.specs.Machines.{AreRulesOf, IsMachineOf, list_of}
 use Rattle.swreq_valid.specs.Plans.{AreKnown, AreWanted, in_signature, item_of, items_of, listed, plan_of, says}
 use Rattle.swreq_valid.specs.Rounds.{RoundView, last_rules}
-use Rattle.swreq_valid.proofs.Flagged.{map_map}
 
 -- ---- lists that are made item by item
 
@@ -52,13 +52,13 @@ module _ (w : IdWorld) (terms : List Term) (base : List Rule) (start : Start) (p
   rs = listed terms list
 
   says_list : says terms start.all.items ≡ rs
-  says_list = ap (says terms) all_is ∙ map_map (λ (x : Wanted). requirement_of terms x.requirement) (in_signature params) list
+  says_list = ap (says terms) all_is ∙ map-map (λ (x : Wanted). requirement_of terms x.requirement) (in_signature params) list
 
   items_list : items_of terms start.all.items ≡ map (of_list (generic_params params) rs) rs
   items_list =
       ap₂ (λ s xs. map (item_of terms s) xs) says_list all_is
-      ∙ map_map (item_of terms rs) (in_signature params) list
-      ∙ sym (map_map (of_list (generic_params params) rs) (requirement_of terms) list)
+      ∙ map-map (item_of terms rs) (in_signature params) list
+      ∙ sym (map-map (of_list (generic_params params) rs) (requirement_of terms) list)
 
   pub list_plan_is : plan_of w terms base start ≡ list_of (world_by terms w) base params rs
   list_plan_is = λ i. record { symbols = symbols_of w.lexicon; facts = facts_of (world_by terms w); base = base; basic = basic_is i; all = items_list i }

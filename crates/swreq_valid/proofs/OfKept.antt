@@ -5,6 +5,7 @@ use Rattle.std.proofs.lemmas.Bool.{cases_eq}
 use Rattle.std.proofs.lemmas.List.{append-nil, map-append, drop_all}
 use Rattle.std.proofs.lemmas.List.Elements.{Contains-append_cases}
 use Rattle.std.proofs.lemmas.Option.{get_or_from_slice_get, slice_get-get_or, slice_get_within}
+use Rattle.std.proofs.lemmas.Simd.{map-map}
 use Rattle.swreq_orders.proofs.Elements.{take_one}
 use Rattle.swreq_param.specs.declared.ids.ProtoId.{ProtoId}
 use Rattle.swreq_param.specs.Terms.{Term}
@@ -40,8 +41,9 @@ use Rattle.swreq_valid.specs.Keeping.{AreFlags, IsUsableBy, TellEach, TellUsable
 use Rattle.swreq_valid.specs.Plans.{AreWanted, bare, in_protocol, item_of, items_of, plan_of, says}
 use Rattle.swreq_valid.specs.Rounds.{RoundView, last_rules, rules_of}
 use Rattle.swreq_valid.proofs.Deriving.{self_derivable, self_shown}
-use Rattle.swreq_valid.proofs.Flagged.{chosen_from, chosen_map, map_map, map_one_if, tells_map, tells_one_more}
-use Rattle.swreq_valid.proofs.OfProtocols.{drop_at, own_requirements, protocol_written}
+use Rattle.swreq_valid.proofs.Flagged.{chosen_from, chosen_map, map_one_if, tells_map, tells_one_more}
+use Rattle.swreq_symbols.proofs.OfText.{own_requirements, protocol_written}
+use Rattle.swreq_valid.proofs.OfProtocols.{drop_at}
 use Rattle.swreq_valid.proofs.Once.{flags_at, once}
 use Rattle.swreq_valid.proofs.Transfer.{usable_over, with_facts}
 
@@ -79,8 +81,8 @@ module _ (w : IdWorld) (terms : List Term) (keep : List (List Bool)) where
       let these = chosen (bare (requirements_of w p)) flags in
       map-append (item_of terms rs) (map (in_protocol p) these) (kept_in w ps ks)
       ∙ ap₂ (λ a b. a ++ b)
-      (map_map (item_of terms rs) (in_protocol p) these
-      ∙ sym (ap (map (of_self p)) (own_kept p flags (each 0 p flags refl refl)) ∙ map_map (of_self p) (requirement_of terms) these))
+      (map-map (item_of terms rs) (in_protocol p) these
+      ∙ sym (ap (map (of_self p)) (own_kept p flags (each 0 p flags refl refl)) ∙ map-map (of_self p) (requirement_of terms) these))
       (kept_items rs ps ks (omega (arith, l)) (λ k q fs e h. each (suc k) q fs e h))
 
   module _ (text : IsTextOver terms w) (are : AreFlags w keep) where

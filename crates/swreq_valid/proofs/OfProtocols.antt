@@ -7,6 +7,7 @@ use Rattle.std.proofs.lemmas.List.{append-nil, drop_more, get_or-map, get_or_pas
 use Rattle.std.proofs.lemmas.List.Elements.{All-contains, All-get_or, Contains-append_cases}
 use Rattle.std.proofs.lemmas.Option.{get_or_from_slice_get, slice_get-map, slice_get_within}
 use Rattle.std.specs.List.{All}
+use Rattle.std.proofs.lemmas.Simd.{map-map}
 use Rattle.swreq_param.specs.declared.ids.ProtoId.{ProtoId}
 use Rattle.swreq_param.specs.Terms.{Term}
 use Rattle.swreq_derive.specs.Derivation.{TermFacts, TermRequirement}
@@ -28,6 +29,7 @@ use Rattle.swreq_lowering.specs.Requirements.{PlacedRequirement}
 use Rattle.swreq_world.specs.ByTable.{world_by}
 use Rattle.swreq_world.specs.Closed.{AreIds, IsClosed, IsOfProtocol}
 use Rattle.swreq_world.specs.Worlds.{IdWorld, TextWorld, requirements_of}
+use Rattle.swreq_symbols.proofs.OfText.{own_requirements, protocol_written, requirements_by}
 use Rattle.swreq_symbols.proofs.Symbols.{symbols_law, text_law}
 use Rattle.swreq_symbols.specs.Known.{IsRequirementIn, IsTextOver}
 use Rattle.swreq_symbols.specs.Meaning.{facts_of, member_name, symbols_of}
@@ -39,7 +41,6 @@ use Rattle.swreq_valid.specs.Plans.{AreWanted, AreWritten, bare, in_protocol, in
 use Rattle.swreq_valid.specs.Rounds.{RoundView, last_rules, rules_of}
 use Rattle.swreq_valid.specs.Sides.{Side, sides}
 use Rattle.swreq_valid.proofs.FirstSide.{Found}
-use Rattle.swreq_valid.proofs.Flagged.{map_map}
 
 -- ---- lists that are made from the items at the places of another
 
@@ -94,27 +95,6 @@ names_all p xs k v all l h = sym (append-nil v) ∙ ap (λ z. v ++ z) (sym (ap (
 pub proto_within : (x : LexiconView) → AreIds x → (k : ℕ) (p : ProtoId) → slice_get x.written_order k ≡ Some p → IsProtocol x p
 proto_within x ids k p e = (ids.written_order p).0 (k, slice_get_within x.written_order k p e, get_or_from_slice_get x.written_order k p p e)
 
--- the requirements of a protocol, over ids and over type parameters
-pub requirements_by : (w : IdWorld) (terms : List Term) (p : ProtoId) → requirements_of (world_by terms w) p ≡ placed terms (requirements_of w p)
-requirements_by w terms p = elim (cases_lt p.rank (length w.requirements)) [
-  | inl l ↦ get_or-map (placed terms) w.requirements p.rank [] [] l
-  | inr l ↦ (let past : length (map (placed terms) w.requirements) ≤ p.rank = subst (λ n. n ≤ p.rank) (sym (length-map w.requirements (placed terms))) l in
-      get_or_past (map (placed terms) w.requirements) p.rank [] past ∙ sym (ap (placed terms) (get_or_past w.requirements p.rank [] l)))
-]
-
--- the requirements of a protocol are of the table and of the text
-pub protocol_written : (w : IdWorld) (terms : List Term) → IsTextOver terms w → (p : ProtoId) → AreWritten terms w.lexicon (requirements_of w p)
-protocol_written w terms text p r c = elim (cases_lt p.rank (length w.requirements)) [
-  | inl l ↦ (
-    All-contains (λ (q : Written). HasIdsOf terms q.requirement) (requirements_of w p) r (All-get_or (AreOf terms) w.requirements p.rank [] l text.table.requirements) c,
-    (let within : p.rank < length (map (placed terms) w.requirements) = subst (λ n. p.rank < n) (sym (length-map w.requirements (placed terms))) l in
-        let all = All-get_or (λ z. All (IsOfProtocol w.lexicon) z) (map (placed terms) w.requirements) p.rank [] within text.closed.requirements in
-        (All-contains (IsOfProtocol w.lexicon) (placed terms (requirements_of w p)) (placed_by terms r)
-        (subst (λ z. All (IsOfProtocol w.lexicon) z) (requirements_by w terms p) all) (contains_map (placed_by terms) (requirements_of w p) r c)).0),
-  )
-  | inr l ↦ no_member r (subst (λ z. Contains z r) (get_or_past w.requirements p.rank [] l) c)
-]
-
 pub protocol_listed : (w : IdWorld) (terms : List Term) → IsTextOver terms w → (p : ProtoId) (list : List Written) → list ≡ requirements_of w p → AreWritten terms w.lexicon list
 protocol_listed w terms text p list e = subst (AreWritten terms w.lexicon) (sym e) (protocol_written w terms text p)
 
@@ -139,16 +119,10 @@ module _ (w : IdWorld) (terms : List Term) where
   abbrev f : TermFacts
   f = facts_of (world_by terms w)
 
-  pub own_requirements : (p : ProtoId) → f.of_protocol p ≡ map (requirement_of terms) (bare (requirements_of w p))
-  own_requirements p =
-      ap (map (λ (r : PlacedRequirement). r.requirement)) (requirements_by w terms p)
-      ∙ map_map (λ (r : PlacedRequirement). r.requirement) (placed_by terms) (requirements_of w p)
-      ∙ sym (map_map (requirement_of terms) (λ (r : Written). r.requirement) (requirements_of w p))
-
   own_items : (rs : List TermRequirement) (p : ProtoId) → map (item_of terms rs) (map (in_protocol p) (bare (requirements_of w p))) ≡ map (of_self p) (f.of_protocol p)
   own_items rs p =
-      map_map (item_of terms rs) (in_protocol p) (bare (requirements_of w p))
-      ∙ sym (ap (map (of_self p)) (own_requirements p) ∙ map_map (of_self p) (requirement_of terms) (bare (requirements_of w p)))
+      map-map (item_of terms rs) (in_protocol p) (bare (requirements_of w p))
+      ∙ sym (ap (map (of_self p)) (own_requirements w terms p) ∙ map-map (of_self p) (requirement_of terms) (bare (requirements_of w p)))
 
   items_are : (rs : List TermRequirement) (ps : List ProtoId) → map (item_of terms rs) (in_protocols w ps) ≡ items_from f ps
   items_are rs [] = refl

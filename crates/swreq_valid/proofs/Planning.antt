@@ -4,6 +4,7 @@ use Rattle.swreq_orders.proofs.Elements.{take_one}
 use Rattle.std.proofs.Common.{◌≡◌, zero, suc, subst₂, refl, sym, ap, subst, ◌∙◌, ℕ, ◌<◌, ◌≤◌, ◌+◌, arith, Bool, List, [], ◌∷◌, ◌++◌, length, map, take, drop, get_or, append_assoc}
 use Rattle.std.specs.Bool.{if◌then◌else◌, Decides}
 use Rattle.std.proofs.lemmas.List.{append-nil, drop_all, map-append}
+use Rattle.std.proofs.lemmas.Simd.{map-map}
 use Rattle.swreq_param.specs.Terms.{Term}
 use Rattle.swreq_rule.specs.declared.rules.Rule.{Rule}
 use Rattle.swreq_derive.specs.Derivation.{TermRequirement, TermFacts}
@@ -23,7 +24,7 @@ use Rattle.swreq_valid.specs.declared.wanted.Start.{Start}
 use Rattle.swreq_valid.specs.declared.wanted.Wanted.{Wanted}
 use Rattle.swreq_valid.specs.Flags.{chosen, Tells}
 use Rattle.swreq_valid.specs.Plans.{item_of, items_of, plan_of, says, within}
-use Rattle.swreq_valid.proofs.Flagged.{chosen_from, chosen_map, map_map, map_one_if, tells_to, tells_map, tells_one_more}
+use Rattle.swreq_valid.proofs.Flagged.{chosen_from, chosen_map, map_one_if, tells_to, tells_map, tells_one_more}
 
 module _ (m : Symbols) (f : TermFacts) (rs : List TermRequirement) (C : Word → Word → Type 0) (r : TermRequirement) where
   pub to_list : (over : Over) → ShowsUsable m f (source_of over) C r → ShowsUsable m f (within rs over) C r
@@ -89,7 +90,7 @@ module _ (w : IdWorld) (terms : List Term) where
       let rs = says terms start.all.items in
       ap (λ z. start.basic.items ++ z)
       (ap (map (equation_of m)) (chosen_map (item_of terms rs) start.all.items used)
-      ∙ map_map (equation_of m) (item_of terms rs) (chosen start.all.items used))
+      ∙ map-map (equation_of m) (item_of terms rs) (chosen start.all.items used))
 
   -- past the end nothing is left
   pub none_left : (start : Start) (used : List Bool) (k : ℕ) (v : List (Word × Word)) → length start.all.items ≤ k → v ≡ v ++ left_from start used k

@@ -1,10 +1,12 @@
 -- From what one derives in a world.
-use Rattle.std.specs.Prelude.{length, map}
-use Rattle.swreq_derive.specs.Derivation.{TermFacts}
-use Rattle.swreq_derive.specs.Facts.{IdFacts}
+use Rattle.std.specs.Prelude.{List, length, map}
+use Rattle.swreq_derive.specs.Derivation.{Source, TermFacts, TermRequirement}
+use Rattle.swreq_derive.specs.Derivation.Source.{Written}
+use Rattle.swreq_derive.specs.Facts.{IdFacts, generic_params}
 use Rattle.swreq_lexicon.specs.Lexicons.{associated_types}
 use Rattle.swreq_lowering.specs.declared.ids.FuncId.{FuncId}
-use Rattle.swreq_world.specs.Worlds.{IdWorld, TextWorld, requirements_of, signature_at}
+use Rattle.swreq_lowering.specs.Requirements.{PlacedRequirement}
+use Rattle.swreq_world.specs.Worlds.{IdWorld, SignatureOver, TextWorld, requirements_of, signature_at}
 
 -- the associated types, and the requirements of each protocol
 abbrev pub facts_of : TextWorld → TermFacts
@@ -13,7 +15,15 @@ facts_of w = record {
   of_protocol = λ p. map (λ r. r.requirement) (requirements_of w p);
 }
 
--- with the list of a signature, over ids
+-- the requirements of a signature
+abbrev pub written_list : SignatureOver PlacedRequirement → List TermRequirement
+written_list g = map (λ (r : PlacedRequirement). r.requirement) g.requirements
+
+-- the list from which one derives what a signature implies
+abbrev pub source_of : SignatureOver PlacedRequirement → Source
+source_of g = Written (generic_params g.params) (written_list g)
+
+-- both over ids
 abbrev pub facts_at : IdWorld → FuncId → IdFacts
 facts_at w f = record {
   protocols = length w.lexicon.protocols;

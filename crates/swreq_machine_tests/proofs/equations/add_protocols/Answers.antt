@@ -1,6 +1,6 @@
 use Rattle.swreq_world.specs.Worlds.{requirements_of}
 use Rattle.swreq_valid.proofs.Made.{written_known}
-use Rattle.swreq_valid.proofs.OfProtocols.{protocol_written}
+use Rattle.swreq_symbols.proofs.OfText.{protocol_written}
 use Rattle.swreq_machine_tests.proofs.equations.add_protocols.Goals as goal
 
 pub add_equations-requires-clause-list : goal.add_equations-requires-clause-list

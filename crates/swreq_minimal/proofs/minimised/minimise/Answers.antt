@@ -10,7 +10,7 @@ use Rattle.swreq_valid.specs.Plans.{AreKnown, listed}
 use Rattle.swreq_valid.specs.Rounds.{last_rules}
 use Rattle.swreq_minimal.specs.Inheritance.{IsInheritanceWritten}
 use Rattle.swreq_minimal.specs.Passed.{IsPassedOf}
-use Rattle.swreq_minimal.proofs.Growing.{text_stays, world_stays}
+use Rattle.swreq_symbols.proofs.Growing.{text_stays, world_stays}
 use Rattle.swreq_minimal.proofs.Telling.{wants_at_once}
 use Rattle.swreq_minimal.proofs.Whole.{IsReadOffMachine, fails, is_canonical, is_independent, is_minimised, is_same, is_sorted, tells}
 use Rattle.swreq_minimal.proofs.minimised.minimise.Goals as goal

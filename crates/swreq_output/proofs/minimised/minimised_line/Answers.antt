@@ -5,7 +5,8 @@ use Rattle.swreq_world.specs.ByTable.{world_by}
 use Rattle.swreq_world.specs.Worlds.{signature_at}
 use Rattle.swreq_valid.specs.Plans.{AreKnown}
 use Rattle.swreq_valid.specs.Rounds.{last_rules}
-use Rattle.swreq_output.specs.Signatures.{IsMinimisedLine, written_list}
+use Rattle.swreq_output.specs.Signatures.{IsMinimisedLine}
+use Rattle.swreq_world.specs.FactsAt.{written_list}
 use Rattle.swreq_output.proofs.Lines.{line_read}
 use Rattle.swreq_output.proofs.Minimising.{signature_fails, signature_tells, signature_wants}
 use Rattle.swreq_output.proofs.minimised.minimised_line.Goals as goal

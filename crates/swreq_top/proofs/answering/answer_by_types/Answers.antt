@@ -1,5 +1,5 @@
 use Rattle.std.proofs.Common.{subst, sym, true}
-use Rattle.swreq_output.specs.Signatures.{written_list}
+use Rattle.swreq_world.specs.FactsAt.{written_list}
 use Rattle.swreq_world.specs.ByTable.{world_by}
 use Rattle.swreq_world.specs.Worlds.{signature_at}
 use Rattle.swreq_lowering.specs.ByTable.{query_by}

@@ -2,7 +2,7 @@ use Rattle.std.proofs.Common.{◌≡◌, ◌∙◌, ◌+◌, ap, arith, List, Ve
 use Rattle.std.specs.declared.alloc.Global.{Global}
 use Rattle.std.proofs.lemmas.Bool.{eqb-true}
 use Rattle.swreq_map.specs.Follows.{IsMapOf}
-use Rattle.swreq_output.specs.Signatures.{written_list}
+use Rattle.swreq_world.specs.FactsAt.{written_list}
 use Rattle.swreq_rule.specs.declared.rules.Rule.{Rule}
 use Rattle.swreq_valid.specs.Machines.{IsMachineOf}
 use Rattle.swreq_world.specs.ByTable.{world_by}

@@ -5,7 +5,7 @@ use Rattle.swreq_world.specs.Worlds.{requirements_of}
 use Rattle.swreq_valid.specs.Keeping.{IsUsableBy}
 use Rattle.swreq_valid.proofs.Made.{written_known}
 use Rattle.swreq_valid.proofs.OfKept.{told_here, told_of, told_to_end}
-use Rattle.swreq_valid.proofs.OfProtocols.{protocol_written}
+use Rattle.swreq_symbols.proofs.OfText.{protocol_written}
 use Rattle.swreq_valid.proofs.kept.usable_of.Goals as goal
 
 pub is_usable-requires-clause-want : goal.is_usable-requires-clause-want
