@@ -1,4 +1,5 @@
--- The parts of a text that say something of types: its constraints and its written types, in written order, each with the scope in which it stands.
+-- The parts of a text that say something of types: its constraints and its written types, each with the scope in which it stands. Those of one
+-- protocol or signature stand in written order; those of protocols stand before those of structs, functions and queries.
 use Rattle.std.specs.Prelude.{ℕ, ◌+◌, List, [], ◌∷◌, ◌++◌, map}
 use Rattle.std.specs.List.{flat_map}
 use Rattle.swreq_decl.specs.declared.skeleton.Span.{Span}
