@@ -1,5 +1,5 @@
 -- The tokens of a text are its slices.
-use Rattle.std.proofs.Common.{◌≡◌, ℕ, ◌+◌, ◌-◌, ◌≤◌, ◌<◌, ◌≢◌, Bool, true, false, not, cond, nat_lt, List, [], ◌∷◌, ◌++◌, length, drop, get_or, Option, Some, None, refl, sym, ap, subst, ◌∙◌, arith, position, slice_get, append_assoc}
+use Rattle.std.proofs.Common.{◌≡◌, ℕ, zero, suc, ◌+◌, ◌-◌, ◌≤◌, ◌<◌, ◌≢◌, Bool, true, false, not, cond, nat_lt, List, [], ◌∷◌, ◌++◌, length, drop, get_or, Option, Some, None, refl, sym, ap, subst, ◌∙◌, arith, position, slice_get, append_assoc}
 use Rattle.std.proofs.lemmas.Option.{slice_get-get_or, slice_get_within, get_or_from_slice_get}
 use Rattle.std.proofs.lemmas.List.{drop-drop}
 use Rattle.std.proofs.lemmas.List.Quantifiers.{position-Some}
@@ -8,7 +8,7 @@ use Rattle.std.proofs.lemmas.Str.{encodes-append, encodes-chars, encode_ascii, l
 use Rattle.std.proofs.Math.Seq.{take-append_seam, drop-append_seam}
 use Rattle.std.specs.Cmp.Lexicographic.{same_text, other_text}
 use Rattle.std.specs.List.{slice_range, prefix_len, list_all}
-use Rattle.std.specs.Str.{chars, bytes_eq}
+use Rattle.std.specs.Str.{chars, bytes_eq, IsUtf8}
 use lib.Utf8.{encodes, encode}
 use Rattle.swreq_lex.specs.declared.token.Token.{Token}
 use Rattle.swreq_lex.specs.declared.token.TokenKind.{TokenKind}
@@ -19,7 +19,7 @@ use Rattle.swreq_lex.specs.Words as words
 use Rattle.swreq_lex.specs.Words.{reserved, word_kind, kind_of_word, kind_of_bytes}
 use Rattle.swreq_lex.specs.Marks.{spellings}
 use Rattle.swreq_lex.specs.Tokens as pieces
-use Rattle.swreq_lex.specs.Tokens.{IsGap, IsToken, Reads, done, after_byte_order_mark, first_offset, HasTokens}
+use Rattle.swreq_lex.specs.Tokens.{IsGap, IsToken, Reads, done, after_byte_order_mark, first_offset, begin_from, characters_from, HasTokens, HasTokensFrom}
 use Rattle.swreq_lex.specs.Slices.{OnlyGaps, none, more, IsBetween, IsSpelledWord, IsSpelled, AreSlices, last, next}
 use Rattle.std.proofs.lemmas.List.Sums.{prefix_len_passes}
 use Rattle.std.proofs.lemmas.Bool.Decides.{nat_tests}
@@ -169,12 +169,21 @@ after_mark_left (c ∷ cs) = elim (is_byte_order_mark c) as (λ b. drop (cond b 
   | false ↦ refl
 ]
 
--- the tokens of a text are its slices
+-- what there is to read from an offset on
+left_from : (text : List ℕ) (from : ℕ) → from ≤ length text → IsUtf8 (drop from text) → Left text (begin_from text from) (characters_from text from)
+left_from text from within u = record {
+  spelled = elim from as (λ k. IsUtf8 (drop k text) → drop (begin_from text k) text ≡ encodes (characters_from text k)) [
+    | zero ↦ λ v. subst (λ (bs : List ℕ). drop (first_offset (chars text)) bs ≡ encodes (after_byte_order_mark (chars text))) (encodes-chars text v) (after_mark_left (chars text))
+    | suc k ↦ λ v. sym (encodes-chars (drop (suc k) text) v)
+  ] u;
+  there = begins text from within u;
+}
+
+-- the tokens of a text from an offset on are its slices
+pub are_slices_from : (text : List ℕ) (from : ℕ) → from ≤ length text → (ts : List Token) → HasTokensFrom text from ts → AreSlices text (begin_from text from) ts
+are_slices_from text from within ts h =
+    let l = left_from text from within h.utf8 in
+    slices text (begin_from text from) (characters_from text from) ts l (ahead text h.reads l)
+
 pub are_slices : (text : List ℕ) (ts : List Token) → HasTokens text ts → AreSlices text (first_offset (chars text)) ts
-are_slices text ts h =
-    let cs = after_byte_order_mark (chars text) in
-    let l : Left text (first_offset (chars text)) cs = record {
-      spelled = subst (λ (bs : List ℕ). drop (first_offset (chars text)) bs ≡ encodes cs) (encodes-chars text h.utf8) (after_mark_left (chars text));
-      there = begins text h.utf8;
-    } in
-    slices text (first_offset (chars text)) cs ts l (ahead text h.reads l)
+are_slices text = are_slices_from text 0 (omega arith)

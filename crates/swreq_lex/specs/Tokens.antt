@@ -1,5 +1,5 @@
--- The tokens of a text.
-use Rattle.std.specs.Prelude.{◌≡◌, ℕ, ◌+◌, IsTrue, if◌then◌else◌, List, [], ◌∷◌, ◌++◌, length}
+-- The tokens of a text, and of what it is from an offset on.
+use Rattle.std.specs.Prelude.{◌≡◌, ℕ, zero, suc, ◌+◌, IsTrue, if◌then◌else◌, List, [], ◌∷◌, ◌++◌, length, drop}
 use Rattle.std.specs.Str.{chars, IsUtf8}
 use Rattle.std.specs.Char.{len_utf8}
 use Rattle.swreq_lex.specs.declared.token.Token.{Token}
@@ -37,11 +37,24 @@ abbrev pub first_offset : List ℕ → ℕ
 first_offset [] = 0
 first_offset (c ∷ cs) = if is_byte_order_mark c then len_utf8 c else 0
 
--- the text is UTF-8, and is gaps and these tokens up to the offset, from which `left` is left
-pub record ReadsUpTo (text : List ℕ) (to : ℕ) (left : List ℕ) (ts : List Token) : Type 0 where
-  pub utf8 : IsUtf8 text
-  pub reads : Reads to left (first_offset (chars text)) (after_byte_order_mark (chars text)) ts
+-- What there is to read from an offset on, and where it begins: at the very front what is after a byte order mark.
+abbrev pub characters_from : List ℕ → ℕ → List ℕ
+characters_from text zero = after_byte_order_mark (chars text)
+characters_from text (suc n) = chars (drop (suc n) text)
 
--- the tokens of a text, by its bytes
+abbrev pub begin_from : List ℕ → ℕ → ℕ
+begin_from text zero = first_offset (chars text)
+begin_from text (suc n) = suc n
+
+-- from the offset `from` on the text is UTF-8, and is gaps and these tokens up to the offset `to`, from which `left` is left
+pub record ReadsFrom (text : List ℕ) (from to : ℕ) (left : List ℕ) (ts : List Token) : Type 0 where
+  pub utf8 : IsUtf8 (drop from text)
+  pub reads : Reads to left (begin_from text from) (characters_from text from) ts
+
+-- the tokens of a text from an offset on, by its bytes and in its offsets
+abbrev pub HasTokensFrom : List ℕ → ℕ → List Token → Type 0
+HasTokensFrom text from ts = ReadsFrom text from (length text) [] ts
+
+-- the tokens of a text
 abbrev pub HasTokens : List ℕ → List Token → Type 0
-HasTokens text ts = ReadsUpTo text (length text) [] ts
+HasTokens text ts = HasTokensFrom text 0 ts

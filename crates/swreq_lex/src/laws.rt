@@ -1,11 +1,11 @@
-//! What holds of the tokens of each text.
+//! What holds of the tokens of each text, from the front and from an offset on.
 
-ghost use Rattle.std.specs.Prelude.{◌≡◌, ◌⊎◌, ℕ, List};
+ghost use Rattle.std.specs.Prelude.{◌≡◌, ◌≤◌, ◌⊎◌, ◌↔◌, ℕ, List, length};
 ghost use Rattle.std.specs.Str.{chars};
 ghost use Rattle.swreq_lex.specs.declared.token.Token.{Token};
 ghost use Rattle.swreq_lex.specs.declared.refusal.LexErr.{LexErr};
-ghost use Rattle.swreq_lex.specs.Tokens.{HasTokens, first_offset};
-ghost use Rattle.swreq_lex.specs.Refusals.{HasRefusal};
+ghost use Rattle.swreq_lex.specs.Tokens.{begin_from, first_offset, HasTokens, HasTokensFrom};
+ghost use Rattle.swreq_lex.specs.Refusals.{HasRefusal, HasRefusalFrom};
 ghost use Rattle.swreq_lex.specs.Slices.{AreSlices};
 
 /// A text has tokens or a refusal, and one of them alone.
@@ -15,6 +15,18 @@ pub fn one_reading(text: &[u8])
     ensures one_refusal { (d e : LexErr) → HasRefusal text.now d → HasRefusal text.now e → d ≡ e }
     ensures never_both { (ts : List Token) (e : LexErr) → HasTokens text.now ts → ¬ (HasRefusal text.now e) }
 {
+    one_reading_from(text, 0)
+}
+
+/// The same of a text from an offset on.
+pub fn one_reading_from(text: &[u8], from: u32)
+    requires { from ≤ length text.now }
+    ensures some { ((ts : List Token) × HasTokensFrom text.now from ts) ⊎ ((e : LexErr) × HasRefusalFrom text.now from e) }
+    ensures one_list { (ts us : List Token) → HasTokensFrom text.now from ts → HasTokensFrom text.now from us → ts ≡ us }
+    ensures one_refusal { (d e : LexErr) → HasRefusalFrom text.now from d → HasRefusalFrom text.now from e → d ≡ e }
+    ensures never_both { (ts : List Token) (e : LexErr) → HasTokensFrom text.now from ts → ¬ (HasRefusalFrom text.now from e) }
+{
+    let _ = from;
     let _ = text;
 }
 
@@ -22,6 +34,23 @@ pub fn one_reading(text: &[u8])
 /// and comments alone. They begin after the byte order mark, if there is one.
 pub fn tokens_are_slices(text: &[u8])
     ensures { (ts : List Token) → HasTokens text.now ts → AreSlices text.now (first_offset (chars text.now)) ts }
+{
+    tokens_from_are_slices(text, 0)
+}
+
+/// The same of the tokens from an offset on.
+pub fn tokens_from_are_slices(text: &[u8], from: u32)
+    requires { from ≤ length text.now }
+    ensures { (ts : List Token) → HasTokensFrom text.now from ts → AreSlices text.now (begin_from text.now from) ts }
+{
+    let _ = from;
+    let _ = text;
+}
+
+/// The tokens of a text from its front on are those of the text, and the refusal is too.
+pub fn from_the_front(text: &[u8])
+    ensures tokens { (ts : List Token) → HasTokensFrom text.now 0 ts ↔ HasTokens text.now ts }
+    ensures refusal { (e : LexErr) → HasRefusalFrom text.now 0 e ↔ HasRefusal text.now e }
 {
     let _ = text;
 }

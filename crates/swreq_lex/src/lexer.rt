@@ -1,11 +1,11 @@
 //! The tokens of a text.
 
-ghost use Rattle.std.specs.Prelude.{◌≡◌, ◌≤◌, ◌⊎◌, ℕ, List, length, IfOk, IfErr, MatchResult};
+ghost use Rattle.std.specs.Prelude.{◌≡◌, ◌≤◌, ◌⊎◌, ℕ, List, length, drop, IfOk, IfErr, MatchResult};
 ghost use Rattle.std.specs.Str.{chars};
 ghost use Rattle.swreq_lex.specs.declared.token.Token.{Token};
 ghost use Rattle.swreq_lex.specs.declared.refusal.LexErr.{LexErr};
-ghost use Rattle.swreq_lex.specs.Tokens.{HasTokens};
-ghost use Rattle.swreq_lex.specs.Refusals.{HasRefusal};
+ghost use Rattle.swreq_lex.specs.Tokens.{characters_from, HasTokens, HasTokensFrom};
+ghost use Rattle.swreq_lex.specs.Refusals.{HasRefusal, HasRefusalFrom};
 ghost use Rattle.swreq_lex.specs.Reader.{Answers, read};
 
 use crate::characters::past_byte_order_mark;
@@ -33,11 +33,41 @@ pub fn tokens(alloc: Global, text: &[u8]) -> Result<Vec<Token>, LexErr>
     ensures refusal { (refused : LexErr) → HasRefusal text.now refused →
         MatchResult result (λ _. ⊥) (λ e. (e ≡ LexErr.Memory) ⊎ (e ≡ refused)) }
 {
-    match std::str::from_utf8(text) {
-        Ok(read) => lex(alloc, past_byte_order_mark(read), text.len() as u32),
+    tokens_from(alloc, text, 0)
+}
+
+/// The tokens of a text of at most [`TEXT_LIMIT`] bytes from an offset on, or the first lexical refusal there. Offsets
+/// are those of the whole text. A byte order mark is one at the very front of the text alone.
+pub fn tokens_from(alloc: Global, text: &[u8], from: u32) -> Result<Vec<Token>, LexErr>
+    requires limit { length text.now ≤ TEXT_LIMIT }
+    requires within { from ≤ length text.now }
+    // What is answered are the tokens from there on,
+    ensures ok { IfOk result (λ found. HasTokensFrom text.now from found.items) }
+    // or the first refusal from there on, unless memory runs out.
+    ensures err { IfErr result (λ e. (e ≡ LexErr.Memory) ⊎ HasRefusalFrom text.now from e) }
+
+    // The tokens are answered wherever there are some, and the refusal wherever there is one, unless memory runs out.
+    ensures tokens { (ts : List Token) → HasTokensFrom text.now from ts →
+        MatchResult result (λ found. found.items ≡ ts) (λ e. e ≡ LexErr.Memory) }
+    ensures refusal { (refused : LexErr) → HasRefusalFrom text.now from refused →
+        MatchResult result (λ _. ⊥) (λ e. (e ≡ LexErr.Memory) ⊎ (e ≡ refused)) }
+{
+    match std::str::from_utf8(&text[from as usize..]) {
+        Ok(rest) => lex(alloc, to_read(rest, from), text.len() as u32),
         Err(e) => Err(LexErr::NotUtf8 {
-            at: e.valid_up_to() as u32,
+            at: from + e.valid_up_to() as u32,
         }),
+    }
+}
+
+/// What there is to read of a text that goes on like this from an offset on.
+fn to_read(rest: &str, from: u32) -> &str
+    ensures chars { (text : List ℕ) → rest.now ≡ drop from text → chars result.now ≡ characters_from text from }
+    ensures len { length result.now ≤ length rest.now }
+{
+    match from {
+        0 => past_byte_order_mark(rest),
+        _ => rest,
     }
 }
 

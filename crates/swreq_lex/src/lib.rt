@@ -11,7 +11,7 @@ mod refusal;
 mod token;
 mod words;
 
-pub use lexer::{TEXT_LIMIT, tokens};
+pub use lexer::{TEXT_LIMIT, tokens, tokens_from};
 pub use marks::MARKS;
 pub use refusal::LexErr;
 pub use token::{Token, TokenKind};

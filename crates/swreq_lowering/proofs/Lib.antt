@@ -6,3 +6,4 @@ pub mod Walked
 pub mod Over
 pub mod Sizes
 pub mod Shorter
+pub mod Counting

@@ -43,21 +43,21 @@ use Rattle.swreq_lowering.proofs.Sizes.{type_size, entity_size, bounds_size, req
 -- ---- sums
 
 module _ {A : Type 0} where
-  count_sum : (f : A → ℕ) (xs : List A) → ((x : A) → 1 ≤ f x) → length xs ≤ sum_by f xs
+  pub count_sum : (f : A → ℕ) (xs : List A) → ((x : A) → 1 ≤ f x) → length xs ≤ sum_by f xs
   count_sum f [] h = omega arith
   count_sum f (x ∷ xs) h = let i = h x in let j = count_sum f xs h in let k = sum_by-cons f x xs in omega arith
 
-  one_sum : (f : A → ℕ) (xs : List A) (k : ℕ) (d : A) → k < length xs → f (get_or xs k d) ≤ sum_by f xs
+  pub one_sum : (f : A → ℕ) (xs : List A) (k : ℕ) (d : A) → k < length xs → f (get_or xs k d) ≤ sum_by f xs
   one_sum f [] k d h = absurd (omega arith)
   one_sum f (x ∷ xs) zero d h = let k = sum_by-cons f x xs in omega arith
   one_sum f (x ∷ xs) (suc k) d h = let i = one_sum f xs k d (omega arith) in let j = sum_by-cons f x xs in omega arith
 
-  pieces_sum : {B : Type 0} (f : A → List B) (size : A → ℕ) (xs : List A) → ((x : A) → length (f x) ≤ size x) → length (flat_map f xs) ≤ sum_by size xs
+  pub pieces_sum : {B : Type 0} (f : A → List B) (size : A → ℕ) (xs : List A) → ((x : A) → length (f x) ≤ size x) → length (flat_map f xs) ≤ sum_by size xs
   pieces_sum f size xs h = let e = length-flat_map f xs in let k = sum_by-le-sum_by (λ x. length (f x)) size xs h in omega arith
 
 -- ---- the parts of a text
 
-skeleton_size : Skeleton → ℕ
+unfoldable pub skeleton_size : Skeleton → ℕ
 skeleton_size s = sum_by protocol_size s.protocols + (sum_by struct_size s.structs + (sum_by function_size s.functions + sum_by query_size s.queries))
 
 size_of_parts : (parts : List Item) → skeleton_size (skeleton_of parts) ≡ sum_by item_size parts
@@ -84,7 +84,7 @@ length_terminals : (text : List ℕ) (ts : List lexed.Token) → length (with_te
 length_terminals text [] = refl
 length_terminals text (t ∷ ts) = ap suc (length_terminals text ts)
 
-skeleton_within : (text : List ℕ) (s : Skeleton) → ((ts : List lexed.Token) → HasTokens text ts → AreSlices text (first_offset (chars text)) ts) → StandsFor text s → skeleton_size s ≤ length text
+pub skeleton_within : (text : List ℕ) (s : Skeleton) → ((ts : List lexed.Token) → HasTokens text ts → AreSlices text (first_offset (chars text)) ts) → StandsFor text s → skeleton_size s ≤ length text
 skeleton_within text s slices (found, tokens, (parts, m, e)) =
     let i = tokens_within text (first_offset (chars text)) found (slices found tokens) in
     let j = parts_bound (with_terminals text found) parts m in
@@ -96,10 +96,10 @@ skeleton_within text s slices (found, tokens, (parts, m, e)) =
 
 module _ (text : List ℕ) where
   type_names : (t : TypeDecl) → length (names.in_type text t) ≤ type_size t
-  type_names t = pieces_sum (names.in_step text) (λ s. 1) t.steps (λ s. omega arith)
+  type_names t = let i = pieces_sum (names.in_step text) (λ s. 1) t.steps (λ s. omega arith) in omega arith
 
   entity_names : (e : Entity) → length (names.in_entity text e) ≤ entity_size e
-  entity_names e = pieces_sum (names.in_type text) type_size e.args type_names
+  entity_names e = let i = pieces_sum (names.in_type text) type_size e.args type_names in omega arith
 
   bounds_names : (es : List Entity) → length (names.in_bounds text es) ≤ bounds_size es
   bounds_names es = pieces_sum (names.in_entity text) entity_size es entity_names
@@ -147,7 +147,7 @@ module _ (text : List ℕ) where
   ask_names (asks.Same t u) = let i = length-append (names.in_type text t) (names.in_type text u) in let j = type_names t in let k = type_names u in omega arith
 
   query_names : (q : QueryDecl) → length (names.in_query text q) ≤ query_size q
-  query_names q = ask_names q.ask
+  query_names q = let i = ask_names q.ask in omega arith
 
   all_names : (s : Skeleton) → length (names.walked text s) ≤ skeleton_size s
   unfolding skeleton_size

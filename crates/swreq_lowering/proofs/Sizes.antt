@@ -2,7 +2,7 @@
 use Rattle.std.proofs.Common.{◌≡◌, ℕ, ◌+◌, ◌≤◌, ⊎_elim, List, [], ◌∷◌, ◌++◌, length, sum_by, refl, ap, subst, ◌∙◌, arith, length-append}
 use Rattle.std.proofs.lemmas.List.Sums.{sum_by-cons}
 use Rattle.swreq_grammar.specs.declared.token.Token.{Token}
-use Rattle.swreq_grammar.specs.Grammar.{Limit, Matches, Parts, empty, mapped, sequence, alternative, repetition}
+use Rattle.swreq_grammar.specs.Grammar.{Limit, Matches, Parts, terminal, empty, mapped, sequence, alternative, repetition}
 use Rattle.swreq_decl.specs.declared.terminal.Terminal.{Terminal}
 use Rattle.swreq_decl.specs.declared.kind.Kind.{Kind}
 use Rattle.swreq_decl.specs.declared.skeleton.Entity.{Entity}
@@ -27,10 +27,10 @@ use Rattle.swreq_decl.specs.Source.{Line, mark, after, before, or_else, skipped,
 -- ---- how much is counted
 
 abbrev pub type_size : TypeDecl → ℕ
-type_size t = sum_by (λ s. 1) t.steps
+type_size t = 1 + sum_by (λ s. 1) t.steps
 
 abbrev pub entity_size : Entity → ℕ
-entity_size e = sum_by type_size e.args
+entity_size e = 1 + sum_by type_size e.args
 
 abbrev pub bounds_size : List Entity → ℕ
 bounds_size es = sum_by entity_size es
@@ -64,7 +64,7 @@ ask_size (asks.Is t bound) = type_size t + entity_size bound
 ask_size (asks.Same t u) = type_size t + type_size u
 
 abbrev pub query_size : QueryDecl → ℕ
-query_size q = ask_size q.ask
+query_size q = 1 + ask_size q.ask
 
 abbrev pub item_size : Item → ℕ
 item_size (items.Protocol p) = protocol_size p
@@ -139,16 +139,26 @@ of_empty {m} {size} l = record { bound = λ ts f x v. subst (λ k. size (k v) �
 
 -- ---- the lines of the source
 
+token_bound : {ts : List Terminal} → Bounds (terminal ts) (λ t. 1)
+token_bound = record { bound = λ ts t m. let k = ap length m.0 in omega arith }
+
+at_after_token : {B : Type 0} {ts : List Terminal} {h : Line B} {size : B → ℕ} → Bounds h size → Bounds (after (terminal ts) h) (λ v. 1 + size v)
+at_after_token p = at_mapped (at_sequence token_bound p (λ x. omega arith))
+
 name_bound : Bounds lines.name (λ s. 1)
 unfolding lines.name
-name_bound = at_mapped (record { bound = λ ts t m. let k = ap length m.0 in omega arith })
+name_bound = at_mapped token_bound
+
+head_bound : Bounds lines.head (λ s. 1)
+unfolding lines.head
+head_bound = at_mapped token_bound
 
 plain_bound : Bounds (mapped plain_step lines.name) (λ s. 1)
 plain_bound = at_mapped name_bound
 
 type_bound : Bounds lines.written_type type_size
 unfolding lines.written_type
-type_bound = at_mapped (at_sequence none (at_repetition {size = λ (s : StepDecl). 1} (at_after plain_bound)) (λ p. omega arith))
+type_bound = at_mapped (at_sequence head_bound (at_repetition {size = λ (s : StepDecl). 1} (at_after plain_bound)) (λ p. omega arith))
 
 args_bound : Bounds lines.args (sum_by type_size)
 unfolding lines.args
@@ -160,11 +170,11 @@ arguments_bound = at_or_else refl args_bound
 
 entity_bound : Bounds lines.entity entity_size
 unfolding lines.entity
-entity_bound = at_alternative (at_mapped (at_sequence none arguments_bound (λ p. omega arith))) (at_mapped none)
+entity_bound = at_alternative (at_mapped (at_sequence name_bound arguments_bound (λ p. omega arith))) (at_mapped token_bound)
 
 qentity_bound : Bounds lines.qentity entity_size
 unfolding lines.qentity
-qentity_bound = at_alternative (at_mapped none) (at_mapped none)
+qentity_bound = at_alternative (at_mapped name_bound) (at_mapped token_bound)
 
 bounds_bound : Bounds lines.bounds bounds_size
 unfolding lines.bounds
@@ -238,7 +248,7 @@ qstep_bound = at_after (at_alternative bound_step_bound plain_bound)
 
 qtype_bound : Bounds lines.qtype type_size
 unfolding lines.qtype
-qtype_bound = at_mapped (at_sequence none (at_repetition {size = λ (s : StepDecl). 1} qstep_bound) (λ p. omega arith))
+qtype_bound = at_mapped (at_sequence name_bound (at_repetition {size = λ (s : StepDecl). 1} qstep_bound) (λ p. omega arith))
 
 ask_bound : Bounds lines.ask ask_size
 unfolding lines.ask
@@ -252,7 +262,7 @@ asked_bound = at_or_else refl ask_bound
 
 query_bound : Bounds lines.query query_size
 unfolding lines.query
-query_bound = at_mapped (at_after (at_sequence none (at_after (at_before asked_bound)) (λ p. omega arith)))
+query_bound = at_mapped (at_after_token {size = λ p. ask_size p.1} (at_sequence none (at_after (at_before asked_bound)) (λ p. omega arith)))
 
 declaration_bound : Bounds lines.declaration item_size
 unfolding lines.declaration

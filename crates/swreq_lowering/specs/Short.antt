@@ -4,6 +4,8 @@ use Rattle.swreq_decl.specs.declared.skeleton.Skeleton.{Skeleton}
 use Rattle.swreq_names.specs.declared.signature.Signature.{Signature}
 use Rattle.swreq_names.specs.Spaces.{spaces}
 use Rattle.swreq_lexicon.specs.Texts.{IsSmall}
+use Rattle.swreq_lowering.specs.Requirements.{in_protocol, in_struct, in_function, in_nested}
+use Rattle.swreq_lowering.specs.Words.{WordsView}
 use Rattle.swreq_lowering.specs.Signatures.{in_order, outer_params, own_params}
 use Rattle.swreq_lowering.specs.Small.{HasFewParams}
 
@@ -18,3 +20,11 @@ pub record HasShortLists (text : List ℕ) (s : Skeleton) : Type 0 where
   pub structs : All (λ t. length t.params ≤ 1048576) s.structs
   pub functions : All (λ f. length f.params ≤ 1048576) s.functions
   pub nested : All (λ t. All (λ f. length f.params ≤ 1048576) t.functions) s.structs
+
+-- Nor does it write more requirements in a protocol, or in a signature with the struct around it, nor more queries.
+pub record HasFewRequirements (w : WordsView) : Type 0 where
+  pub protocols : All (λ p. length (in_protocol w p) ≤ 1048576) w.skeleton.protocols
+  pub structs : (i : ℕ) → All (λ s. length (in_struct w i s) ≤ 1048576) w.skeleton.structs
+  pub functions : (i : ℕ) → All (λ f. length (in_function w i f) ≤ 1048576) w.skeleton.functions
+  pub nested : (i j : ℕ) → All (λ s. All (λ f. length (in_nested w i s j f) ≤ 1048576) s.functions) w.skeleton.structs
+  pub queries : length w.skeleton.queries ≤ 1048576

@@ -9,3 +9,4 @@ pub mod Duplicates
 pub mod Refusing
 pub mod Found
 pub mod DeclaredOrder
+pub mod TypeNames

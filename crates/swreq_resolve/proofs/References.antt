@@ -11,7 +11,7 @@ use Rattle.swreq_names.specs.declared.directory.Declaration.{Declaration}
 use Rattle.swreq_names.specs.declared.signature.Signature.{Signature}
 use Rattle.swreq_names.specs.declared.signature.Signature.TheVariants.{Struct, Function, Nested}
 use Rattle.swreq_names.specs.Spaces.{word, place, offset_of, is_declared_before, refers_to, protocol_of, struct_of, function_of, nested_in, Spaces, spaces}
-use Rattle.swreq_resolve.specs.Refused.{HasEarlier, Means, NamesProtocol, NamesStruct, NamesFunction, NamesInner, NamesSignature}
+use Rattle.swreq_resolve.specs.Refused.{HasEarlier, MeansProtocol, Means, NamesProtocol, NamesStruct, NamesFunction, NamesInner, NamesSignature}
 use Rattle.swreq_resolve.proofs.Meaning.{AreInOrder, IsInOrder, placed_at, offset_at, first_at, earlier_to, earlier_from, earlier_left, earlier_right, earlier_cases}
 use Rattle.swreq_resolve.proofs.Gathered.{signature_asked}
 
@@ -119,8 +119,11 @@ module _ (text : List ℕ) (s : Skeleton) (order : IsInOrder (spaces text s)) wh
   abbrev d : Spaces
   d = spaces text s
 
+  pub protocol_named : (name : List ℕ) → Answers (protocol_of d name) (MeansProtocol text s name)
+  protocol_named name = referred d.protocols d.structs order.protocols order.structs name
+
   pub protocol : (p : Span) → Answers (protocol_of d (word text p)) (NamesProtocol text s p)
-  protocol p = referred d.protocols d.structs order.protocols order.structs (word text p)
+  protocol p = protocol_named (word text p)
 
   pub struct : (p : Span) → Answers (struct_of d (word text p)) (NamesStruct text s p)
   struct p = referred d.structs d.functions order.structs order.functions (word text p)

@@ -5,3 +5,4 @@ pub mod Scopes
 pub mod Cycles
 pub mod Resolving
 pub mod Refused
+pub mod RefusedTypes

@@ -69,8 +69,11 @@ pub record Means (ds space : List Declaration) (name : List ℕ) (i : ℕ) : Typ
 
 module _ (text : List ℕ) (s : Skeleton) where
   -- the i-th protocol, among protocols and structs
+  abbrev pub MeansProtocol : List ℕ → ℕ → Type 0
+  MeansProtocol name i = Means (spaces text s).protocols (declarations_of (spaces text s) protocols_and_structs) name i
+
   abbrev pub NamesProtocol : Span → ℕ → Type 0
-  NamesProtocol p i = Means (spaces text s).protocols (declarations_of (spaces text s) protocols_and_structs) (word text p) i
+  NamesProtocol p i = MeansProtocol (word text p) i
 
   -- the i-th struct, among structs and functions
   abbrev pub NamesStruct : Span → ℕ → Type 0

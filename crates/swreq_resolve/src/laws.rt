@@ -1,13 +1,18 @@
 //! What holds of the refusals of names.
 
-ghost use Rattle.std.specs.Prelude.{◌≡◌, ◌⊎◌, ◌↔◌, ℕ, Bool, Contains};
+ghost use Rattle.std.specs.Prelude.{◌≡◌, ◌⊎◌, ◌↔◌, ℕ, Bool, List, Contains};
 ghost use Rattle.swreq_decl.specs.declared.skeleton.Skeleton.{Skeleton};
+ghost use Rattle.swreq_decl.specs.declared.skeleton.TypeDecl.{TypeDecl};
 ghost use Rattle.swreq_decl.specs.Skeletons.{StandsFor};
+ghost use Rattle.swreq_names.specs.declared.signature.Signature.{Signature};
 ghost use Rattle.swreq_names.specs.Inheritance.{Tells};
+ghost use Rattle.swreq_names.specs.Parts.{Scope};
+ghost use Rattle.swreq_names.specs.Spaces.{spaces};
 ghost use Rattle.swreq_resolve.specs.declared.refusal.NameErr.{NameErr};
 ghost use Rattle.swreq_resolve.specs.declared.refusal.Refusal.{Refusal};
 ghost use Rattle.swreq_resolve.specs.Refusals.{refusals};
-ghost use Rattle.swreq_resolve.specs.Refused.{IsFirstRefused, IsRefused};
+ghost use Rattle.swreq_resolve.specs.Refused.{HasType, IsFirstRefused, IsRefused, IsScopeOf};
+ghost use Rattle.swreq_resolve.specs.RefusedTypes.{IsRefusedOn, of_type_on};
 ghost use Rattle.swreq_resolve.specs.Resolving.{HasNames, Refuses, RefusesName, Resolve};
 
 use swreq_decl::Skeleton;
@@ -30,6 +35,18 @@ pub fn refusals_are_the_refused(text: &[u8], s: &Skeleton)
         → (r : Refusal) → Contains (refusals text.now inherits s.now) r ↔ IsRefused text.now s.now r }
     ensures first { StandsFor text.now s.now → (r : Refusal) → RefusesName text.now s.now r → IsFirstRefused text.now s.now r }
     ensures none { StandsFor text.now s.now → HasNames text.now s.now → (r : Refusal) → ¬ (IsRefused text.now s.now r) }
+{
+    tokens_are_slices(text);
+}
+
+/// The same of one type on a signature, which may be written in another text: the list of its refusals has exactly its refused
+/// names. What is refused of a type of the text itself, in a signature or in a query on it, is refused of the text.
+pub fn refusals_of_types_are_the_refused(text: &[u8], s: &Skeleton)
+    ensures all { StandsFor text.now s.now → (g : Signature) (written : List ℕ) (t : TypeDecl) (r : Refusal)
+        → Contains (of_type_on (spaces text.now s.now) g written t) r ↔ IsRefusedOn text.now s.now g written t r }
+    ensures of_the_text { (scope : Scope) (g : Signature) (t : TypeDecl)
+        → HasType text.now s.now scope t → IsScopeOf text.now s.now g scope
+        → (r : Refusal) → IsRefusedOn text.now s.now g text.now t r → IsRefused text.now s.now r }
 {
     tokens_are_slices(text);
 }

@@ -9,5 +9,5 @@ mod queries;
 mod refusal;
 mod resolve;
 
-pub use refusal::NameErr;
-pub use resolve::resolve_names;
+pub use refusal::{Fault, NameErr, Refusal, error_of};
+pub use resolve::{resolve_names, resolve_type};

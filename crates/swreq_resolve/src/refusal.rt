@@ -94,7 +94,7 @@ impl Fault {
 
 impl Refusal {
     /// Whether this one comes before the other.
-    fn precedes(self, other: Refusal) -> bool
+    pub fn precedes(self, other: Refusal) -> bool
         ensures { result ≡ precedes self other }
     {
         self.at < other.at || (self.at == other.at && self.fault.rank() < other.fault.rank())

@@ -1,18 +1,21 @@
-//! Whether the names of a text resolve.
+//! Whether the names of a text resolve, or those of one type.
 
-ghost use Rattle.std.specs.Prelude.{◌≡◌, ◌⊎◌, length, IfOk, IfErr, IsOk, Err, MatchOption};
+ghost use Rattle.std.specs.Prelude.{◌≡◌, ◌⊎◌, [], length, IfOk, IfErr, IsOk, Err, MatchOption, MatchResult};
 ghost use Rattle.swreq_names.specs.Names.{HasDeclared};
 ghost use Rattle.swreq_resolve.specs.Cycles.{HasNoLoop, IsLoopAt};
 ghost use Rattle.swreq_resolve.specs.declared.refusal.NameErr.{NameErr};
 ghost use Rattle.swreq_resolve.specs.declared.refusal.NameErr.TheVariants.{Memory};
+ghost use Rattle.swreq_resolve.specs.First.{IsFirst};
+ghost use Rattle.swreq_resolve.specs.RefusedTypes.{of_type_on};
 ghost use Rattle.swreq_resolve.specs.Resolving.{Resolve, Refuses};
 
+use crate::check::{Scope, check_type};
 use crate::cycles::cycle_of;
 use crate::items::first_refusal;
-use crate::refusal::{NameErr, error_of};
+use crate::refusal::{NameErr, Refusal, error_of};
 use std::alloc::Global;
-use swreq_decl::Skeleton;
-use swreq_names::Names;
+use swreq_decl::{Skeleton, TypeDecl};
+use swreq_names::{Declared, Names, Signature};
 
 /// The refusal of a skeleton with these names, if there is one.
 fn first_error(text: &[u8], s: &Skeleton, names: &Names) -> Option<NameErr>
@@ -44,5 +47,26 @@ pub fn resolve_names(alloc: Global, text: &[u8], s: &Skeleton) -> Result<Names, 
     match first_error(text, s, &names) {
         Some(refusal) => Err(refusal),
         None => Ok(names),
+    }
+}
+
+/// Whether the names of one type resolve on a signature of a text. `d` has the names of the text; the type may be written
+/// in another one, `written`. Where they do not, the refusal is the first among those of the type.
+pub fn resolve_type(
+    d: &Declared,
+    signature: Signature,
+    written: &[u8],
+    t: &TypeDecl,
+) -> Result<(), Refusal>
+    // No name of the type is refused, or this is the first that is.
+    ensures answer { MatchResult result (λ _. of_type_on d.now signature written.now t.now ≡ [])
+        (IsFirst (of_type_on d.now signature written.now t.now)) }
+    // Where none is refused, there is no refusal, and where one is the first, that is it.
+    ensures resolves { of_type_on d.now signature written.now t.now ≡ [] → IsOk result }
+    ensures refuses { (r : Refusal) → IsFirst (of_type_on d.now signature written.now t.now) r → result ≡ Err r }
+{
+    match check_type(written, d, Scope::Signature(signature), t, None) {
+        Some(r) => Err(r),
+        None => Ok(()),
     }
 }

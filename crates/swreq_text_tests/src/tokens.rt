@@ -3,7 +3,7 @@
 use std::alloc::Global;
 use std::process::Abort;
 use std::test::Fail;
-use swreq_lex::{MARKS, RESERVED, TEXT_LIMIT, Token, tokens};
+use swreq_lex::{MARKS, RESERVED, TEXT_LIMIT, Token, tokens, tokens_from};
 
 /// The tokens of a text as one line, or its refusal.
 fn described(rt: &impl Abort, alloc: Global, text: &[u8]) -> Result<String, Fail> {
@@ -25,6 +25,24 @@ fn line_of(alloc: Global, found: &[Token]) -> Result<String, Fail> {
 /// The text has these tokens, or this refusal.
 fn has_tokens(rt: &impl Abort, alloc: Global, text: &[u8], want: &str) -> Result<(), Fail> {
     let line = described(rt, alloc, text)?;
+    assert_eq!(rt; line.as_str(), want);
+    Ok(())
+}
+
+/// From the offset on the text has these tokens, or this refusal.
+fn has_tokens_from(
+    rt: &impl Abort,
+    alloc: Global,
+    text: &[u8],
+    from: u32,
+    want: &str,
+) -> Result<(), Fail> {
+    assert!(rt; text.len() <= TEXT_LIMIT);
+    assert!(rt; from as usize <= text.len());
+    let line = match tokens_from(alloc, text, from) {
+        Ok(found) => line_of(alloc, &found)?,
+        Err(e) => format!(in alloc; "{e}")?,
+    };
     assert_eq!(rt; line.as_str(), want);
     Ok(())
 }
@@ -114,6 +132,28 @@ const NO_TEXTS: &[(&[u8], &str)] = &[
 fn bytes_that_are_no_text_are_refused_first(rt: HostRuntime) -> Result<(), Fail> {
     for (text, want) in NO_TEXTS {
         has_tokens(&rt, rt.alloc(), text, want)?;
+    }
+    Ok(())
+}
+
+/// Texts, each with an offset, and the tokens from there on or the refusal.
+const PARTS: &[(&str, u32, &str)] = &[
+    ("a b", 0, "Name 0-1 Name 2-3 "),
+    ("a b", 1, "Name 2-3 "),
+    ("a b", 3, ""),
+    ("ab", 1, "Name 1-2 "),
+    ("// a", 1, "bad character at 1"),
+    ("a /* b", 2, "open comment at 2"),
+    ("aö", 2, "not UTF-8 at 2"),
+    ("\u{feff}a", 0, "Name 3-4 "),
+    ("\u{feff}a", 3, "Name 3-4 "),
+    ("a \u{feff}b", 2, "bad character at 2"),
+];
+
+#[test]
+fn parts_of_texts_have_these_tokens(rt: HostRuntime) -> Result<(), Fail> {
+    for (text, from, want) in PARTS {
+        has_tokens_from(&rt, rt.alloc(), text.as_bytes(), *from, want)?;
     }
     Ok(())
 }

@@ -1,0 +1,27 @@
+use Rattle.std.proofs.Common.{List, Contains, Err, ap, refl, sym, subst}
+use Rattle.swreq_orders.proofs.Members.{no_member}
+use Rattle.swreq_resolve.specs.declared.refusal.Refusal.{Refusal}
+use Rattle.swreq_resolve.specs.First.{IsFirst}
+use Rattle.swreq_resolve.specs.RefusedTypes.{of_type_on}
+use Rattle.swreq_resolve.proofs.Order.{none_refused, least_is_first, one_first}
+use Rattle.swreq_resolve.proofs.resolve.resolve_type.Goals as goal
+
+pub returns-in-Some : goal.returns-in-Some
+returns-in-Some c =
+    let rs : List Refusal = of_type_on c.args.d.now c.args.signature c.args.written.now c.args.t.now in
+    let is : IsFirst rs c.in-Some.r = least_is_first rs c.in-Some.r (sym c.in-Some.ensures) in
+    record {
+      answer = is;
+      resolves = λ e. no_member c.in-Some.r (subst (λ (qs : List Refusal). Contains qs c.in-Some.r) e is.is);
+      refuses = λ r first. ap Err (one_first rs c.in-Some.r r is first);
+    }
+
+pub returns-in-None : goal.returns-in-None
+returns-in-None c =
+    let rs : List Refusal = of_type_on c.args.d.now c.args.signature c.args.written.now c.args.t.now in
+    let none = none_refused rs (sym c.in-None.ensures) in
+    record {
+      answer = none;
+      resolves = λ _. refl;
+      refuses = λ r first. no_member r (subst (λ (qs : List Refusal). Contains qs r) none first.is);
+    }
