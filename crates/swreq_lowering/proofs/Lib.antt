@@ -6,3 +6,5 @@ pub mod Walked
 pub mod Over
 pub mod Sizes
 pub mod Shorter
+pub mod Ascending
+pub mod Standing
