@@ -7,3 +7,5 @@ pub mod Over
 pub mod Sizes
 pub mod Shorter
 pub mod Counting
+pub mod Ascending
+pub mod Standing

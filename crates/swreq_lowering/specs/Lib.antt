@@ -4,6 +4,7 @@ pub mod Signatures
 pub mod Short
 pub mod Types
 pub mod Requirements
+pub mod Standing
 pub mod Walk
 pub mod Heads
 pub mod Queries

@@ -30,6 +30,7 @@ use Rattle.swreq_world.proofs.Everywhere.{mapped_from}
 use Rattle.swreq_world.proofs.InProtocols.{protocols_are}
 use Rattle.swreq_world.proofs.InQueries.{queries_are}
 use Rattle.swreq_world.proofs.InSignatures.{signatures_are}
+use Rattle.swreq_world.proofs.Leading.{inheritance_written}
 use Rattle.swreq_world.proofs.OnceDeclared.{protocols_differ}
 use Rattle.swreq_world.proofs.Offsets.{AreRising, name_start}
 use Rattle.swreq_world.proofs.Resolving.{protocol_is, resolved}
@@ -93,4 +94,5 @@ closed text s w from rising is resolve =
       signatures = subst (All (HasOwn w.lexicon)) (sym is.signatures) (signatures_are words tells are same (in_order s) (in_order s));
       outer = outers text s w is.signatures;
       queries = subst (All (IsQueryOf w)) (sym is.queries) (queries_are text s w tells are same is.signatures);
+      inheritance = inheritance_written text s resolve.names w is;
     }

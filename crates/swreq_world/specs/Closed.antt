@@ -1,5 +1,5 @@
--- What holds of the world of each text whose names resolve: all that is written in it is of the world.
-use Rattle.std.specs.Prelude.{◌≡◌, ◌↔◌, ◌<◌, ℕ, length, Contains, All, Some, slice_get}
+-- What holds of the world of each text whose names resolve: all that is written in it is of the world, and inheritance is written.
+use Rattle.std.specs.Prelude.{◌≡◌, ◌↔◌, ◌<◌, ℕ, length, Contains, All, IsTrue, Some, slice_get}
 use Rattle.swreq_derive.specs.declared.known.Params.{Params}
 use Rattle.swreq_derive.specs.Derivation.{TermRequirement}
 use Rattle.swreq_derive.specs.Derivation.TermRequirement.{Conforms, IsAnyObject, Equals}
@@ -13,12 +13,14 @@ use Rattle.swreq_param.specs.Terms.{Term, head}
 use Rattle.swreq_param.specs.Terms.Term.{Generic, Member}
 use Rattle.swreq_lexicon.specs.declared.pair.ProtocolName.{ProtocolName}
 use Rattle.swreq_lexicon.specs.Lexicons.{pair, associated_types}
-use Rattle.swreq_lexicon.specs.Views.{LexiconView, IsProtocol, IsName, HasMember}
+use Rattle.swreq_lexicon.specs.Views.{LexiconView, IsProtocol, IsName, HasMember, inherits}
 use Rattle.swreq_lowering.specs.declared.ids.FuncId.{FuncId}
 use Rattle.swreq_lowering.specs.Heads.{IsOver, IsOverSelf}
 use Rattle.swreq_lowering.specs.Requirements.{PlacedRequirement}
 use Rattle.swreq_lowering.specs.Queries.{TermQuery}
 use Rattle.swreq_lowering.specs.Queries.TermQuery.{AsksSignature, AsksReduced, AsksConforms, AsksAnyObject, AsksEquals}
+use Rattle.swreq_world.specs.FactsAt.{facts_of}
+use Rattle.swreq_world.specs.Inheritance.{LeadsOnTo}
 use Rattle.swreq_world.specs.Worlds.{TextWorld, SignatureOver, signature_at}
 
 -- ---- protocols, names, associated types and member symbols
@@ -90,7 +92,12 @@ module _ (w : TextWorld) where
   IsQueryOf (AsksAnyObject f t) = IsSignature f × IsAskedOf f t
   IsQueryOf (AsksEquals f t u) = IsSignature f × IsAskedOf f t × IsAskedOf f u
 
--- All that is written is of the world.
+-- A protocol inherits another exactly where a chain of written conformances of the bare `Self`, one or more, leads there.
+abbrev pub IsInheritanceWritten : TextWorld → Type 0
+IsInheritanceWritten w =
+    (p q : ProtoId) → IsProtocol w.lexicon p → IsProtocol w.lexicon q → IsTrue (inherits w.lexicon p q) ↔ LeadsOnTo (facts_of w) p q
+
+-- All that is written is of the world, and what a protocol inherits is written.
 pub record IsClosed (w : TextWorld) : Type 0 where
   pub ids : AreIds w.lexicon
   pub protocols : length w.requirements ≡ length w.lexicon.protocols
@@ -98,3 +105,4 @@ pub record IsClosed (w : TextWorld) : Type 0 where
   pub signatures : All (HasOwn w.lexicon) w.signatures
   pub outer : All (HasOuter w) w.signatures
   pub queries : All (IsQueryOf w) w.queries
+  pub inheritance : IsInheritanceWritten w

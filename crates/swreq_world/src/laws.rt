@@ -1,5 +1,5 @@
 //! What holds of the world of each text.
-ghost use Rattle.std.specs.Prelude.{◌≡◌, ◌↔◌, ◌<◌, ◌≤◌, All, Contains, IsTrue, List, Option, Some, false, length, map, slice_get, ℕ};
+ghost use Rattle.std.specs.Prelude.{◌≡◌, ◌↔◌, ◌<◌, ◌≤◌, All, Contains, List, Option, Some, false, length, map, slice_get, ℕ};
 ghost use Rattle.swreq_decl.specs.declared.skeleton.Entity.{Entity};
 ghost use Rattle.swreq_decl.specs.declared.skeleton.ProtocolDecl.{ProtocolDecl};
 ghost use Rattle.swreq_decl.specs.declared.skeleton.QueryDecl.{QueryDecl};
@@ -11,10 +11,8 @@ ghost use Rattle.swreq_names.specs.declared.signature.Signature.{Signature};
 ghost use Rattle.swreq_names.specs.Parts as parts;
 ghost use Rattle.swreq_names.specs.Parts.{Constraint};
 ghost use Rattle.swreq_param.specs.declared.ids.ParamId.{ParamId};
-ghost use Rattle.swreq_param.specs.declared.ids.ProtoId.{ProtoId};
 ghost use Rattle.swreq_param.specs.Terms.{Term};
 ghost use Rattle.swreq_resolve.specs.Resolving.{Resolve};
-ghost use Rattle.swreq_lexicon.specs.Views.{IsProtocol, inherits};
 ghost use Rattle.swreq_lowering.specs.declared.ids.FuncId.{FuncId};
 ghost use Rattle.swreq_lowering.specs.declared.scope.Scope.{Scope};
 ghost use Rattle.swreq_lowering.specs.Heads.{IsOverSelf};
@@ -22,10 +20,8 @@ ghost use Rattle.swreq_lowering.specs.Queries.{TermQuery};
 ghost use Rattle.swreq_lowering.specs.Signatures.{func_id, in_order};
 ghost use Rattle.swreq_lowering.specs.Words.{proto_of};
 ghost use Rattle.swreq_world.specs.ByTable.{world_by};
-ghost use Rattle.swreq_world.specs.Closed.{IsClosed};
+ghost use Rattle.swreq_world.specs.Closed.{IsClosed, IsInheritanceWritten};
 ghost use Rattle.swreq_world.specs.Declarations.{HasSignature, declaration_of};
-ghost use Rattle.swreq_world.specs.FactsAt.{facts_of};
-ghost use Rattle.swreq_world.specs.Inheritance.{LeadsOnTo};
 ghost use Rattle.swreq_world.specs.Lookups.{func_named, param_of_signature, IsNamedAt, IsParamNamed};
 ghost use Rattle.swreq_world.specs.ReadBack.{IsReadIn, IsSaid, SayNames, SaysConstraint, SaysProtocol, SaysQuery};
 ghost use Rattle.swreq_world.specs.Short.{IsShort};
@@ -75,7 +71,7 @@ pub fn protocols_require_of_self()
 /// one or more, leads there.
 pub fn inheritance_is_what_is_written()
     ensures { (text : List ℕ) (s : Skeleton) (w : TextWorld) → IsWorldOf text s w → Resolve text s
-        → (p q : ProtoId) → IsProtocol w.lexicon p → IsProtocol w.lexicon q → IsTrue (inherits w.lexicon p q) ↔ LeadsOnTo (facts_of w) p q }
+        → IsInheritanceWritten w }
 {}
 
 /// Where the names of a text resolve, the ids of its world say the very words that are written: of each written type, of each protocol on
@@ -97,7 +93,7 @@ pub fn ids_say_what_is_written()
         → (a : TermQuery) × (slice_get w.queries k ≡ Some a) × SaysQuery text s w a q }
 {}
 
-/// Where the names of a text resolve, all that is written in its world is of the world.
+/// Where the names of a text resolve, all that is written in its world is of the world, and what a protocol inherits is written.
 pub fn worlds_are_closed(text: &[u8])
     ensures closed { (s : Skeleton) (w : TextWorld)
         → StandsFor text.now s → IsWorldOf text.now s w → Resolve text.now s → IsClosed w }
