@@ -91,12 +91,6 @@ lists_all a b us vs ps e p =
     let none : AreOf a [] = λ k d l. absurd (omega arith) in
     record { extends = q.extends; are_of = q.are_of none; placed = q.placed none }
 
--- all that was added to requirements of the table
-pub lists_more : (a b : List Term) (us vs ws : List Written) (ps : List PlacedRequirement) → us ≡ ws → AreOf a ws → Adds a b us vs ps → Lists a b (placed a ws ++ ps) vs
-lists_more a b us vs ws ps e h p =
-    let q : Adds a b ws vs ps = subst (λ xs. Adds a b xs vs ps) e p in
-    record { extends = q.extends; are_of = q.are_of h; placed = q.placed h }
-
 pub on_ok : {A E : Type 0} (r : Result A E) {P Q : Type 0} → (P → Q) → OnOk r P → OnOk r Q
 on_ok (Ok x) f p = f p
 on_ok (Err e) f p = p

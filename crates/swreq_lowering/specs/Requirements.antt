@@ -113,6 +113,10 @@ module _ (w : WordsView) where
   abbrev pub in_function : ℕ → FunctionDecl → List PlacedRequirement
   in_function i f = in_signature (Function i) f.params f.clause
 
+  -- what is written in the j-th function of the i-th struct itself
+  abbrev pub in_inner : ℕ → ℕ → FunctionDecl → List PlacedRequirement
+  in_inner i j f = in_signature (Nested i j) f.params f.clause
+
   -- the list of the j-th function of the i-th struct: the struct's list, followed by its own requirements
   abbrev pub in_nested : ℕ → StructDecl → ℕ → FunctionDecl → List PlacedRequirement
-  in_nested i s j f = in_struct i s ++ in_signature (Nested i j) f.params f.clause
+  in_nested i s j f = in_struct i s ++ in_inner i j f

@@ -1,11 +1,9 @@
 // The lists of signatures.
-ghost use Rattle.std.specs.Prelude.{◌≡◌, ◌++◌, ◌<◌, ◌^◌, length, OnOk, IfOk};
+ghost use Rattle.std.specs.Prelude.{◌<◌, ◌^◌, length, OnOk, IfOk};
 ghost use Rattle.swreq_param.specs.Terms.{Term};
 ghost use Rattle.swreq_param.specs.Tables.{Extends};
-ghost use Rattle.swreq_decl.specs.declared.skeleton.StructDecl.{StructDecl};
 ghost use Rattle.swreq_lowering.specs.Adding.{Adds, Lists};
-ghost use Rattle.swreq_lowering.specs.ByTable.{AreOf, placed};
-ghost use Rattle.swreq_lowering.specs.Requirements.{in_function, in_nested, in_signature, in_struct};
+ghost use Rattle.swreq_lowering.specs.Requirements.{in_function, in_inner, in_signature, in_struct};
 ghost use Rattle.swreq_lowering.specs.Walk.{in_param, in_params};
 ghost use Rattle.swreq_lowering.specs.Words.{words_by};
 
@@ -135,24 +133,21 @@ pub fn of_function(
     Ok(into)
 }
 
-/// The list of the function at a place of the struct `outer`, whose list is `of_struct`: the struct's list, followed by the
-/// function's own requirements.
+/// What the function at a place of the struct `outer` requires itself, in the order of the places of the requirements. Its list is
+/// that of the struct, followed by these.
 pub fn of_nested(
     alloc: Global,
     table: &mut ParamTable,
     words: &Words<'_>,
     outer: usize,
-    of_struct: &[Written],
     function: usize,
     f: &FunctionDecl,
 ) -> Result<Vec<Written>, AllocError>
-    requires small { length f.now.params < 2 ^ 32 }
-    requires of { AreOf table.old of_struct.now }
-    ensures lists { (s : StructDecl) → placed table.old of_struct.now ≡ in_struct (words_by words.now) outer s
-        → IfOk result (λ v. Lists table.old table.new (in_nested (words_by words.now) outer s function f.now) v.items) }
+    requires { length f.now.params < 2 ^ 32 }
+    ensures lists { IfOk result (λ v. Lists table.old table.new (in_inner (words_by words.now) outer function f.now) v.items) }
     ensures extends { Extends table.old table.new }
 {
-    let mut list = Vec::from_slice(alloc, of_struct)?;
+    let mut into = Vec::new(alloc);
     let signature = Signature::Nested { outer, function };
     add_signature(
         table,
@@ -160,7 +155,7 @@ pub fn of_nested(
         signature,
         f.params.items(),
         f.clause.items(),
-        &mut list,
+        &mut into,
     )?;
-    Ok(list)
+    Ok(into)
 }

@@ -138,7 +138,8 @@ fn add_signature(
     requires text { IsTextOver table.now world.now }
     requires f { f.place < length world.now.signatures }
 {
-    add_equations(alloc, world, table, None, world.bare_signature(f), out)
+    let list = world.bare_signature(alloc, f)?;
+    add_equations(alloc, world, table, None, &list, out)
 }
 
 /// Appends the equations of the lists of the signatures.

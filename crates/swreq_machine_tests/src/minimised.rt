@@ -38,13 +38,14 @@ fn machine_of(
     requires f { f.place < length world.now.signatures }
     requires limits { AreInRange limits }
 {
+    let list = world.signature(alloc, f)?;
     Machine::build(
         alloc,
         world,
         table,
         protocols,
         world.params(f),
-        world.signature(f),
+        &list,
         limits,
         &mut Quiet,
     )

@@ -367,7 +367,8 @@ fn add_signature(
     let kind = if world.is_struct(f) { "struct" } else { "func" };
     add_name(world, f, out)?;
     out.extend_from_slice(format!(in alloc; " {kind} {outer} {inner}\n")?.as_bytes())?;
-    add_lines(alloc, page, world.signature(f), out)
+    let list = world.signature(alloc, f)?;
+    add_lines(alloc, page, &list, out)
 }
 
 fn add_query(
@@ -506,14 +507,15 @@ fn add_word(world: &World, word: &str, out: &mut String) -> Result<(), Fail>
 }
 
 /// Appends what there is to P and g.
-fn add_counts(world: &World, out: &mut String) -> Result<(), Fail>
+fn add_counts(alloc: Global, world: &World, out: &mut String) -> Result<(), Fail>
     requires { 1 < length world.now.signatures }
 {
     let p = ProtoId { rank: 0 };
     let has = world.has_member(p, NameId { rank: 0 });
     let inherits = world.inherits(p, ProtoId { rank: 1 });
     let depth = world.depth(p);
-    let requirements = FunctionFacts::of(world, G).written().len();
+    let list = world.bare_signature(alloc, G)?;
+    let requirements = FunctionFacts::of(world, G, &list).written().len();
     Ok(write!(
         out,
         "{has} {inherits} {depth} {} {requirements}\n",
@@ -538,7 +540,7 @@ fn found(rt: &impl Abort, alloc: Global, world: &World) -> Result<String, Fail> 
     for word in "P Q A f g S k T U".split(' ') {
         add_word(world, word, &mut out)?;
     }
-    add_counts(world, &mut out)?;
+    add_counts(alloc, world, &mut out)?;
     add_names(rt, world, &mut out)?;
     Ok(out)
 }

@@ -48,13 +48,14 @@ fn check_one<W: Watch>(
     ensures check { ChecksOne limits (world_by table.now world.now) (last_rules protocols.now.rounds) (signature_at (world_by table.now world.now) f) (W.told watch.old) (W.told watch.new) result }
     ensures made { OnOk result (IsMadeOf (world_by table.now world.now) asked.now.command (f.place + 1) made.new) }
 {
+    let list = world.signature(alloc, f)?;
     let machine = Machine::build(
         alloc,
         world,
         table,
         protocols,
         world.params(f),
-        world.signature(f),
+        &list,
         limits,
         watch,
     )?;

@@ -52,13 +52,14 @@ fn machine_of(
     ensures machine { IfOk result (IsMachineOf (world_by table.now world.now) (written_list (signature_at (world_by table.now world.now) f))) }
     ensures params { IfOk result (λ m. m.params ≡ (signature_at (world_by table.now world.now) f).params) }
 {
+    let list = world.signature(alloc, f)?;
     match Machine::build(
         alloc,
         world,
         table,
         protocols,
         world.params(f),
-        world.signature(f),
+        &list,
         limits,
         &mut Quiet,
     ) {

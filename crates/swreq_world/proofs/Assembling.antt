@@ -1,6 +1,5 @@
 -- The world of a skeleton from its lists.
-use Rattle.std.proofs.Common.{◌≡◌, ℕ, zero, suc, ◌≤◌, List, [], ◌∷◌, length, get_or, map, refl, sym, ap, subst, ◌∙◌, arith}
-use Rattle.std.specs.List.{All}
+use Rattle.std.proofs.Common.{◌≡◌, ℕ, zero, suc, ◌≤◌, List, [], ◌∷◌, length, get_or, map, slice_get, Some, refl, sym, ap, subst, ◌∙◌, arith}
 use Rattle.std.proofs.lemmas.List.{length-map}
 use Rattle.swreq_decl.specs.declared.skeleton.Skeleton.{Skeleton}
 use Rattle.swreq_names.specs.declared.signature.Signature.{Signature}
@@ -20,16 +19,20 @@ use Rattle.swreq_lowering.specs.Small.{HasFewParams}
 use Rattle.swreq_lowering.specs.Words.{WordsView}
 use Rattle.swreq_lowering.proofs.Growing.{are_of_stay, placed_stay}
 use Rattle.swreq_world.specs.declared.entry.Entry.{Entry}
-use Rattle.swreq_world.specs.ByTable.{signature_by, world_by, IsOverTable}
+use Rattle.swreq_world.specs.ByTable.{world_by, IsOverTable}
+use Rattle.swreq_world.specs.Declarations.{HasSignature}
 use Rattle.swreq_world.specs.Entries.{entry_view, entry_meant, IsEntryOf, FillsEntries}
 use Rattle.swreq_world.specs.declared.made.Lists.{Lists}
 use Rattle.swreq_world.specs.Made.{AreListsOf}
+use Rattle.swreq_world.specs.Own.{own_signature}
 use Rattle.swreq_world.specs.Ready.{IsReady}
 use Rattle.swreq_world.specs.Filling.{FillsLists, FillsQueries}
 use Rattle.swreq_world.specs.Text.{requirements_named, signature_in}
 use Rattle.swreq_world.specs.WorldOf.{IsWorldOf}
 use Rattle.swreq_world.specs.Worlds.{IdWorld}
 use Rattle.swreq_world.proofs.Filled.{fills_later, entry_of_stay, entry_stays}
+use Rattle.swreq_world.proofs.Standing.{IsIn, is_in}
+use Rattle.swreq_world.proofs.Whole.{whole_lists, whole_of}
 
 pub same_count : {A B C : Type 0} (f : A → B) (g : C → B) (xs : List A) (ys : List C) → map f xs ≡ map g ys → length xs ≡ length ys
 same_count f g xs ys e = sym (length-map xs f) ∙ ap length e ∙ length-map ys g
@@ -38,44 +41,41 @@ of_meant : (terms : List Term) (es : List Entry) → map (λ g. g.signature) (ma
 of_meant terms [] = refl
 of_meant terms (e ∷ es) = ap (λ gs. e.signature ∷ gs) (of_meant terms es)
 
-of_order : (w : WordsView) (order gs : List Signature) → map (λ g. g.signature) (map (signature_in w order) gs) ≡ gs
+of_order : (w : WordsView) (order gs : List Signature) → map (λ g. g.signature) (map (own_signature w order) gs) ≡ gs
 of_order w order [] = refl
 of_order w order (g ∷ gs) = ap (λ hs. g ∷ hs) (of_order w order gs)
 
 -- the signatures stand in their order
-pub order_is : (terms : List Term) (w : WordsView) (order : List Signature) (es : List Entry) → map (entry_meant terms) es ≡ map (signature_in w order) order → order ≡ map (λ e. e.signature) es
+pub order_is : (terms : List Term) (w : WordsView) (order : List Signature) (es : List Entry) → map (entry_meant terms) es ≡ map (own_signature w order) order → order ≡ map (λ e. e.signature) es
 order_is terms w order es e = sym (of_order w order order) ∙ sym (ap (map (λ g. g.signature)) e) ∙ of_meant terms es
 
-viewed : (terms : List Term) (es : List Entry) → map (signature_by terms) (map entry_view es) ≡ map (entry_meant terms) es
-viewed terms [] = refl
-viewed terms (e ∷ es) = ap (λ gs. entry_meant terms e ∷ gs) (viewed terms es)
-
-all_viewed : (terms : List Term) (es : List Entry) → All (IsEntryOf terms) es → All (λ g. AreOf terms g.requirements) (map entry_view es)
-all_viewed terms [] h k d l = absurd (omega arith)
-all_viewed terms (e ∷ es) h zero d l = h 0 e (omega arith)
-all_viewed terms (e ∷ es) h (suc k) d l = all_viewed terms es (λ j b m. h (suc j) b (omega arith)) k d (omega arith)
+-- Each signature in the order of the skeleton is declared.
+abbrev pub AllDeclared : Skeleton → Type 0
+AllDeclared s = (k : ℕ) (g : Signature) → slice_get (in_order s) k ≡ Some g → HasSignature s g
 
 abbrev pub made : LexiconView → List (List Written) → List Entry → List Query → IdWorld
-made lexicon listed es qs = record { lexicon = lexicon; requirements = listed; signatures = map entry_view es; queries = qs }
+made lexicon listed es qs = record { lexicon = lexicon; requirements = listed; signatures = map (entry_view es) es; queries = qs }
 
 module _ (text : List ℕ) (s : Skeleton) (lexicon : LexiconView) (order : List Signature) (listed : List (List Written)) (es : List Entry) (qs : List Query) (a b c d : List Term) (words : WordsView) where
-  pub the_world : words ≡ record { text = text; skeleton = s; lexicon = lexicon } → IsLexiconOf text s lexicon → order ≡ in_order s
-      → FillsLists a b (map (requirements_named words) words.lexicon.protocols) listed → FillsEntries b c (map (signature_in words order) order) es
+  pub the_world : words ≡ record { text = text; skeleton = s; lexicon = lexicon } → IsLexiconOf text s lexicon → AllDeclared s → order ≡ in_order s
+      → FillsLists a b (map (requirements_named words) words.lexicon.protocols) listed → FillsEntries b c (map (own_signature words order) order) es
       → FillsQueries c d (map (query_of words order) words.skeleton.queries) qs → IsWorldOf text s (world_by d (made lexicon listed es qs))
-  the_world e is o f g h = record {
+  the_world e is has o f g h = record {
     lexicon = is;
     requirements = (fills_later AreOf placed (λ u v x. are_of_stay u v x) (λ u v x. placed_stay u v x) a b d (map (requirements_named words) words.lexicon.protocols) listed f (onward b c d g.extends h.extends)).means
         ∙ (λ i. map (requirements_named (e i)) (e i).lexicon.protocols);
-    signatures = viewed d es ∙ (fills_later IsEntryOf entry_meant entry_of_stay entry_stays b c d (map (signature_in words order) order) es g h.extends).means
+    signatures = whole_lists words order d es (o ∙ sym (λ i. in_order (e i).skeleton))
+        (λ k t at. subst (λ (w : WordsView). IsIn w.skeleton t) (sym e) (is_in s t (has k t (ap (λ gs. slice_get gs k) (sym o) ∙ at))))
+        (fills_later IsEntryOf entry_meant entry_of_stay entry_stays b c d (map (own_signature words order) order) es g h.extends).means
         ∙ (λ i. map (signature_in (e i) (o i)) (o i));
     queries = h.means ∙ (λ i. map (query_of (e i) (o i)) (e i).skeleton.queries);
   }
 
-  pub over_table : FillsLists a b (map (requirements_named words) words.lexicon.protocols) listed → FillsEntries b c (map (signature_in words order) order) es
+  pub over_table : FillsLists a b (map (requirements_named words) words.lexicon.protocols) listed → FillsEntries b c (map (own_signature words order) order) es
       → FillsQueries c d (map (query_of words order) words.skeleton.queries) qs → IsOverTable d (made lexicon listed es qs)
   over_table f g h = record {
     requirements = (fills_later AreOf placed (λ u v x. are_of_stay u v x) (λ u v x. placed_stay u v x) a b d (map (requirements_named words) words.lexicon.protocols) listed f (onward b c d g.extends h.extends)).are_of;
-    signatures = all_viewed d es (fills_later IsEntryOf entry_meant entry_of_stay entry_stays b c d (map (signature_in words order) order) es g h.extends).are_of;
+    signatures = whole_of d es (fills_later IsEntryOf entry_meant entry_of_stay entry_stays b c d (map (own_signature words order) order) es g h.extends).are_of;
     queries = h.are_of;
   }
 
@@ -85,7 +85,7 @@ module _ (text : List ℕ) (s : Skeleton) (lexicon : LexiconView) (old new : Lis
   pub ready : words ≡ record { text = text; skeleton = s; lexicon = lexicon } → HasShortLists text s → IsLexiconOf text s lexicon → AreListsOf old new words lists → IsReady lexicon lists
   ready e short is made =
       let standing = order_is made.third words lists.order lists.signatures.items made.signatures.means in
-      let counted = same_count (entry_meant made.third) (signature_in words lists.order) lists.signatures.items lists.order made.signatures.means in
+      let counted = same_count (entry_meant made.third) (own_signature words lists.order) lists.signatures.items lists.order made.signatures.means in
       let all = ap length (made.order ∙ (λ i. in_order (e i).skeleton)) in
       let few = short.signatures in
       record {
@@ -97,10 +97,10 @@ module _ (text : List ℕ) (s : Skeleton) (lexicon : LexiconView) (old new : Lis
         one_to_one = one_to_one (assoc_cmp lexicon) (assoc_total (inherits lexicon) lexicon.associated) lexicon.associated is.associated.sorted;
       }
 
-  pub world_is : words ≡ record { text = text; skeleton = s; lexicon = lexicon } → IsLexiconOf text s lexicon → AreListsOf old new words lists
+  pub world_is : words ≡ record { text = text; skeleton = s; lexicon = lexicon } → IsLexiconOf text s lexicon → AllDeclared s → AreListsOf old new words lists
       → IsWorldOf text s (world_by new (made lexicon lists.requirements.items lists.signatures.items lists.queries.items))
-  world_is e is m =
-      the_world text s lexicon lists.order lists.requirements.items lists.signatures.items lists.queries.items old m.second m.third new words e is
+  world_is e is has m =
+      the_world text s lexicon lists.order lists.requirements.items lists.signatures.items lists.queries.items old m.second m.third new words e is has
       (m.order ∙ (λ i. in_order (e i).skeleton)) m.requirements m.signatures m.queries
 
   pub over_is : AreListsOf old new words lists → IsOverTable new (made lexicon lists.requirements.items lists.signatures.items lists.queries.items)

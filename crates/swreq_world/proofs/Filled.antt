@@ -53,10 +53,10 @@ module _ {A B : Type 0} (are_of : List Term → A → Type 0) (by : List Term �
   }
 
 pub entry_of_stay : (old new : List Term) (e : Entry) → Extends old new → IsEntryOf old e → IsEntryOf new e
-entry_of_stay old new e b h = are_of_stay old new e.listed b h
+entry_of_stay old new e b h = are_of_stay old new e.own b h
 
 pub entry_stays : (old new : List Term) (e : Entry) → Extends old new → IsEntryOf old e → entry_meant new e ≡ entry_meant old e
-entry_stays old new e b h = λ i. record { signature = e.signature; name = e.name; outer = e.outer; own_depth = e.own_depth; params = e.params; requirements = placed_stay old new e.listed b h i }
+entry_stays old new e b h = λ i. record { signature = e.signature; name = e.name; outer = e.outer; own_depth = e.own_depth; params = e.params; requirements = placed_stay old new e.own b h i }
 
 pub query_of_stay : (old new : List Term) (q : Query) → Extends old new → HasQueryIdsOf old q → HasQueryIdsOf new q
 query_of_stay old new (ids.Signature f) b h = tt

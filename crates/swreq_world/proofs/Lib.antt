@@ -4,7 +4,6 @@ pub mod Filled
 pub mod Within
 pub mod Looking
 pub mod OfSelf
-pub mod Assembling
 pub mod Associated
 pub mod Everywhere
 pub mod Resolving
@@ -13,6 +12,8 @@ pub mod InProtocols
 pub mod GenericParams
 pub mod InSignatures
 pub mod Standing
+pub mod Whole
+pub mod Assembling
 pub mod InQueries
 pub mod Offsets
 pub mod OnceDeclared

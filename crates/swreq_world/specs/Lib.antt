@@ -6,6 +6,7 @@ pub mod Text
 pub mod WorldOf
 pub mod Filling
 pub mod Entries
+pub mod Own
 pub mod Inside
 pub mod Lookups
 pub mod FactsAt

@@ -7,7 +7,8 @@ use Rattle.swreq_lowering.specs.Words.{WordsView}
 use Rattle.swreq_world.specs.declared.made.Lists.{Lists}
 use Rattle.swreq_world.specs.Entries.{FillsEntries}
 use Rattle.swreq_world.specs.Filling.{FillsLists, FillsQueries}
-use Rattle.swreq_world.specs.Text.{requirements_named, signature_in}
+use Rattle.swreq_world.specs.Own.{own_signature}
+use Rattle.swreq_world.specs.Text.{requirements_named}
 
 -- The lists of the text with these words, made over the tables between these.
 pub record AreListsOf (old new : List Term) (w : WordsView) (made : Lists) : Type 0 where
@@ -15,5 +16,5 @@ pub record AreListsOf (old new : List Term) (w : WordsView) (made : Lists) : Typ
   pub third : List Term
   pub order : made.order ≡ in_order w.skeleton
   pub requirements : FillsLists old second (map (requirements_named w) w.lexicon.protocols) made.requirements.items
-  pub signatures : FillsEntries second third (map (signature_in w made.order) made.order) made.signatures.items
+  pub signatures : FillsEntries second third (map (own_signature w made.order) made.order) made.signatures.items
   pub queries : FillsQueries third new (map (query_of w made.order) w.skeleton.queries) made.queries.items

@@ -15,6 +15,7 @@ use crate::making::lists_of;
 use crate::world::World;
 use std::alloc::{AllocError, Global};
 use swreq_decl::Skeleton;
+use swreq_lex::laws::tokens_are_slices;
 use swreq_lexicon::Lexicon;
 use swreq_lowering::laws::lists_are_short;
 use swreq_lowering::words_of;
@@ -38,6 +39,7 @@ fn assemble(
     ensures over { IfOk result (IsOverTable table.new) }
     ensures extends { Extends table.old table.new }
 {
+    tokens_are_slices(text);
     let words = words_of(text, s, &lexicon);
     let made = lists_of(alloc, table, &words)?;
     Ok(World::of(lexicon, made))

@@ -1,6 +1,7 @@
 // What one derives from the list of a signature.
-ghost use Rattle.std.specs.Prelude.{◌≡◌, ◌<◌, length};
+ghost use Rattle.std.specs.Prelude.{◌≡◌, ◌<◌, length, map};
 ghost use Rattle.swreq_world.specs.FactsAt.{facts_at};
+ghost use Rattle.swreq_world.specs.Worlds.{signature_at};
 
 use crate::facts::FunctionFacts;
 use crate::world::World;
@@ -9,14 +10,15 @@ use swreq_lowering::FuncId;
 use swreq_param::{AssocId, NameId, ProtoId};
 
 impl<'a> FunctionFacts<'a> {
-    /// The list of a signature.
-    pub fn of(world: &'a World, f: FuncId) -> FunctionFacts<'a>
-        requires { f.place < length world.now.signatures }
+    /// The list of a signature, `World::bare_signature`.
+    pub fn of(world: &'a World, f: FuncId, written: &'a [Requirement]) -> FunctionFacts<'a>
+        requires f { f.place < length world.now.signatures }
+        requires written { written.now ≡ map (λ r. r.requirement) (signature_at world.now f).requirements }
         ensures world { result.world.now ≡ world.now }
         ensures f { result.f ≡ f }
     {
         world.declared_once();
-        FunctionFacts { world, f }
+        FunctionFacts { world, f, written }
     }
 }
 
@@ -30,7 +32,7 @@ impl<'a> Facts for FunctionFacts<'a> {
     }
 
     fn written(&self) -> &[Requirement] {
-        self.world.bare_signature(self.f)
+        self.written
     }
 
     fn of_protocol(&self, p: ProtoId) -> &[Requirement] {

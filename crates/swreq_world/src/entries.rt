@@ -1,16 +1,15 @@
-// The signatures of a text, with their lists.
-ghost use Rattle.std.specs.Prelude.{◌≡◌, ◌<◌, ◌^◌, length, slice_get, map, IfOk};
+// The signatures of a text, each with what is written in itself.
+ghost use Rattle.std.specs.Prelude.{◌≡◌, slice_get, map, IfOk};
 ghost use Rattle.swreq_param.specs.Tables.{Extends};
 ghost use Rattle.swreq_world.specs.Entries.{IsEntryOf, entry_meant, FillsEntries};
-ghost use Rattle.swreq_world.specs.Text.{function_name, list_of, name_of, of_function, of_nested_in, of_struct, outer_of, signature_in, struct_name};
+ghost use Rattle.swreq_world.specs.Own.{of_inner, own_list, own_signature};
+ghost use Rattle.swreq_world.specs.Text.{function_name, name_of, of_function, of_struct, outer_of, struct_name};
 ghost use Rattle.swreq_lowering.specs.Adding.{Lists};
-ghost use Rattle.swreq_lowering.specs.Requirements.{in_nested};
 ghost use Rattle.swreq_lowering.specs.Short.{HasShortLists};
 ghost use Rattle.swreq_lowering.specs.Signatures.{functions_of};
 ghost use Rattle.swreq_lowering.specs.Words.{words_by};
 
 use crate::entry::Entry;
-use crate::listed::Listed;
 use crate::order::Order;
 use std::alloc::{AllocError, Global};
 use swreq_decl::{FunctionDecl, StructDecl};
@@ -104,26 +103,6 @@ fn list_of_function(
     }
 }
 
-/// The list of a struct, followed by what is written in a function of it.
-#[tactic(auto, using(swreq_param::proofs::Growing::onward))]
-fn list_within(
-    alloc: Global,
-    table: &mut ParamTable,
-    words: &Words<'_>,
-    outer: usize,
-    s: &StructDecl,
-    function: usize,
-    f: &FunctionDecl,
-) -> Result<Vec<Written>, AllocError>
-    requires outer { length s.now.params < 2 ^ 32 }
-    requires own { length f.now.params < 2 ^ 32 }
-    ensures lists { IfOk result (λ v. Lists table.old table.new (in_nested (words_by words.now) outer s.now function f.now) v.items) }
-    ensures extends { Extends table.old table.new }
-{
-    let list = of_struct(alloc, table, words, outer, s)?;
-    of_nested(alloc, table, words, outer, &list, function, f)
-}
-
 fn list_of_nested(
     alloc: Global,
     table: &mut ParamTable,
@@ -132,27 +111,27 @@ fn list_of_nested(
     function: usize,
 ) -> Result<Vec<Written>, AllocError>
     requires { HasShortLists words.now.text.now words.now.skeleton.now }
-    ensures lists { IfOk result (λ v. Lists table.old table.new (of_nested_in (words_by words.now) outer function (slice_get words.now.skeleton.now.structs outer)) v.items) }
+    ensures lists { IfOk result (λ v. Lists table.old table.new (of_inner (words_by words.now) outer function (slice_get (functions_of (slice_get words.now.skeleton.now.structs outer)) function)) v.items) }
     ensures extends { Extends table.old table.new }
 {
     match words.skeleton.structs.items().get(outer) {
         Some(s) => match s.functions.items().get(function) {
-            Some(f) => list_within(alloc, table, words, outer, s, function, f),
+            Some(f) => of_nested(alloc, table, words, outer, function, f),
             None => Ok(Vec::new(alloc)),
         },
         None => Ok(Vec::new(alloc)),
     }
 }
 
-/// The list of a signature.
-fn list_of(
+/// What is written in a signature itself.
+fn own_list(
     alloc: Global,
     table: &mut ParamTable,
     words: &Words<'_>,
     g: Signature,
 ) -> Result<Vec<Written>, AllocError>
     requires { HasShortLists words.now.text.now words.now.skeleton.now }
-    ensures lists { IfOk result (λ v. Lists table.old table.new (list_of (words_by words.now) g) v.items) }
+    ensures lists { IfOk result (λ v. Lists table.old table.new (own_list (words_by words.now) g) v.items) }
     ensures extends { Extends table.old table.new }
 {
     match g {
@@ -164,7 +143,7 @@ fn list_of(
     }
 }
 
-/// A signature with its list.
+/// A signature with its own requirements.
 fn entry(
     alloc: Global,
     table: &mut ParamTable,
@@ -175,20 +154,20 @@ fn entry(
     requires { HasShortLists words.now.text.now words.now.skeleton.now }
     ensures extends { Extends table.old table.new }
     ensures of { IfOk result (IsEntryOf table.new) }
-    ensures means { IfOk result (λ e. entry_meant table.new e ≡ signature_in (words_by words.now) order.now g) }
+    ensures means { IfOk result (λ e. entry_meant table.new e ≡ own_signature (words_by words.now) order.now g) }
 {
-    let written = list_of(alloc, table, words, g)?;
+    let own = own_list(alloc, table, words, g)?;
     Ok(Entry {
         signature: g,
         name: Seq::new(name_of(words, g).to_vec(alloc)?),
         outer: outer_of(order, g),
         own_depth: own_depth(words.skeleton, g),
         params: params_of(words.skeleton, g),
-        listed: Listed::of(alloc, written)?,
+        own: Seq::new(own),
     })
 }
 
-/// The signatures in written order, with their lists.
+/// The signatures in written order, each with its own requirements.
 #[tactic(auto, using(swreq_param::proofs::Growing::onward))]
 pub fn entries(
     alloc: Global,
@@ -197,7 +176,7 @@ pub fn entries(
     order: &Order,
 ) -> Result<Vec<Entry>, AllocError>
     requires { HasShortLists words.now.text.now words.now.skeleton.now }
-    ensures fills { IfOk result (λ v. FillsEntries table.old table.new (map (signature_in (words_by words.now) order.now) order.now) v.items) }
+    ensures fills { IfOk result (λ v. FillsEntries table.old table.new (map (own_signature (words_by words.now) order.now) order.now) v.items) }
     ensures extends { Extends table.old table.new }
 {
     let mut made = Vec::new(alloc);

@@ -53,7 +53,7 @@ impl Listed {
 }
 
 /// The requirements without the places of their sides.
-fn bare_of(alloc: Global, written: &[Written]) -> Result<Vec<Requirement>, AllocError>
+pub fn bare_of(alloc: Global, written: &[Written]) -> Result<Vec<Requirement>, AllocError>
     ensures { IfOk result (λ v. v.items ≡ map (λ w. w.requirement) written.now) }
 {
     written.iter().map(|w| w.requirement).collect(alloc)

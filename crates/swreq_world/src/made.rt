@@ -4,7 +4,7 @@ use crate::listed::Listed;
 use crate::order::Order;
 use swreq_lowering::Query;
 
-/// The signatures in written order, the requirements of the protocols by rank, the signatures with their lists, and the queries.
+/// The signatures in written order, the requirements of the protocols by rank, the signatures with their own requirements, and the queries.
 #[derive(Drop)]
 pub struct Lists {
     pub order: Order,

@@ -1,5 +1,5 @@
 // The world of a text.
-ghost use Rattle.std.specs.Prelude.{◌≡◌, ◌↔◌, ◌<◌, ◌≤◌, ℕ, IsTrue, [], Some, None, length, map, slice_get, slice_index_or, Contains, MatchOption};
+ghost use Rattle.std.specs.Prelude.{◌≡◌, ◌↔◌, ◌<◌, ◌≤◌, ℕ, IsTrue, [], Some, None, length, map, slice_get, slice_index_or, Contains, IfOk, MatchOption};
 ghost use Rattle.std.specs.Option.{option_map};
 ghost use Rattle.swreq_derive.specs.Facts.{AreOneToOne};
 ghost use Rattle.swreq_lexicon.specs.Lexicons.{associated_types, pair};
@@ -9,10 +9,11 @@ ghost use Rattle.swreq_world.specs.Lookups.{func_named, is_struct, outer_name, p
 ghost use Rattle.swreq_world.specs.Ready.{IsReady};
 ghost use Rattle.swreq_world.specs.Worlds.{requirements_of, signature_at};
 
-use crate::entry::Entry;
-use crate::listed::Listed;
+use crate::entry::{Entry, whole};
+use crate::listed::{Listed, bare_of};
 use crate::made::Lists;
 use crate::order::Order;
+use std::alloc::{AllocError, Global};
 use std::marker::Model;
 use swreq_derive::{Params, Requirement};
 use swreq_lexicon::{Lexicon, ProtocolName};
@@ -24,7 +25,8 @@ use swreq_text::Seq;
 /// The protocols, names, signatures and queries of a text, with the requirements that are written in it.
 ///
 /// A protocol, a name or an associated type is of the world where its rank is below the number of these, and a signature where
-/// its place is below `functions`. No call takes memory.
+/// its place is below `functions`. What a struct requires is kept once, for itself and its functions: the lists of signatures are put
+/// together when they are asked, and no other call takes memory.
 #[derive(Drop)]
 pub struct World {
     lexicon: Lexicon,
@@ -49,7 +51,7 @@ impl World {
     /// The world with this lexicon and these lists.
     pub(crate) fn of(lexicon: Lexicon, made: Lists) -> World
         requires { IsReady lexicon made }
-        ensures { result ≡ record { lexicon = lexicon; requirements = made.requirements.items; signatures = map entry_view made.signatures.items; queries = made.queries.items } }
+        ensures { result ≡ record { lexicon = lexicon; requirements = made.requirements.items; signatures = map (entry_view made.signatures.items) made.signatures.items; queries = made.queries.items } }
     {
         let Lists {
             order,
@@ -173,19 +175,21 @@ impl World {
     }
 
     /// The list of a signature, in the order of the places of its requirements.
-    pub fn signature(&self, f: FuncId) -> &[Written]
+    pub fn signature(&self, alloc: Global, f: FuncId) -> Result<Vec<Written>, AllocError>
         requires { f.place < length self.now.signatures }
-        ensures { result.now ≡ (signature_at self.now f).requirements }
+        ensures { IfOk result (λ v. v.items ≡ (signature_at self.now f).requirements) }
     {
-        self.entry(f).listed.written()
+        let entries = self.signatures.items();
+        whole(alloc, entries, &entries[f.place as usize])
     }
 
     /// The list of a signature without the places of the sides of its requirements.
-    pub fn bare_signature(&self, f: FuncId) -> &[Requirement]
+    pub fn bare_signature(&self, alloc: Global, f: FuncId) -> Result<Vec<Requirement>, AllocError>
         requires { f.place < length self.now.signatures }
-        ensures { result.now ≡ map (λ r. r.requirement) (signature_at self.now f).requirements }
+        ensures { IfOk result (λ v. v.items ≡ map (λ r. r.requirement) (signature_at self.now f).requirements) }
     {
-        self.entry(f).listed.bare()
+        let list = self.signature(alloc, f)?;
+        bare_of(alloc, &list)
     }
 
     /// The generic parameters of a signature.
@@ -325,7 +329,11 @@ impl World {
     /// A signature.
     fn entry(&self, f: FuncId) -> &Entry
         requires { f.place < length self.now.signatures }
-        ensures { entry_view result.now ≡ signature_at self.now f }
+        ensures signature { result.now.signature ≡ (signature_at self.now f).signature }
+        ensures name { result.now.name ≡ (signature_at self.now f).name }
+        ensures outer { result.now.outer ≡ (signature_at self.now f).outer }
+        ensures own_depth { result.now.own_depth ≡ (signature_at self.now f).own_depth }
+        ensures params { result.now.params ≡ (signature_at self.now f).params }
     {
         &self.signatures.items()[f.place as usize]
     }

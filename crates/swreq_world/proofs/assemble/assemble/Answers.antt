@@ -1,11 +1,15 @@
 use Rattle.std.proofs.Common.{sym, subst}
+use Rattle.std.specs.Str.{chars}
+use Rattle.swreq_lex.specs.Tokens.{first_offset}
 use Rattle.swreq_names.specs.Names.{HasDeclared}
 use Rattle.swreq_lowering.specs.Short.{HasShortLists}
 use Rattle.swreq_lowering.specs.Words.{WordsView, words_by}
 use Rattle.swreq_world.specs.ByTable.{world_by, IsOverTable}
 use Rattle.swreq_world.specs.WorldOf.{IsWorldOf}
 use Rattle.swreq_world.specs.Worlds.{IdWorld}
+use Rattle.swreq_world.proofs.AsDeclared.{all_declared}
 use Rattle.swreq_world.proofs.Assembling.{ready, world_is, over_is}
+use Rattle.swreq_world.proofs.Offsets.{functions_rising}
 use Rattle.swreq_world.proofs.assemble.assemble.Goals as goal
 
 pub words_of-words-requires : goal.words_of-words-requires
@@ -25,7 +29,8 @@ of-requires c =
 pub returns : goal.returns
 returns c = record {
   world = subst (λ (w : IdWorld). IsWorldOf c.args.text.now c.args.s.now (world_by c.lists_of.new.table w)) (sym c.of.ensures)
-      (world_is c.args.text.now c.args.s.now c.args.lexicon c.args.table.now c.lists_of.new.table (words_by c.words_of-words.result) c.in_ok-made.made c.words_of-words.ensures c.requires.lexicon c.in_ok-made.ensures.lists);
+      (world_is c.args.text.now c.args.s.now c.args.lexicon c.args.table.now c.lists_of.new.table (words_by c.words_of-words.result) c.in_ok-made.made c.words_of-words.ensures c.requires.lexicon
+      (all_declared c.args.s.now (first_offset (chars c.args.text.now)) (functions_rising c.args.text.now c.args.s.now c.tokens_are_slices.ensures c.requires.stands)) c.in_ok-made.ensures.lists);
   over = subst (IsOverTable c.lists_of.new.table) (sym c.of.ensures)
       (over_is c.args.text.now c.args.s.now c.args.lexicon c.args.table.now c.lists_of.new.table (words_by c.words_of-words.result) c.in_ok-made.made c.in_ok-made.ensures.lists);
   extends = c.in_ok-made.ensures.extends;
