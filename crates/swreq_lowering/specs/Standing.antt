@@ -54,7 +54,7 @@ first_word (parameter k g) = g
 first_word (written t) = t.head
 
 module _ (w : WordsView) where
-  -- What is bound has arguments, and this one has the place of this primary name.
+  -- This is a primary name of the protocol, and this the argument that stands at its place.
   abbrev pub IsArgumentOf : Entity → Span → TypeDecl → Type 0
   IsArgumentOf e a u = (k : ℕ) × (slice_get (primaries_named w e.span) k ≡ Some a) × (slice_get e.args k ≡ Some u)
 
