@@ -1,4 +1,3 @@
-pub mod Counting
 pub mod Places
 pub mod Declarers
 pub mod KeyOrders
@@ -18,3 +17,4 @@ pub mod Keyed
 pub mod PairKeys
 pub mod PairPlaces
 pub mod Known
+pub mod PlaceSets

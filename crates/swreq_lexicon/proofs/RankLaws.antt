@@ -136,7 +136,7 @@ by_name rest ds sorted i j d e f g h =
 
 -- ---- places
 
-place_is : (all : List Bytes) (name : Bytes) (k : ℕ) → position_from (bytes_eq name) 0 all ≡ Some k → slice_get all k ≡ Some name
+pub place_is : (all : List Bytes) (name : Bytes) (k : ℕ) → position_from (bytes_eq name) 0 all ≡ Some k → slice_get all k ≡ Some name
 place_is all name k h =
     let s = position-Some (bytes_eq name) all k name (position_from-zero (bytes_eq name) all ∙ h) in
     slice_get-get_or all k name s.0 ∙ ap Some (sym ((bytes_eq-Decides name (get_or all k name)).0 s.1))

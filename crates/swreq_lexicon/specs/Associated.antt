@@ -1,8 +1,9 @@
 -- What protocols declare and inherit, and the orders that rest on it.
-use Rattle.std.specs.Prelude.{◌≡◌, ◌⊎◌, ◌+◌, ℕ, zero, suc, Bool, true, cond, not, ◌&&◌, nat_eq, List, Contains}
+use Rattle.std.specs.Prelude.{◌≡◌, ◌⊎◌, ℕ, Bool, true, cond, not, ◌&&◌, nat_eq, List, Contains}
 use Rattle.std.specs.List.{list_any}
 use Rattle.std.specs.declared.cmp.Ordering.{Ordering}
 use Rattle.std.specs.Ordering.{nat_cmp, then_cmp, on}
+pub use Rattle.swreq_closure.specs.Bits.{count_below}
 use Rattle.swreq_param.specs.declared.ids.NameId.{NameId}
 use Rattle.swreq_param.specs.declared.ids.ProtoId.{ProtoId}
 use Rattle.swreq_lexicon.specs.declared.pair.ProtocolName.{ProtocolName}
@@ -14,11 +15,6 @@ protocol r = record { rank = r }
 
 abbrev pub name : ℕ → NameId
 name r = record { rank = r }
-
--- how many numbers below n pass the test
-abbrev pub count_below : (ℕ → Bool) → ℕ → ℕ
-count_below test zero = 0
-count_below test (suc n) = count_below test n + cond (test n) 1 0
 
 -- inherits p q: p inherits q
 module _ (inherits : ProtoId → ProtoId → Bool) where

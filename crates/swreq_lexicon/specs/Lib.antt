@@ -4,3 +4,4 @@ pub mod Keys
 pub mod Symbols
 pub mod Views
 pub mod Texts
+pub mod PlaceSets

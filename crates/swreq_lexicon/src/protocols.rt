@@ -1,16 +1,20 @@
 // The protocols of a text by rank.
-ghost use Rattle.std.specs.Prelude.{◌≡◌, ◌<◌, ◌≤◌, ◌+◌, ◌++◌, ◌∷◌, [], ◌↔◌, ℕ, List, length, map, cond, slice_get, slice_index, slice_index_or, unwrap_or, Some, MatchOption, IfOk, Contains};
+ghost use Rattle.std.specs.Prelude.{◌≡◌, ◌<◌, ◌≤◌, ◌+◌, ◌*◌, ◌/◌, ◌++◌, ◌∷◌, [], ◌↔◌, ℕ, List, length, map, cond, slice_get, slice_index, slice_index_or, unwrap_or, Some, MatchOption, IfOk, Contains};
 ghost use Rattle.std.specs.List.{position_from};
 ghost use Rattle.std.specs.Str.{bytes_eq};
+ghost use Rattle.swreq_closure.specs.Bits.{room};
+ghost use Rattle.swreq_closure.specs.Walks.{AreApart};
 ghost use Rattle.swreq_names.specs.Spaces.{word, declarations, place};
 ghost use Rattle.swreq_lexicon.specs.Associated.{depth};
 ghost use Rattle.swreq_lexicon.specs.Lexicons.{proto_by};
+ghost use Rattle.swreq_lexicon.specs.PlaceSets.{IsSetOf};
 ghost use Rattle.swreq_rank.specs.Ranks.{Bytes, IsRanking, bytes_cmp, rank};
 ghost use Rattle.swreq_lexicon.specs.Texts.{protocol_names};
 ghost use Rattle.swreq_lexicon.specs.Views.{place_by, inherits_by};
 
 use std::alloc::{AllocError, Global};
 use std::marker::Model;
+use swreq_closure::Bits;
 use swreq_decl::ProtocolDecl;
 use swreq_names::{Names, word};
 use swreq_param::ProtoId;
@@ -23,12 +27,16 @@ pub struct Protocols {
     ranks: Ranks,
     /// Of each protocol, by rank, the first place of its name in written order.
     places: Vec<usize>,
+    /// The set of these places.
+    firsts: Bits,
     written_order: Vec<ProtoId>,
     resolved: Names,
 }
 
 impl Model for Protocols {
-    ghost use Rattle.std.specs.Prelude.{◌≤◌, length};
+    ghost use Rattle.std.specs.Prelude.{◌≡◌, ◌≤◌, length};
+    ghost use Rattle.swreq_closure.specs.Bits.{room};
+    ghost use Rattle.swreq_lexicon.specs.PlaceSets.{IsSetOf};
     ghost use Rattle.swreq_lexicon.specs.Views.{ProtocolsView};
 
     ghost Value = { ProtocolsView };
@@ -40,7 +48,8 @@ impl Model for Protocols {
       resolved = p.resolved;
     } };
 
-    ghost invariant = { λ p. (length p.ranks ≤ 1048576) × (length p.ranks ≤ length p.written_order.items) };
+    ghost invariant = { λ p. (length p.ranks ≤ 1048576) × (length p.ranks ≤ length p.written_order.items)
+        × (length p.places.items ≡ length p.ranks) × (room p.firsts ≤ 18446744073709551615) × IsSetOf p.places.items p.firsts };
 }
 
 impl Protocols {
@@ -61,10 +70,12 @@ impl Protocols {
     {
         let ranks = ranks_of(alloc, text, protocols)?;
         let places = places(alloc, &resolved, &ranks)?;
+        let firsts = set_of(alloc, &places, protocols.len())?;
         let written_order = written_order(alloc, text, protocols, &ranks)?;
         Ok(Protocols {
             ranks,
             places,
+            firsts,
             written_order,
             resolved,
         })
@@ -130,17 +141,11 @@ impl Protocols {
     }
 
     /// How many protocols it inherits.
-    #[tactic(auto, using(crate::proofs::Counting::count_yes, crate::proofs::Counting::count_no))]
     pub fn depth(&self, p: ProtoId) -> u32
         ensures { result ≡ depth (inherits_by self.now.places self.now.resolved.inherits) (length self.now.protocols) p }
     {
-        let mut count = 0;
-        for rank in 0..self.len() {
-            if self.inherits(p, ProtoId { rank }) {
-                count += 1;
-            }
-        }
-        count
+        let inheritance = self.resolved.inheritance();
+        inheritance.count(self.place(p), &self.firsts) as u32
     }
 
     /// What the names of the text refer to.
@@ -200,6 +205,20 @@ fn places(alloc: Global, resolved: &Names, ranks: &Ranks) -> Result<Vec<usize>, 
         places.push(first_place(resolved, ranks.name(rank)))?;
     }
     Ok(places)
+}
+
+/// The set of these places, which are below a bound.
+fn set_of(alloc: Global, places: &[usize], bound: usize) -> Result<Bits, AllocError>
+    requires within { (r : ℕ) → r < length places.now → slice_index_or places.now r 0 < bound }
+    requires apart { AreApart places.now }
+    ensures set { IfOk result (IsSetOf places.now) }
+    ensures room { IfOk result (λ set. room set ≡ 64 * (bound / 64 + 1)) }
+{
+    let mut set = Bits::with_room(alloc, bound)?;
+    for place in places {
+        set.insert(*place);
+    }
+    Ok(set)
 }
 
 /// The protocols in written order.

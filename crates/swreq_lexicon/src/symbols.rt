@@ -189,28 +189,6 @@ fn order(alloc: Global, protocols: &Protocols) -> Result<Vec<ProtoId>, AllocErro
     Ok(order)
 }
 
-/// Counts the member symbols of one protocol, each at its name.
-fn count(
-    protocols: &Protocols,
-    associated: &Associated,
-    members: &Members,
-    p: ProtoId,
-    counts: &mut Vec<u64>,
-)
-    requires known { AreKnown (has_member (inherits_by protocols.now.places protocols.now.resolved.inherits) associated.now) members.now }
-    requires names { length counts.old.items ≤ 1048576 }
-    requires small { (a : ℕ) → a < length counts.old.items → slice_index counts.old.items a < 1048576 }
-    ensures len { length counts.new.items ≡ length counts.old.items }
-    ensures each { (a : ℕ) → a < length counts.old.items → slice_index counts.new.items a
-        ≡ slice_index counts.old.items a + cond (has_member (inherits_by protocols.now.places protocols.now.resolved.inherits) associated.now p (name a)) 1 0 }
-{
-    for rank in 0..counts.len() {
-        if members.has(protocols, associated, p, NameId { rank: rank as u32 }) {
-            counts[rank] += 1;
-        }
-    }
-}
-
 /// How many member symbols each of the first `names` names has.
 fn counts(
     alloc: Global,
@@ -221,13 +199,14 @@ fn counts(
     names: usize,
 ) -> Result<Vec<u64>, AllocError>
     requires known { AreKnown (has_member (inherits_by protocols.now.places protocols.now.resolved.inherits) associated.now) members.now }
-    requires few { length order.now ≤ 1048576 }
     requires names { names ≤ 1048576 }
     ensures { IfOk result (λ counts. AreCounts order.now (has_member (inherits_by protocols.now.places protocols.now.resolved.inherits) associated.now) names counts.items) }
 {
-    let mut counts = vec![in alloc; 0; names]?;
-    for p in order {
-        count(protocols, associated, members, *p, &mut counts);
+    let mut counts = Vec::new(alloc);
+    for rank in 0..names {
+        let a = NameId { rank: rank as u32 };
+        let count = count_before(protocols, associated, members, order, order.len(), a);
+        counts.push(count as u64)?;
     }
     Ok(counts)
 }
