@@ -32,3 +32,4 @@ pub mod Subjects
 pub mod Unrefused
 pub mod Saying
 pub mod SayingQueries
+pub mod Counting

@@ -14,3 +14,4 @@ pub mod Made
 pub mod Ready
 pub mod Closed
 pub mod ReadBack
+pub mod Short

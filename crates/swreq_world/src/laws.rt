@@ -1,5 +1,5 @@
 //! What holds of the world of each text.
-ghost use Rattle.std.specs.Prelude.{◌≡◌, ◌↔◌, ◌<◌, All, Contains, IsTrue, List, Option, Some, false, length, map, slice_get, ℕ};
+ghost use Rattle.std.specs.Prelude.{◌≡◌, ◌↔◌, ◌<◌, ◌≤◌, All, Contains, IsTrue, List, Option, Some, false, length, map, slice_get, ℕ};
 ghost use Rattle.swreq_decl.specs.declared.skeleton.Entity.{Entity};
 ghost use Rattle.swreq_decl.specs.declared.skeleton.ProtocolDecl.{ProtocolDecl};
 ghost use Rattle.swreq_decl.specs.declared.skeleton.QueryDecl.{QueryDecl};
@@ -28,10 +28,12 @@ ghost use Rattle.swreq_world.specs.FactsAt.{facts_of};
 ghost use Rattle.swreq_world.specs.Inheritance.{LeadsOnTo};
 ghost use Rattle.swreq_world.specs.Lookups.{func_named, param_of_signature, IsNamedAt, IsParamNamed};
 ghost use Rattle.swreq_world.specs.ReadBack.{IsReadIn, IsSaid, SayNames, SaysConstraint, SaysProtocol, SaysQuery};
+ghost use Rattle.swreq_world.specs.Short.{IsShort};
 ghost use Rattle.swreq_world.specs.WorldOf.{IsWorldOf, words_of};
 ghost use Rattle.swreq_world.specs.Worlds.{IdWorld, TextWorld, signature_at};
 
 use swreq_lex::laws::tokens_are_slices;
+use swreq_lowering::laws::{lists_are_short, requirements_are_few};
 
 /// Each signature that a skeleton declares stands at its place among the signatures, and nowhere else.
 pub fn signatures_have_places()
@@ -101,4 +103,15 @@ pub fn worlds_are_closed(text: &[u8])
         → StandsFor text.now s → IsWorldOf text.now s w → Resolve text.now s → IsClosed w }
 {
     tokens_are_slices(text);
+}
+
+/// Numbers of 32 bits count the requirements of each protocol and of each signature in the world of a text of at most 1,048,576 bytes.
+pub fn worlds_are_short(text: &[u8])
+    ensures world { length text.now ≤ 1048576 → (s : Skeleton) (w : TextWorld)
+        → StandsFor text.now s → IsWorldOf text.now s w → IsShort w }
+    ensures by_table { length text.now ≤ 1048576 → (terms : List Term) (s : Skeleton) (w : IdWorld)
+        → StandsFor text.now s → IsWorldOf text.now s (world_by terms w) → IsShort w }
+{
+    lists_are_short(text);
+    requirements_are_few(text);
 }
