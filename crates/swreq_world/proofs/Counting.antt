@@ -21,7 +21,7 @@ use Rattle.swreq_lowering.specs.Signatures.{in_order}
 use Rattle.swreq_lowering.specs.Words.{WordsView, declared}
 use Rattle.swreq_world.specs.ByTable.{signature_by, world_by}
 use Rattle.swreq_world.specs.Short.{IsShort}
-use Rattle.swreq_world.specs.Text.{list_of, of_function, of_nested, of_nested_in, of_place, of_protocol, of_struct, requirements_named, signature_in, signatures}
+use Rattle.swreq_world.specs.Text.{list_of, of_function, of_nested, of_nested_in, of_place, of_protocol, of_struct, requirements_named, signature_in}
 use Rattle.swreq_world.specs.WorldOf.{IsWorldOf, words_of}
 use Rattle.swreq_world.specs.Worlds.{IdWorld, SignatureOver, TextWorld}
 

@@ -1,5 +1,5 @@
 -- Lists of a world that are short.
-use Rattle.std.specs.Prelude.{ℕ, ◌<◌, ◌^◌, All, length}
+use Rattle.std.specs.Prelude.{◌<◌, ◌^◌, All, length}
 use Rattle.swreq_world.specs.Worlds.{WorldOver}
 
 -- Numbers of 32 bits count the requirements of each protocol and of each signature, the signatures and the queries.
