@@ -1,15 +1,15 @@
-use Rattle.std.proofs.Common.{refl}
+use Rattle.std.proofs.Common.{refl, ◌∙◌}
 use Rattle.swreq_top.proofs.OfLists.{machine_is, only_memory, params_are, signature_written}
 use Rattle.swreq_valid.specs.Rounds.{last_rules}
 use Rattle.swreq_top.proofs.minimising.machine_of.Goals as goal
 
 pub build-requires-clause-written : goal.build-requires-clause-written
 build-requires-clause-written c =
-    signature_written c.args.world.now c.args.table.now c.args.f c.requires.text c.requires.f c.in_ok-list.list.items c.in_ok-list.ensures
+    signature_written c.args.world.now c.args.table.now c.args.f c.requires.text c.requires.f c.deref.result.now (c.deref.ensures.value ∙ c.in_ok-list.ensures)
 
 pub returns-in-Ok-clause-machine : goal.returns-in-Ok-clause-machine
 returns-in-Ok-clause-machine c =
-    machine_is c.args.world.now c.args.table.now c.args.f c.in_ok-list.list.items c.in-Ok.machine c.in_ok-list.ensures c.in-Ok.ensures.machine
+    machine_is c.args.world.now c.args.table.now c.args.f c.deref.result.now c.in-Ok.machine (c.deref.ensures.value ∙ c.in_ok-list.ensures) c.in-Ok.ensures.machine
 
 pub returns-in-Ok-clause-params : goal.returns-in-Ok-clause-params
 returns-in-Ok-clause-params c =
@@ -17,5 +17,5 @@ returns-in-Ok-clause-params c =
 
 pub lost-requires : goal.lost-requires
 lost-requires c =
-    only_memory c.args.world.now c.args.table.now c.args.f c.args.limits (last_rules c.args.protocols.now.rounds) c.params.result c.in_ok-list.list.items
-    c.params.ensures c.in_ok-list.ensures _ c.requires.passed.built.signatures c.requires.f _ c.in-Err.ensures.only c.in-Err.refused refl
+    only_memory c.args.world.now c.args.table.now c.args.f c.args.limits (last_rules c.args.protocols.now.rounds) c.params.result c.deref.result.now
+    c.params.ensures (c.deref.ensures.value ∙ c.in_ok-list.ensures) _ c.requires.passed.built.signatures c.requires.f _ c.in-Err.ensures.only c.in-Err.refused refl
