@@ -17,7 +17,6 @@ use Rattle.swreq_world.specs.Worlds.{IdWorld, SignatureOver, TextWorld, no_signa
 use Rattle.swreq_symbols.proofs.OfText.{signature_written as is_written}
 use Rattle.swreq_symbols.specs.Known.{IsTextOver}
 use Rattle.swreq_valid.specs.Plans.{AreWritten}
-use Rattle.swreq_minimal.specs.Inheritance.{IsInheritanceWritten}
 
 -- the world of a text whose names resolve
 pub text_over : {E : Type 0} (text : List ℕ) (s : Skeleton) (terms : List Term) (r : Result IdWorld E) → StandsFor text s
@@ -25,13 +24,6 @@ pub text_over : {E : Type 0} (text : List ℕ) (s : Skeleton) (terms : List Term
     → IfOk r (λ w. IsWorldOf text s (world_by terms w)) → IfOk r (IsOverTable terms) → (IsOk r → Resolve text s) → IfOk r (IsTextOver terms)
 text_over text s terms (Ok w) stands law is over ok = record { table = over; closed = law s (world_by terms w) stands is (ok refl) }
 text_over text s terms (Err e) stands law is over ok = tt
-
--- inheritance is written in it
-pub inheritance_over : {E : Type 0} (text : List ℕ) (s : Skeleton) (terms : List Term) (r : Result IdWorld E)
-    → ((t : List ℕ) (z : Skeleton) (w : TextWorld) → IsWorldOf t z w → Resolve t z → IsInheritanceWritten w)
-    → IfOk r (λ w. IsWorldOf text s (world_by terms w)) → (IsOk r → Resolve text s) → IfOk r (λ w. IsInheritanceWritten (world_by terms w))
-inheritance_over text s terms (Ok w) law is ok = law text s (world_by terms w) is (ok refl)
-inheritance_over text s terms (Err e) law is ok = tt
 
 module _ (w : IdWorld) (terms : List Term) (text : IsTextOver terms w) where
   -- the list of a signature is of the table and of the text

@@ -5,7 +5,6 @@ ghost use Rattle.swreq_symbols.specs.Known.{IsTextOver};
 ghost use Rattle.swreq_world.specs.ByTable.{world_by};
 ghost use Rattle.swreq_valid.specs.Machines.{AreRulesOf};
 ghost use Rattle.swreq_valid.specs.Rounds.{last_rules};
-ghost use Rattle.swreq_minimal.specs.Inheritance.{IsInheritanceWritten};
 
 use crate::worlds::world_of;
 use std::alloc::Global;
@@ -69,7 +68,6 @@ fn kept(
     watch: &mut Recorder,
 ) -> Result<String, Fail>
     requires text { IsTextOver table.old world.now }
-    requires inheritance { IsInheritanceWritten (world_by table.old world.now) }
     requires protocols { AreRulesOf (world_by table.old world.now) (last_rules protocols.now.rounds) }
     requires limits { AreInRange limits }
 {
@@ -90,7 +88,6 @@ fn kept_of(
     watch: &mut Recorder,
 ) -> Result<String, Fail>
     requires text { IsTextOver table.old world.now }
-    requires inheritance { IsInheritanceWritten (world_by table.old world.now) }
     requires protocols { AreRulesOf (world_by table.old world.now) (last_rules protocols.now.rounds) }
     requires f { f.place < length world.now.signatures }
     requires limits { AreInRange limits }
@@ -110,7 +107,6 @@ fn kept_of_first(
     watch: &mut Recorder,
 ) -> Result<String, Fail>
     requires text { IsTextOver table.old world.now }
-    requires inheritance { IsInheritanceWritten (world_by table.old world.now) }
     requires limits { AreInRange limits }
 {
     let f = FuncId { place: 0 };

@@ -2,13 +2,10 @@
 ghost use Rattle.std.specs.Prelude.{◌≤◌, length, IfOk};
 ghost use Rattle.swreq_decl.specs.Skeletons.{StandsFor};
 ghost use Rattle.swreq_symbols.specs.Known.{IsTextOver};
-ghost use Rattle.swreq_world.specs.ByTable.{world_by};
-ghost use Rattle.swreq_minimal.specs.Inheritance.{IsInheritanceWritten};
 
 use std::alloc::Global;
 use std::test::Fail;
 use swreq_decl::Skeleton;
-use swreq_minimal::laws::inheritance_is_written;
 use swreq_param::ParamTable;
 use swreq_resolve::NameErr;
 use swreq_samples::skeleton_of;
@@ -25,17 +22,14 @@ fn world_over(
     requires limit { length text.now ≤ 1048576 }
     requires stands { StandsFor text.now skeleton.now }
     ensures text { IfOk result (IsTextOver table.new) }
-    ensures inheritance { IfOk result (λ w. IsInheritanceWritten (world_by table.new w)) }
 {
     worlds_are_closed(text);
-    inheritance_is_written();
     World::resolve(alloc, text, skeleton, table)
 }
 
 /// The world of a text, over the table.
 pub(crate) fn world_of(alloc: Global, text: &[u8], table: &mut ParamTable) -> Result<World, Fail>
     ensures text { IfOk result (IsTextOver table.new) }
-    ensures inheritance { IfOk result (λ w. IsInheritanceWritten (world_by table.new w)) }
 {
     if text.len() > 1_048_576 {
         return Err("a text that is too long".into());

@@ -15,19 +15,18 @@ use Rattle.swreq_world.specs.Closed.{IsClosed}
 use Rattle.swreq_world.specs.Worlds.{TextWorld}
 use Rattle.swreq_valid.specs.Machines.{AreRulesOf, IsMachineOf, MachineView}
 use Rattle.swreq_valid.specs.Rounds.{last_rules}
-use Rattle.swreq_minimal.specs.Inheritance.{IsInheritanceWritten}
 use Rattle.swreq_minimal.proofs.Named.{members_named}
 
-pub completed : (w : TextWorld) → IsClosed w → IsInheritanceWritten w
+pub completed : (w : TextWorld) → IsClosed w
     → (protocols : List Rule) → IsComplete protocols → AreRulesOf w protocols
     → (list : List TermRequirement) (machine : MachineView) → IsComplete (last_rules machine.rounds) → IsMachineOf w list machine
     → IsCompleted (symbols_of w.lexicon) (facts_of w) (generic_params machine.params) list
-completed w closed written protocols complete rules list machine complete_too is = record {
+completed w closed protocols complete rules list machine complete_too is = record {
   symbols = symbols_law w closed;
   of_text = text_law w closed;
   in_text = is.in_text;
   ranked = ranks_law w closed;
-  named = members_named w closed written;
+  named = members_named w closed;
   protocols = least_words protocols (ProtocolEquation (symbols_of w.lexicon) (facts_of w)) rules complete.meet;
   of_list = least_words (last_rules machine.rounds) (UsableEquation (symbols_of w.lexicon) (facts_of w) (Written (generic_params machine.params) list)) is.rules complete_too.meet;
 }

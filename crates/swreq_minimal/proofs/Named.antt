@@ -1,13 +1,14 @@
--- Where inheritance is written, `Self` of each protocol conforms to a protocol that declares the name of a member symbol of it.
-use Rattle.std.proofs.Common.{◌≡◌, ◌∙◌, ⊎_elim, ap, subst, sym, Some, Contains}
+-- `Self` of each protocol conforms to a protocol that declares the name of a member symbol of it.
+use Rattle.std.proofs.Common.{◌≡◌, ◌∙◌, ⊎_elim, ap, subst, sym, Some, Contains, IsTrue}
 use Rattle.std.proofs.lemmas.Option.{slice_get-get_or}
 use Rattle.swreq_param.specs.declared.ids.AssocId.{AssocId}
 use Rattle.swreq_param.specs.declared.ids.ProtoId.{ProtoId}
 use Rattle.swreq_derive.specs.Derivation.{Declares}
 use Rattle.swreq_derive.specs.Inheritance.{LeadsTo}
-use Rattle.swreq_derive.specs.Inheritance.LeadsTo.{here}
+use Rattle.swreq_derive.specs.Inheritance.LeadsTo.{further, here}
 use Rattle.swreq_lexicon.specs.declared.pair.ProtocolName.{ProtocolName}
 use Rattle.swreq_lexicon.specs.Lexicons.{pair}
+use Rattle.swreq_lexicon.specs.Views.{IsProtocol, inherits}
 use Rattle.swreq_correspondence.specs.Symbols.{name_of, proto_of}
 use Rattle.swreq_world.specs.Closed.{IsClosed}
 use Rattle.swreq_world.specs.Worlds.{TextWorld}
@@ -16,9 +17,11 @@ use Rattle.swreq_candidates.proofs.Inherited.{declared_named}
 use Rattle.swreq_symbols.specs.Meaning.{facts_of, symbols_of}
 use Rattle.swreq_orders.proofs.Elements.{get_contains}
 use Rattle.swreq_symbols.proofs.Declared.{from_rank, member_is, of_rank}
-use Rattle.swreq_minimal.specs.Inheritance.{IsInheritanceWritten}
 
-module _ (w : TextWorld) (closed : IsClosed w) (written : IsInheritanceWritten w) where
+module _ (w : TextWorld) (closed : IsClosed w) where
+  pub leads_to : (p q : ProtoId) → IsProtocol w.lexicon p → IsProtocol w.lexicon q → IsTrue (inherits w.lexicon p q) → LeadsTo (facts_of w) p q
+  leads_to p q h k e = let chain = (closed.inheritance p q h k).0 e in further chain.1 chain.2
+
   members_declared : AreMembersDeclared (symbols_of w.lexicon) (facts_of w)
   members_declared k h =
       let (e, at) = of_rank w.lexicon k h in
@@ -26,7 +29,7 @@ module _ (w : TextWorld) (closed : IsClosed w) (written : IsInheritanceWritten w
       let is_it = member_is w.lexicon k e at in
       by e (sym (ap (λ z. z.proto) is_it)) (sym (ap (λ z. z.name) is_it))
       (⊎_elim (λ c. (e.proto, here, c))
-      (λ t. let (q, i, c) = t in (q, written e.proto q of_text.0 (closed.ids.associated (pair q e.name) c).0 i, c)) of_text.1)
+      (λ t. let (q, i, c) = t in (q, leads_to e.proto q of_text.0 (closed.ids.associated (pair q e.name) c).0 i, c)) of_text.1)
     where
       by : (e : ProtocolName) → e.proto ≡ proto_of (symbols_of w.lexicon) k → e.name ≡ name_of (symbols_of w.lexicon) k
           → ((q : ProtoId) × LeadsTo (facts_of w) e.proto q × Contains w.lexicon.associated (pair q e.name))

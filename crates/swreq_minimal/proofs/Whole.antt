@@ -28,7 +28,6 @@ use Rattle.swreq_world.specs.ByTable.{world_by}
 use Rattle.swreq_world.specs.Worlds.{IdWorld, TextWorld}
 use Rattle.swreq_valid.specs.Machines.{AreRulesOf, IsMachineOf, MachineView, list_of}
 use Rattle.swreq_valid.specs.Rounds.{last_rules}
-use Rattle.swreq_minimal.specs.Inheritance.{IsInheritanceWritten}
 use Rattle.swreq_minimal.specs.Passed.{IsPassed, IsPassedOf, IsSifted}
 use Rattle.swreq_minimal.specs.Told.{TellsFailure, TellsParts}
 use Rattle.swreq_minimal.proofs.Completing.{completed}
@@ -39,7 +38,6 @@ use Rattle.swreq_minimal.proofs.Telling.{failure_of, tells_of}
 pub record IsReadOffMachine (old new : List Term) (w : IdWorld) (protocols : List Rule) (machine : MachineView) (list found : List TermRequirement) : Type 0 where
   pub text : IsTextOver old w
   pub more : Extends old new
-  pub written : IsInheritanceWritten (world_by old w)
   pub complete : IsComplete protocols
   pub rules : AreRulesOf (world_by old w) protocols
   pub complete_too : IsComplete (last_rules machine.rounds)
@@ -59,7 +57,7 @@ module _ (old new : List Term) (w : IdWorld) (protocols : List Rule) (machine : 
   ps = generic_params machine.params
 
   ended : IsCompleted m f ps list
-  ended = completed (world_by old w) read.text.closed read.written protocols read.complete read.rules list machine read.complete_too read.is
+  ended = completed (world_by old w) read.text.closed protocols read.complete read.rules list machine read.complete_too read.is
 
   candidates : IsCandidateList m f (Written ps list) found
   candidates = read.candidates ended

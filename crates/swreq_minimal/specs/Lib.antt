@@ -1,5 +1,4 @@
 pub mod Built
-pub mod Inheritance
 pub mod Typed
 pub mod Sorted
 pub mod Passed

@@ -17,7 +17,6 @@ ghost use Rattle.swreq_valid.specs.Machines.{AreRulesOf};
 ghost use Rattle.swreq_valid.specs.Plans.{AreKnown, listed};
 ghost use Rattle.swreq_valid.specs.Rounds.{last_rules};
 ghost use Rattle.swreq_minimal.specs.Evident.{HasSides, IsOfEquation, LinkLast};
-ghost use Rattle.swreq_minimal.specs.Inheritance.{IsInheritanceWritten};
 
 use crate::plain::{are_plain, has_plain_types};
 use std::alloc::{AllocError, Global};
@@ -311,7 +310,6 @@ pub(crate) fn is_evident(
     r: Requirement,
 ) -> Result<bool, AllocError>
     requires text { IsTextOver table.now world.now }
-    requires inheritance { IsInheritanceWritten (world_by table.now world.now) }
     requires protocols { AreRulesOf (world_by table.now world.now) (last_rules protocols.now.rounds) }
     requires list { AreKnown table.now world.now.lexicon list.now }
     requires r { IsRequirementIn table.now world.now.lexicon r }

@@ -5,7 +5,6 @@ mod candidates;
 mod evidence;
 mod given;
 mod holding;
-pub mod laws;
 mod minimised;
 mod order;
 mod plain;

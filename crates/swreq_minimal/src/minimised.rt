@@ -15,7 +15,6 @@ ghost use Rattle.swreq_world.specs.ByTable.{world_by};
 ghost use Rattle.swreq_valid.specs.Machines.{AreRulesOf, IsMachineOf, list_of};
 ghost use Rattle.swreq_valid.specs.Plans.{AreKnown, listed};
 ghost use Rattle.swreq_valid.specs.Rounds.{last_rules};
-ghost use Rattle.swreq_minimal.specs.Inheritance.{IsInheritanceWritten};
 ghost use Rattle.swreq_minimal.specs.Passed.{IsPassedOf};
 ghost use Rattle.swreq_minimal.specs.Told.{TellsFailure, TellsParts};
 
@@ -46,7 +45,6 @@ pub fn minimise<W: Watch>(
     watch: &mut W,
 ) -> Result<Vec<Requirement>, Failed>
     requires text { IsTextOver table.old world.now }
-    requires inheritance { IsInheritanceWritten (world_by table.old world.now) }
     requires protocols { AreRulesOf (world_by table.old world.now) (last_rules protocols.now.rounds) }
     requires limits { AreInRange limits }
     ensures minimised { (list : List TermRequirement) → IsMachineOf (world_by table.old world.now) list machine.now

@@ -14,9 +14,8 @@ ghost use Rattle.swreq_candidates.specs.Evidence.{HasPlainTypes, IsPlain, IsPlai
 ghost use Rattle.swreq_symbols.specs.Known.{IsRequirementIn, IsTextOver, IsTypeIn};
 ghost use Rattle.swreq_symbols.specs.Meaning.{facts_of};
 ghost use Rattle.swreq_world.specs.ByTable.{world_by};
-ghost use Rattle.swreq_world.specs.Closed.{IsStepOf};
+ghost use Rattle.swreq_world.specs.Closed.{IsClosed, IsStepOf};
 ghost use Rattle.swreq_valid.specs.Plans.{AreKnown, listed};
-ghost use Rattle.swreq_minimal.specs.Inheritance.{IsInheritanceWritten};
 
 use swreq_derive::{Params, Requirement};
 use swreq_param::{AssocId, ParamTable, ProtoId, Step, TermId};
@@ -26,7 +25,7 @@ use swreq_world::World;
 fn leads(world: &World, q: ProtoId, p: ProtoId) -> bool
     requires q { IsProtocol world.now.lexicon q }
     requires p { IsProtocol world.now.lexicon p }
-    ensures { (terms : List Term) → IsInheritanceWritten (world_by terms world.now) → IsTrue result
+    ensures { (terms : List Term) → IsClosed (world_by terms world.now) → IsTrue result
         → LeadsTo (facts_of (world_by terms world.now)) q p }
 {
     if q.rank == p.rank {
@@ -43,7 +42,7 @@ fn says_conformance(
     t: TermId,
     p: ProtoId,
 ) -> bool
-    requires inheritance { IsInheritanceWritten (world_by table.now world.now) }
+    requires text { IsTextOver table.now world.now }
     requires r { IsRequirementIn table.now world.now.lexicon r }
     requires p { IsProtocol world.now.lexicon p }
     ensures { IsTrue result → (q : ProtoId) × (requirement_of table.now r ≡ Conforms (term_at table.now t) q)
@@ -69,7 +68,7 @@ fn holds_conformance(
     t: TermId,
     p: ProtoId,
 ) -> bool
-    requires inheritance { IsInheritanceWritten (world_by table.now world.now) }
+    requires text { IsTextOver table.now world.now }
     requires list { AreKnown table.now world.now.lexicon list.now }
     requires p { IsProtocol world.now.lexicon p }
     ensures { IsTrue result → (q : ProtoId) × Contains (listed table.now list.now) (Conforms (term_at table.now t) q)
@@ -93,7 +92,6 @@ fn gives_assoc(
     d: AssocId,
 ) -> bool
     requires text { IsTextOver table.now world.now }
-    requires inheritance { IsInheritanceWritten (world_by table.now world.now) }
     requires list { AreKnown table.now world.now.lexicon list.now }
     requires d { d.rank < length world.now.lexicon.associated }
     ensures { IsTrue result → (ps : List ParamId)
@@ -113,7 +111,6 @@ fn gives_step(
     step: Step,
 ) -> bool
     requires text { IsTextOver table.now world.now }
-    requires inheritance { IsInheritanceWritten (world_by table.now world.now) }
     requires list { AreKnown table.now world.now.lexicon list.now }
     requires step { IsStepOf world.now.lexicon step }
     ensures { IsTrue result → (ps : List ParamId)
@@ -135,7 +132,6 @@ fn is_plain(
     t: TermId,
 ) -> bool
     requires text { IsTextOver table.now world.now }
-    requires inheritance { IsInheritanceWritten (world_by table.now world.now) }
     requires list { AreKnown table.now world.now.lexicon list.now }
     requires t { IsTypeIn table.now world.now.lexicon t }
     ensures { IsTrue result
@@ -165,7 +161,6 @@ pub(crate) fn has_plain_types(
     r: Requirement,
 ) -> bool
     requires text { IsTextOver table.now world.now }
-    requires inheritance { IsInheritanceWritten (world_by table.now world.now) }
     requires list { AreKnown table.now world.now.lexicon list.now }
     requires r { IsRequirementIn table.now world.now.lexicon r }
     ensures { IsTrue result → HasPlainTypes (facts_of (world_by table.now world.now)) (generic_params params) (listed table.now list.now)
@@ -192,7 +187,6 @@ pub(crate) fn are_plain(
     list: &[Requirement],
 ) -> bool
     requires text { IsTextOver table.now world.now }
-    requires inheritance { IsInheritanceWritten (world_by table.now world.now) }
     requires list { AreKnown table.now world.now.lexicon list.now }
     ensures { IsTrue result → IsPlain (facts_of (world_by table.now world.now)) (generic_params params) (listed table.now list.now) }
 {

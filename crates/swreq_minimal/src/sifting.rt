@@ -15,7 +15,6 @@ ghost use Rattle.swreq_valid.specs.Machines.{AreRulesOf, list_of};
 ghost use Rattle.swreq_valid.specs.Plans.{AreKnown, listed};
 ghost use Rattle.swreq_valid.specs.Rounds.{last_rules};
 ghost use Rattle.swreq_minimal.specs.Built.{IsBuiltFor};
-ghost use Rattle.swreq_minimal.specs.Inheritance.{IsInheritanceWritten};
 ghost use Rattle.swreq_minimal.specs.Passed.{IsLeftWithout, IsPassed, IsSifted, IsTakenBefore};
 ghost use Rattle.swreq_minimal.specs.Told.{TellsFailure, TellsParts};
 
@@ -76,7 +75,6 @@ fn follows<W: Watch>(
     watch: &mut W,
 ) -> Result<bool, Failed>
     requires text { IsTextOver table.now world.now }
-    requires inheritance { IsInheritanceWritten (world_by table.now world.now) }
     requires protocols { AreRulesOf (world_by table.now world.now) (last_rules protocols.now.rounds) }
     requires list { AreKnown table.now world.now.lexicon list.now }
     requires r { IsRequirementIn table.now world.now.lexicon r }
@@ -266,7 +264,6 @@ fn drop_at<W: Watch>(
     watch: &mut W,
 ) -> Result<(), Failed>
     requires text { IsTextOver table.now world.now }
-    requires inheritance { IsInheritanceWritten (world_by table.now world.now) }
     requires protocols { AreRulesOf (world_by table.now world.now) (last_rules protocols.now.rounds) }
     requires left { AreKnown table.now world.now.lexicon left.old.items }
     requires place { place < length left.old.items }
@@ -307,7 +304,6 @@ fn drop_derivable<W: Watch>(
     watch: &mut W,
 ) -> Result<(), Failed>
     requires text { IsTextOver table.now world.now }
-    requires inheritance { IsInheritanceWritten (world_by table.now world.now) }
     requires protocols { AreRulesOf (world_by table.now world.now) (last_rules protocols.now.rounds) }
     requires left { AreKnown table.now world.now.lexicon left.old.items }
     requires limits { AreInRange limits }
@@ -346,7 +342,6 @@ pub(crate) fn sift<W: Watch>(
     watch: &mut W,
 ) -> Result<Vec<Requirement>, Failed>
     requires text { IsTextOver table.now world.now }
-    requires inheritance { IsInheritanceWritten (world_by table.now world.now) }
     requires protocols { AreRulesOf (world_by table.now world.now) (last_rules protocols.now.rounds) }
     requires candidates { AreKnown table.now world.now.lexicon candidates.now }
     requires limits { AreInRange limits }

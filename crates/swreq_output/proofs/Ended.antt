@@ -21,7 +21,6 @@ use Rattle.swreq_world.specs.Worlds.{SignatureOver, TextWorld}
 use Rattle.swreq_symbols.specs.Meaning.{facts_of, symbols_of}
 use Rattle.swreq_symbols.proofs.Symbols.{ranks_law, symbols_law, text_law}
 use Rattle.swreq_valid.specs.Machines.{list_of, protocols_of}
-use Rattle.swreq_minimal.specs.Inheritance.{IsInheritanceWritten}
 use Rattle.swreq_minimal.proofs.Named.{members_named}
 use Rattle.swreq_output.specs.Ended.{HasEnded}
 use Rattle.swreq_world.specs.FactsAt.{written_list}
@@ -36,10 +35,10 @@ last_meet : (limits : Limits) (plan : Plan) (used : List Item) (rules : List Rul
 last_meet limits plan used rules told meet last =
     pairs_meet (length plan.base) (given plan used) rules (subst PairsMeet (sym last.ends.0) meet) last.ends.1.ended
 
-pub completed : (limits : Limits) (w : TextWorld) (g : SignatureOver PlacedRequirement) → IsClosed w → IsInheritanceWritten w
+pub completed : (limits : Limits) (w : TextWorld) (g : SignatureOver PlacedRequirement) → IsClosed w
     → IsInText (symbols_of w.lexicon) (Written (generic_params g.params) (written_list g)) → HasEnded limits w g
     → IsCompleted (symbols_of w.lexicon) (facts_of w) (generic_params g.params) (written_list g)
-completed limits w g closed written in_text ended =
+completed limits w g closed in_text ended =
     let m = symbols_of w.lexicon in
     let f = facts_of w in
     let gs = generic_params g.params in
@@ -57,7 +56,7 @@ completed limits w g closed written in_text ended =
       of_text = of_text;
       in_text = in_text;
       ranked = ranks_law w closed;
-      named = members_named w closed written;
+      named = members_named w closed;
       protocols = least_words ended.rules (ProtocolEquation m f) rules meet;
       of_list = least_words ended.own (UsableEquation m f (Written gs list)) own own_meet;
     }

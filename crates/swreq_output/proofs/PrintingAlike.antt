@@ -30,7 +30,6 @@ use Rattle.swreq_world.specs.WorldOf.{IsWorldOf, words_of}
 use Rattle.swreq_world.specs.Worlds.{SignatureOver, TextWorld}
 use Rattle.swreq_symbols.specs.Meaning.{facts_of, symbols_of}
 use Rattle.swreq_symbols.proofs.Symbols.{list_law}
-use Rattle.swreq_minimal.specs.Inheritance.{IsInheritanceWritten}
 use Rattle.swreq_print.specs.Reading.{HasNumbers, IsRequirementOf, IsSignatureOf}
 use Rattle.swreq_print.specs.Signatures.{signature_text}
 use Rattle.swreq_output.specs.Ended.{HasEnded}
@@ -141,13 +140,13 @@ module _ (text : List ℕ) (s : Skeleton) (w : TextWorld) (world : IsWorldOf tex
       lists_alike =
           tells_requirements (generic_params g.params) (generic_params h.params) a.list b.list (minimised_of_text g c a.list a.minimised) (minimised_of_text h k b.list b.minimised) texts_are
 
-      pub are_equivalent : IsInheritanceWritten w → (limits : Limits) → HasEnded limits w g → HasEnded limits w h
+      pub are_equivalent : (limits : Limits) → HasEnded limits w g → HasEnded limits w h
           → AreEquivalent (facts_of w) (generic_params g.params) (written_list g) (written_list h)
-      are_equivalent written limits ended also_ended =
+      are_equivalent limits ended also_ended =
           same_by_one (symbols_of w.lexicon) (facts_of w) (generic_params g.params) (written_list g) (written_list h) a.list
-          (completed limits w g is written (in_text g c) ended)
+          (completed limits w g is (in_text g c) ended)
           (subst (λ (p : Params). IsCompleted (symbols_of w.lexicon) (facts_of w) (generic_params p) (written_list h)) (sym params_alike)
-          (completed limits w h is written (in_text h k) also_ended))
+          (completed limits w h is (in_text h k) also_ended))
           a.minimised
           (subst (λ (rs : List TermRequirement). IsMinimised (facts_of w) (generic_params g.params) (written_list h) rs) (sym lists_alike)
           (subst (λ (p : Params). IsMinimised (facts_of w) (generic_params p) (written_list h) b.list) (sym params_alike) b.minimised))

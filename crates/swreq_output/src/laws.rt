@@ -11,7 +11,6 @@ ghost use Rattle.swreq_output.specs.Signatures.{IsMinimisedLine};
 ghost use Rattle.swreq_world.specs.FactsAt.{written_list};
 
 use swreq_lowering::laws::lists_are_short;
-use swreq_minimal::laws::inheritance_is_written;
 use swreq_print::laws::signatures_of_a_text_are_told_apart;
 use swreq_world::laws::worlds_are_closed;
 
@@ -33,6 +32,5 @@ pub fn signatures_that_print_alike_are_equivalent(text: &[u8])
 {
     worlds_are_closed(text);
     lists_are_short(text);
-    inheritance_is_written();
     signatures_of_a_text_are_told_apart(text);
 }

@@ -13,7 +13,6 @@ ghost use Rattle.swreq_watch.specs.declared.events.Event.{Event};
 ghost use Rattle.swreq_watch.specs.Told.{GrewBy};
 ghost use Rattle.swreq_world.specs.ByTable.{world_by};
 ghost use Rattle.swreq_world.specs.Worlds.{signature_at};
-ghost use Rattle.swreq_minimal.specs.Inheritance.{IsInheritanceWritten};
 ghost use Rattle.swreq_print.specs.Signatures.{signature_text};
 ghost use Rattle.swreq_output.specs.Minimising.{MinimisingFails, MinimisingTells};
 ghost use Rattle.swreq_output.specs.Signatures.{IsMinimisedLine};
@@ -89,7 +88,6 @@ pub fn minimised_line<W: Watch>(
     out: &mut Vec<u8>,
 ) -> Result<(), Failed>
     requires text { IsTextOver table.old world.now }
-    requires inheritance { IsInheritanceWritten (world_by table.old world.now) }
     requires protocols { AreRulesOf (world_by table.old world.now) (last_rules protocols.now.rounds) }
     requires f { f.place < length world.now.signatures }
     requires machine { IsMachineOf (world_by table.old world.now) (written_list (signature_at (world_by table.old world.now) f)) machine.now }

@@ -1,7 +1,6 @@
 //! The minimised lists that a command asks for, each as its line.
 ghost use Rattle.std.specs.Prelude.{◌≡◌, ◌<◌, List, length, IfErr, IfOk, OnOk};
 ghost use Rattle.swreq_complete.specs.Limits.{AreInRange};
-ghost use Rattle.swreq_minimal.specs.Inheritance.{IsInheritanceWritten};
 ghost use Rattle.swreq_output.specs.Minimising.{MinimisingFails, MinimisingTells};
 ghost use Rattle.swreq_output.specs.Signatures.{IsMinimisedLine};
 ghost use Rattle.swreq_world.specs.FactsAt.{written_list};
@@ -79,7 +78,6 @@ fn line_of<W: Watch>(
     watch: &mut W,
 ) -> Result<Seq<u8>, Failed>
     requires text { IsTextOver table.old world.now }
-    requires inheritance { IsInheritanceWritten (world_by table.old world.now) }
     requires passed { HavePassed limits (world_by table.old world.now) (last_rules protocols.now.rounds) }
     requires f { f.place < length world.now.signatures }
     requires limits { AreInRange limits }
@@ -114,7 +112,6 @@ fn line_if_wanted<W: Watch>(
     watch: &mut W,
 ) -> Result<Option<Seq<u8>>, Failed>
     requires text { IsTextOver table.old world.now }
-    requires inheritance { IsInheritanceWritten (world_by table.old world.now) }
     requires passed { HavePassed limits (world_by table.old world.now) (last_rules protocols.now.rounds) }
     requires lists { AreFlags (wants_list command world.now.queries) (length world.now.signatures) lists.now }
     requires f { f.place < length world.now.signatures }
@@ -151,7 +148,6 @@ pub(crate) fn minimised_lines<W: Watch>(
     watch: &mut W,
 ) -> Result<Vec<Option<Seq<u8>>>, Failed>
     requires text { IsTextOver table.old world.now }
-    requires inheritance { IsInheritanceWritten (world_by table.old world.now) }
     requires passed { HavePassed limits (world_by table.old world.now) (last_rules protocols.now.rounds) }
     requires lists { AreFlags (wants_list command world.now.queries) (length world.now.signatures) lists.now }
     requires limits { AreInRange limits }

@@ -3,7 +3,6 @@ ghost use Rattle.std.specs.Prelude.{◌≡◌, ◌≢◌, ◌≤◌, List, lengt
 ghost use Rattle.swreq_complete.specs.Limits.{AreInRange};
 ghost use Rattle.swreq_decl.specs.Skeletons.{StandsFor};
 ghost use Rattle.swreq_decl.specs.declared.refusal.ParseErr.TheVariants as grammar;
-ghost use Rattle.swreq_minimal.specs.Inheritance.{IsInheritanceWritten};
 ghost use Rattle.swreq_resolve.specs.declared.refusal.NameErr.TheVariants as names;
 ghost use Rattle.swreq_symbols.specs.Known.{IsTextOver};
 ghost use Rattle.swreq_valid.specs.Rounds.{last_rules};
@@ -32,7 +31,6 @@ use swreq_complete::{Failed, Limits, Which};
 use swreq_decl::laws::one_skeleton;
 use swreq_decl::{ParseErr, Skeleton, parse};
 use swreq_lex::TEXT_LIMIT;
-use swreq_minimal::laws::inheritance_is_written;
 use swreq_param::ParamTable;
 use swreq_print::{RefusalKind, refusal_text, trace_text};
 use swreq_resolve::NameErr;
@@ -179,7 +177,6 @@ fn with_world<W: Watch>(
     ensures { Replies line.now text.now (W.told watch.old) (W.told watch.new) result }
 {
     worlds_are_closed(text);
-    inheritance_is_written();
     let asked = Asked::of(alloc, world, table, line.command)?;
     match check(alloc, world, table, &asked, limits_of(line), watch) {
         Ok(checked) => finish(alloc, line, text, world, table, checked, watch),
@@ -217,7 +214,6 @@ fn finish<W: Watch>(
 ) -> Result<Outcome, AllocError>
     requires world { IsWorldOfText text.now (world_by table.old world.now) }
     requires text { IsTextOver table.old world.now }
-    requires inheritance { IsInheritanceWritten (world_by table.old world.now) }
     requires checked { IsCheckedFor (limits_of line.now) (world_by table.old world.now) line.now.command checked }
     requires limits { AreInRange (limits_of line.now) }
     requires count { HasCount line.now.command }

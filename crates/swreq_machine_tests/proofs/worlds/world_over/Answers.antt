@@ -1,12 +1,7 @@
-use Rattle.swreq_machine_tests.proofs.OfText.{inheritance_over, text_over}
+use Rattle.swreq_machine_tests.proofs.OfText.{text_over}
 use Rattle.swreq_machine_tests.proofs.worlds.world_over.Goals as goal
 
 pub returns-clause-text : goal.returns-clause-text
 returns-clause-text c =
     text_over c.args.text.now c.args.skeleton.now c.resolve.new.table c.resolve.result c.requires.stands c.worlds_are_closed.ensures.closed
     c.resolve.ensures.world c.resolve.ensures.over c.resolve.ensures.ok
-
-pub returns-clause-inheritance : goal.returns-clause-inheritance
-returns-clause-inheritance c =
-    inheritance_over c.args.text.now c.args.skeleton.now c.resolve.new.table c.resolve.result c.inheritance_is_written.ensures
-    c.resolve.ensures.world c.resolve.ensures.ok

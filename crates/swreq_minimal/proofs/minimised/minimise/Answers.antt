@@ -8,7 +8,6 @@ use Rattle.swreq_world.specs.Worlds.{TextWorld}
 use Rattle.swreq_valid.specs.Machines.{AreRulesOf, IsMachineOf, list_of}
 use Rattle.swreq_valid.specs.Plans.{AreKnown, listed}
 use Rattle.swreq_valid.specs.Rounds.{last_rules}
-use Rattle.swreq_minimal.specs.Inheritance.{IsInheritanceWritten}
 use Rattle.swreq_minimal.specs.Passed.{IsPassedOf}
 use Rattle.swreq_symbols.proofs.Growing.{text_stays, world_stays}
 use Rattle.swreq_minimal.proofs.Telling.{wants_at_once}
@@ -22,11 +21,6 @@ returns-in-Err-clause-failed g c list is =
 
 pub sift-requires-clause-text : goal.sift-requires-clause-text
 sift-requires-clause-text g c = text_stays c.args.table.now c.candidates.new.table c.candidates.ensures.extends c.args.world.now c.requires.text
-
-pub sift-requires-clause-inheritance : goal.sift-requires-clause-inheritance
-sift-requires-clause-inheritance g c =
-    subst IsInheritanceWritten
-    (sym (world_stays c.args.table.now c.candidates.new.table c.candidates.ensures.extends c.args.world.now c.requires.text.table)) c.requires.inheritance
 
 pub sift-requires-clause-protocols : goal.sift-requires-clause-protocols
 sift-requires-clause-protocols g c =
@@ -47,7 +41,6 @@ returns-in-Ok g c =
     let read : (list : List TermRequirement) → IsMachineOf (world_by old w) list machine → IsReadOffMachine old new w protocols machine list found = λ list is. record {
       text = c.requires.text;
       more = c.candidates.ensures.extends;
-      written = c.requires.inheritance;
       complete = rw c.rules.ensures at c.rules-of_protocols.ensures.complete;
       rules = c.requires.protocols;
       complete_too = rw c.rules-2.ensures at c.rules-of_list.ensures.complete;

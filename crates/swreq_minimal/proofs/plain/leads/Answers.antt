@@ -1,12 +1,17 @@
-use Rattle.std.proofs.Common.{◌≡◌, subst}
+use Rattle.std.proofs.Common.{◌≡◌, IsTrue, subst}
 use Rattle.swreq_param.specs.declared.ids.ProtoId.{ProtoId}
 use Rattle.swreq_derive.specs.Inheritance.{LeadsTo}
 use Rattle.swreq_derive.specs.Inheritance.LeadsTo.{here}
 use Rattle.swreq_symbols.specs.Meaning.{facts_of}
 use Rattle.swreq_world.specs.ByTable.{world_by}
+use Rattle.swreq_minimal.proofs.Named.{leads_to}
 use Rattle.swreq_minimal.proofs.plain.leads.Goals as goal
 
 pub returns-then-q-p : goal.returns-then-q-p
 returns-then-q-p c terms written t =
     let same : c.args.q ≡ c.args.p = λ i. record { rank = c.if-q-p.true i } in
     subst (λ (z : ProtoId). LeadsTo (facts_of (world_by terms c.args.world.now)) c.args.q z) same here
+
+pub returns : goal.returns
+returns c terms closed t =
+    leads_to (world_by terms c.args.world.now) closed c.args.q c.args.p c.requires.q c.requires.p (subst (λ b. IsTrue b) c.inherits.ensures t)

@@ -13,5 +13,5 @@ returns-then-eq c h =
     = (Decides-at c.eq.result (eq-value.it c.in-Conf.subject c.args.t) c.eq.ensures (ids_decide c.in-Conf.subject c.args.t)).0 c.if-eq.true in (
       c.in-Conf.proto,
       ap (requirement_of c.args.table.now) c.in-Conf.is ∙ ap (λ t. Conforms (term_at c.args.table.now t) c.in-Conf.proto) same,
-      c.leads.ensures c.args.table.now c.requires.inheritance h,
+      c.leads.ensures c.args.table.now c.requires.text.closed h,
     )

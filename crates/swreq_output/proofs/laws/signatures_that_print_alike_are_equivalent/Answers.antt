@@ -17,5 +17,4 @@ returns-clause-equivalent c limits w g h line of i j ended also_ended a b =
     (c.worlds_are_closed.ensures.closed s w of.stands of.world of.resolve)
     (λ ps others rs qs. c.signatures_of_a_text_are_told_apart.ensures.params s w.lexicon ps others rs qs of.stands of.world.lexicon)
     (λ ps others rs qs. c.signatures_of_a_text_are_told_apart.ensures.requirements s w.lexicon ps others rs qs of.stands of.world.lexicon)
-    g h i j line a b
-    (c.inheritance_is_written.ensures c.args.text.now s w of.world of.resolve) limits ended also_ended
+    g h i j line a b limits ended also_ended
