@@ -1,19 +1,15 @@
 -- What is known of the world of a text over a table, and of the lists of its signatures.
-use Rattle.std.proofs.Common.{◌≡◌, ◌∙◌, refl, sym, ap, subst, ℕ, ◌<◌, List, length, map, Contains, Result, Ok, Err, IfOk, IsOk}
-use Rattle.std.proofs.lemmas.List.{get_or-map, length-map}
-use Rattle.std.proofs.lemmas.List.Elements.{All-contains, All-get_or}
+use Rattle.std.proofs.Common.{◌≡◌, refl, subst, ℕ, ◌<◌, List, length, Contains, Result, Ok, Err, IfOk, IsOk}
 use Rattle.swreq_decl.specs.declared.skeleton.Skeleton.{Skeleton}
 use Rattle.swreq_decl.specs.Skeletons.{StandsFor}
 use Rattle.swreq_resolve.specs.Resolving.{Resolve}
 use Rattle.swreq_param.specs.Terms.{Term}
-use Rattle.swreq_orders.proofs.Members.{contains_map}
 use Rattle.swreq_lowering.specs.declared.ids.FuncId.{FuncId}
 use Rattle.swreq_lowering.specs.declared.ids.Written.{Written}
-use Rattle.swreq_lowering.specs.ByTable.{AreOf, HasIdsOf, placed, placed_by}
-use Rattle.swreq_world.specs.ByTable.{IsOverTable, signature_by, world_by}
-use Rattle.swreq_world.specs.Closed.{HasOwn, IsClosed, IsOfSignature}
+use Rattle.swreq_world.specs.ByTable.{IsOverTable, world_by}
+use Rattle.swreq_world.specs.Closed.{IsClosed}
 use Rattle.swreq_world.specs.WorldOf.{IsWorldOf}
-use Rattle.swreq_world.specs.Worlds.{IdWorld, SignatureOver, TextWorld, no_signature, signature_at}
+use Rattle.swreq_world.specs.Worlds.{IdWorld, TextWorld, signature_at}
 use Rattle.swreq_symbols.proofs.OfText.{signature_written as is_written}
 use Rattle.swreq_symbols.specs.Known.{IsTextOver}
 use Rattle.swreq_valid.specs.Plans.{AreWritten}

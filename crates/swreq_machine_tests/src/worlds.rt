@@ -21,7 +21,7 @@ fn world_over(
 ) -> Result<World, NameErr>
     requires limit { length text.now ≤ 1048576 }
     requires stands { StandsFor text.now skeleton.now }
-    ensures text { IfOk result (IsTextOver table.new) }
+    ensures { IfOk result (IsTextOver table.new) }
 {
     worlds_are_closed(text);
     World::resolve(alloc, text, skeleton, table)
@@ -29,7 +29,7 @@ fn world_over(
 
 /// The world of a text, over the table.
 pub(crate) fn world_of(alloc: Global, text: &[u8], table: &mut ParamTable) -> Result<World, Fail>
-    ensures text { IfOk result (IsTextOver table.new) }
+    ensures { IfOk result (IsTextOver table.new) }
 {
     if text.len() > 1_048_576 {
         return Err("a text that is too long".into());
