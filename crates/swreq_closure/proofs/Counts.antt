@@ -2,6 +2,7 @@
 use Rattle.std.proofs.Common.{◌≡◌, ℕ, zero, suc, ◌+◌, ◌*◌, ◌/◌, ◌%◌, ◌^◌, ◌<◌, ◌≤◌, ◌⊎◌, inl, inr, ⊎_elim, min, Bool, true, false, cond, ◌&&◌, List, length, get_or, nat_eq, bit_and, refl, sym, ap, subst, ◌∙◌, arith}
 use Rattle.std.specs.Int.{bit_at}
 use Rattle.std.specs.Int.Count.{ones, ones_in}
+use Rattle.std.proofs.Math.Bool.{and-false}
 use Rattle.std.proofs.Math.Nat.{mod-lt, div-lt_iff_lt-mul, lt_of_le_of_lt, pow-succ'}
 use Rattle.std.proofs.lemmas.Bool.{cases_lt}
 use Rattle.std.proofs.lemmas.List.{get_or_past, get_or_default}
@@ -138,16 +139,12 @@ none_past words k h =
     let beyond : length words ≤ k / 64 = omega (arith, h) in
     none_in_zeros words k (get_or_past words (k / 64) 0 beyond)
 
-and_false : (b : Bool) → (b && false) ≡ false
-and_false true = refl
-and_false false = refl
-
 module _ (words other : List ℕ) where
   none_left : (k : ℕ) → room words ≤ k → (has words k && has other k) ≡ false
   none_left k h = ap (λ b. b && has other k) (none_past words k h)
 
   none_right : (k : ℕ) → room other ≤ k → (has words k && has other k) ≡ false
-  none_right k h = ap (λ b. has words k && b) (none_past other k h) ∙ and_false (has words k)
+  none_right k h = ap (λ b. has words k && b) (none_past other k h) ∙ and-false (has words k)
 
   least : (m n k : ℕ) → k ≡ min m n → (k ≡ m) ⊎ (k ≡ n)
   least m n k e = ⊎_elim (λ l. inl (omega (arith, e, l))) (λ g. inr (omega (arith, e, g))) (cases_lt m n)

@@ -36,7 +36,7 @@ module _ (text : Bytes) (s : Skeleton) (protocols ranking : List Bytes) where
   abbrev any : ProtocolName → AssocDecl
   any d = record { name = record { start = 0; end = 0 }; inherits = []; clause = [] }
 
-  abbrev declared_name : ProtocolDecl → AssocDecl → ProtocolName
+  abbrev pub declared_name : ProtocolDecl → AssocDecl → ProtocolName
   declared_name p m = pair (proto_by protocols (word text p.name)) (name_by ranking (word text m.name))
 
   mentions : (p : ProtocolDecl) (m : AssocDecl) → Contains s.protocols p → Contains p.members m → Contains (mentioned text s) (word text m.name)

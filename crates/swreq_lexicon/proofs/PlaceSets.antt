@@ -2,6 +2,7 @@
 use Rattle.std.proofs.Common.{◌≡◌, ◌≢◌, ℕ, zero, suc, ◌+◌, ◌<◌, ◌≤◌, ⊎_elim, Bool, true, false, cond, ◌&&◌, List, [], length, get_or, map, slice_get, Some, unwrap_or, Contains, refl, sym, ap, ◌∙◌, arith}
 use Rattle.std.specs.Str.{bytes_eq}
 use Rattle.std.specs.List.{position_from}
+use Rattle.std.proofs.Math.Bool.{and-false, and-true}
 use Rattle.std.proofs.lemmas.Cmp.{nat_list_cmp_total}
 use Rattle.std.proofs.lemmas.List.{length-map}
 use Rattle.std.proofs.lemmas.Option.{slice_get_within, slice_get-get_or, same_Some}
@@ -45,23 +46,15 @@ module _ (f g : ℕ → Bool) (k : ℕ) (b : Bool) (others : (j : ℕ) → j ≢
 
 -- ---- a number more in a set
 
-and_false : (b : Bool) → (b && false) ≡ false
-and_false true = refl
-and_false false = refl
-
-and_true : (b : Bool) → (b && true) ≡ b
-and_true true = refl
-and_true false = refl
-
 pub set_empty : (set : List ℕ) → ((k : ℕ) → has set k ≡ false) → (test : ℕ → Bool) (n : ℕ) → count_below (λ k. test k && has set k) n ≡ 0
-set_empty set none test n = count_none (λ k. test k && has set k) n (λ k. ap (λ b. test k && b) (none k) ∙ and_false (test k))
+set_empty set none test n = count_none (λ k. test k && has set k) n (λ k. ap (λ b. test k && b) (none k) ∙ and-false (test k))
 
 pub set_more : (old new : List ℕ) (k : ℕ) → room new ≡ room old → k < room old → has old k ≡ false → has new k ≡ true → ((j : ℕ) → j ≢ k → has new j ≡ has old j)
     → (test : ℕ → Bool) → count_below (λ j. test j && has new j) (room new) ≡ count_below (λ j. test j && has old j) (room old) + counted (test k)
 set_more old new k size h before after others test =
     ap (count_below (λ j. test j && has new j)) size
     ∙ count_more (λ j. test j && has old j) (λ j. test j && has new j) k (test k) (λ j n. ap (λ b. test j && b) (others j n))
-    (ap (λ b. test k && b) before ∙ and_false (test k)) (ap (λ b. test k && b) after ∙ and_true (test k)) (room old) h
+    (ap (λ b. test k && b) before ∙ and-false (test k)) (ap (λ b. test k && b) after ∙ and-true (test k)) (room old) h
 
 -- the places that are still to be added are not there
 pub fresh_more : (places old new : List ℕ) (i : ℕ) → AreApart places → i < length places → ((j : ℕ) → j ≢ get_or places i 0 → has new j ≡ has old j)

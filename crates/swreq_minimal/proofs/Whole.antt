@@ -62,15 +62,12 @@ module _ (old new : List Term) (w : IdWorld) (protocols : List Rule) (machine : 
   candidates : IsCandidateList m f (Written ps list) found
   candidates = read.candidates ended
 
-  same_world : world_by new w ≡ world_by old w
-  same_world = world_stays old new read.more w read.text.table
-
   enough : AreEnough f ps list found
   enough = enough_here m f ps list ended found candidates
 
   module _ (out : List TermRequirement) (sifted : IsSifted (facts_of (world_by new w)) ps found out) where
     here : IsSifted f ps found out
-    here = subst (λ (z : TextWorld). IsSifted (facts_of z) ps found out) same_world sifted
+    here = subst (λ (z : TextWorld). IsSifted (facts_of z) ps found out) (world_stays old new read.more w read.text.table) sifted
 
     pub is_minimised : IsMinimised f ps list out
     is_minimised = record {
@@ -94,17 +91,19 @@ module _ (old new : List Term) (w : IdWorld) (protocols : List Rule) (machine : 
   -- ---- what is told
 
   passed : (l : List TermRequirement) → IsPassed (facts_of (world_by new w)) ps found l → IsPassedOf m f ps list l
-  passed l h = (found, candidates, subst (λ (z : TextWorld). IsPassed (facts_of z) ps found l) same_world h)
+  passed l h = (found, candidates, subst (λ (z : TextWorld). IsPassed (facts_of z) ps found l) (world_stays old new read.more w read.text.table) h)
 
   module _ (limits : Limits) (a b : Option (List Event)) where
     pub tells : TellsParts limits (list_of (world_by new w) protocols machine.params) (IsPassed (facts_of (world_by new w)) ps found) a b
         → TellsParts limits (list_of (world_by old w) protocols machine.params) (IsPassedOf m f ps list) a b
     tells h =
         tells_of limits (list_of (world_by old w) protocols machine.params) (IsPassed (facts_of (world_by new w)) ps found) (IsPassedOf m f ps list) passed a b
-        (subst (λ (z : TextWorld). TellsParts limits (list_of z protocols machine.params) (IsPassed (facts_of (world_by new w)) ps found) a b) same_world h)
+        (subst (λ (z : TextWorld). TellsParts limits (list_of z protocols machine.params) (IsPassed (facts_of (world_by new w)) ps found) a b)
+        (world_stays old new read.more w read.text.table) h)
 
     pub fails : (failed : Failed) → TellsFailure limits (list_of (world_by new w) protocols machine.params) (IsPassed (facts_of (world_by new w)) ps found) a b failed
         → TellsFailure limits (list_of (world_by old w) protocols machine.params) (IsPassedOf m f ps list) a b failed
     fails failed h =
         failure_of limits (list_of (world_by old w) protocols machine.params) (IsPassed (facts_of (world_by new w)) ps found) (IsPassedOf m f ps list) passed a b failed
-        (subst (λ (z : TextWorld). TellsFailure limits (list_of z protocols machine.params) (IsPassed (facts_of (world_by new w)) ps found) a b failed) same_world h)
+        (subst (λ (z : TextWorld). TellsFailure limits (list_of z protocols machine.params) (IsPassed (facts_of (world_by new w)) ps found) a b failed)
+        (world_stays old new read.more w read.text.table) h)

@@ -33,7 +33,7 @@ use Rattle.swreq_lexicon.specs.Lexicons.{pair, proto_by, name_by, assoc_by}
 use Rattle.swreq_rank.specs.Ranks.{Bytes, rank}
 use Rattle.swreq_lexicon.specs.Texts.{IsLexiconOf, protocol_names, declared_by, declared_in}
 use Rattle.swreq_lexicon.specs.Views.{LexiconView, IsProtocol, IsName}
-use Rattle.swreq_lexicon.proofs.Declared.{in_pieces, named_within}
+use Rattle.swreq_lexicon.proofs.Declared.{declared_name, in_pieces, named_within}
 use Rattle.swreq_lexicon.proofs.RankLaws.{rank_is, assoc_is}
 use Rattle.swreq_lowering.specs.Words.{WordsView, declared, proto_of, name_of, primaries_of, primaries_at, primaries_named}
 use Rattle.swreq_world.proofs.Everywhere.{all_left, all_right, all_at, each_mapped, each_piece, placed_piece, at_mapped, past_mapped, stands_mapped, mapped_from}
@@ -139,9 +139,6 @@ module _ (text : Bytes) (s : Skeleton) (x : LexiconView) (is : IsLexiconOf text 
   abbrev members_of : ProtocolDecl → List Declaration
   members_of p = declarations text (map (λ (m : AssocDecl). m.name) p.members)
 
-  abbrev pair_of : ProtocolDecl → AssocDecl → ProtocolName
-  pair_of p m = pair (proto_by x.protocols (word text p.name)) (name_by x.names (word text m.name))
-
   -- A name that a protocol declares is that of an associated type of it.
   pub declared_member : (k : ℕ) (name : Bytes) → declares (declared words) k name ≡ true
       → (p : ProtocolDecl) × (m : AssocDecl) × (slice_get s.protocols k ≡ Some p) × Contains p.members m × (word text m.name ≡ name)
@@ -167,7 +164,7 @@ module _ (text : Bytes) (s : Skeleton) (x : LexiconView) (is : IsLexiconOf text 
         p,
         at,
         in_pieces (declared_by text x.protocols x.names) s.protocols p (pair (proto_by x.protocols (word text p.name)) (name_by x.names name)) (get_contains s.protocols k p at)
-            (subst (λ b. Contains (map (pair_of p) p.members) (pair (proto_by x.protocols (word text p.name)) (name_by x.names b))) called (contains_map (pair_of p) p.members m c)),
+            (subst (λ b. Contains (map (declared_name text s x.protocols x.names p) p.members) (pair (proto_by x.protocols (word text p.name)) (name_by x.names b))) called (contains_map (declared_name text s x.protocols x.names p) p.members m c)),
       )
 
   -- The associated type of a protocol and a name that it declares stands at its rank.
