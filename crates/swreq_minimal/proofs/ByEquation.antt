@@ -13,7 +13,7 @@ use Rattle.swreq_correspondence.specs.Shown.{ShowsUsable}
 use Rattle.swreq_correspondence.specs.Symbols.{left_side, right_side}
 use Rattle.swreq_symbols.specs.declared.over.Over.TheVariants.{Signature}
 use Rattle.swreq_symbols.specs.Meaning.{facts_of, symbols_of}
-use Rattle.swreq_symbols.specs.Overs.{source_of}
+use Rattle.swreq_symbols.specs.Overs.{source_over}
 use Rattle.swreq_symbols.specs.Vanishing.{Links}
 use Rattle.swreq_world.specs.Closed.{IsClosed}
 use Rattle.swreq_world.specs.Worlds.{TextWorld}
@@ -30,7 +30,7 @@ module _ (w : TextWorld) (closed : IsClosed w) (machine : MachineView) (list : L
 
   -- the rules show them valid
   abbrev Usable : TermRequirement → Type 0
-  Usable r = ShowsUsable (symbols_of w.lexicon) (facts_of w) (source_of (Signature machine.params)) (Links (last_rules machine.rounds)) r
+  Usable r = ShowsUsable (symbols_of w.lexicon) (facts_of w) (source_over (Signature machine.params)) (Links (last_rules machine.rounds)) r
 
   -- the rules link the two sides of its equation
   abbrev AreSidesLinked : TermRequirement → Type 0

@@ -8,7 +8,7 @@ ghost use Rattle.swreq_correspondence.specs.Shown.{ShowsUsable};
 ghost use Rattle.swreq_symbols.specs.declared.over.Over.TheVariants.{Signature};
 ghost use Rattle.swreq_symbols.specs.Known.{IsRequirementIn, IsTextOver};
 ghost use Rattle.swreq_symbols.specs.Meaning.{facts_of, symbols_of};
-ghost use Rattle.swreq_symbols.specs.Overs.{source_of};
+ghost use Rattle.swreq_symbols.specs.Overs.{source_over};
 ghost use Rattle.swreq_symbols.specs.Vanishing.{IsLeastBy, Links};
 ghost use Rattle.swreq_world.specs.ByTable.{world_by};
 ghost use Rattle.swreq_valid.specs.Machines.{IsMachineOf};
@@ -34,7 +34,7 @@ fn has_valid_sides(
     requires text { IsTextOver table.now world.now }
     requires r { IsRequirementIn table.now world.now.lexicon r }
     ensures { IfOk result (λ b. IsTrue b ↔ ShowsUsable (symbols_of world.now.lexicon) (facts_of (world_by table.now world.now))
-        (source_of (Signature machine.now.params)) (Links (last_rules machine.now.rounds)) (requirement_of table.now r)) }
+        (source_over (Signature machine.now.params)) (Links (last_rules machine.now.rounds)) (requirement_of table.now r)) }
 {
     let over = Over::Signature(machine.params());
     is_usable(alloc, world, table, machine.rules(), over, r)

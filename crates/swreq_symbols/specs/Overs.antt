@@ -10,9 +10,9 @@ use Rattle.swreq_symbols.specs.declared.over.Over.TheVariants.{Signature, Protoc
 use Rattle.swreq_word.specs.declared.symbols.Symbol.{Symbol}
 
 -- a list with these generic parameters, or [τ_0_0 : P]
-abbrev pub source_of : Over → Source
-source_of (Signature params) = Written (generic_params params) []
-source_of (Protocol p) = SelfOf p
+abbrev pub source_over : Over → Source
+source_over (Signature params) = Written (generic_params params) []
+source_over (Protocol p) = SelfOf p
 
 -- Of a protocol words begin with its symbol, and of a list with a generic parameter.
 abbrev pub source_by : Option ProtoId → Source

@@ -1,7 +1,7 @@
 //! Over what type parameters are read.
 ghost use Rattle.std.specs.Prelude.{◌≡◌, ◌↔◌, IsTrue};
 ghost use Rattle.swreq_derive.specs.Derivation.{HasParam};
-ghost use Rattle.swreq_symbols.specs.Overs.{owner_of, source_of};
+ghost use Rattle.swreq_symbols.specs.Overs.{owner_of, source_over};
 
 use swreq_derive::Params;
 use swreq_param::{ParamId, ProtoId};
@@ -18,7 +18,7 @@ pub enum Over {
 impl Over {
     /// Whether the list has this generic parameter.
     pub fn has(self, g: ParamId) -> bool
-        ensures { IsTrue result ↔ HasParam (source_of self) g }
+        ensures { IsTrue result ↔ HasParam (source_over self) g }
     {
         match self {
             Over::Signature(params) => params.has(g),

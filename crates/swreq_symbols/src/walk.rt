@@ -12,7 +12,7 @@ ghost use Rattle.swreq_world.specs.Closed.{AreIds, IsStepOf};
 ghost use Rattle.swreq_symbols.specs.Fronts.{without};
 ghost use Rattle.swreq_symbols.specs.Known.{IsTextOver, IsTypeIn};
 ghost use Rattle.swreq_symbols.specs.Meaning.{facts_of, symbols_of};
-ghost use Rattle.swreq_symbols.specs.Overs.{source_of};
+ghost use Rattle.swreq_symbols.specs.Overs.{source_over};
 ghost use Rattle.swreq_symbols.specs.Vanishing.{HasStep, IsLeastBy, Links};
 
 use crate::behind::first_behind;
@@ -95,9 +95,9 @@ fn has_step(
 /// Whether a generic parameter is valid. The word becomes its least word.
 fn begins(rules: &CompleteRules, over: Over, g: ParamId, word: &mut Vec<Symbol>) -> bool
     requires fits { 1 ≤ vec_capacity word.old }
-    ensures answer { IsTrue result ↔ HasParam (source_of over) g }
+    ensures answer { IsTrue result ↔ HasParam (source_over over) g }
     ensures least { IsLeastBy rules.now word.new.items }
-    ensures linked { Links rules.now (start (source_of over) g ∷ []) word.new.items }
+    ensures linked { Links rules.now (start (source_over over) g ∷ []) word.new.items }
     ensures short { vec_len word.new ≤ 1 }
     ensures room { vec_capacity word.old ≤ vec_capacity word.new }
 {
@@ -139,16 +139,16 @@ fn add_member(
     requires t { IsTypeIn table.now world.now.lexicon t }
     requires member { 0 < member_count (term_at table.now t) }
     requires base { ShowsValid (symbols_of world.now.lexicon) (facts_of (world_by table.now world.now))
-        (source_of over) (Links rules.now) (without 1 (term_at table.now t)) }
-    requires linked { Links rules.now (word_of (symbols_of world.now.lexicon) (source_of over)
+        (source_over over) (Links rules.now) (without 1 (term_at table.now t)) }
+    requires linked { Links rules.now (word_of (symbols_of world.now.lexicon) (source_over over)
         (without 1 (term_at table.now t))) word.old.items }
     requires least { IsLeastBy rules.now word.old.items }
     requires fits { vec_len word.old + 1 ≤ vec_capacity word.old }
     requires fits_test { vec_len word.old + 1 ≤ vec_capacity test.old }
     ensures valid { IsTrue result ↔ ShowsValid (symbols_of world.now.lexicon) (facts_of (world_by table.now world.now))
-        (source_of over) (Links rules.now) (term_at table.now t) }
+        (source_over over) (Links rules.now) (term_at table.now t) }
     ensures least { OnTrue result (IsLeastBy rules.now word.new.items) }
-    ensures linked { OnTrue result (Links rules.now (word_of (symbols_of world.now.lexicon) (source_of over)
+    ensures linked { OnTrue result (Links rules.now (word_of (symbols_of world.now.lexicon) (source_over over)
         (term_at table.now t)) word.new.items) }
     ensures short { OnTrue result (vec_len word.new ≤ vec_len word.old + 1) }
     ensures room { vec_capacity word.old ≤ vec_capacity word.new }
@@ -182,9 +182,9 @@ pub fn least_word(
     requires fits { member_count (term_at table.now t) + 2 ≤ vec_capacity word.old }
     requires fits_test { member_count (term_at table.now t) + 2 ≤ vec_capacity test.old }
     ensures valid { IsTrue result ↔ ShowsValid (symbols_of world.now.lexicon) (facts_of (world_by table.now world.now))
-        (source_of over) (Links rules.now) (term_at table.now t) }
+        (source_over over) (Links rules.now) (term_at table.now t) }
     ensures least { OnTrue result (IsLeastBy rules.now word.new.items) }
-    ensures linked { OnTrue result (Links rules.now (word_of (symbols_of world.now.lexicon) (source_of over)
+    ensures linked { OnTrue result (Links rules.now (word_of (symbols_of world.now.lexicon) (source_over over)
         (term_at table.now t)) word.new.items) }
     ensures short { OnTrue result (vec_len word.new ≤ member_count (term_at table.now t) + 1) }
     ensures room { vec_capacity word.old ≤ vec_capacity word.new }

@@ -21,7 +21,7 @@ use Rattle.swreq_correspondence.proofs.Correspondence.{conforming_words, equal_w
 use Rattle.swreq_correspondence.proofs.Shown.{shown_by_params}
 use Rattle.swreq_correspondence.proofs.Spelling.{spell-append}
 use Rattle.swreq_symbols.specs.Meaning.{facts_of, symbols_of}
-use Rattle.swreq_symbols.specs.Overs.{source_of}
+use Rattle.swreq_symbols.specs.Overs.{source_over}
 use Rattle.swreq_symbols.specs.declared.over.Over.TheVariants.{Signature}
 use Rattle.swreq_map.specs.Properties.{Vanishes}
 use Rattle.swreq_symbols.specs.Vanishing.{IsLeastBy, Links}
@@ -61,7 +61,7 @@ module _ (w : TextWorld) (closed : IsClosed w) (machine : MachineView) (list : L
 
   -- the rules show it valid
   abbrev Shown : Term → Type 0
-  Shown t = ShowsValid m f (source_of (Signature machine.params)) (Links rules) t
+  Shown t = ShowsValid m f (source_over (Signature machine.params)) (Links rules) t
 
   pub shown_derivable : (t : Term) → Shown t → IsDerivable w machine list (IsValid t)
   shown_derivable t h = list_derivable w closed machine list is t (shown_by_params m f (generic_params machine.params) [] list (Links rules) t h)
@@ -116,13 +116,13 @@ module _ (w : TextWorld) (closed : IsClosed w) (machine : MachineView) (list : L
 
 -- what the test behind the least word tells
 pub behind_answer : (w : TextWorld) (machine : MachineView) (t : Term) (x : Symbol) (v seen : Word) (r : Bool)
-    → ShowsValid (symbols_of w.lexicon) (facts_of w) (source_of (Signature machine.params)) (Links (last_rules machine.rounds)) t
-    → Links (last_rules machine.rounds) (word_of (symbols_of w.lexicon) (source_of (Signature machine.params)) t) v → seen ≡ v
+    → ShowsValid (symbols_of w.lexicon) (facts_of w) (source_over (Signature machine.params)) (Links (last_rules machine.rounds)) t
+    → Links (last_rules machine.rounds) (word_of (symbols_of w.lexicon) (source_over (Signature machine.params)) t) v → seen ≡ v
     → Decides r (Vanishes (last_rules machine.rounds) seen x) → Decides r (IsBehind w machine t x)
 behind_answer w machine t x v seen r h l e d =
     let rules = last_rules machine.rounds in
     let k : Decides r (Vanishes rules v x) = subst (λ z. Decides r (Vanishes rules z x)) e d in
-    let u = word_of (symbols_of w.lexicon) (source_of (Signature machine.params)) t in (
+    let u = word_of (symbols_of w.lexicon) (source_over (Signature machine.params)) t in (
       (λ q. (h, vanishes_same rules v u x (linked_back l) (k.0 q))),
       λ q. k.1 (vanishes_same rules u v x l q.1),
     )

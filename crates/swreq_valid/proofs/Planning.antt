@@ -16,7 +16,7 @@ use Rattle.swreq_rounds.specs.Plan.{equation_of, given, AreShown}
 use Rattle.swreq_symbols.specs.declared.over.Over.{Over}
 use Rattle.swreq_symbols.specs.declared.over.Over.TheVariants.{Signature, Protocol}
 use Rattle.swreq_symbols.specs.Meaning.{facts_of, symbols_of}
-use Rattle.swreq_symbols.specs.Overs.{source_of}
+use Rattle.swreq_symbols.specs.Overs.{source_over}
 use Rattle.swreq_symbols.specs.Vanishing.{Links}
 use Rattle.swreq_world.specs.ByTable.{world_by}
 use Rattle.swreq_world.specs.Worlds.{IdWorld}
@@ -27,20 +27,20 @@ use Rattle.swreq_valid.specs.Plans.{item_of, items_of, plan_of, says, within}
 use Rattle.swreq_valid.proofs.Flagged.{chosen_from, chosen_map, map_one_if, tells_to, tells_map, tells_one_more}
 
 module _ (m : Symbols) (f : TermFacts) (rs : List TermRequirement) (C : Word → Word → Type 0) (r : TermRequirement) where
-  pub to_list : (over : Over) → ShowsUsable m f (source_of over) C r → ShowsUsable m f (within rs over) C r
+  pub to_list : (over : Over) → ShowsUsable m f (source_over over) C r → ShowsUsable m f (within rs over) C r
   to_list (Signature params) h = usable_by_params m f (generic_params params) [] rs C r h
   to_list (Protocol p) h = h
 
-  pub from_list : (over : Over) → ShowsUsable m f (within rs over) C r → ShowsUsable m f (source_of over) C r
+  pub from_list : (over : Over) → ShowsUsable m f (within rs over) C r → ShowsUsable m f (source_over over) C r
   from_list (Signature params) h = usable_by_params m f (generic_params params) rs [] C r h
   from_list (Protocol p) h = h
 
 module _ (m : Symbols) (f : TermFacts) (rs : List TermRequirement) (C : Word → Word → Type 0) (t : Term) where
-  pub valid_to_list : (over : Over) → ShowsValid m f (source_of over) C t → ShowsValid m f (within rs over) C t
+  pub valid_to_list : (over : Over) → ShowsValid m f (source_over over) C t → ShowsValid m f (within rs over) C t
   valid_to_list (Signature params) h = shown_by_params m f (generic_params params) [] rs C t h
   valid_to_list (Protocol p) h = h
 
-  pub valid_from_list : (over : Over) → ShowsValid m f (within rs over) C t → ShowsValid m f (source_of over) C t
+  pub valid_from_list : (over : Over) → ShowsValid m f (within rs over) C t → ShowsValid m f (source_over over) C t
   valid_from_list (Signature params) h = shown_by_params m f (generic_params params) rs [] C t h
   valid_from_list (Protocol p) h = h
 
@@ -53,7 +53,7 @@ module _ (w : IdWorld) (terms : List Term) where
 
   -- the rules show the requirement usable
   abbrev pub IsTold : List Rule → Wanted → Type 0
-  IsTold rules x = ShowsUsable m f (source_of x.over) (Links rules) (requirement_of terms x.requirement)
+  IsTold rules x = ShowsUsable m f (source_over x.over) (Links rules) (requirement_of terms x.requirement)
 
   pub told_shown : (start : Start) (rules base : List Rule) (bs : List Bool) → Tells (IsTold rules) start.all.items bs
       → Tells (AreShown (plan_of w terms base start) rules) (items_of terms start.all.items) bs

@@ -13,7 +13,7 @@ use Rattle.swreq_correspondence.specs.Equations.{AreCongruent}
 use Rattle.swreq_correspondence.specs.Shown.{ShowsValid}
 use Rattle.swreq_correspondence.specs.Symbols.{Word, word_of}
 use Rattle.swreq_symbols.specs.Meaning.{facts_of, symbols_of}
-use Rattle.swreq_symbols.specs.Overs.{source_of}
+use Rattle.swreq_symbols.specs.Overs.{source_over}
 use Rattle.swreq_symbols.specs.declared.over.Over.TheVariants.{Signature}
 use Rattle.swreq_map.specs.Properties.{Vanishes}
 use Rattle.swreq_symbols.specs.Vanishing.{IsLeastBy, Links}
@@ -34,11 +34,11 @@ IsDerivable w m list st = Derivable (facts_of w) (Written (generic_params m.para
 
 -- The rules of the machine show that T is valid.
 abbrev pub IsShownBy : TextWorld → MachineView → Term → Type 0
-IsShownBy w m t = ShowsValid (symbols_of w.lexicon) (facts_of w) (source_of (Signature m.params)) (Links (last_rules m.rounds)) t
+IsShownBy w m t = ShowsValid (symbols_of w.lexicon) (facts_of w) (source_over (Signature m.params)) (Links (last_rules m.rounds)) t
 
 -- the word of T
 abbrev pub word_in : TextWorld → MachineView → Term → Word
-word_in w m t = word_of (symbols_of w.lexicon) (source_of (Signature m.params)) t
+word_in w m t = word_of (symbols_of w.lexicon) (source_over (Signature m.params)) t
 
 -- The word is the least that the rules link to the word of T.
 abbrev pub IsLeastWord : TextWorld → MachineView → Term → Word → Type 0

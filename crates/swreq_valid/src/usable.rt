@@ -7,7 +7,7 @@ ghost use Rattle.swreq_correspondence.specs.Shown.{ShowsUsable, ShowsValid};
 ghost use Rattle.swreq_rounds.specs.Plan.{AreShown};
 ghost use Rattle.swreq_symbols.specs.Known.{IsRequirementIn, IsTextOver, IsTypeIn};
 ghost use Rattle.swreq_symbols.specs.Meaning.{facts_of, symbols_of};
-ghost use Rattle.swreq_symbols.specs.Overs.{source_of};
+ghost use Rattle.swreq_symbols.specs.Overs.{source_over};
 ghost use Rattle.swreq_symbols.specs.Vanishing.{Links};
 ghost use Rattle.swreq_world.specs.ByTable.{world_by};
 ghost use Rattle.swreq_valid.specs.Flags.{Tells};
@@ -34,7 +34,7 @@ pub(crate) fn is_shown(
     requires text { IsTextOver table.now world.now }
     requires t { IsTypeIn table.now world.now.lexicon t }
     ensures { IfOk result (λ b. IsTrue b ↔ ShowsValid (symbols_of world.now.lexicon) (facts_of (world_by table.now world.now))
-        (source_of over) (Links rules.now) (term_at table.now t)) }
+        (source_over over) (Links rules.now) (term_at table.now t)) }
 {
     let room = table.members(t).checked_add(2).ok_or(AllocError)?;
     let mut word: Vec<Symbol> = Vec::with_capacity(alloc, room)?;
@@ -54,7 +54,7 @@ pub fn is_usable(
     requires text { IsTextOver table.now world.now }
     requires want { IsRequirementIn table.now world.now.lexicon r }
     ensures { IfOk result (λ b. IsTrue b ↔ ShowsUsable (symbols_of world.now.lexicon) (facts_of (world_by table.now world.now))
-        (source_of over) (Links rules.now) (requirement_of table.now r)) }
+        (source_over over) (Links rules.now) (requirement_of table.now r)) }
 {
     match r {
         Requirement::Conf { subject, .. } => is_shown(alloc, world, table, rules, over, subject),

@@ -4,7 +4,7 @@ use Rattle.swreq_param.specs.Tables.{term_at}
 use Rattle.swreq_correspondence.specs.Shown.{ShowsValid}
 use Rattle.swreq_correspondence.specs.Symbols.{word_of}
 use Rattle.swreq_symbols.specs.Meaning.{facts_of, symbols_of}
-use Rattle.swreq_symbols.specs.Overs.{source_of}
+use Rattle.swreq_symbols.specs.Overs.{source_over}
 use Rattle.swreq_symbols.specs.declared.over.Over.TheVariants.{Signature}
 use Rattle.swreq_symbols.specs.Vanishing.{IsLeastBy, Links}
 use Rattle.swreq_world.specs.ByTable.{world_by}
@@ -16,7 +16,7 @@ use Rattle.swreq_valid.proofs.machine.Machine.walk.Goals as goal
 pub returns-clause-valid : goal.returns-clause-valid
 returns-clause-valid c =
     let w = world_by c.args.table.now c.args.world.now in
-    subst₂ (λ r p. IsTrue c.least_word.result ↔ ShowsValid (symbols_of w.lexicon) (facts_of w) (source_of (Signature p)) (Links r) (term_at c.args.table.now c.args.t))
+    subst₂ (λ r p. IsTrue c.least_word.result ↔ ShowsValid (symbols_of w.lexicon) (facts_of w) (source_over (Signature p)) (Links r) (term_at c.args.table.now c.args.t))
     c.rules.ensures c.params.ensures c.least_word.ensures.valid
 
 pub returns-clause-least : goal.returns-clause-least
@@ -25,5 +25,5 @@ returns-clause-least c =
     both_true (IsLeastBy (last_rules c.args.self.now.rounds) c.least_word.new.word.items)
     (Links (last_rules c.args.self.now.rounds) (word_in w c.args.self.now (term_at c.args.table.now c.args.t)) c.least_word.new.word.items) c.least_word.result
     (subst (λ r. OnTrue c.least_word.result (IsLeastBy r c.least_word.new.word.items)) c.rules.ensures c.least_word.ensures.least)
-    (subst₂ (λ r p. OnTrue c.least_word.result (Links r (word_of (symbols_of w.lexicon) (source_of (Signature p)) (term_at c.args.table.now c.args.t)) c.least_word.new.word.items))
+    (subst₂ (λ r p. OnTrue c.least_word.result (Links r (word_of (symbols_of w.lexicon) (source_over (Signature p)) (term_at c.args.table.now c.args.t)) c.least_word.new.word.items))
     c.rules.ensures c.params.ensures c.least_word.ensures.linked)
