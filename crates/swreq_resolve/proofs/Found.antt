@@ -25,7 +25,7 @@ use Rattle.swreq_names.specs.Spaces.{word, declarations, of_params, place, self_
 use Rattle.swreq_resolve.specs.declared.refusal.Fault.TheVariants.{Duplicate, NotAProtocol, ConcreteType, NoSuchMember, UnknownSignature, WrongArity}
 use Rattle.swreq_resolve.specs.declared.refusal.Refusal.{Refusal}
 use Rattle.swreq_resolve.specs.First.{when}
-use Rattle.swreq_resolve.specs.Refused.{Space, protocols_and_structs, structs_and_functions, functions_of, associated_types_of, primary_names_of, parameters_of, declarations_of, told_apart, HasEarlier, NamesProtocol, NamesStruct, NamesFunction, NamesInner, Declares, HasMember, HasParameter, IsScopeOf, IsLookedAt, HasType, HasEntity, refused, IsRefused, declared_again, no_protocol, no_protocol_in_brackets, wrong_arguments, concrete_in_protocol, concrete_in_signature, no_such_member, no_such_primary, no_signature, no_struct, no_function}
+use Rattle.swreq_resolve.specs.Refused.{Space, protocols_and_structs, structs_and_functions, functions_of, associated_types_of, primary_names_of, parameters_of, declarations_of, told_apart, HasEarlier, NamesProtocol, NamesStruct, NamesFunction, NamesInner, DeclaresName, HasMemberName, HasParameter, IsScopeOf, IsLookedAt, HasType, HasEntity, refused, IsRefused, declared_again, no_protocol, no_protocol_in_brackets, wrong_arguments, concrete_in_protocol, concrete_in_signature, no_such_member, no_such_primary, no_signature, no_struct, no_function}
 use Rattle.swreq_resolve.specs.Refusals.{duplicates, of_space, of_spaces, begins_in_protocol, begins_in_signature, has_arity, of_protocol_name, primary_of, of_bound, of_step, of_named, of_type, refusals}
 use Rattle.swreq_resolve.proofs.SameMembers.{in_pieces, has_number}
 use Rattle.swreq_resolve.proofs.Meaning.{IsInOrder, earlier_cases, declares_to, parameter_to, member_to, begins_to}
@@ -206,13 +206,13 @@ module _ (text : List ℕ) (s : Skeleton) (inherits : ℕ → ℕ → Bool) (tel
     again_found (primary_names_of i) c h = primaries_found i c h
     again_found (parameters_of g) c h = parameters_found g c h
 
-  primary_found : (i : ℕ) (x : Declaration) → Contains (get_or d.primaries i []) x → (HasMember text s i x.name → ⊥)
+  primary_found : (i : ℕ) (x : Declaration) → Contains (get_or d.primaries i []) x → (HasMemberName text s i x.name → ⊥)
       → IsFound (refused NoSuchMember x.at)
   primary_found i x c n =
       let p = within_map (λ (p : ProtocolDecl). declarations text p.primaries) s.protocols i x c in
       let r = refused NoSuchMember x.at in
       let lacks : not (has_member d inherits i x.name) ≡ true
-      = denied (has_member d inherits i x.name) (HasMember text s i x.name) (member_to text s inherits tells i x.name) n in
+      = denied (has_member d inherits i x.name) (HasMemberName text s i x.name) (member_to text s inherits tells i x.name) n in
       found_protocol i p.0 p.1 r
       (Contains-append_right (again_in_protocol text s inherits i) (primaries_in_protocol text s inherits i) r
       (in_pieces (primary_of d inherits i) (get_or d.primaries i []) x r c (when_from (not (has_member d inherits i x.name)) NoSuchMember x.at lacks)))
@@ -325,20 +325,20 @@ module _ (text : List ℕ) (s : Skeleton) (inherits : ℕ → ℕ → Bool) (tel
       step_found scope t w (steps.Bound p a) c r (subst (λ (x : Option ℕ). Contains (of_bound text d p a x) r) (sym h) k)
 
   undeclared_found : (scope : Scope) (t : TypeDecl) → HasType text s scope t → (p a : Span) → Contains t.steps (steps.Bound p a)
-      → (i : ℕ) → NamesProtocol text s p i → (Declares text s i (word text a) → ⊥) → IsFound (refused NoSuchMember a.start)
+      → (i : ℕ) → NamesProtocol text s p i → (DeclaresName text s i (word text a) → ⊥) → IsFound (refused NoSuchMember a.start)
   undeclared_found scope t w p a c i m n =
       let h : protocol_of d (word text p) ≡ Some i = (protocol text s order p).from i m in
       let name : List ℕ = word text a in
       bound_found scope t w p a c (Some i) h (refused NoSuchMember a.start)
-      (when_from (not (declares d i name)) NoSuchMember a.start (denied (declares d i name) (Declares text s i name) (declares_to text s i name) n))
+      (when_from (not (declares d i name)) NoSuchMember a.start (denied (declares d i name) (DeclaresName text s i name) (declares_to text s i name) n))
 
   in_protocol_found : (i : ℕ) (t : TypeDecl) → HasType text s (in_protocol i) t → (word text t.head ≡ self_bytes → ⊥)
-      → (HasMember text s i (word text t.head) → ⊥) → IsFound (refused ConcreteType t.head.start)
+      → (HasMemberName text s i (word text t.head) → ⊥) → IsFound (refused ConcreteType t.head.start)
   in_protocol_found i t w self member =
       let name : List ℕ = word text t.head in
       let begins : Begins = begins_in_protocol d inherits i in
       head_found (in_protocol i) t w begins refl
-      (denied (begins name) ((name ≡ self_bytes) ⊎ HasMember text s i name) (begins_to text s inherits tells i name) (λ h. ⊎_elim self member h))
+      (denied (begins name) ((name ≡ self_bytes) ⊎ HasMemberName text s i name) (begins_to text s inherits tells i name) (λ h. ⊎_elim self member h))
 
   in_signature_found : (scope : Scope) (g : Signature) (t : TypeDecl) → HasType text s scope t → IsScopeOf text s g scope
       → (HasParameter text s g (word text t.head) → ⊥) → IsFound (refused ConcreteType t.head.start)

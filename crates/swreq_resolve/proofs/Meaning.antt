@@ -20,7 +20,7 @@ use Rattle.swreq_names.specs.Inheritance.{Tells}
 use Rattle.swreq_names.specs.Spaces.{place, is_declared, offset_of, is_declared_before, self_bytes, outer_params, own_params, declares, any_below, has_member, Spaces, spaces}
 use Rattle.swreq_names.proofs.Beginnings.{below_from}
 use Rattle.swreq_names.proofs.Firsts.{same_true}
-use Rattle.swreq_resolve.specs.Refused.{HasEarlier, Declares, HasMember, HasParameter}
+use Rattle.swreq_resolve.specs.Refused.{HasEarlier, DeclaresName, HasMemberName, HasParameter}
 use Rattle.swreq_resolve.specs.Refusals.{begins_in_protocol, begins_in_signature}
 
 -- ---- a name that a list has
@@ -174,10 +174,10 @@ module _ (text : List ℕ) (s : Skeleton) where
   abbrev d : Spaces
   d = spaces text s
 
-  pub declares_to : (i : ℕ) (name : List ℕ) → declares d i name ≡ true → Declares text s i name
+  pub declares_to : (i : ℕ) (name : List ℕ) → declares d i name ≡ true → DeclaresName text s i name
   declares_to i name e = declared_to (get_or d.members i []) name e
 
-  pub declares_from : (i : ℕ) (name : List ℕ) → Declares text s i name → declares d i name ≡ true
+  pub declares_from : (i : ℕ) (name : List ℕ) → DeclaresName text s i name → declares d i name ≡ true
   declares_from i name c = declared_from (get_or d.members i []) name c
 
   -- ---- generic parameters
@@ -224,7 +224,7 @@ module _ (text : List ℕ) (s : Skeleton) where
     abbrev inherited : ℕ → Bool
     inherited j = inherits i j && declares d j name
 
-    pub member_to : has_member d inherits i name ≡ true → HasMember text s i name
+    pub member_to : has_member d inherits i name ≡ true → HasMemberName text s i name
     member_to e =
         ⊎_elim (λ h. inl (declares_to i name h))
         (λ h. let r = any_to inherited (length d.members) h in
@@ -232,18 +232,18 @@ module _ (text : List ℕ) (s : Skeleton) where
         inr (r.0, (tells i r.0).0 p.0, declares_to r.0 name p.1))
         (or_cases (declares d i name) (any_below inherited (length d.members)) e)
 
-    pub member_from : HasMember text s i name → has_member d inherits i name ≡ true
+    pub member_from : HasMemberName text s i name → has_member d inherits i name ≡ true
     member_from (inl c) = or_left (declares d i name) (any_below inherited (length d.members)) (declares_from i name c)
     member_from (inr (j, k, c)) =
         or_right (declares d i name) (any_below inherited (length d.members))
         (below_from inherited (length d.members) j (something_within d.members j name c)
         (and_from (inherits i j) (declares d j name) ((tells i j).1 k) (declares_from j name c)))
 
-    pub begins_to : begins_in_protocol d inherits i name ≡ true → (name ≡ self_bytes) ⊎ HasMember text s i name
+    pub begins_to : begins_in_protocol d inherits i name ≡ true → (name ≡ self_bytes) ⊎ HasMemberName text s i name
     begins_to e =
         ⊎_elim (λ h. inl (sym ((bytes_eq-Decides self_bytes name).0 h))) (λ h. inr (member_to h))
         (or_cases (bytes_eq self_bytes name) (has_member d inherits i name) e)
 
-    pub begins_from : (name ≡ self_bytes) ⊎ HasMember text s i name → begins_in_protocol d inherits i name ≡ true
+    pub begins_from : (name ≡ self_bytes) ⊎ HasMemberName text s i name → begins_in_protocol d inherits i name ≡ true
     begins_from (inl e) = or_left (bytes_eq self_bytes name) (has_member d inherits i name) (same_true self_bytes name (sym e))
     begins_from (inr h) = or_right (bytes_eq self_bytes name) (has_member d inherits i name) (member_from h)

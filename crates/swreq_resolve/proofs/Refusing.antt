@@ -22,7 +22,7 @@ use Rattle.swreq_names.specs.Spaces.{word, place, self_bytes, protocol_of, struc
 use Rattle.swreq_resolve.specs.declared.refusal.Fault.TheVariants.{Duplicate, NotAProtocol, ConcreteType, NoSuchMember, UnknownSignature, WrongArity}
 use Rattle.swreq_resolve.specs.declared.refusal.Refusal.{Refusal}
 use Rattle.swreq_resolve.specs.First.{when}
-use Rattle.swreq_resolve.specs.Refused.{Space, protocols_and_structs, structs_and_functions, functions_of, associated_types_of, primary_names_of, parameters_of, declarations_of, told_apart, HasEarlier, NamesProtocol, NamesStruct, NamesFunction, NamesInner, Declares, HasMember, HasParameter, IsScopeOf, IsLookedAt, HasType, HasEntity, refused, IsRefused, declared_again, no_protocol, no_protocol_in_brackets, wrong_arguments, concrete_in_protocol, concrete_in_signature, no_such_member, no_such_primary, no_signature, no_struct, no_function}
+use Rattle.swreq_resolve.specs.Refused.{Space, protocols_and_structs, structs_and_functions, functions_of, associated_types_of, primary_names_of, parameters_of, declarations_of, told_apart, HasEarlier, NamesProtocol, NamesStruct, NamesFunction, NamesInner, DeclaresName, HasMemberName, HasParameter, IsScopeOf, IsLookedAt, HasType, HasEntity, refused, IsRefused, declared_again, no_protocol, no_protocol_in_brackets, wrong_arguments, concrete_in_protocol, concrete_in_signature, no_such_member, no_such_primary, no_signature, no_struct, no_function}
 use Rattle.swreq_resolve.specs.Refusals.{duplicates, of_space, of_spaces, begins_in_protocol, begins_in_signature, of_protocol_name, primary_of, of_bound, of_step, refusals}
 use Rattle.swreq_resolve.proofs.SameMembers.{from_pieces}
 use Rattle.swreq_resolve.proofs.Meaning.{IsInOrder, earlier_left, earlier_right, declares_from, parameter_from, member_from, begins_from}
@@ -74,7 +74,7 @@ module _ (text : List ℕ) (s : Skeleton) (inherits : ℕ → ℕ → Bool) (tel
       (λ k. let p = from_pieces (primary_of d inherits i) primaries r k in
       let w = when_to (not (has_member d inherits i p.0.name)) NoSuchMember p.0.at r p.2 in
       turned (refused NoSuchMember p.0.at) r w.1
-      (no_such_primary p.1 (refuted (has_member d inherits i p.0.name) (HasMember text s i p.0.name) (member_from text s inherits tells i p.0.name) w.0)))
+      (no_such_primary p.1 (refuted (has_member d inherits i p.0.name) (HasMemberName text s i p.0.name) (member_from text s inherits tells i p.0.name) w.0)))
       (Contains-append_cases (again_in_protocol text s inherits i) (primaries_in_protocol text s inherits i) r c)
 
   signature_to : (g : Signature) (r : Refusal) → Contains (again_in_signature text s inherits g) r → IsRefused text s r
@@ -214,8 +214,8 @@ module _ (text : List ℕ) (s : Skeleton) (inherits : ℕ → ℕ → Bool) (tel
       let name : List ℕ = word text t.head in
       let begins : Begins = begins_in_protocol d inherits i in
       let fails : not (begins name) ≡ true = ap (λ (f : Begins). not (f name)) (same_begins begins b h) ∙ n in
-      let no : (name ≡ self_bytes) ⊎ HasMember text s i name → ⊥
-      = refuted (begins name) ((name ≡ self_bytes) ⊎ HasMember text s i name) (begins_from text s inherits tells i name) fails in
+      let no : (name ≡ self_bytes) ⊎ HasMemberName text s i name → ⊥
+      = refuted (begins name) ((name ≡ self_bytes) ⊎ HasMemberName text s i name) (begins_from text s inherits tells i name) fails in
       concrete_in_protocol w (λ e. no (inl e)) (λ m. no (inr m))
   concrete_to (in_signature g) t w b h n =
       let name : List ℕ = word text t.head in
@@ -237,7 +237,7 @@ module _ (text : List ℕ) (s : Skeleton) (inherits : ℕ → ℕ → Bool) (tel
   bound_to scope t w p a c (Some i) h r k =
       let e = when_to (not (declares d i (word text a))) NoSuchMember a.start r k in
       turned (refused NoSuchMember a.start) r e.1
-      (no_such_member w c ((protocol text s order p).to i h) (refuted (declares d i (word text a)) (Declares text s i (word text a)) (declares_from text s i (word text a)) e.0))
+      (no_such_member w c ((protocol text s order p).to i h) (refuted (declares d i (word text a)) (DeclaresName text s i (word text a)) (declares_from text s i (word text a)) e.0))
 
   step_to : (scope : Scope) (t : TypeDecl) → HasType text s scope t → (step : StepDecl) → Contains t.steps step
       → (r : Refusal) → Contains (of_step text d step) r → IsRefused text s r

@@ -14,7 +14,7 @@ use Rattle.swreq_names.specs.Spaces.{word, protocol_of, declares, Spaces, spaces
 use Rattle.swreq_resolve.specs.declared.refusal.Fault.TheVariants.{NotAProtocol, ConcreteType, NoSuchMember}
 use Rattle.swreq_resolve.specs.declared.refusal.Refusal.{Refusal}
 use Rattle.swreq_resolve.specs.First.{when}
-use Rattle.swreq_resolve.specs.Refused.{Declares, HasParameter, HasType, MeansProtocol, IsRefused, IsScopeOf, refused, no_protocol_in_brackets, concrete_in_signature, no_such_member}
+use Rattle.swreq_resolve.specs.Refused.{DeclaresName, HasParameter, HasType, MeansProtocol, IsRefused, IsScopeOf, refused, no_protocol_in_brackets, concrete_in_signature, no_such_member}
 use Rattle.swreq_resolve.specs.RefusedTypes.{IsRefusedOn, concrete, no_protocol_before, no_member_of, of_type_on}
 use Rattle.swreq_resolve.specs.Refusals.{begins_in_signature, of_bound, of_step}
 use Rattle.swreq_resolve.proofs.SameMembers.{in_pieces, from_pieces}
@@ -59,7 +59,7 @@ module _ (text : List ℕ) (s : Skeleton) (order : IsInOrder (spaces text s)) (g
       let name = word written a in
       let e = when_to (not (declares d i name)) NoSuchMember a.start r k in
       turned (refused NoSuchMember a.start) r e.1
-      (no_member_of c ((names p).to i h) (refuted (declares d i name) (Declares text s i name) (declares_from text s i name) e.0))
+      (no_member_of c ((names p).to i h) (refuted (declares d i name) (DeclaresName text s i name) (declares_from text s i name) e.0))
 
   step_to : (step : StepDecl) → Contains t.steps step → (r : Refusal) → Contains (of_step written d step) r → Refused r
   step_to (steps.Plain a) c r k = no_member r k
@@ -92,7 +92,7 @@ module _ (text : List ℕ) (s : Skeleton) (order : IsInOrder (spaces text s)) (g
       let name = word written a in
       bound_from p a c (Some i) ((names p).from i m) (refused NoSuchMember a.start)
       (when_from (not (declares d i name)) NoSuchMember a.start
-      (denied (declares d i name) (Declares text s i name) (declares_to text s i name) lacks))
+      (denied (declares d i name) (DeclaresName text s i name) (declares_to text s i name) lacks))
 
 -- What is refused of a type of the text itself is refused of the text.
 pub of_the_text : (text : List ℕ) (s : Skeleton) (scope : Scope) (g : Signature) (t : TypeDecl)

@@ -1,7 +1,7 @@
 pub mod First
 pub mod Refusals
 pub mod Errors
-pub mod Scopes
+pub mod FirstWords
 pub mod Cycles
 pub mod Resolving
 pub mod Refused

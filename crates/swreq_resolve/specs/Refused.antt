@@ -95,12 +95,12 @@ module _ (text : List ℕ) (s : Skeleton) where
   NamesSignature _ _ _ = ⊥
 
   -- The i-th protocol declares an associated type of this name itself.
-  abbrev pub Declares : ℕ → List ℕ → Type 0
-  Declares i name = Contains (names_of (declarations_of (spaces text s) (associated_types_of i))) name
+  abbrev pub DeclaresName : ℕ → List ℕ → Type 0
+  DeclaresName i name = Contains (names_of (declarations_of (spaces text s) (associated_types_of i))) name
 
   -- It has a member of this name: it, or a protocol that it inherits, declares one.
-  abbrev pub HasMember : ℕ → List ℕ → Type 0
-  HasMember i name = Declares i name ⊎ ((j : ℕ) × Inherits text s i j × Declares j name)
+  abbrev pub HasMemberName : ℕ → List ℕ → Type 0
+  HasMemberName i name = DeclaresName i name ⊎ ((j : ℕ) × Inherits text s i j × DeclaresName j name)
 
   -- The signature, or the struct around the function, has a generic parameter of this name.
   abbrev pub HasParameter : Signature → List ℕ → Type 0
@@ -163,7 +163,7 @@ pub data IsRefused (text : List ℕ) (s : Skeleton) : Refusal → Type 0 where
   concrete_in_protocol : {i : ℕ} {t : TypeDecl}
       → HasType text s (in_protocol i) t
       → word text t.head ≢ self_bytes
-      → (HasMember text s i (word text t.head) → ⊥)
+      → (HasMemberName text s i (word text t.head) → ⊥)
       → IsRefused text s (refused ConcreteType t.head.start)
   -- The first word of a type in a struct, a function or a query is a generic parameter of it, or of the struct around the function.
   concrete_in_signature : {scope : Scope} (g : Signature) {t : TypeDecl}
@@ -175,12 +175,12 @@ pub data IsRefused (text : List ℕ) (s : Skeleton) : Refusal → Type 0 where
   no_such_member : {scope : Scope} {t : TypeDecl} {p a : Span} {i : ℕ}
       → HasType text s scope t → Contains t.steps (steps.Bound p a)
       → NamesProtocol text s p i
-      → (Declares text s i (word text a) → ⊥)
+      → (DeclaresName text s i (word text a) → ⊥)
       → IsRefused text s (refused NoSuchMember a.start)
   -- A primary name is a member name of its protocol.
   no_such_primary : {i : ℕ} {d : Declaration}
       → Contains (declarations_of (spaces text s) (primary_names_of i)) d
-      → (HasMember text s i d.name → ⊥)
+      → (HasMemberName text s i d.name → ⊥)
       → IsRefused text s (refused NoSuchMember d.at)
   -- In a query `S(..)` S is a struct, or a function at the top.
   no_signature : {q : QueryDecl}

@@ -8,7 +8,7 @@ use Rattle.swreq_names.specs.declared.signature.Signature.{Signature}
 use Rattle.swreq_names.specs.Spaces.{word, Spaces}
 use Rattle.swreq_resolve.specs.declared.refusal.Fault.TheVariants.{NotAProtocol, ConcreteType, NoSuchMember}
 use Rattle.swreq_resolve.specs.declared.refusal.Refusal.{Refusal}
-use Rattle.swreq_resolve.specs.Refused.{Declares, HasParameter, MeansProtocol, refused}
+use Rattle.swreq_resolve.specs.Refused.{DeclaresName, HasParameter, MeansProtocol, refused}
 use Rattle.swreq_resolve.specs.Refusals.{begins_in_signature, of_type}
 
 -- A name is refused of a type on the signature g of the text, which is written in these bytes.
@@ -25,7 +25,7 @@ pub data IsRefusedOn (text : List ℕ) (s : Skeleton) (g : Signature) (written :
   no_member_of : {p a : Span} {i : ℕ}
       → Contains t.steps (steps.Bound p a)
       → MeansProtocol text s (word written p) i
-      → (Declares text s i (word written a) → ⊥)
+      → (DeclaresName text s i (word written a) → ⊥)
       → IsRefusedOn text s g written t (refused NoSuchMember a.start)
 
 -- the refusals of it, where d has the declared names

@@ -5,17 +5,17 @@ ghost use Rattle.swreq_closure.specs.Chains.{leads};
 ghost use Rattle.swreq_names.specs.Spaces.{word, protocol_of, declares, any_below, has_member, param_of};
 ghost use Rattle.swreq_resolve.specs.First.{least, walk};
 ghost use Rattle.swreq_resolve.specs.Refusals.{begins_in_protocol, begins_in_signature, has_arity, of_bound, of_step, of_protocol_name, of_type, of_entity, of_named, of_requirement, duplicate_of};
-ghost use Rattle.swreq_resolve.specs.Scopes.{begins};
+ghost use Rattle.swreq_resolve.specs.FirstWords.{begins};
 
 use crate::refusal::{Fault, Refusal, noted};
 use swreq_closure::Closure;
 use swreq_decl::{Entity, ReqDecl, Span, StepDecl, TypeDecl};
 use swreq_names::{Declaration, Declared, Directory, Signature, has_member, word};
 
-/// Where a type stands: in a protocol, by its place in written order, of which it is known what it inherits, or in a
-/// signature.
+/// The names with which a type may begin: in a protocol, by its place in written order, of which it is known what it
+/// inherits, `Self` and its member names, and in a signature generic parameters.
 #[derive(Clone, Copy)]
-pub enum Scope<'a> {
+pub enum FirstWords<'a> {
     Protocol(&'a Closure, usize),
     Signature(Signature),
 }
@@ -33,12 +33,12 @@ fn begins_in_signature(d: &Declared, signature: Signature, name: &[u8]) -> bool
 }
 
 /// Whether a type may begin with this name.
-fn begins(d: &Declared, scope: Scope<'_>, name: &[u8]) -> bool
-    ensures { result ≡ begins d.now scope.entry name.now }
+fn begins(d: &Declared, first_words: FirstWords<'_>, name: &[u8]) -> bool
+    ensures { result ≡ begins d.now first_words.entry name.now }
 {
-    match scope {
-        Scope::Protocol(inherits, i) => begins_in_protocol(d, inherits, i, name),
-        Scope::Signature(signature) => begins_in_signature(d, signature, name),
+    match first_words {
+        FirstWords::Protocol(inherits, i) => begins_in_protocol(d, inherits, i, name),
+        FirstWords::Signature(signature) => begins_in_signature(d, signature, name),
     }
 }
 
@@ -131,13 +131,13 @@ fn check_steps(
 pub fn check_type(
     text: &[u8],
     d: &Declared,
-    scope: Scope<'_>,
+    first_words: FirstWords<'_>,
     t: &TypeDecl,
     best: Option<Refusal>,
 ) -> Option<Refusal>
-    ensures { result ≡ least best (of_type text.now d.now (begins d.now scope.entry) t.now) }
+    ensures { result ≡ least best (of_type text.now d.now (begins d.now first_words.entry) t.now) }
 {
-    let outside = !begins(d, scope, word(text, t.head));
+    let outside = !begins(d, first_words, word(text, t.head));
     let best = noted(best, outside, Fault::ConcreteType, t.head.start);
     check_steps(text, d, t.steps.items(), best)
 }
@@ -145,15 +145,15 @@ pub fn check_type(
 fn check_types(
     text: &[u8],
     d: &Declared,
-    scope: Scope<'_>,
+    first_words: FirstWords<'_>,
     types: &[TypeDecl],
     best: Option<Refusal>,
 ) -> Option<Refusal>
-    ensures { result ≡ walk (of_type text.now d.now (begins d.now scope.entry)) best types.now }
+    ensures { result ≡ walk (of_type text.now d.now (begins d.now first_words.entry)) best types.now }
 {
     types
         .iter()
-        .fold(best, |b, t| check_type(text, d, scope, t, b))
+        .fold(best, |b, t| check_type(text, d, first_words, t, b))
 }
 
 /// What stands for a protocol, without its arguments.
@@ -171,48 +171,48 @@ fn check_named(text: &[u8], d: &Declared, e: &Entity, best: Option<Refusal>) -> 
 pub fn check_entity(
     text: &[u8],
     d: &Declared,
-    scope: Scope<'_>,
+    first_words: FirstWords<'_>,
     e: &Entity,
     best: Option<Refusal>,
 ) -> Option<Refusal>
-    ensures { result ≡ least best (of_entity text.now d.now (begins d.now scope.entry) e.now) }
+    ensures { result ≡ least best (of_entity text.now d.now (begins d.now first_words.entry) e.now) }
 {
     let best = check_named(text, d, e, best);
-    check_types(text, d, scope, e.args.items(), best)
+    check_types(text, d, first_words, e.args.items(), best)
 }
 
 pub fn check_entities(
     text: &[u8],
     d: &Declared,
-    scope: Scope<'_>,
+    first_words: FirstWords<'_>,
     entities: &[Entity],
     best: Option<Refusal>,
 ) -> Option<Refusal>
-    ensures { result ≡ walk (of_entity text.now d.now (begins d.now scope.entry)) best entities.now }
+    ensures { result ≡ walk (of_entity text.now d.now (begins d.now first_words.entry)) best entities.now }
 {
     entities
         .iter()
-        .fold(best, |b, e| check_entity(text, d, scope, e, b))
+        .fold(best, |b, e| check_entity(text, d, first_words, e, b))
 }
 
 #[tactic(auto, using(crate::proofs::Walks::walked, crate::proofs::Walks::least_both))]
 fn check_requirement(
     text: &[u8],
     d: &Declared,
-    scope: Scope<'_>,
+    first_words: FirstWords<'_>,
     r: &ReqDecl,
     best: Option<Refusal>,
 ) -> Option<Refusal>
-    ensures { result ≡ least best (of_requirement text.now d.now (begins d.now scope.entry) r.now) }
+    ensures { result ≡ least best (of_requirement text.now d.now (begins d.now first_words.entry) r.now) }
 {
     match r {
         ReqDecl::Bound { subject, bounds } => {
-            let best = check_type(text, d, scope, subject, best);
-            check_entities(text, d, scope, bounds.items(), best)
+            let best = check_type(text, d, first_words, subject, best);
+            check_entities(text, d, first_words, bounds.items(), best)
         }
         ReqDecl::Same { left, right } => {
-            let best = check_type(text, d, scope, left, best);
-            check_type(text, d, scope, right, best)
+            let best = check_type(text, d, first_words, left, best);
+            check_type(text, d, first_words, right, best)
         }
     }
 }
@@ -220,13 +220,13 @@ fn check_requirement(
 pub fn check_requirements(
     text: &[u8],
     d: &Declared,
-    scope: Scope<'_>,
+    first_words: FirstWords<'_>,
     clause: &[ReqDecl],
     best: Option<Refusal>,
 ) -> Option<Refusal>
-    ensures { result ≡ walk (of_requirement text.now d.now (begins d.now scope.entry)) best clause.now }
+    ensures { result ≡ walk (of_requirement text.now d.now (begins d.now first_words.entry)) best clause.now }
 {
     clause
         .iter()
-        .fold(best, |b, r| check_requirement(text, d, scope, r, b))
+        .fold(best, |b, r| check_requirement(text, d, first_words, r, b))
 }

@@ -4,9 +4,9 @@ ghost use Rattle.std.specs.List.{flat_map};
 ghost use Rattle.swreq_closure.specs.Chains.{leads};
 ghost use Rattle.swreq_resolve.specs.First.{least, walk};
 ghost use Rattle.swreq_resolve.specs.Refusals.{by_place, of_space, primary_of, of_primaries, of_members, of_spaces, of_signatures, of_member, of_param, of_signature, of_protocol, of_nested, of_struct, of_function, of_query, refusals_in};
-ghost use Rattle.swreq_resolve.specs.Scopes.{begins};
+ghost use Rattle.swreq_resolve.specs.FirstWords.{begins};
 
-use crate::check::{Scope, check_duplicates, check_entities, check_requirements};
+use crate::check::{FirstWords, check_duplicates, check_entities, check_requirements};
 use crate::queries::check_queries;
 use crate::refusal::{Fault, Refusal, noted};
 use swreq_closure::Closure;
@@ -28,28 +28,28 @@ fn check_space(one: &Directory, other: &Directory, best: Option<Refusal>) -> Opt
 fn check_member(
     text: &[u8],
     d: &Declared,
-    scope: Scope<'_>,
+    first_words: FirstWords<'_>,
     m: &AssocDecl,
     best: Option<Refusal>,
 ) -> Option<Refusal>
-    ensures { result ≡ least best (of_member text.now d.now (begins d.now scope.entry) m.now) }
+    ensures { result ≡ least best (of_member text.now d.now (begins d.now first_words.entry) m.now) }
 {
-    let best = check_entities(text, d, scope, m.inherits.items(), best);
-    check_requirements(text, d, scope, m.clause.items(), best)
+    let best = check_entities(text, d, first_words, m.inherits.items(), best);
+    check_requirements(text, d, first_words, m.clause.items(), best)
 }
 
 fn check_members(
     text: &[u8],
     d: &Declared,
-    scope: Scope<'_>,
+    first_words: FirstWords<'_>,
     members: &[AssocDecl],
     best: Option<Refusal>,
 ) -> Option<Refusal>
-    ensures { result ≡ walk (of_member text.now d.now (begins d.now scope.entry)) best members.now }
+    ensures { result ≡ walk (of_member text.now d.now (begins d.now first_words.entry)) best members.now }
 {
     members
         .iter()
-        .fold(best, |b, m| check_member(text, d, scope, m, b))
+        .fold(best, |b, m| check_member(text, d, first_words, m, b))
 }
 
 fn check_primary(
@@ -98,16 +98,16 @@ fn check_all_primaries(
 fn check_all_members(
     text: &[u8],
     d: &Declared,
-    scope: Scope<'_>,
+    first_words: FirstWords<'_>,
     i: usize,
     members: &[AssocDecl],
     best: Option<Refusal>,
 ) -> Option<Refusal>
-    ensures { result ≡ least best (of_members text.now d.now (begins d.now scope.entry) i members.now) }
+    ensures { result ≡ least best (of_members text.now d.now (begins d.now first_words.entry) i members.now) }
 {
     let names = d.members(i);
     let best = check_duplicates(names, names.items(), best);
-    check_members(text, d, scope, members, best)
+    check_members(text, d, first_words, members, best)
 }
 
 /// The i-th protocol.
@@ -121,11 +121,11 @@ fn check_protocol(
 ) -> Option<Refusal>
     ensures { result ≡ least best (of_protocol text.now d.now (leads inherits.now) i p.now) }
 {
-    let scope = Scope::Protocol(inherits, i);
+    let first_words = FirstWords::Protocol(inherits, i);
     let best = check_all_primaries(d, inherits, i, best);
-    let best = check_entities(text, d, scope, p.inherits.items(), best);
-    let best = check_requirements(text, d, scope, p.clause.items(), best);
-    check_all_members(text, d, scope, i, p.members.items(), best)
+    let best = check_entities(text, d, first_words, p.inherits.items(), best);
+    let best = check_requirements(text, d, first_words, p.clause.items(), best);
+    check_all_members(text, d, first_words, i, p.members.items(), best)
 }
 
 fn check_protocols(
@@ -148,27 +148,27 @@ fn check_protocols(
 fn check_param(
     text: &[u8],
     d: &Declared,
-    scope: Scope<'_>,
+    first_words: FirstWords<'_>,
     p: &ParamDecl,
     best: Option<Refusal>,
 ) -> Option<Refusal>
-    ensures { result ≡ least best (of_param text.now d.now (begins d.now scope.entry) p.now) }
+    ensures { result ≡ least best (of_param text.now d.now (begins d.now first_words.entry) p.now) }
 {
-    check_entities(text, d, scope, p.bounds.items(), best)
+    check_entities(text, d, first_words, p.bounds.items(), best)
 }
 
 fn check_params(
     text: &[u8],
     d: &Declared,
-    scope: Scope<'_>,
+    first_words: FirstWords<'_>,
     params: &[ParamDecl],
     best: Option<Refusal>,
 ) -> Option<Refusal>
-    ensures { result ≡ walk (of_param text.now d.now (begins d.now scope.entry)) best params.now }
+    ensures { result ≡ walk (of_param text.now d.now (begins d.now first_words.entry)) best params.now }
 {
     params
         .iter()
-        .fold(best, |b, p| check_param(text, d, scope, p, b))
+        .fold(best, |b, p| check_param(text, d, first_words, p, b))
 }
 
 /// The generic parameters and requirements of a signature.
@@ -183,12 +183,12 @@ fn check_signature(
 ) -> Option<Refusal>
     ensures { result ≡ least best (of_signature text.now d.now signature params.now clause.now) }
 {
-    let scope = Scope::Signature(signature);
+    let first_words = FirstWords::Signature(signature);
     let own = d.own_params(signature);
     let best = check_duplicates(own, own.items(), best);
     let best = check_duplicates(d.outer_params(signature), own.items(), best);
-    let best = check_params(text, d, scope, params, best);
-    check_requirements(text, d, scope, clause, best)
+    let best = check_params(text, d, first_words, params, best);
+    check_requirements(text, d, first_words, clause, best)
 }
 
 fn check_function(

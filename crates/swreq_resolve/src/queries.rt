@@ -4,7 +4,7 @@ ghost use Rattle.swreq_names.specs.Spaces.{word, struct_of};
 ghost use Rattle.swreq_resolve.specs.First.{least, walk};
 ghost use Rattle.swreq_resolve.specs.Refusals.{begins_in_signature, of_ask, of_asked, of_nested_query, of_query};
 
-use crate::check::{Scope, check_entity, check_type};
+use crate::check::{FirstWords, check_entity, check_type};
 use crate::refusal::{Fault, Refusal, noted};
 use swreq_decl::{Ask, QueryDecl, Span};
 use swreq_names::{Declared, Signature, word};
@@ -19,17 +19,17 @@ fn check_ask(
 ) -> Option<Refusal>
     ensures { result ≡ least best (of_ask text.now d.now (begins_in_signature d.now signature) ask.now) }
 {
-    let scope = Scope::Signature(signature);
+    let first_words = FirstWords::Signature(signature);
     match ask {
         Ask::Signature => best,
-        Ask::Reduced { t } => check_type(text, d, scope, t, best),
+        Ask::Reduced { t } => check_type(text, d, first_words, t, best),
         Ask::Is { t, bound } => {
-            let best = check_type(text, d, scope, t, best);
-            check_entity(text, d, scope, bound, best)
+            let best = check_type(text, d, first_words, t, best);
+            check_entity(text, d, first_words, bound, best)
         }
         Ask::Same { left, right } => {
-            let best = check_type(text, d, scope, left, best);
-            check_type(text, d, scope, right, best)
+            let best = check_type(text, d, first_words, left, best);
+            check_type(text, d, first_words, right, best)
         }
     }
 }

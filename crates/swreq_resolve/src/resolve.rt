@@ -9,7 +9,7 @@ ghost use Rattle.swreq_resolve.specs.First.{IsFirst};
 ghost use Rattle.swreq_resolve.specs.RefusedTypes.{of_type_on};
 ghost use Rattle.swreq_resolve.specs.Resolving.{Resolve, Refuses};
 
-use crate::check::{Scope, check_type};
+use crate::check::{FirstWords, check_type};
 use crate::cycles::cycle_of;
 use crate::items::first_refusal;
 use crate::refusal::{NameErr, Refusal, error_of};
@@ -65,7 +65,7 @@ pub fn resolve_type(
     ensures resolves { of_type_on d.now signature written.now t.now ≡ [] → IsOk result }
     ensures refuses { (r : Refusal) → IsFirst (of_type_on d.now signature written.now t.now) r → result ≡ Err r }
 {
-    match check_type(written, d, Scope::Signature(signature), t, None) {
+    match check_type(written, d, FirstWords::Signature(signature), t, None) {
         Some(r) => Err(r),
         None => Ok(()),
     }
