@@ -23,8 +23,8 @@ use Rattle.swreq_names.specs.declared.signature.Signature.TheVariants.{Struct, F
 use Rattle.swreq_names.specs.Parts as parts
 use Rattle.swreq_names.specs.Parts.{Constraint}
 use Rattle.swreq_names.specs.Parts.Constraint.{bound, same}
-use Rattle.swreq_lowering.specs.declared.scope.Scope.{Scope}
-use Rattle.swreq_lowering.specs.declared.scope.Scope.TheVariants as scopes
+use Rattle.swreq_lowering.specs.declared.context.Context.{Context}
+use Rattle.swreq_lowering.specs.declared.context.Context.TheVariants as contexts
 use Rattle.swreq_lowering.specs.Requirements.{arguments, in_bound, of_constraint, subject_of, subject_at, in_protocol, in_signature, in_struct}
 use Rattle.swreq_lowering.specs.Short.{HasFewRequirements}
 use Rattle.swreq_lowering.specs.Words.{WordsView, primaries_named}
@@ -94,32 +94,32 @@ signature_total params clause =
 -- ---- requirements
 
 module _ (w : WordsView) where
-  module _ (scope : Scope) where
-    arguments_count : (t : Term) (at : ℕ) (names : List Span) (us : List TypeDecl) → length (arguments w scope t at names us) ≤ sum_by type_size us
+  module _ (context : Context) where
+    arguments_count : (t : Term) (at : ℕ) (names : List Span) (us : List TypeDecl) → length (arguments w context t at names us) ≤ sum_by type_size us
     arguments_count t at [] us = omega arith
     arguments_count t at (a ∷ names) [] = omega arith
     arguments_count t at (a ∷ names) (u ∷ us) =
         let i = arguments_count t at names us in let j = sum_by-cons type_size u us in omega arith
 
-    bound_count : (t : Term) (at : ℕ) (e : Entity) → length (in_bound w scope t at e) ≤ entity_size e
+    bound_count : (t : Term) (at : ℕ) (e : Entity) → length (in_bound w context t at e) ≤ entity_size e
     bound_count t at e = let i = arguments_count t e.span.start (primaries_named w e.span) e.args in omega arith
 
-    constraint_count : (c : Constraint) → length (of_constraint w scope c) ≤ constraint_size c
+    constraint_count : (c : Constraint) → length (of_constraint w context c) ≤ constraint_size c
     constraint_count (bound subject bounds) =
-        pieces_sum (in_bound w scope (subject_of w scope subject) (subject_at subject)) entity_size bounds
-        (bound_count (subject_of w scope subject) (subject_at subject))
+        pieces_sum (in_bound w context (subject_of w context subject) (subject_at subject)) entity_size bounds
+        (bound_count (subject_of w context subject) (subject_at subject))
     constraint_count (same t u) = omega arith
 
-    constraints_count : (cs : List Constraint) → length (flat_map (of_constraint w scope) cs) ≤ sum_by constraint_size cs
-    constraints_count cs = pieces_sum (of_constraint w scope) constraint_size cs constraint_count
+    constraints_count : (cs : List Constraint) → length (flat_map (of_constraint w context) cs) ≤ sum_by constraint_size cs
+    constraints_count cs = pieces_sum (of_constraint w context) constraint_size cs constraint_count
 
   protocol_count : (p : ProtocolDecl) → length (in_protocol w p) ≤ protocol_size p
-  protocol_count p = let i = constraints_count scopes.Protocol (parts.of_protocol p) in let j = protocol_total p in omega arith
+  protocol_count p = let i = constraints_count contexts.Protocol (parts.of_protocol p) in let j = protocol_total p in omega arith
 
   signature_count : (g : Signature) (params : List ParamDecl) (clause : List ReqDecl)
       → length (in_signature w g params clause) ≤ sum_by param_size params + clause_size clause
   signature_count g params clause =
-      let i = constraints_count (scopes.Signature g) (parts.of_signature params clause) in let j = signature_total params clause in omega arith
+      let i = constraints_count (contexts.Signature g) (parts.of_signature params clause) in let j = signature_total params clause in omega arith
 
   function_count : (g : Signature) (f : FunctionDecl) → length (in_signature w g f.params f.clause) ≤ function_size f
   function_count g f = let i = signature_count g f.params f.clause in omega arith

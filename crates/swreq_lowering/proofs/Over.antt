@@ -13,7 +13,7 @@ use Rattle.swreq_decl.specs.declared.skeleton.ReqDecl.TheVariants as requirement
 use Rattle.swreq_decl.specs.declared.skeleton.AssocDecl.{AssocDecl}
 use Rattle.swreq_decl.specs.declared.skeleton.ProtocolDecl.{ProtocolDecl}
 use Rattle.swreq_names.specs.Spaces.{word, self_bytes}
-use Rattle.swreq_lowering.specs.declared.scope.Scope.TheVariants.{Protocol}
+use Rattle.swreq_lowering.specs.declared.context.Context.TheVariants.{Protocol}
 use Rattle.swreq_lowering.specs.Heads.{IsOverSelf}
 use Rattle.swreq_lowering.specs.Requirements.{PlacedRequirement, bound_of, of_one_side, arguments, in_bound, in_bounds, in_protocol}
 use Rattle.swreq_lowering.specs.Walk.{in_requirement, in_clause, in_member, in_members}

@@ -6,7 +6,7 @@ use Rattle.swreq_decl.specs.declared.skeleton.ParamDecl.{ParamDecl}
 use Rattle.swreq_decl.specs.declared.skeleton.Span.{Span}
 use Rattle.swreq_decl.specs.declared.skeleton.TypeDecl.{TypeDecl}
 use Rattle.swreq_names.specs.declared.signature.Signature.{Signature}
-use Rattle.swreq_lowering.specs.declared.scope.Scope.{Scope}
+use Rattle.swreq_lowering.specs.declared.context.Context.{Context}
 use Rattle.swreq_lowering.specs.Requirements.{argument, arguments}
 use Rattle.swreq_lowering.specs.Walk.{in_param, in_params}
 use Rattle.swreq_lowering.specs.Words.{WordsView}
@@ -27,29 +27,29 @@ params_more w g ps i p h e =
 
 -- ---- arguments
 
-arguments_push : (w : WordsView) (scope : Scope) (t : Term) (at : ℕ) (ns : List Span) (us : List TypeDecl) (n : Span) (u : TypeDecl) → length ns ≡ length us
-    → arguments w scope t at (ns ++ n ∷ []) (us ++ u ∷ []) ≡ arguments w scope t at ns us ++ argument w scope t at n u ∷ []
-arguments_push w scope t at [] [] n u e = refl
-arguments_push w scope t at [] (v ∷ us) n u e = absurd (omega arith)
-arguments_push w scope t at (m ∷ ns) [] n u e = absurd (omega arith)
-arguments_push w scope t at (m ∷ ns) (v ∷ us) n u e = ap (λ rs. argument w scope t at m v ∷ rs) (arguments_push w scope t at ns us n u (omega arith))
+arguments_push : (w : WordsView) (context : Context) (t : Term) (at : ℕ) (ns : List Span) (us : List TypeDecl) (n : Span) (u : TypeDecl) → length ns ≡ length us
+    → arguments w context t at (ns ++ n ∷ []) (us ++ u ∷ []) ≡ arguments w context t at ns us ++ argument w context t at n u ∷ []
+arguments_push w context t at [] [] n u e = refl
+arguments_push w context t at [] (v ∷ us) n u e = absurd (omega arith)
+arguments_push w context t at (m ∷ ns) [] n u e = absurd (omega arith)
+arguments_push w context t at (m ∷ ns) (v ∷ us) n u e = ap (λ rs. argument w context t at m v ∷ rs) (arguments_push w context t at ns us n u (omega arith))
 
-pub arguments_more : (w : WordsView) (scope : Scope) (t : Term) (at : ℕ) (ns : List Span) (us : List TypeDecl) (i : ℕ) (n : Span) (u : TypeDecl) → i < length ns → i < length us → n ≡ get_or ns i n → u ≡ get_or us i u
-    → arguments w scope t at (take i ns) (take i us) ++ argument w scope t at n u ∷ [] ≡ arguments w scope t at (take (i + 1) ns) (take (i + 1) us)
-arguments_more w scope t at ns us i n u h k e f =
+pub arguments_more : (w : WordsView) (context : Context) (t : Term) (at : ℕ) (ns : List Span) (us : List TypeDecl) (i : ℕ) (n : Span) (u : TypeDecl) → i < length ns → i < length us → n ≡ get_or ns i n → u ≡ get_or us i u
+    → arguments w context t at (take i ns) (take i us) ++ argument w context t at n u ∷ [] ≡ arguments w context t at (take (i + 1) ns) (take (i + 1) us)
+arguments_more w context t at ns us i n u h k e f =
     let same : length (take i ns) ≡ length (take i us) = length-take-le i ns (omega arith) ∙ sym (length-take-le i us (omega arith)) in
-    (λ j. arguments w scope t at (take i ns) (take i us) ++ argument w scope t at (e j) (f j) ∷ [])
-    ∙ sym (arguments_push w scope t at (take i ns) (take i us) (get_or ns i n) (get_or us i u) same)
-    ∙ sym (λ j. arguments w scope t at (take_more ns i n h j) (take_more us i u k j))
+    (λ j. arguments w context t at (take i ns) (take i us) ++ argument w context t at (e j) (f j) ∷ [])
+    ∙ sym (arguments_push w context t at (take i ns) (take i us) (get_or ns i n) (get_or us i u) same)
+    ∙ sym (λ j. arguments w context t at (take_more ns i n h j) (take_more us i u k j))
 
 -- Arguments past the shorter list do not count.
-pub arguments_all : (w : WordsView) (scope : Scope) (t : Term) (at : ℕ) (ns : List Span) (us : List TypeDecl) (i : ℕ) → (length ns ≤ i) ⊎ (length us ≤ i) → i ≤ length ns → i ≤ length us
-    → arguments w scope t at (take i ns) (take i us) ≡ arguments w scope t at ns us
-arguments_all w scope t at [] us zero past h k = refl
-arguments_all w scope t at [] us (suc i) past h k = absurd (omega arith)
-arguments_all w scope t at (n ∷ ns) [] zero past h k = refl
-arguments_all w scope t at (n ∷ ns) [] (suc i) past h k = absurd (omega arith)
-arguments_all w scope t at (n ∷ ns) (u ∷ us) zero (inl p) h k = absurd (omega arith)
-arguments_all w scope t at (n ∷ ns) (u ∷ us) zero (inr p) h k = absurd (omega arith)
-arguments_all w scope t at (n ∷ ns) (u ∷ us) (suc i) (inl p) h k = ap (λ rs. argument w scope t at n u ∷ rs) (arguments_all w scope t at ns us i (inl (omega arith)) (omega arith) (omega arith))
-arguments_all w scope t at (n ∷ ns) (u ∷ us) (suc i) (inr p) h k = ap (λ rs. argument w scope t at n u ∷ rs) (arguments_all w scope t at ns us i (inr (omega arith)) (omega arith) (omega arith))
+pub arguments_all : (w : WordsView) (context : Context) (t : Term) (at : ℕ) (ns : List Span) (us : List TypeDecl) (i : ℕ) → (length ns ≤ i) ⊎ (length us ≤ i) → i ≤ length ns → i ≤ length us
+    → arguments w context t at (take i ns) (take i us) ≡ arguments w context t at ns us
+arguments_all w context t at [] us zero past h k = refl
+arguments_all w context t at [] us (suc i) past h k = absurd (omega arith)
+arguments_all w context t at (n ∷ ns) [] zero past h k = refl
+arguments_all w context t at (n ∷ ns) [] (suc i) past h k = absurd (omega arith)
+arguments_all w context t at (n ∷ ns) (u ∷ us) zero (inl p) h k = absurd (omega arith)
+arguments_all w context t at (n ∷ ns) (u ∷ us) zero (inr p) h k = absurd (omega arith)
+arguments_all w context t at (n ∷ ns) (u ∷ us) (suc i) (inl p) h k = ap (λ rs. argument w context t at n u ∷ rs) (arguments_all w context t at ns us i (inl (omega arith)) (omega arith) (omega arith))
+arguments_all w context t at (n ∷ ns) (u ∷ us) (suc i) (inr p) h k = ap (λ rs. argument w context t at n u ∷ rs) (arguments_all w context t at ns us i (inr (omega arith)) (omega arith) (omega arith))

@@ -27,8 +27,8 @@ use Rattle.swreq_names.specs.Parts as parts
 use Rattle.swreq_names.specs.Parts.{Subject, Constraint}
 use Rattle.swreq_names.specs.Parts.Subject.{self_of, associated, parameter, written}
 use Rattle.swreq_names.specs.Parts.Constraint.{bound, same}
-use Rattle.swreq_lowering.specs.declared.scope.Scope.{Scope}
-use Rattle.swreq_lowering.specs.declared.scope.Scope.TheVariants as scopes
+use Rattle.swreq_lowering.specs.declared.context.Context.{Context}
+use Rattle.swreq_lowering.specs.declared.context.Context.TheVariants as contexts
 use Rattle.swreq_lowering.specs.Requirements.{PlacedRequirement, of_one_side, equality, bound_of, subject_at, subject_of, argument, arguments, in_bound, in_bounds, of_constraint, in_protocol, in_signature, in_struct, in_function, in_nested}
 use Rattle.swreq_lowering.specs.Standing.{first_word, IsArgumentOf, of_bound, of_argument, of_equality, EndsAt, StandsInOne, InOrder, read_in, of_protocol, of_signature, of_struct, of_function, of_nested}
 use Rattle.swreq_lowering.specs.Types.{type_in}
@@ -98,14 +98,14 @@ at_first_word (parameter k g) = refl
 at_first_word (written t) = refl
 
 -- what constraints require
-abbrev required : WordsView → List (Scope × Constraint) → List PlacedRequirement
+abbrev required : WordsView → List (Context × Constraint) → List PlacedRequirement
 required w cs = flat_map (λ c. of_constraint w c.0 c.1) cs
 
 -- the places of their words
-abbrev scoped_places : List (Scope × Constraint) → List ℕ
+abbrev scoped_places : List (Context × Constraint) → List ℕ
 scoped_places cs = flat_map (λ c. places c.1) cs
 
-module _ (w : WordsView) (whole : List (Scope × Constraint)) where
+module _ (w : WordsView) (whole : List (Context × Constraint)) where
   -- The last words of the requirements are at some of these places, and where the places ascend they are in order.
   record Goes (ns : List ℕ) (rs : List PlacedRequirement) : Type 0 where
     stand : All (λ r. (n : ℕ) × Has n ns × EndsAt w whole r n) rs
@@ -138,48 +138,48 @@ module _ (w : WordsView) (whole : List (Scope × Constraint)) where
 
   -- ---- what one constraint requires
 
-  module _ (scope : Scope) (subject : Subject) (bounds : List Entity) (there : Contains whole (scope, bound subject bounds)) where
-    bound_ends : (e : Entity) → Contains bounds e → EndsAt w whole (of_one_side (bound_of w (subject_of w scope subject) e) (subject_at subject)) e.span.start
+  module _ (context : Context) (subject : Subject) (bounds : List Entity) (there : Contains whole (context, bound subject bounds)) where
+    bound_ends : (e : Entity) → Contains bounds e → EndsAt w whole (of_one_side (bound_of w (subject_of w context subject) e) (subject_at subject)) e.span.start
     bound_ends e h = (
-      (scope, bound subject bounds),
+      (context, bound subject bounds),
       there,
       record { left = first_word subject; right = first_word subject; last = e.span; written = of_bound h; left_at = at_first_word subject; right_at = at_first_word subject; last_at = refl },
     )
 
-    argument_ends : (e : Entity) (a : Span) (u : TypeDecl) → Contains bounds e → IsArgumentOf w e a u → EndsAt w whole (argument w scope (subject_of w scope subject) e.span.start a u) u.head.start
+    argument_ends : (e : Entity) (a : Span) (u : TypeDecl) → Contains bounds e → IsArgumentOf w e a u → EndsAt w whole (argument w context (subject_of w context subject) e.span.start a u) u.head.start
     argument_ends e a u h n =
-        ((scope, bound subject bounds), there, record { left = e.span; right = u.head; last = u.head; written = of_argument h n; left_at = refl; right_at = refl; last_at = refl })
+        ((context, bound subject bounds), there, record { left = e.span; right = u.head; last = u.head; written = of_argument h n; left_at = refl; right_at = refl; last_at = refl })
 
     arguments_go : (e : Entity) → Contains bounds e → (ns : List Span) (us : List TypeDecl) → ((k : ℕ) (a : Span) (u : TypeDecl) → slice_get ns k ≡ Some a → slice_get us k ≡ Some u → IsArgumentOf w e a u)
-        → Goes (flat_map type_places us) (arguments w scope (subject_of w scope subject) e.span.start ns us)
+        → Goes (flat_map type_places us) (arguments w context (subject_of w context subject) e.span.start ns us)
     arguments_go e h [] us n = goes_none (flat_map type_places us)
     arguments_go e h (a ∷ ns) [] n = goes_none []
     arguments_go e h (a ∷ ns) (u ∷ us) n =
-        goes_cons u.head.start (flat_map type_places us) (argument w scope (subject_of w scope subject) e.span.start a u) (arguments w scope (subject_of w scope subject) e.span.start ns us)
+        goes_cons u.head.start (flat_map type_places us) (argument w context (subject_of w context subject) e.span.start a u) (arguments w context (subject_of w context subject) e.span.start ns us)
         (argument_ends e a u h (n zero a u refl refl)) (arguments_go e h ns us (λ k. n (suc k)))
 
-    entity_goes : (e : Entity) → Contains bounds e → Goes (entity_places e) (in_bound w scope (subject_of w scope subject) (subject_at subject) e)
+    entity_goes : (e : Entity) → Contains bounds e → Goes (entity_places e) (in_bound w context (subject_of w context subject) (subject_at subject) e)
     entity_goes e h =
-        goes_cons e.span.start (flat_map type_places e.args) (of_one_side (bound_of w (subject_of w scope subject) e) (subject_at subject))
-        (arguments w scope (subject_of w scope subject) e.span.start (primaries_named w e.span) e.args) (bound_ends e h)
+        goes_cons e.span.start (flat_map type_places e.args) (of_one_side (bound_of w (subject_of w context subject) e) (subject_at subject))
+        (arguments w context (subject_of w context subject) e.span.start (primaries_named w e.span) e.args) (bound_ends e h)
         (arguments_go e h (primaries_named w e.span) e.args (λ k a u n m. (k, n, m)))
 
-    bounds_go : (es : List Entity) → All (Contains bounds) es → Goes (bounds_places es) (in_bounds w scope (subject_of w scope subject) (subject_at subject) es)
+    bounds_go : (es : List Entity) → All (Contains bounds) es → Goes (bounds_places es) (in_bounds w context (subject_of w context subject) (subject_at subject) es)
     bounds_go [] h = goes_none []
     bounds_go (e ∷ es) h =
-        goes_append (entity_places e) (bounds_places es) (in_bound w scope (subject_of w scope subject) (subject_at subject) e)
-        (in_bounds w scope (subject_of w scope subject) (subject_at subject) es) (entity_goes e (All-head (Contains bounds) e es h)) (bounds_go es (All-tail (Contains bounds) e es h))
+        goes_append (entity_places e) (bounds_places es) (in_bound w context (subject_of w context subject) (subject_at subject) e)
+        (in_bounds w context (subject_of w context subject) (subject_at subject) es) (entity_goes e (All-head (Contains bounds) e es h)) (bounds_go es (All-tail (Contains bounds) e es h))
 
-  constraint_goes : (scope : Scope) (c : Constraint) → Contains whole (scope, c) → Goes (places c) (of_constraint w scope c)
-  constraint_goes scope (bound subject bounds) h =
-      goes_behind (first_word subject).start (bounds_places bounds) (in_bounds w scope (subject_of w scope subject) (subject_at subject) bounds)
-      (bounds_go scope subject bounds h bounds (All-contains_itself bounds))
-  constraint_goes scope (same t u) h =
-      goes_behind t.head.start (u.head.start ∷ []) (equality (type_in w scope t) t.head.start (type_in w scope u) u.head.start ∷ [])
-      (goes_cons u.head.start [] (equality (type_in w scope t) t.head.start (type_in w scope u) u.head.start) []
-      ((scope, same t u), h, record { left = t.head; right = u.head; last = u.head; written = of_equality; left_at = refl; right_at = refl; last_at = refl }) (goes_none []))
+  constraint_goes : (context : Context) (c : Constraint) → Contains whole (context, c) → Goes (places c) (of_constraint w context c)
+  constraint_goes context (bound subject bounds) h =
+      goes_behind (first_word subject).start (bounds_places bounds) (in_bounds w context (subject_of w context subject) (subject_at subject) bounds)
+      (bounds_go context subject bounds h bounds (All-contains_itself bounds))
+  constraint_goes context (same t u) h =
+      goes_behind t.head.start (u.head.start ∷ []) (equality (type_in w context t) t.head.start (type_in w context u) u.head.start ∷ [])
+      (goes_cons u.head.start [] (equality (type_in w context t) t.head.start (type_in w context u) u.head.start) []
+      ((context, same t u), h, record { left = t.head; right = u.head; last = u.head; written = of_equality; left_at = refl; right_at = refl; last_at = refl }) (goes_none []))
 
-  some_go : (cs : List (Scope × Constraint)) → All (Contains whole) cs → Goes (scoped_places cs) (required w cs)
+  some_go : (cs : List (Context × Constraint)) → All (Contains whole) cs → Goes (scoped_places cs) (required w cs)
   some_go [] h = goes_none []
   some_go (c ∷ cs) h =
       goes_append (places c.1) (scoped_places cs) (of_constraint w c.0 c.1) (required w cs) (constraint_goes c.0 c.1 (All-head (Contains whole) c cs h)) (some_go cs (All-tail (Contains whole) c cs h))
@@ -187,17 +187,17 @@ module _ (w : WordsView) (whole : List (Scope × Constraint)) where
 -- ---- what the constraints of a protocol or a signature require
 
 module _ (w : WordsView) where
-  all_go : (cs : List (Scope × Constraint)) (rs : List PlacedRequirement) → rs ≡ required w cs → Goes w cs (scoped_places cs) rs
+  all_go : (cs : List (Context × Constraint)) (rs : List PlacedRequirement) → rs ≡ required w cs → Goes w cs (scoped_places cs) rs
   all_go cs rs e = subst (Goes w cs (scoped_places cs)) (sym e) (some_go w cs cs (All-contains_itself cs))
 
-  read_required : (scope : Scope) (cs : List Constraint) → flat_map (of_constraint w scope) cs ≡ required w (read_in scope cs)
-  read_required scope cs = sym (flat_map-map (λ (c : Scope × Constraint). of_constraint w c.0 c.1) (λ c. (scope, c)) cs)
+  read_required : (context : Context) (cs : List Constraint) → flat_map (of_constraint w context) cs ≡ required w (read_in context cs)
+  read_required context cs = sym (flat_map-map (λ (c : Context × Constraint). of_constraint w c.0 c.1) (λ c. (context, c)) cs)
 
   protocol_goes : (p : ProtocolDecl) → Goes w (of_protocol p) (scoped_places (of_protocol p)) (in_protocol w p)
-  protocol_goes p = all_go (of_protocol p) (in_protocol w p) (read_required scopes.Protocol (parts.of_protocol p))
+  protocol_goes p = all_go (of_protocol p) (in_protocol w p) (read_required contexts.Protocol (parts.of_protocol p))
 
   signature_required : (g : Signature) (params : List ParamDecl) (clause : List ReqDecl) → in_signature w g params clause ≡ required w (of_signature g params clause)
-  signature_required g params clause = read_required (scopes.Signature g) (parts.of_signature params clause)
+  signature_required g params clause = read_required (contexts.Signature g) (parts.of_signature params clause)
 
   signature_goes : (g : Signature) (params : List ParamDecl) (clause : List ReqDecl) → Goes w (of_signature g params clause) (scoped_places (of_signature g params clause)) (in_signature w g params clause)
   signature_goes g params clause = all_go (of_signature g params clause) (in_signature w g params clause) (signature_required g params clause)
@@ -206,9 +206,9 @@ module _ (w : WordsView) where
   nested_goes i s j f =
       all_go (of_nested i s j f) (in_nested w i s j f)
       ((λ n. signature_required (Struct i) s.params s.clause n ++ signature_required (Nested i j) f.params f.clause n)
-      ∙ sym (flat_map-append (λ (c : Scope × Constraint). of_constraint w c.0 c.1) (of_struct i s) (of_signature (Nested i j) f.params f.clause)))
+      ∙ sym (flat_map-append (λ (c : Context × Constraint). of_constraint w c.0 c.1) (of_struct i s) (of_signature (Nested i j) f.params f.clause)))
 
-  stand : (cs : List (Scope × Constraint)) (ns : List ℕ) (rs : List PlacedRequirement) → Goes w cs ns rs → All (StandsInOne w cs) rs
+  stand : (cs : List (Context × Constraint)) (ns : List ℕ) (rs : List PlacedRequirement) → Goes w cs ns rs → All (StandsInOne w cs) rs
   stand cs ns rs g k d l = let r = g.stand k d l in (r.0, r.2)
 
   pub protocol_stands : (p : ProtocolDecl) → All (StandsInOne w (of_protocol p)) (in_protocol w p)
@@ -220,22 +220,22 @@ module _ (w : WordsView) where
   pub nested_stands : (i : ℕ) (s : StructDecl) (j : ℕ) (f : FunctionDecl) → All (StandsInOne w (of_nested i s j f)) (in_nested w i s j f)
   nested_stands i s j f = stand (of_nested i s j f) (scoped_places (of_nested i s j f)) (in_nested w i s j f) (nested_goes i s j f)
 
-  read_places : (scope : Scope) (cs : List Constraint) → all_places cs ≡ scoped_places (read_in scope cs)
-  read_places scope cs = sym (flat_map-map (λ (c : Scope × Constraint). places c.1) (λ c. (scope, c)) cs)
+  read_places : (context : Context) (cs : List Constraint) → all_places cs ≡ scoped_places (read_in context cs)
+  read_places context cs = sym (flat_map-map (λ (c : Context × Constraint). places c.1) (λ c. (context, c)) cs)
 
   protocol_in_order : (p : ProtocolDecl) → Ascend (protocol_places p) → AllPairs (InOrder w (of_protocol p)) (in_protocol w p)
-  protocol_in_order p a = (protocol_goes p).order (subst Ascend (read_places scopes.Protocol (parts.of_protocol p)) a)
+  protocol_in_order p a = (protocol_goes p).order (subst Ascend (read_places contexts.Protocol (parts.of_protocol p)) a)
 
   signature_in_order : (g : Signature) (params : List ParamDecl) (clause : List ReqDecl) → Ascend (signature_places params clause)
       → AllPairs (InOrder w (of_signature g params clause)) (in_signature w g params clause)
-  signature_in_order g params clause a = (signature_goes g params clause).order (subst Ascend (read_places (scopes.Signature g) (parts.of_signature params clause)) a)
+  signature_in_order g params clause a = (signature_goes g params clause).order (subst Ascend (read_places (contexts.Signature g) (parts.of_signature params clause)) a)
 
   nested_in_order : (i : ℕ) (s : StructDecl) (j : ℕ) (f : FunctionDecl) → Ascend (signature_places s.params s.clause ++ function_places f) → AllPairs (InOrder w (of_nested i s j f)) (in_nested w i s j f)
   nested_in_order i s j f a =
       (nested_goes i s j f).order
       (subst Ascend
-      ((λ n. read_places (scopes.Signature (Struct i)) (parts.of_signature s.params s.clause) n ++ read_places (scopes.Signature (Nested i j)) (parts.of_signature f.params f.clause) n)
-      ∙ sym (flat_map-append (λ (c : Scope × Constraint). places c.1) (of_struct i s) (of_signature (Nested i j) f.params f.clause))) a)
+      ((λ n. read_places (contexts.Signature (Struct i)) (parts.of_signature s.params s.clause) n ++ read_places (contexts.Signature (Nested i j)) (parts.of_signature f.params f.clause) n)
+      ∙ sym (flat_map-append (λ (c : Context × Constraint). places c.1) (of_struct i s) (of_signature (Nested i j) f.params f.clause))) a)
 
 -- ---- the parts of a text
 

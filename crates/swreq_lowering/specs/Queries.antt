@@ -10,7 +10,7 @@ use Rattle.swreq_names.specs.declared.signature.Signature.{Signature}
 use Rattle.swreq_names.specs.declared.signature.Signature.TheVariants.{Function}
 use Rattle.swreq_names.specs.Spaces.{word, signature_of, nested_of}
 use Rattle.swreq_lowering.specs.declared.ids.FuncId.{FuncId}
-use Rattle.swreq_lowering.specs.declared.scope.Scope.TheVariants as scopes
+use Rattle.swreq_lowering.specs.declared.context.Context.TheVariants as contexts
 use Rattle.swreq_lowering.specs.Words.{WordsView, declared, proto_of}
 use Rattle.swreq_lowering.specs.Types.{type_in}
 use Rattle.swreq_lowering.specs.Signatures.{func_id}
@@ -32,9 +32,9 @@ module _ (w : WordsView) where
   -- what is asked of the signature g, which has this place
   abbrev pub asked_of : Signature → FuncId → Ask → TermQuery
   asked_of g f asks.Signature = AsksSignature f
-  asked_of g f (asks.Reduced t) = AsksReduced f (type_in w (scopes.Signature g) t)
-  asked_of g f (asks.Is t e) = cond e.layout (AsksAnyObject f (type_in w (scopes.Signature g) t)) (AsksConforms f (type_in w (scopes.Signature g) t) (proto_of w e.span))
-  asked_of g f (asks.Same t u) = AsksEquals f (type_in w (scopes.Signature g) t) (type_in w (scopes.Signature g) u)
+  asked_of g f (asks.Reduced t) = AsksReduced f (type_in w (contexts.Signature g) t)
+  asked_of g f (asks.Is t e) = cond e.layout (AsksAnyObject f (type_in w (contexts.Signature g) t)) (AsksConforms f (type_in w (contexts.Signature g) t) (proto_of w e.span))
+  asked_of g f (asks.Same t u) = AsksEquals f (type_in w (contexts.Signature g) t) (type_in w (contexts.Signature g) u)
 
   -- the struct or function at the top of this name, or the function of this struct
   abbrev pub signature_named : Option Span → Span → Option Signature

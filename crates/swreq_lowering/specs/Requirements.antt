@@ -32,8 +32,8 @@ use Rattle.swreq_names.specs.Parts as parts
 use Rattle.swreq_names.specs.Parts.{Subject, Constraint}
 use Rattle.swreq_names.specs.Parts.Subject.{self_of, associated, parameter, written}
 use Rattle.swreq_names.specs.Parts.Constraint.{bound, same}
-use Rattle.swreq_lowering.specs.declared.scope.Scope.{Scope}
-use Rattle.swreq_lowering.specs.declared.scope.Scope.TheVariants as scopes
+use Rattle.swreq_lowering.specs.declared.context.Context.{Context}
+use Rattle.swreq_lowering.specs.declared.context.Context.TheVariants as contexts
 use Rattle.swreq_lowering.specs.Signatures.{own_depth}
 use Rattle.swreq_lowering.specs.Words.{WordsView, proto_of, primaries_named}
 use Rattle.swreq_lowering.specs.Types.{member_named, param_id, type_in}
@@ -58,19 +58,19 @@ subject_at (parameter k g) = g.start
 subject_at (written t) = t.head.start
 
 module _ (w : WordsView) where
-  -- the depth of generic parameters that are declared in a scope
-  abbrev pub depth_in : Scope → ℕ
-  depth_in scopes.Protocol = 0
-  depth_in (scopes.Signature g) = own_depth w.skeleton g
+  -- the depth of generic parameters that are declared in a context
+  abbrev pub depth_in : Context → ℕ
+  depth_in contexts.Protocol = 0
+  depth_in (contexts.Signature g) = own_depth w.skeleton g
 
   -- `T: P` or `T: AnyObject`
   abbrev pub bound_of : Term → Entity → TermRequirement
   bound_of t e = cond e.layout (IsAnyObject t) (Conforms t (proto_of w e.span))
 
-  module _ (scope : Scope) where
+  module _ (context : Context) where
     -- the equality of an argument with a primary associated type of T, which is bound at an offset
     abbrev pub argument : Term → ℕ → Span → TypeDecl → PlacedRequirement
-    argument t at a u = equality (member_named w t a) at (type_in w scope u) u.head.start
+    argument t at a u = equality (member_named w t a) at (type_in w context u) u.head.start
 
     -- those of these primary names and these arguments
     abbrev pub arguments : Term → ℕ → List Span → List TypeDecl → List PlacedRequirement
@@ -89,21 +89,21 @@ module _ (w : WordsView) where
     abbrev pub subject_of : Subject → Term
     subject_of (self_of p) = self
     subject_of (associated a) = member_named w self a
-    subject_of (parameter k g) = Generic (param_id (depth_in scope) (Own k))
-    subject_of (written t) = type_in w scope t
+    subject_of (parameter k g) = Generic (param_id (depth_in context) (Own k))
+    subject_of (written t) = type_in w context t
 
     -- what a constraint requires
     abbrev pub of_constraint : Constraint → List PlacedRequirement
     of_constraint (bound subject bounds) = in_bounds (subject_of subject) (subject_at subject) bounds
-    of_constraint (same t u) = equality (type_in w scope t) t.head.start (type_in w scope u) u.head.start ∷ []
+    of_constraint (same t u) = equality (type_in w context t) t.head.start (type_in w context u) u.head.start ∷ []
 
   -- the requirements of a protocol
   abbrev pub in_protocol : ProtocolDecl → List PlacedRequirement
-  in_protocol p = flat_map (of_constraint scopes.Protocol) (parts.of_protocol p)
+  in_protocol p = flat_map (of_constraint contexts.Protocol) (parts.of_protocol p)
 
   -- what is written in a signature with these generic parameters of its own and this clause
   abbrev pub in_signature : Signature → List ParamDecl → List ReqDecl → List PlacedRequirement
-  in_signature g params clause = flat_map (of_constraint (scopes.Signature g)) (parts.of_signature params clause)
+  in_signature g params clause = flat_map (of_constraint (contexts.Signature g)) (parts.of_signature params clause)
 
   -- the list of the i-th struct
   abbrev pub in_struct : ℕ → StructDecl → List PlacedRequirement

@@ -16,32 +16,32 @@ use Rattle.swreq_names.specs.Parts as parts
 use Rattle.swreq_names.specs.Parts.{Subject, Constraint}
 use Rattle.swreq_names.specs.Parts.Subject.{self_of, associated, parameter, written}
 use Rattle.swreq_names.specs.Parts.Constraint.{bound, same}
-use Rattle.swreq_lowering.specs.declared.scope.Scope.{Scope}
-use Rattle.swreq_lowering.specs.declared.scope.Scope.TheVariants as scopes
+use Rattle.swreq_lowering.specs.declared.context.Context.{Context}
+use Rattle.swreq_lowering.specs.declared.context.Context.TheVariants as contexts
 use Rattle.swreq_lowering.specs.Requirements.{PlacedRequirement, bound_of, subject_of}
 use Rattle.swreq_lowering.specs.Types.{member_named, type_in}
 use Rattle.swreq_lowering.specs.Words.{WordsView, primaries_named}
 
 -- ---- constraints
 
--- constraints, each with the scope in which it is read
-abbrev pub read_in : Scope → List Constraint → List (Scope × Constraint)
-read_in scope cs = map (λ c. (scope, c)) cs
+-- constraints, each with the context in which it is read
+abbrev pub read_in : Context → List Constraint → List (Context × Constraint)
+read_in context cs = map (λ c. (context, c)) cs
 
-abbrev pub of_protocol : ProtocolDecl → List (Scope × Constraint)
-of_protocol p = read_in scopes.Protocol (parts.of_protocol p)
+abbrev pub of_protocol : ProtocolDecl → List (Context × Constraint)
+of_protocol p = read_in contexts.Protocol (parts.of_protocol p)
 
-abbrev pub of_signature : Signature → List ParamDecl → List ReqDecl → List (Scope × Constraint)
-of_signature g params clause = read_in (scopes.Signature g) (parts.of_signature params clause)
+abbrev pub of_signature : Signature → List ParamDecl → List ReqDecl → List (Context × Constraint)
+of_signature g params clause = read_in (contexts.Signature g) (parts.of_signature params clause)
 
-abbrev pub of_struct : ℕ → StructDecl → List (Scope × Constraint)
+abbrev pub of_struct : ℕ → StructDecl → List (Context × Constraint)
 of_struct i s = of_signature (Struct i) s.params s.clause
 
-abbrev pub of_function : ℕ → FunctionDecl → List (Scope × Constraint)
+abbrev pub of_function : ℕ → FunctionDecl → List (Context × Constraint)
 of_function i f = of_signature (Function i) f.params f.clause
 
 -- those of the struct, and then its own
-abbrev pub of_nested : ℕ → StructDecl → ℕ → FunctionDecl → List (Scope × Constraint)
+abbrev pub of_nested : ℕ → StructDecl → ℕ → FunctionDecl → List (Context × Constraint)
 of_nested i s j f = of_struct i s ++ of_signature (Nested i j) f.params f.clause
 
 -- ---- places
@@ -59,21 +59,21 @@ module _ (w : WordsView) where
   IsArgumentOf e a u = (k : ℕ) × (slice_get (primaries_named w e.span) k ≡ Some a) × (slice_get e.args k ≡ Some u)
 
   -- The requirement is one of this constraint. Its sides stand at these words of the constraint, and `last` is the word with which it is written out.
-  pub data IsWrittenAt (scope : Scope) : Constraint → TermRequirement → (left right last : Span) → Type 0 where
+  pub data IsWrittenAt (context : Context) : Constraint → TermRequirement → (left right last : Span) → Type 0 where
     -- `T: P` and `T: AnyObject` stand at the first word of T, and are written out with what stands on the right of the colon.
     of_bound : {subject : Subject} {bounds : List Entity} {e : Entity}
         → Contains bounds e
-        → IsWrittenAt scope (bound subject bounds) (bound_of w (subject_of w scope subject) e) (first_word subject) (first_word subject) e.span
+        → IsWrittenAt context (bound subject bounds) (bound_of w (subject_of w context subject) e) (first_word subject) (first_word subject) e.span
     -- In `T: P<U>` the equality of `T.A` with U, where A is the primary name that has U, stands at the name P and at the first word of U.
     of_argument : {subject : Subject} {bounds : List Entity} {e : Entity} {a : Span} {u : TypeDecl}
         → Contains bounds e
         → IsArgumentOf e a u
-        → IsWrittenAt scope (bound subject bounds) (Equals (member_named w (subject_of w scope subject) a) (type_in w scope u)) e.span u.head u.head
+        → IsWrittenAt context (bound subject bounds) (Equals (member_named w (subject_of w context subject) a) (type_in w context u)) e.span u.head u.head
     -- `T == U` stands at the first words of T and of U.
-    of_equality : {t u : TypeDecl} → IsWrittenAt scope (same t u) (Equals (type_in w scope t) (type_in w scope u)) t.head u.head u.head
+    of_equality : {t u : TypeDecl} → IsWrittenAt context (same t u) (Equals (type_in w context t) (type_in w context u)) t.head u.head u.head
 
   -- The requirement is one of this constraint, its places are where its words begin, and the last of them begins at n.
-  pub record StandsIn (c : Scope × Constraint) (r : PlacedRequirement) (n : ℕ) : Type 0 where
+  pub record StandsIn (c : Context × Constraint) (r : PlacedRequirement) (n : ℕ) : Type 0 where
     pub left : Span
     pub right : Span
     pub last : Span
@@ -82,10 +82,10 @@ module _ (w : WordsView) where
     pub right_at : r.right_at ≡ right.start
     pub last_at : n ≡ last.start
 
-  module _ (cs : List (Scope × Constraint)) where
+  module _ (cs : List (Context × Constraint)) where
     -- The requirement stands in one of the constraints, and its last word begins at n.
     abbrev pub EndsAt : PlacedRequirement → ℕ → Type 0
-    EndsAt r n = (c : Scope × Constraint) × Contains cs c × StandsIn c r n
+    EndsAt r n = (c : Context × Constraint) × Contains cs c × StandsIn c r n
 
     -- The requirement stands in one of the constraints.
     abbrev pub StandsInOne : PlacedRequirement → Type 0

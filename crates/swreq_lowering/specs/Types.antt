@@ -16,8 +16,8 @@ use Rattle.swreq_names.specs.declared.signature.Param.{Param}
 use Rattle.swreq_names.specs.declared.signature.Param.TheVariants.{Outer, Own}
 use Rattle.swreq_names.specs.Spaces.{word, param_of, self_bytes}
 use Rattle.swreq_lexicon.specs.Lexicons.{assoc_by}
-use Rattle.swreq_lowering.specs.declared.scope.Scope.{Scope}
-use Rattle.swreq_lowering.specs.declared.scope.Scope.TheVariants as scopes
+use Rattle.swreq_lowering.specs.declared.context.Context.{Context}
+use Rattle.swreq_lowering.specs.declared.context.Context.TheVariants as contexts
 use Rattle.swreq_lowering.specs.Signatures.{own_depth}
 use Rattle.swreq_lowering.specs.Words.{WordsView, declared, proto_of, name_of}
 
@@ -52,10 +52,10 @@ signature_head w g s = Generic (unwrap_or (param_named w g (word w.text s)) self
 
 -- ---- types
 
-abbrev pub head_in : WordsView → Scope → Span → Term
-head_in w scopes.Protocol = protocol_head w
-head_in w (scopes.Signature g) = signature_head w g
+abbrev pub head_in : WordsView → Context → Span → Term
+head_in w contexts.Protocol = protocol_head w
+head_in w (contexts.Signature g) = signature_head w g
 
 -- the type parameter that a type stands for where it is written
-abbrev pub type_in : WordsView → Scope → TypeDecl → Term
-type_in w scope t = with_steps (head_in w scope t.head) (map (step_of w) t.steps)
+abbrev pub type_in : WordsView → Context → TypeDecl → Term
+type_in w context t = with_steps (head_in w context t.head) (map (step_of w) t.steps)

@@ -8,27 +8,27 @@ use Rattle.swreq_names.specs.declared.signature.Signature.{Signature}
 use Rattle.swreq_names.specs.Parts as parts
 use Rattle.swreq_names.specs.Parts.Subject.{associated}
 use Rattle.swreq_names.specs.Parts.Constraint.{bound}
-use Rattle.swreq_lowering.specs.declared.scope.Scope.{Scope}
-use Rattle.swreq_lowering.specs.declared.scope.Scope.TheVariants as scopes
+use Rattle.swreq_lowering.specs.declared.context.Context.{Context}
+use Rattle.swreq_lowering.specs.declared.context.Context.TheVariants as contexts
 use Rattle.swreq_lowering.specs.Requirements.{PlacedRequirement, of_constraint}
 use Rattle.swreq_lowering.specs.Words.{WordsView}
 
 module _ (w : WordsView) where
-  abbrev pub in_requirement : Scope → ReqDecl → List PlacedRequirement
-  in_requirement scope r = of_constraint w scope (parts.of_requirement r)
+  abbrev pub in_requirement : Context → ReqDecl → List PlacedRequirement
+  in_requirement context r = of_constraint w context (parts.of_requirement r)
 
-  abbrev pub in_clause : Scope → List ReqDecl → List PlacedRequirement
-  in_clause scope clause = flat_map (in_requirement scope) clause
+  abbrev pub in_clause : Context → List ReqDecl → List PlacedRequirement
+  in_clause context clause = flat_map (in_requirement context) clause
 
   abbrev pub in_member : AssocDecl → List PlacedRequirement
-  in_member m = of_constraint w scopes.Protocol (bound (associated m.name) m.inherits) ++ in_clause scopes.Protocol m.clause
+  in_member m = of_constraint w contexts.Protocol (bound (associated m.name) m.inherits) ++ in_clause contexts.Protocol m.clause
 
   abbrev pub in_members : List AssocDecl → List PlacedRequirement
   in_members ms = flat_map in_member ms
 
   -- the bounds of the k-th generic parameter
   abbrev pub in_param : Signature → ℕ → ParamDecl → List PlacedRequirement
-  in_param g k p = of_constraint w (scopes.Signature g) (parts.of_param (k, p))
+  in_param g k p = of_constraint w (contexts.Signature g) (parts.of_param (k, p))
 
   -- the bounds of generic parameters, from the k-th on
   abbrev pub in_params : Signature → ℕ → List ParamDecl → List PlacedRequirement

@@ -2,6 +2,7 @@
 //! generic parameters, and the queries.
 #![tactic(auto)]
 
+mod context;
 mod ids;
 pub mod laws;
 mod lookups;
@@ -9,17 +10,16 @@ mod params;
 mod protocols;
 mod queries;
 mod requirements;
-mod scope;
 mod signatures;
 mod spelling;
 mod words;
 
+pub use context::Context;
 pub use ids::{FuncId, Query, Written};
 pub use lookups::words_of;
 pub use params::{own_depth, params_of};
 pub use protocols::of_protocol;
 pub use queries::{asked_signature, query};
-pub use scope::Scope;
 pub use signatures::{of_function, of_nested, of_struct};
 pub use spelling::spell;
 pub use words::Words;

@@ -6,10 +6,10 @@ ghost use Rattle.swreq_lowering.specs.Requirements.{in_protocol};
 ghost use Rattle.swreq_lowering.specs.Walk.{in_member, in_members};
 ghost use Rattle.swreq_lowering.specs.Words.{words_by};
 
+use crate::context::Context;
 use crate::ids::Written;
 use crate::lookups::name_of;
 use crate::requirements::{add_bounds, add_clause};
-use crate::scope::Scope;
 use crate::spelling::SELF;
 use crate::words::Words;
 use std::alloc::{AllocError, Global};
@@ -27,19 +27,19 @@ fn add_member(
     ensures adds { OnOk result (Adds table.old table.new into.old.items into.new.items (in_member (words_by words.now) m.now)) }
     ensures extends { Extends table.old table.new }
 {
-    let scope = Scope::Protocol;
+    let context = Context::Protocol;
     let base = table.param(SELF)?;
     let subject = table.member(base, Step::Name(name_of(words, m.name)))?;
     add_bounds(
         table,
         words,
-        scope,
+        context,
         subject,
         m.name.start,
         m.inherits.items(),
         into,
     )?;
-    add_clause(table, words, scope, m.clause.items(), into)
+    add_clause(table, words, context, m.clause.items(), into)
 }
 
 #[tactic(auto, using(swreq_param::proofs::Growing::onward))]
@@ -69,19 +69,19 @@ pub fn of_protocol(
     ensures lists { IfOk result (λ v. Lists table.old table.new (in_protocol (words_by words.now) p.now) v.items) }
     ensures extends { Extends table.old table.new }
 {
-    let scope = Scope::Protocol;
+    let context = Context::Protocol;
     let mut into = Vec::new(alloc);
     let base = table.param(SELF)?;
     add_bounds(
         table,
         words,
-        scope,
+        context,
         base,
         p.name.start,
         p.inherits.items(),
         &mut into,
     )?;
-    add_clause(table, words, scope, p.clause.items(), &mut into)?;
+    add_clause(table, words, context, p.clause.items(), &mut into)?;
     add_members(table, words, p.members.items(), &mut into)?;
     Ok(into)
 }

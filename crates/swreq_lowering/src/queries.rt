@@ -7,9 +7,9 @@ ghost use Rattle.swreq_lowering.specs.ByTable.{query_by, HasQueryIdsOf};
 ghost use Rattle.swreq_lowering.specs.Queries.{asked_of, asked_signature, signature_named, TermQuery.AsksAnyObject, TermQuery.AsksConforms};
 ghost use Rattle.swreq_lowering.specs.Words.{words_by, proto_of};
 
+use crate::context::Context;
 use crate::ids::{FuncId, Query};
 use crate::lookups::proto_of;
-use crate::scope::Scope;
 use crate::spelling::spell;
 use crate::words::Words;
 use std::alloc::AllocError;
@@ -51,20 +51,20 @@ pub fn query(
     ensures asks { IfOk result (Asks table.old table.new (asked_of (words_by words.now) signature f ask.now)) }
     ensures extends { Extends table.old table.new }
 {
-    let scope = Scope::Signature(signature);
+    let context = Context::Signature(signature);
     match ask {
         Ask::Signature => Ok(Query::Signature { f }),
         Ask::Reduced { t } => {
-            let t = spell(table, words, scope, t)?;
+            let t = spell(table, words, context, t)?;
             Ok(Query::Reduced { f, t })
         }
         Ask::Is { t, bound } => {
-            let t = spell(table, words, scope, t)?;
+            let t = spell(table, words, context, t)?;
             Ok(is_query(words, f, t, bound))
         }
         Ask::Same { left, right } => {
-            let a = spell(table, words, scope, left)?;
-            let b = spell(table, words, scope, right)?;
+            let a = spell(table, words, context, left)?;
+            let b = spell(table, words, context, right)?;
             Ok(Query::Same { f, a, b })
         }
     }

@@ -10,9 +10,9 @@ ghost use Rattle.swreq_lowering.specs.Walk.{in_clause, in_requirement};
 ghost use Rattle.swreq_lowering.specs.Types.{type_in};
 ghost use Rattle.swreq_lowering.specs.Words.{words_by};
 
+use crate::context::Context;
 use crate::ids::Written;
 use crate::lookups::{name_of, primaries_named, proto_of};
-use crate::scope::Scope;
 use crate::spelling::spell;
 use crate::words::Words;
 use std::alloc::AllocError;
@@ -40,7 +40,7 @@ fn bound_of(words: &Words<'_>, subject: TermId, e: &Entity) -> Requirement
 fn add_argument(
     table: &mut ParamTable,
     words: &Words<'_>,
-    scope: Scope,
+    context: Context,
     subject: TermId,
     at: u32,
     name: Span,
@@ -49,11 +49,11 @@ fn add_argument(
 ) -> Result<(), AllocError>
     requires { IsOf table.old subject }
     ensures adds { OnOk result (Adds table.old table.new into.old.items into.new.items
-        (argument (words_by words.now) scope (term_at table.old subject) at name given.now ∷ [])) }
+        (argument (words_by words.now) context (term_at table.old subject) at name given.now ∷ [])) }
     ensures extends { Extends table.old table.new }
 {
     let left = table.member(subject, Step::Name(name_of(words, name)))?;
-    let right = spell(table, words, scope, given)?;
+    let right = spell(table, words, context, given)?;
     into.push(Written {
         requirement: Requirement::Same { left, right },
         left_at: at,
@@ -67,7 +67,7 @@ fn add_argument(
 fn add_arguments(
     table: &mut ParamTable,
     words: &Words<'_>,
-    scope: Scope,
+    context: Context,
     subject: TermId,
     at: u32,
     names: &[Span],
@@ -76,13 +76,13 @@ fn add_arguments(
 ) -> Result<(), AllocError>
     requires { IsOf table.old subject }
     ensures adds { OnOk result (Adds table.old table.new into.old.items into.new.items
-        (arguments (words_by words.now) scope (term_at table.old subject) at names.now given.now)) }
+        (arguments (words_by words.now) context (term_at table.old subject) at names.now given.now)) }
     ensures extends { Extends table.old table.new }
 {
     let mut k = 0;
     while k < names.len() && k < given.len() {
         let argument = &given[k];
-        add_argument(table, words, scope, subject, at, names[k], argument, into)?;
+        add_argument(table, words, context, subject, at, names[k], argument, into)?;
         k += 1;
     }
     Ok(())
@@ -92,7 +92,7 @@ fn add_arguments(
 fn add_bound(
     table: &mut ParamTable,
     words: &Words<'_>,
-    scope: Scope,
+    context: Context,
     subject: TermId,
     at: u32,
     e: &Entity,
@@ -100,7 +100,7 @@ fn add_bound(
 ) -> Result<(), AllocError>
     requires { IsOf table.old subject }
     ensures adds { OnOk result (Adds table.old table.new into.old.items into.new.items
-        (in_bound (words_by words.now) scope (term_at table.old subject) at e.now)) }
+        (in_bound (words_by words.now) context (term_at table.old subject) at e.now)) }
     ensures extends { Extends table.old table.new }
 {
     into.push(Written {
@@ -112,7 +112,7 @@ fn add_bound(
     add_arguments(
         table,
         words,
-        scope,
+        context,
         subject,
         e.span.start,
         names,
@@ -126,7 +126,7 @@ fn add_bound(
 pub fn add_bounds(
     table: &mut ParamTable,
     words: &Words<'_>,
-    scope: Scope,
+    context: Context,
     subject: TermId,
     at: u32,
     bounds: &[Entity],
@@ -134,11 +134,11 @@ pub fn add_bounds(
 ) -> Result<(), AllocError>
     requires { IsOf table.old subject }
     ensures adds { OnOk result (Adds table.old table.new into.old.items into.new.items
-        (in_bounds (words_by words.now) scope (term_at table.old subject) at bounds.now)) }
+        (in_bounds (words_by words.now) context (term_at table.old subject) at bounds.now)) }
     ensures extends { Extends table.old table.new }
 {
     for e in bounds {
-        add_bound(table, words, scope, subject, at, e, into)?;
+        add_bound(table, words, context, subject, at, e, into)?;
     }
     Ok(())
 }
@@ -148,17 +148,17 @@ pub fn add_bounds(
 fn add_same(
     table: &mut ParamTable,
     words: &Words<'_>,
-    scope: Scope,
+    context: Context,
     left: &TypeDecl,
     right: &TypeDecl,
     into: &mut Vec<Written>,
 ) -> Result<(), AllocError>
     ensures adds { OnOk result (Adds table.old table.new into.old.items into.new.items
-        (equality (type_in (words_by words.now) scope left.now) left.now.head.start (type_in (words_by words.now) scope right.now) right.now.head.start ∷ [])) }
+        (equality (type_in (words_by words.now) context left.now) left.now.head.start (type_in (words_by words.now) context right.now) right.now.head.start ∷ [])) }
     ensures extends { Extends table.old table.new }
 {
-    let t = spell(table, words, scope, left)?;
-    let u = spell(table, words, scope, right)?;
+    let t = spell(table, words, context, left)?;
+    let u = spell(table, words, context, right)?;
     into.push(Written {
         requirement: Requirement::Same { left: t, right: u },
         left_at: left.head.start,
@@ -172,36 +172,36 @@ fn add_same(
 fn add_subject(
     table: &mut ParamTable,
     words: &Words<'_>,
-    scope: Scope,
+    context: Context,
     subject: &TypeDecl,
     bounds: &[Entity],
     into: &mut Vec<Written>,
 ) -> Result<(), AllocError>
     ensures adds { OnOk result (Adds table.old table.new into.old.items into.new.items
-        (in_bounds (words_by words.now) scope (type_in (words_by words.now) scope subject.now) subject.now.head.start bounds.now)) }
+        (in_bounds (words_by words.now) context (type_in (words_by words.now) context subject.now) subject.now.head.start bounds.now)) }
     ensures extends { Extends table.old table.new }
 {
-    let t = spell(table, words, scope, subject)?;
-    add_bounds(table, words, scope, t, subject.head.start, bounds, into)
+    let t = spell(table, words, context, subject)?;
+    add_bounds(table, words, context, t, subject.head.start, bounds, into)
 }
 
 /// A written requirement.
 fn add_requirement(
     table: &mut ParamTable,
     words: &Words<'_>,
-    scope: Scope,
+    context: Context,
     r: &ReqDecl,
     into: &mut Vec<Written>,
 ) -> Result<(), AllocError>
     ensures adds { OnOk result (Adds table.old table.new into.old.items into.new.items
-        (in_requirement (words_by words.now) scope r.now)) }
+        (in_requirement (words_by words.now) context r.now)) }
     ensures extends { Extends table.old table.new }
 {
     match r {
         ReqDecl::Bound { subject, bounds } => {
-            add_subject(table, words, scope, subject, bounds.items(), into)
+            add_subject(table, words, context, subject, bounds.items(), into)
         }
-        ReqDecl::Same { left, right } => add_same(table, words, scope, left, right, into),
+        ReqDecl::Same { left, right } => add_same(table, words, context, left, right, into),
     }
 }
 
@@ -210,16 +210,16 @@ fn add_requirement(
 pub fn add_clause(
     table: &mut ParamTable,
     words: &Words<'_>,
-    scope: Scope,
+    context: Context,
     clause: &[ReqDecl],
     into: &mut Vec<Written>,
 ) -> Result<(), AllocError>
     ensures adds { OnOk result (Adds table.old table.new into.old.items into.new.items
-        (in_clause (words_by words.now) scope clause.now)) }
+        (in_clause (words_by words.now) context clause.now)) }
     ensures extends { Extends table.old table.new }
 {
     for r in clause {
-        add_requirement(table, words, scope, r, into)?;
+        add_requirement(table, words, context, r, into)?;
     }
     Ok(())
 }

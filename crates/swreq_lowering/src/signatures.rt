@@ -7,10 +7,10 @@ ghost use Rattle.swreq_lowering.specs.Requirements.{in_function, in_inner, in_si
 ghost use Rattle.swreq_lowering.specs.Walk.{in_param, in_params};
 ghost use Rattle.swreq_lowering.specs.Words.{words_by};
 
+use crate::context::Context;
 use crate::ids::Written;
 use crate::params::own_depth;
 use crate::requirements::{add_bounds, add_clause};
-use crate::scope::Scope;
 use crate::words::Words;
 use std::alloc::{AllocError, Global};
 use swreq_decl::{FunctionDecl, ParamDecl, ReqDecl, StructDecl};
@@ -32,11 +32,11 @@ fn add_param(
 {
     let depth = own_depth(words.skeleton, signature);
     let subject = table.param(ParamId { depth, index })?;
-    let scope = Scope::Signature(signature);
+    let context = Context::Signature(signature);
     add_bounds(
         table,
         words,
-        scope,
+        context,
         subject,
         p.name.start,
         p.bounds.items(),
@@ -80,7 +80,7 @@ fn add_signature(
     ensures extends { Extends table.old table.new }
 {
     add_params(table, words, signature, params, into)?;
-    add_clause(table, words, Scope::Signature(signature), clause, into)
+    add_clause(table, words, Context::Signature(signature), clause, into)
 }
 
 /// The list of the struct at a place, in the order of the places of its requirements.

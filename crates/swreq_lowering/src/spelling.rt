@@ -6,8 +6,8 @@ ghost use Rattle.swreq_lowering.specs.Adding.{Spells};
 ghost use Rattle.swreq_lowering.specs.Types.{head_in, protocol_head, signature_head, step_of, type_in};
 ghost use Rattle.swreq_lowering.specs.Words.{words_by};
 
+use crate::context::Context;
 use crate::lookups::{name_of, param_named, step_of};
-use crate::scope::Scope;
 use crate::words::Words;
 use std::alloc::AllocError;
 use swreq_decl::{Span, StepDecl, TypeDecl};
@@ -22,13 +22,13 @@ pub const SELF: ParamId = ParamId { depth: 0, index: 0 };
 pub fn spell(
     table: &mut ParamTable,
     words: &Words<'_>,
-    scope: Scope,
+    context: Context,
     t: &TypeDecl,
 ) -> Result<TermId, AllocError>
-    ensures spells { IfOk result (Spells table.old table.new (type_in (words_by words.now) scope t.now)) }
+    ensures spells { IfOk result (Spells table.old table.new (type_in (words_by words.now) context t.now)) }
     ensures extends { Extends table.old table.new }
 {
-    let head = spell_head(table, words, scope, t.head)?;
+    let head = spell_head(table, words, context, t.head)?;
     spell_steps(table, words, head, t.steps.items())
 }
 
@@ -36,15 +36,15 @@ pub fn spell(
 fn spell_head(
     table: &mut ParamTable,
     words: &Words<'_>,
-    scope: Scope,
+    context: Context,
     head: Span,
 ) -> Result<TermId, AllocError>
-    ensures spells { IfOk result (Spells table.old table.new (head_in (words_by words.now) scope head)) }
+    ensures spells { IfOk result (Spells table.old table.new (head_in (words_by words.now) context head)) }
     ensures extends { Extends table.old table.new }
 {
-    match scope {
-        Scope::Protocol => spell_protocol_head(table, words, head),
-        Scope::Signature(signature) => spell_signature_head(table, words, signature, head),
+    match context {
+        Context::Protocol => spell_protocol_head(table, words, head),
+        Context::Signature(signature) => spell_signature_head(table, words, signature, head),
     }
 }
 

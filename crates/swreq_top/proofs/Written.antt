@@ -26,8 +26,8 @@ use Rattle.swreq_names.specs.Parts.Subject.{associated, parameter, self_of, writ
 use Rattle.swreq_names.specs.Spaces.{protocol_of}
 use Rattle.swreq_lexicon.specs.Views.{LexiconView}
 use Rattle.swreq_lowering.specs.declared.ids.FuncId.{FuncId}
-use Rattle.swreq_lowering.specs.declared.scope.Scope.{Scope}
-use Rattle.swreq_lowering.specs.declared.scope.Scope.TheVariants as scopes
+use Rattle.swreq_lowering.specs.declared.context.Context.{Context}
+use Rattle.swreq_lowering.specs.declared.context.Context.TheVariants as contexts
 use Rattle.swreq_lowering.specs.Queries.TermQuery.{AsksAnyObject, AsksConforms, AsksEquals, AsksReduced}
 use Rattle.swreq_lowering.specs.Queries.{asked_of, asked_signature, query_of, signature_named}
 use Rattle.swreq_lowering.specs.Requirements.{PlacedRequirement, bound_of, depth_in, equality, of_constraint, of_one_side, arguments, argument, in_bound, in_bounds, in_protocol, in_signature, in_struct, subject_at, subject_of}
@@ -64,57 +64,57 @@ module _ (w : WordsView) where
   step_same (decls.Plain a) = refl
   step_same (decls.Bound p a) = refl
 
-  head_same : (scope : Scope) (s : Span) → head_in (bare_words w) scope s ≡ head_in w scope s
-  head_same scopes.Protocol s = refl
-  head_same (scopes.Signature g) s = refl
+  head_same : (context : Context) (s : Span) → head_in (bare_words w) context s ≡ head_in w context s
+  head_same contexts.Protocol s = refl
+  head_same (contexts.Signature g) s = refl
 
-  type_same : (scope : Scope) (t : TypeDecl) → type_in (bare_words w) scope t ≡ type_in w scope t
-  type_same scope t = ap₂ with_steps (head_same scope t.head) (alike (step_of (bare_words w)) (step_of w) step_same t.steps)
+  type_same : (context : Context) (t : TypeDecl) → type_in (bare_words w) context t ≡ type_in w context t
+  type_same context t = ap₂ with_steps (head_same context t.head) (alike (step_of (bare_words w)) (step_of w) step_same t.steps)
 
-  module _ (scope : Scope) where
-    argument_same : (t : Term) (at : ℕ) (a : Span) (u : TypeDecl) → argument (bare_words w) scope t at a u ≡ argument w scope t at a u
-    argument_same t at a u = ap (λ (v : Term). equality (member_named w t a) at v u.head.start) (type_same scope u)
+  module _ (context : Context) where
+    argument_same : (t : Term) (at : ℕ) (a : Span) (u : TypeDecl) → argument (bare_words w) context t at a u ≡ argument w context t at a u
+    argument_same t at a u = ap (λ (v : Term). equality (member_named w t a) at v u.head.start) (type_same context u)
 
     arguments_same : (t : Term) (at : ℕ) (names : List Span) (us : List TypeDecl)
-        → arguments (bare_words w) scope t at names us ≡ arguments w scope t at names us
+        → arguments (bare_words w) context t at names us ≡ arguments w context t at names us
     arguments_same t at [] us = refl
     arguments_same t at (a ∷ names) [] = refl
     arguments_same t at (a ∷ names) (u ∷ us) =
         ap₂ (λ (x : PlacedRequirement) (xs : List PlacedRequirement). x ∷ xs) (argument_same t at a u) (arguments_same t at names us)
 
-    in_bound_same : (t : Term) (at : ℕ) (e : Entity) → in_bound (bare_words w) scope t at e ≡ in_bound w scope t at e
+    in_bound_same : (t : Term) (at : ℕ) (e : Entity) → in_bound (bare_words w) context t at e ≡ in_bound w context t at e
     in_bound_same t at e =
         ap (λ (xs : List PlacedRequirement). of_one_side (bound_of w t e) at ∷ xs) (arguments_same t e.span.start (primaries_named w e.span) e.args)
 
-    in_bounds_same : (t : Term) (at : ℕ) (bounds : List Entity) → in_bounds (bare_words w) scope t at bounds ≡ in_bounds w scope t at bounds
-    in_bounds_same t at bounds = flat_alike (in_bound (bare_words w) scope t at) (in_bound w scope t at) (in_bound_same t at) bounds
+    in_bounds_same : (t : Term) (at : ℕ) (bounds : List Entity) → in_bounds (bare_words w) context t at bounds ≡ in_bounds w context t at bounds
+    in_bounds_same t at bounds = flat_alike (in_bound (bare_words w) context t at) (in_bound w context t at) (in_bound_same t at) bounds
 
-    depth_same : depth_in (bare_words w) scope ≡ depth_in w scope
-    depth_same = elim scope [ scopes.Protocol ↦ refl | scopes.Signature g ↦ refl ]
+    depth_same : depth_in (bare_words w) context ≡ depth_in w context
+    depth_same = elim context [ contexts.Protocol ↦ refl | contexts.Signature g ↦ refl ]
 
-    subject_same : (subject : Subject) → subject_of (bare_words w) scope subject ≡ subject_of w scope subject
+    subject_same : (subject : Subject) → subject_of (bare_words w) context subject ≡ subject_of w context subject
     subject_same (self_of p) = refl
     subject_same (associated a) = refl
     subject_same (parameter k g) = ap (λ (n : ℕ). Generic (param_id n (Own k))) depth_same
-    subject_same (written t) = type_same scope t
+    subject_same (written t) = type_same context t
 
-    constraint_same : (c : Constraint) → of_constraint (bare_words w) scope c ≡ of_constraint w scope c
+    constraint_same : (c : Constraint) → of_constraint (bare_words w) context c ≡ of_constraint w context c
     constraint_same (bound subject bounds) =
-        ap (λ (v : Term). in_bounds (bare_words w) scope v (subject_at subject) bounds) (subject_same subject)
-        ∙ in_bounds_same (subject_of w scope subject) (subject_at subject) bounds
-    constraint_same (same t u) = ap₂ (λ (v z : Term). equality v t.head.start z u.head.start ∷ []) (type_same scope t) (type_same scope u)
+        ap (λ (v : Term). in_bounds (bare_words w) context v (subject_at subject) bounds) (subject_same subject)
+        ∙ in_bounds_same (subject_of w context subject) (subject_at subject) bounds
+    constraint_same (same t u) = ap₂ (λ (v z : Term). equality v t.head.start z u.head.start ∷ []) (type_same context t) (type_same context u)
 
-    constraints_same : (cs : List Constraint) → flat_map (of_constraint (bare_words w) scope) cs ≡ flat_map (of_constraint w scope) cs
-    constraints_same cs = flat_alike (of_constraint (bare_words w) scope) (of_constraint w scope) constraint_same cs
+    constraints_same : (cs : List Constraint) → flat_map (of_constraint (bare_words w) context) cs ≡ flat_map (of_constraint w context) cs
+    constraints_same cs = flat_alike (of_constraint (bare_words w) context) (of_constraint w context) constraint_same cs
 
   abbrev joined : List PlacedRequirement → List PlacedRequirement → List PlacedRequirement
   joined xs ys = xs ++ ys
 
   in_protocol_same : (p : ProtocolDecl) → in_protocol (bare_words w) p ≡ in_protocol w p
-  in_protocol_same p = constraints_same scopes.Protocol (parts.of_protocol p)
+  in_protocol_same p = constraints_same contexts.Protocol (parts.of_protocol p)
 
   in_signature_same : (g : Signature) (ps : List ParamDecl) (clause : List ReqDecl) → in_signature (bare_words w) g ps clause ≡ in_signature w g ps clause
-  in_signature_same g ps clause = constraints_same (scopes.Signature g) (parts.of_signature ps clause)
+  in_signature_same g ps clause = constraints_same (contexts.Signature g) (parts.of_signature ps clause)
 
   in_struct_same : (i : ℕ) (s : StructDecl) → in_struct (bare_words w) i s ≡ in_struct w i s
   in_struct_same i s = in_signature_same (Struct i) s.params s.clause
@@ -192,10 +192,10 @@ module _ (w : WordsView) where
   -- queries
   asked_same : (g : Signature) (f : FuncId) (ask : Ask) → asked_of (bare_words w) g f ask ≡ asked_of w g f ask
   asked_same g f asks.Signature = refl
-  asked_same g f (asks.Reduced t) = ap (AsksReduced f) (type_same (scopes.Signature g) t)
+  asked_same g f (asks.Reduced t) = ap (AsksReduced f) (type_same (contexts.Signature g) t)
   asked_same g f (asks.Is t e) =
-      ap (λ (v : Term). cond e.layout (AsksAnyObject f v) (AsksConforms f v (proto_of w e.span))) (type_same (scopes.Signature g) t)
-  asked_same g f (asks.Same t u) = ap₂ (AsksEquals f) (type_same (scopes.Signature g) t) (type_same (scopes.Signature g) u)
+      ap (λ (v : Term). cond e.layout (AsksAnyObject f v) (AsksConforms f v (proto_of w e.span))) (type_same (contexts.Signature g) t)
+  asked_same g f (asks.Same t u) = ap₂ (AsksEquals f) (type_same (contexts.Signature g) t) (type_same (contexts.Signature g) u)
 
   named_same : (outer : Option Span) (f : Span) → signature_named (bare_words w) outer f ≡ signature_named w outer f
   named_same None f = refl

@@ -28,7 +28,7 @@ use Rattle.swreq_resolve.specs.Refusals.{begins_in_protocol, duplicates, of_enti
 use Rattle.swreq_resolve.specs.Refusals as refusals
 use Rattle.swreq_rank.specs.Ranks.{Bytes}
 use Rattle.swreq_lexicon.proofs.Declared.{from_pieces, in_pieces}
-use Rattle.swreq_lowering.specs.declared.scope.Scope.TheVariants.{Protocol}
+use Rattle.swreq_lowering.specs.declared.context.Context.TheVariants.{Protocol}
 use Rattle.swreq_lowering.specs.Requirements.{PlacedRequirement, argument, arguments, bound_of, equality, in_bound, in_bounds, in_protocol, of_one_side}
 use Rattle.swreq_lowering.specs.Walk.{in_clause, in_member, in_members, in_requirement}
 use Rattle.swreq_lowering.proofs.Walked.{protocol_walked}

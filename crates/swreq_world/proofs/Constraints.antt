@@ -21,7 +21,7 @@ use Rattle.swreq_param.specs.Terms.{Term, head, with_steps}
 use Rattle.swreq_param.specs.Terms.Term.{Member}
 use Rattle.swreq_rank.specs.Ranks.{Bytes}
 use Rattle.swreq_lexicon.specs.Views.{IsProtocol, IsName}
-use Rattle.swreq_lowering.specs.declared.scope.Scope.{Scope}
+use Rattle.swreq_lowering.specs.declared.context.Context.{Context}
 use Rattle.swreq_lowering.specs.Heads.{IsOver}
 use Rattle.swreq_lowering.specs.Requirements.{PlacedRequirement, of_one_side, equality, bound_of, argument, arguments, in_bound, in_bounds}
 use Rattle.swreq_lowering.specs.Walk.{in_requirement, in_clause}
@@ -69,13 +69,13 @@ module _ (w : WordsView) (refers : Refers w) where
 
   -- ---- where types begin with such words, and stand for type parameters over these generic parameters
 
-  module _ (scope : Scope) (begins : Bytes → Bool) (IsHead : ParamId → Type 0) where
+  module _ (context : Context) (begins : Bytes → Bool) (IsHead : ParamId → Type 0) where
     -- The type parameter is of the world, and begins with such a generic parameter.
     abbrev pub IsSubject : Term → Type 0
     IsSubject t = IsTermOf w.lexicon t × IsHead (head t)
 
     abbrev IsTyped : TypeDecl → Type 0
-    IsTyped t = IsSubject (type_in w scope t)
+    IsTyped t = IsSubject (type_in w context t)
 
     abbrev IsNamed : Span → Type 0
     IsNamed a = IsName w.lexicon (name_of w a)
@@ -84,14 +84,14 @@ module _ (w : WordsView) (refers : Refers w) where
     abbrev pub IsWithin : PlacedRequirement → Type 0
     IsWithin r = IsRequirementOf w.lexicon r.requirement × IsOver IsHead r.requirement
 
-    module _ (starts : (s : Span) → begins (word w.text s) ≡ true → IsSubject (head_in w scope s)) where
-      pub type_is : (t : TypeDecl) → Resolved w (of_type w.text (declared w) begins t) (names.in_type w.text t) → IsSubject (type_in w scope t)
+    module _ (starts : (s : Span) → begins (word w.text s) ≡ true → IsSubject (head_in w context s)) where
+      pub type_is : (t : TypeDecl) → Resolved w (of_type w.text (declared w) begins t) (names.in_type w.text t) → IsSubject (type_in w context t)
       type_is t h =
           let of_head = when (not (begins (word w.text t.head))) ConcreteType t.head.start in
           let of_steps = flat_map (of_step w.text (declared w)) t.steps in
           let i = starts t.head (passes (begins (word w.text t.head)) ConcreteType t.head.start (all_left Never of_head of_steps h.0)) in (
-            steps_are (head_in w scope t.head) t.steps i.0 (after w of_head of_steps (names.in_type w.text t) h),
-            subst IsHead (sym (heads_same (head_in w scope t.head) (map (step_of w) t.steps))) i.1,
+            steps_are (head_in w context t.head) t.steps i.0 (after w of_head of_steps (names.in_type w.text t) h),
+            subst IsHead (sym (heads_same (head_in w context t.head) (map (step_of w) t.steps))) i.1,
           )
 
       types_are : (us : List TypeDecl) → Resolved w (flat_map (of_type w.text (declared w) begins) us) (flat_map (names.in_type w.text) us) → All IsTyped us
@@ -105,41 +105,41 @@ module _ (w : WordsView) (refers : Refers w) where
       bound_by t e true i h = i
       bound_by t e false i h = ((i.0, named_is e.span (length e.args) (protocol_of (declared w) (word w.text e.span)) refl h), i.1)
 
-      arguments_are : (t : Term) (at : ℕ) (ns : List Span) (us : List TypeDecl) → IsSubject t → All IsNamed ns → All IsTyped us → All IsWithin (arguments w scope t at ns us)
+      arguments_are : (t : Term) (at : ℕ) (ns : List Span) (us : List TypeDecl) → IsSubject t → All IsNamed ns → All IsTyped us → All IsWithin (arguments w context t at ns us)
       arguments_are t at [] us i h g = All-nil IsWithin
       arguments_are t at (a ∷ ns) [] i h g = All-nil IsWithin
       arguments_are t at (a ∷ ns) (u ∷ us) i h g =
           let n = All-head IsNamed a ns h in
           let v = All-head IsTyped u us g in
-          All-cons IsWithin (argument w scope t at a u) (arguments w scope t at ns us) (((i.0, n), v.0), (i.1, v.1))
+          All-cons IsWithin (argument w context t at a u) (arguments w context t at ns us) (((i.0, n), v.0), (i.1, v.1))
           (arguments_are t at ns us i (All-tail IsNamed a ns h) (All-tail IsTyped u us g))
 
-      entity_is : (t : Term) (at : ℕ) (e : Entity) → IsSubject t → Resolved w (of_entity w.text (declared w) begins e) (names.in_entity w.text e) → All IsWithin (in_bound w scope t at e)
+      entity_is : (t : Term) (at : ℕ) (e : Entity) → IsSubject t → Resolved w (of_entity w.text (declared w) begins e) (names.in_entity w.text e) → All IsWithin (in_bound w context t at e)
       entity_is t at e i h =
           let of_args = flat_map (of_type w.text (declared w) begins) e.args in
           let p = after w (of_named w.text (declared w) e) of_args (names.in_entity w.text e) h in
-          All-cons IsWithin (of_one_side (bound_of w t e) at) (arguments w scope t e.span.start (primaries_named w e.span) e.args)
+          All-cons IsWithin (of_one_side (bound_of w t e) at) (arguments w context t e.span.start (primaries_named w e.span) e.args)
           (bound_by t e e.layout i (all_left Never (of_named w.text (declared w) e) of_args h.0))
           (arguments_are t e.span.start (primaries_named w e.span) e.args i (refers.primaries e.span)
           (types_are e.args p))
 
       pub bounds_are : (t : Term) (at : ℕ) (es : List Entity) → IsSubject t → Resolved w (flat_map (of_entity w.text (declared w) begins) es) (names.in_bounds w.text es)
-          → All IsWithin (in_bounds w scope t at es)
+          → All IsWithin (in_bounds w context t at es)
       bounds_are t at es i h =
-          all_in_pieces IsWithin (λ e. Resolved w (of_entity w.text (declared w) begins e) (names.in_entity w.text e)) (in_bound w scope t at) es (λ e r. entity_is t at e i r)
+          all_in_pieces IsWithin (λ e. Resolved w (of_entity w.text (declared w) begins e) (names.in_entity w.text e)) (in_bound w context t at) es (λ e r. entity_is t at e i r)
           (each w (of_entity w.text (declared w) begins) (names.in_entity w.text) es h)
 
-      requirement_is : (r : ReqDecl) → Resolved w (of_requirement w.text (declared w) begins r) (names.in_requirement w.text r) → All IsWithin (in_requirement w scope r)
+      requirement_is : (r : ReqDecl) → Resolved w (of_requirement w.text (declared w) begins r) (names.in_requirement w.text r) → All IsWithin (in_requirement w context r)
       requirement_is (requirements.Bound t bounds) h =
           let p = parts w (of_type w.text (declared w) begins t) (flat_map (of_entity w.text (declared w) begins) bounds) (names.in_type w.text t) (names.in_bounds w.text bounds) h in
-          bounds_are (type_in w scope t) t.head.start bounds (type_is t p.0) p.1
+          bounds_are (type_in w context t) t.head.start bounds (type_is t p.0) p.1
       requirement_is (requirements.Same t u) h =
           let p = parts w (of_type w.text (declared w) begins t) (of_type w.text (declared w) begins u) (names.in_type w.text t) (names.in_type w.text u) h in
           let i = type_is t p.0 in
           let j = type_is u p.1 in
-          All-cons IsWithin (equality (type_in w scope t) t.head.start (type_in w scope u) u.head.start) [] ((i.0, j.0), (i.1, j.1)) (All-nil IsWithin)
+          All-cons IsWithin (equality (type_in w context t) t.head.start (type_in w context u) u.head.start) [] ((i.0, j.0), (i.1, j.1)) (All-nil IsWithin)
 
-      pub clause_is : (rs : List ReqDecl) → Resolved w (flat_map (of_requirement w.text (declared w) begins) rs) (names.in_clause w.text rs) → All IsWithin (in_clause w scope rs)
+      pub clause_is : (rs : List ReqDecl) → Resolved w (flat_map (of_requirement w.text (declared w) begins) rs) (names.in_clause w.text rs) → All IsWithin (in_clause w context rs)
       clause_is rs h =
-          all_in_pieces IsWithin (λ r. Resolved w (of_requirement w.text (declared w) begins r) (names.in_requirement w.text r)) (in_requirement w scope) rs requirement_is
+          all_in_pieces IsWithin (λ r. Resolved w (of_requirement w.text (declared w) begins r) (names.in_requirement w.text r)) (in_requirement w context) rs requirement_is
           (each w (of_requirement w.text (declared w) begins) (names.in_requirement w.text) rs h)

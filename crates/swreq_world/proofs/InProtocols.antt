@@ -14,7 +14,7 @@ use Rattle.swreq_resolve.specs.Refusals as refusals
 use Rattle.swreq_param.specs.declared.ids.ParamId.{ParamId}
 use Rattle.swreq_param.specs.Terms.{self, self_param, head}
 use Rattle.swreq_rank.specs.Ranks.{Bytes}
-use Rattle.swreq_lowering.specs.declared.scope.Scope.TheVariants.{Protocol}
+use Rattle.swreq_lowering.specs.declared.context.Context.TheVariants.{Protocol}
 use Rattle.swreq_lowering.specs.Requirements.{in_bounds, in_protocol}
 use Rattle.swreq_lowering.specs.Walk.{in_clause, in_member, in_members}
 use Rattle.swreq_lowering.proofs.Walked.{protocol_walked}

@@ -18,7 +18,7 @@ use Rattle.swreq_names.specs.Spaces.{spaces, word, protocol_of, struct_of, signa
 use Rattle.swreq_param.specs.Terms.{Term, head}
 use Rattle.swreq_rank.specs.Ranks.{Bytes}
 use Rattle.swreq_lowering.specs.declared.ids.FuncId.{FuncId}
-use Rattle.swreq_lowering.specs.declared.scope.Scope.TheVariants as scopes
+use Rattle.swreq_lowering.specs.declared.context.Context.TheVariants as contexts
 use Rattle.swreq_lowering.specs.Requirements.{PlacedRequirement}
 use Rattle.swreq_lowering.specs.Queries.{asked_signature, asked_of, signature_named, query_of}
 use Rattle.swreq_lowering.specs.Queries.TermQuery.{AsksConforms, AsksAnyObject}
@@ -75,10 +75,10 @@ module _ (text : Bytes) (s : Skeleton) (v : TextWorld) where
       asked : (t : Term) → IsTermOf v.lexicon t × IsParamOf (params_of s g) (head t) → IsAskedOf v f t
       asked t h = (h.0, subst (λ ps. IsParamOf ps (head t)) params h.1)
 
-      type_asked : (t : TypeDecl) → Resolved words (of_type text (declared words) begins t) (names.in_type text t) → IsAskedOf v f (type_in words (scopes.Signature g) t)
+      type_asked : (t : TypeDecl) → Resolved words (of_type text (declared words) begins t) (names.in_type text t) → IsAskedOf v f (type_in words (contexts.Signature g) t)
       type_asked t h =
-          asked (type_in words (scopes.Signature g) t)
-          (type_is words are.refers (scopes.Signature g) begins (IsParamOf (params_of s g)) (starts words inherits are same g) t h)
+          asked (type_in words (contexts.Signature g) t)
+          (type_is words are.refers (contexts.Signature g) begins (IsParamOf (params_of s g)) (starts words inherits are same g) t h)
 
       entity_asked : (t : Term) (e : Entity) (b : Bool) → IsAskedOf v f t
           → All Never (cond b [] (of_protocol_name (declared words) e.span (length e.args) (protocol_of (declared words) (word text e.span))))
@@ -93,7 +93,7 @@ module _ (text : Bytes) (s : Skeleton) (v : TextWorld) where
           let of_first = of_type text (declared words) begins t in
           let of_args = flat_map (of_type text (declared words) begins) e.args in
           let p = parts words of_first (of_entity text (declared words) begins e) (names.in_type text t) (names.in_entity text e) h in
-          entity_asked (type_in words (scopes.Signature g) t) e e.layout (type_asked t p.0) (all_left Never (of_named text (declared words) e) of_args p.1.0)
+          entity_asked (type_in words (contexts.Signature g) t) e e.layout (type_asked t p.0) (all_left Never (of_named text (declared words) e) of_args p.1.0)
       ask_is (asked_for.Same t u) h =
           let p = parts words (of_type text (declared words) begins t) (of_type text (declared words) begins u) (names.in_type text t) (names.in_type text u) h in
           (at, type_asked t p.0, type_asked u p.1)

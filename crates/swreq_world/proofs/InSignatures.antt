@@ -22,7 +22,7 @@ use Rattle.swreq_param.specs.declared.ids.ParamId.{ParamId}
 use Rattle.swreq_param.specs.Terms.{head}
 use Rattle.swreq_param.specs.Terms.Term.{Generic}
 use Rattle.swreq_rank.specs.Ranks.{Bytes}
-use Rattle.swreq_lowering.specs.declared.scope.Scope.TheVariants as scopes
+use Rattle.swreq_lowering.specs.declared.context.Context.TheVariants as contexts
 use Rattle.swreq_lowering.specs.Heads.{IsOver}
 use Rattle.swreq_lowering.specs.Requirements.{PlacedRequirement, in_signature, in_struct, in_nested}
 use Rattle.swreq_lowering.specs.Walk.{in_clause, in_param, in_params}
@@ -66,7 +66,7 @@ module _ (w : WordsView) (inherits : ℕ → ℕ → Bool) (are : AreResolved w 
         let own = own_is (outer_params w.skeleton g) (own_params w.skeleton g) k (omega arith) in
         let q = parts w (of_param w.text (declared w) begins p) of_rest (names.in_param w.text p) in_rest h in
         All-append (IsWithin g) (in_param w g k p) (in_params w g (k + 1) ps)
-        (bounds_are w are.refers (scopes.Signature g) begins IsParam starts (Generic (param_id (own_depth w.skeleton g) (Own k))) p.name.start p.bounds (tt, own) q.0)
+        (bounds_are w are.refers (contexts.Signature g) begins IsParam starts (Generic (param_id (own_depth w.skeleton g) (Own k))) p.name.start p.bounds (tt, own) q.0)
         (params_are (k + 1) ps (omega arith) q.1)
 
     signature_is : (ps : List ParamDecl) (clause : List ReqDecl) → ps ≡ own_params w.skeleton g → All Never (of_signature w.text (declared w) g ps clause)
@@ -79,9 +79,9 @@ module _ (w : WordsView) (inherits : ℕ → ℕ → Bool) (are : AreResolved w 
         let parts = all_right Never (duplicates outer own) (of_each ++ of_clause) (all_right Never (duplicates own own) (duplicates outer own ++ (of_each ++ of_clause)) h) in
         let l = ap length e in
         subst (All (IsWithin g)) (sym (signature_walked w g ps clause))
-        (All-append (IsWithin g) (in_params w g 0 ps) (in_clause w (scopes.Signature g) clause)
+        (All-append (IsWithin g) (in_params w g 0 ps) (in_clause w (contexts.Signature g) clause)
         (params_are 0 ps (omega arith) (all_left Never of_each of_clause parts, n))
-        (clause_is w are.refers (scopes.Signature g) begins IsParam starts clause (all_right Never of_each of_clause parts, m)))
+        (clause_is w are.refers (contexts.Signature g) begins IsParam starts clause (all_right Never of_each of_clause parts, m)))
 
   -- ---- the signatures of the text
 

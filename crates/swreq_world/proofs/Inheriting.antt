@@ -20,7 +20,7 @@ use Rattle.swreq_names.specs.Walk.{inherited_in, inherited_in_clause}
 use Rattle.swreq_names.proofs.Walked.{same_direct}
 use Rattle.swreq_names.specs.Spaces.{self_bytes, Spaces, protocol_of, word}
 use Rattle.swreq_lexicon.proofs.Declared.{from_pieces, in_pieces}
-use Rattle.swreq_lowering.specs.declared.scope.Scope.TheVariants.{Protocol}
+use Rattle.swreq_lowering.specs.declared.context.Context.TheVariants.{Protocol}
 use Rattle.swreq_lowering.specs.Requirements.{PlacedRequirement, bound_of, in_bound, in_bounds, in_protocol, of_one_side}
 use Rattle.swreq_lowering.specs.Walk.{in_clause, in_member, in_members, in_requirement}
 use Rattle.swreq_lowering.proofs.Walked.{protocol_walked}

@@ -39,8 +39,8 @@ use Rattle.swreq_lexicon.specs.Lexicons.{pair}
 use Rattle.swreq_lexicon.specs.Texts.{IsLexiconOf, protocol_names}
 use Rattle.swreq_lexicon.specs.Views.{LexiconView}
 use Rattle.swreq_lexicon.proofs.RankLaws.{rank_is}
-use Rattle.swreq_lowering.specs.declared.scope.Scope.{Scope}
-use Rattle.swreq_lowering.specs.declared.scope.Scope.TheVariants as scopes
+use Rattle.swreq_lowering.specs.declared.context.Context.{Context}
+use Rattle.swreq_lowering.specs.declared.context.Context.TheVariants as contexts
 use Rattle.swreq_lowering.specs.Queries.{asked_signature, signature_named}
 use Rattle.swreq_lowering.specs.Requirements.{subject_of}
 use Rattle.swreq_lowering.specs.Signatures.{outer_params, own_depth, own_params}
@@ -138,7 +138,7 @@ module _ (text : Bytes) (s : Skeleton) (x : LexiconView) (is : IsLexiconOf text 
     entity_says scope e c no_layout = let (k, h) = is_protocol text s no_refusal scope e c no_layout in reference_says e.span k h
 
     -- the primary names of what stands on the right of a colon
-    primaries_say : (scope : parts.Scope) (e : Entity) → Contains (entities s) (scope, e) → e.layout ≡ false → (read : Scope)
+    primaries_say : (scope : parts.Scope) (e : Entity) → Contains (entities s) (scope, e) → e.layout ≡ false → (read : Context)
         → ArePrimaries words read (word text e.span) (primaries_named words e.span)
     primaries_say scope e c no_layout read =
         let (k, h) = is_protocol text s no_refusal scope e c no_layout in
@@ -155,7 +155,7 @@ module _ (text : Bytes) (s : Skeleton) (x : LexiconView) (is : IsLexiconOf text 
       first_word : begins (word text t.head) ≡ true
       first_word = begins_so text s no_refusal scope t c begins starts
 
-    in_protocol_says : (i : ℕ) (t : TypeDecl) → Contains (types s) (in_protocol i, t) → SaysType text s x scopes.Protocol (type_in words scopes.Protocol t) t
+    in_protocol_says : (i : ℕ) (t : TypeDecl) → Contains (types s) (in_protocol i, t) → SaysType text s x contexts.Protocol (type_in words contexts.Protocol t) t
     in_protocol_says i t c = by (bytes_eq self_bytes name) refl
       where
         name : Bytes
@@ -167,7 +167,7 @@ module _ (text : Bytes) (s : Skeleton) (x : LexiconView) (is : IsLexiconOf text 
         all_say : SaySteps text x (map (step_of words) t.steps) t.steps
         all_say = all_steps_say (in_protocol i) t c begins refl
 
-        by : (b : Bool) → bytes_eq self_bytes name ≡ b → SaysType text s x scopes.Protocol (with_steps (cond b self (member_named words self t.head)) (map (step_of words) t.steps)) t
+        by : (b : Bool) → bytes_eq self_bytes name ≡ b → SaysType text s x contexts.Protocol (with_steps (cond b self (member_named words self t.head)) (map (step_of words) t.steps)) t
         by true h = of_self (sym ((bytes_eq-Decides self_bytes name).0 h)) (record { steps = map (step_of words) t.steps; is = refl; say = all_say })
         by false h =
             let is_member : has_member d no_refusal.inherits i name ≡ true
@@ -180,7 +180,7 @@ module _ (text : Bytes) (s : Skeleton) (x : LexiconView) (is : IsLexiconOf text 
             })
 
     in_signature_says : (scope : parts.Scope) (g : Signature) (t : TypeDecl) → Contains (types s) (scope, t) → begins_at text s no_refusal.inherits scope ≡ Some (begins_in_signature d g)
-        → SaysType text s x (scopes.Signature g) (type_in words (scopes.Signature g) t) t
+        → SaysType text s x (contexts.Signature g) (type_in words (contexts.Signature g) t) t
     in_signature_says scope g t c starts = by (param_named words g (word text t.head)) refl
       where
         begins : Bytes → Bool
@@ -195,7 +195,7 @@ module _ (text : Bytes) (s : Skeleton) (x : LexiconView) (is : IsLexiconOf text 
             (param_id (own_depth s g) k.0, ap (option_map (param_id (own_depth s g))) k.1)
 
         by : (o : Option ParamId) → param_named words g (word text t.head) ≡ o
-            → SaysType text s x (scopes.Signature g) (with_steps (Generic (unwrap_or o self_param)) (map (step_of words) t.steps)) t
+            → SaysType text s x (contexts.Signature g) (with_steps (Generic (unwrap_or o self_param)) (map (step_of words) t.steps)) t
         by None e = let no = sym e ∙ named ∙ is_one.1 in absurd cc
         by (Some p) e =
             of_parameter (param_says text s g (word text t.head) p (sym named ∙ e))
@@ -215,54 +215,54 @@ module _ (text : Bytes) (s : Skeleton) (x : LexiconView) (is : IsLexiconOf text 
         named ∙ sym (ap (λ o. Some (asked_signature o)) named)
 
     pub query_type_says : (k : ℕ) (q : QueryDecl) → slice_get s.queries k ≡ Some q → (t : TypeDecl) → Contains (types s) (in_query k, t)
-        → SaysType text s x (scopes.Signature (asked_signature (signature_named words q.outer q.function)))
-        (type_in words (scopes.Signature (asked_signature (signature_named words q.outer q.function))) t) t
+        → SaysType text s x (contexts.Signature (asked_signature (signature_named words q.outer q.function)))
+        (type_in words (contexts.Signature (asked_signature (signature_named words q.outer q.function))) t) t
     query_type_says k q at t c =
         let g = asked_signature (signature_named words q.outer q.function) in
         let asked = sym (asked_same q.outer q.function) ∙ asks_named q (get_contains s.queries k q at) in
         in_signature_says (in_query k) g t c (begins_asked text s no_refusal k q g at asked)
 
-    pub type_says : (part : parts.Scope) (t : TypeDecl) → Contains (types s) (part, t) → (scope : Scope) → IsReadIn words part scope → SaysType text s x scope (type_in words scope t) t
-    type_says (in_protocol i) t c scope e = subst (λ r. SaysType text s x r (type_in words r t) t) (sym e) (in_protocol_says i t c)
-    type_says (in_signature g) t c scope e = subst (λ r. SaysType text s x r (type_in words r t) t) (sym e) (in_signature_says (in_signature g) g t c refl)
-    type_says (in_query k) t c scope (q, at, e) = subst (λ r. SaysType text s x r (type_in words r t) t) (sym e) (query_type_says k q at t c)
+    pub type_says : (part : parts.Scope) (t : TypeDecl) → Contains (types s) (part, t) → (context : Context) → IsReadIn words part context → SaysType text s x context (type_in words context t) t
+    type_says (in_protocol i) t c context e = subst (λ r. SaysType text s x r (type_in words r t) t) (sym e) (in_protocol_says i t c)
+    type_says (in_signature g) t c context e = subst (λ r. SaysType text s x r (type_in words r t) t) (sym e) (in_signature_says (in_signature g) g t c refl)
+    type_says (in_query k) t c context (q, at, e) = subst (λ r. SaysType text s x r (type_in words r t) t) (sym e) (query_type_says k q at t c)
 
     -- ---- constraints
 
-    module _ (part : parts.Scope) (c : Constraint) (there : Contains (constraints s) (part, c)) (scope : Scope) (reads : IsReadIn words part scope) where
-      said : (t : TypeDecl) → Contains (parts.types_of c) t → IsSaid words scope t
+    module _ (part : parts.Scope) (c : Constraint) (there : Contains (constraints s) (part, c)) (context : Context) (reads : IsReadIn words part context) where
+      said : (t : TypeDecl) → Contains (parts.types_of c) t → IsSaid words context t
       said t k =
           type_says part t
           (Contains-append_left (flat_map parts.types_at (constraints s)) (flat_map parts.asked_at (numbered 0 s.queries)) (part, t)
-          (in_pieces parts.types_at (constraints s) (part, c) (part, t) there (contains_map (λ u. (part, u)) (parts.types_of c) t k))) scope reads
+          (in_pieces parts.types_at (constraints s) (part, c) (part, t) there (contains_map (λ u. (part, u)) (parts.types_of c) t k))) context reads
 
       stands : (e : Entity) → Contains (parts.entities_of c) e → Contains (entities s) (part, e)
       stands e k =
           Contains-append_left (flat_map parts.entities_at (constraints s)) (flat_map parts.asked_entities_at (numbered 0 s.queries)) (part, e)
           (in_pieces parts.entities_at (constraints s) (part, c) (part, e) there (contains_map (λ i. (part, i)) (parts.entities_of c) e k))
 
-    subject_says : (part : parts.Scope) (scope : Scope) → IsReadIn words part scope → (y : Subject) → IsDeclaredIn s part y
-        → ((t : TypeDecl) → Contains (parts.types_of_subject y) t → IsSaid words scope t) → SaysSubject text s x scope (subject_of words scope y) y
-    subject_says part scope reads (self_of p) h f = refl
-    subject_says (in_protocol i) scope reads (associated a) (p, m, c, n, called) f =
+    subject_says : (part : parts.Scope) (context : Context) → IsReadIn words part context → (y : Subject) → IsDeclaredIn s part y
+        → ((t : TypeDecl) → Contains (parts.types_of_subject y) t → IsSaid words context t) → SaysSubject text s x context (subject_of words context y) y
+    subject_says part context reads (self_of p) h f = refl
+    subject_says (in_protocol i) context reads (associated a) (p, m, c, n, called) f =
         record { steps = steps.Name (name_of words a) ∷ []; is = refl; say = (subst (λ b. SaysName text x (name_of words b) b) called (member_says p m c n), tt) }
-    subject_says (in_signature g) scope reads (associated a) h f = absurd h
-    subject_says (in_query k) scope reads (associated a) h f = absurd h
-    subject_says (in_protocol i) scope reads (parameter k p) h f = absurd h
-    subject_says (in_signature g) scope reads (parameter k p) (q, at, called) f =
+    subject_says (in_signature g) context reads (associated a) h f = absurd h
+    subject_says (in_query k) context reads (associated a) h f = absurd h
+    subject_says (in_protocol i) context reads (parameter k p) h f = absurd h
+    subject_says (in_signature g) context reads (parameter k p) (q, at, called) f =
         subst (λ r. SaysSubject text s x r (subject_of words r (parameter k p)) (parameter k p)) (sym reads)
         (param_id (own_depth s g) (Own k), refl, (q, at_own text (outer_params s g) (own_params s g) k q (outer_params s g) at, ap (word text) called))
-    subject_says (in_query j) scope reads (parameter k p) h f = absurd h
-    subject_says part scope reads (written t) h f = f t (first_member t [])
+    subject_says (in_query j) context reads (parameter k p) h f = absurd h
+    subject_says part context reads (written t) h f = f t (first_member t [])
 
-    pub constraint_says : (part : parts.Scope) (c : Constraint) → Contains (constraints s) (part, c) → (scope : Scope) → IsReadIn words part scope → SaysConstraint words scope c
-    constraint_says part (same t u) there scope reads =
-        let say = said part (same t u) there scope reads in (say t (first_member t (u ∷ [])), say u (later_member t u (u ∷ []) (first_member u [])))
-    constraint_says part (bound subject bounds) there scope reads = (
-      subject_says part scope reads subject (stands_in s part (bound subject bounds) there) (λ t k. say t (Contains-append_left (parts.types_of_subject subject) of_bounds t k)),
+    pub constraint_says : (part : parts.Scope) (c : Constraint) → Contains (constraints s) (part, c) → (context : Context) → IsReadIn words part context → SaysConstraint words context c
+    constraint_says part (same t u) there context reads =
+        let say = said part (same t u) there context reads in (say t (first_member t (u ∷ [])), say u (later_member t u (u ∷ []) (first_member u [])))
+    constraint_says part (bound subject bounds) there context reads = (
+      subject_says part context reads subject (stands_in s part (bound subject bounds) there) (λ t k. say t (Contains-append_left (parts.types_of_subject subject) of_bounds t k)),
       λ e k. record {
-        protocol = entity_says part e (stands part (bound subject bounds) there scope reads e k);
-        primaries = λ n. primaries_say part e (stands part (bound subject bounds) there scope reads e k) n scope;
+        protocol = entity_says part e (stands part (bound subject bounds) there context reads e k);
+        primaries = λ n. primaries_say part e (stands part (bound subject bounds) there context reads e k) n context;
         arguments = λ u l. say u (Contains-append_right (parts.types_of_subject subject) of_bounds u (in_pieces parts.types_of_entity bounds e u k l));
       },
     )
@@ -270,5 +270,5 @@ module _ (text : Bytes) (s : Skeleton) (x : LexiconView) (is : IsLexiconOf text 
         of_bounds : List TypeDecl
         of_bounds = flat_map parts.types_of_entity bounds
 
-        say : (t : TypeDecl) → Contains (parts.types_of (bound subject bounds)) t → IsSaid words scope t
-        say = said part (bound subject bounds) there scope reads
+        say : (t : TypeDecl) → Contains (parts.types_of (bound subject bounds)) t → IsSaid words context t
+        say = said part (bound subject bounds) there context reads

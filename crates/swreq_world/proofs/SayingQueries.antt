@@ -21,7 +21,7 @@ use Rattle.swreq_resolve.specs.Resolving.{HasNames}
 use Rattle.swreq_resolve.proofs.SameMembers.{has_number}
 use Rattle.swreq_rank.specs.Ranks.{Bytes}
 use Rattle.swreq_lowering.specs.declared.ids.FuncId.{FuncId}
-use Rattle.swreq_lowering.specs.declared.scope.Scope.TheVariants as scopes
+use Rattle.swreq_lowering.specs.declared.context.Context.TheVariants as contexts
 use Rattle.swreq_lowering.specs.Queries.{TermQuery, asked_of, asked_signature, query_of, signature_named}
 use Rattle.swreq_lowering.specs.Queries.TermQuery.{AsksConforms, AsksAnyObject}
 use Rattle.swreq_lowering.specs.Signatures.{func_id, in_order}
@@ -51,18 +51,18 @@ module _ (text : Bytes) (s : Skeleton) (v : TextWorld) (is : IsWorldOf text s v)
     asked_is (asked_for.Reduced t) = refl
     asked_is (asked_for.Is t e) = by e.layout
       where
-        by : (b : Bool) → asked (cond b (AsksAnyObject f (type_in words (scopes.Signature g) t)) (AsksConforms f (type_in words (scopes.Signature g) t) (proto_of words e.span))) ≡ f
+        by : (b : Bool) → asked (cond b (AsksAnyObject f (type_in words (contexts.Signature g) t)) (AsksConforms f (type_in words (contexts.Signature g) t) (proto_of words e.span))) ≡ f
         by true = refl
         by false = refl
     asked_is (asked_for.Same t u) = refl
 
     -- The type parameter is the type that is written.
     abbrev IsSaid : TypeDecl → Type 0
-    IsSaid t = SaysType text s v.lexicon (scopes.Signature g) (type_in words (scopes.Signature g) t) t
+    IsSaid t = SaysType text s v.lexicon (contexts.Signature g) (type_in words (contexts.Signature g) t) t
 
     module _ (here : (signature_at v f).signature ≡ g) where
-      says_in : (t : TypeDecl) → IsSaid t → SaysIn text s v f (type_in words (scopes.Signature g) t) t
-      says_in t h = subst (λ i. SaysType text s v.lexicon (scopes.Signature i) (type_in words (scopes.Signature g) t) t) (sym here) h
+      says_in : (t : TypeDecl) → IsSaid t → SaysIn text s v f (type_in words (contexts.Signature g) t) t
+      says_in t h = subst (λ i. SaysType text s v.lexicon (contexts.Signature i) (type_in words (contexts.Signature g) t) t) (sym here) h
 
       ask_says : (a : Ask) → ((t : TypeDecl) → Contains (parts.types_of_ask a) t → IsSaid t)
           → ((e : Entity) → Contains (parts.entities_of_ask a) e → e.layout ≡ false → SaysProtocol text v.lexicon (proto_of words e.span) e.span)
@@ -71,11 +71,11 @@ module _ (text : Bytes) (s : Skeleton) (v : TextWorld) (is : IsWorldOf text s v)
       ask_says (asked_for.Reduced t) types_say entities_say = says_in t (types_say t (first_member t []))
       ask_says (asked_for.Is t e) types_say entities_say = by e.layout refl
         where
-          said : SaysIn text s v f (type_in words (scopes.Signature g) t) t
+          said : SaysIn text s v f (type_in words (contexts.Signature g) t) t
           said = says_in t (types_say t (first_member t (parts.types_of_entity e)))
 
           by : (b : Bool) → e.layout ≡ b
-              → SaysAsk text s v (cond b (AsksAnyObject f (type_in words (scopes.Signature g) t)) (AsksConforms f (type_in words (scopes.Signature g) t) (proto_of words e.span))) (asked_for.Is t e)
+              → SaysAsk text s v (cond b (AsksAnyObject f (type_in words (contexts.Signature g) t)) (AsksConforms f (type_in words (contexts.Signature g) t) (proto_of words e.span))) (asked_for.Is t e)
           by true h = (said, h)
           by false h = (said, h, entities_say e (first_member e []) h)
       ask_says (asked_for.Same t u) types_say entities_say =

@@ -28,8 +28,8 @@ use Rattle.swreq_rank.specs.Ranks.{Bytes}
 use Rattle.swreq_lexicon.specs.declared.pair.ProtocolName.{ProtocolName}
 use Rattle.swreq_lexicon.specs.Views.{LexiconView}
 use Rattle.swreq_lowering.specs.declared.ids.FuncId.{FuncId}
-use Rattle.swreq_lowering.specs.declared.scope.Scope.{Scope}
-use Rattle.swreq_lowering.specs.declared.scope.Scope.TheVariants as scopes
+use Rattle.swreq_lowering.specs.declared.context.Context.{Context}
+use Rattle.swreq_lowering.specs.declared.context.Context.TheVariants as contexts
 use Rattle.swreq_lowering.specs.Queries.{TermQuery, asked_signature, signature_named}
 use Rattle.swreq_lowering.specs.Queries.TermQuery.{AsksSignature, AsksReduced, AsksConforms, AsksAnyObject, AsksEquals}
 use Rattle.swreq_lowering.specs.Requirements.{subject_of}
@@ -79,50 +79,50 @@ module _ (text : Bytes) (x : LexiconView) where
 -- ---- types
 
 -- The type parameter is the written type.
-pub data SaysType (text : Bytes) (s : Skeleton) (x : LexiconView) : Scope → Term → TypeDecl → Type 0 where
+pub data SaysType (text : Bytes) (s : Skeleton) (x : LexiconView) : Context → Term → TypeDecl → Type 0 where
   -- In a protocol a type begins with `Self`, which is τ_0_0,
   of_self : {t : Term} {u : TypeDecl}
       → word text u.head ≡ self_bytes
       → SaysFrom text x self_param t u.steps
-      → SaysType text s x scopes.Protocol t u
+      → SaysType text s x contexts.Protocol t u
   -- or with the name of a member of it.
   of_member : {t : Term} {u : TypeDecl}
       → word text u.head ≢ self_bytes
       → SaysFrom text x self_param t (decls.Plain u.head ∷ u.steps)
-      → SaysType text s x scopes.Protocol t u
+      → SaysType text s x contexts.Protocol t u
   -- In a signature it begins with the name of a generic parameter, its own or one of the struct around it.
   of_parameter : {g : Signature} {p : ParamId} {t : Term} {u : TypeDecl}
       → IsParamNamed text s g (word text u.head) p
       → SaysFrom text x p t u.steps
-      → SaysType text s x (scopes.Signature g) t u
+      → SaysType text s x (contexts.Signature g) t u
 
 -- What stands in a query is read in the signature that the query asks.
-abbrev pub IsReadIn : WordsView → parts.Scope → Scope → Type 0
-IsReadIn w (in_protocol i) scope = scope ≡ scopes.Protocol
-IsReadIn w (in_signature g) scope = scope ≡ scopes.Signature g
-IsReadIn w (in_query k) scope =
+abbrev pub IsReadIn : WordsView → parts.Scope → Context → Type 0
+IsReadIn w (in_protocol i) context = context ≡ contexts.Protocol
+IsReadIn w (in_signature g) context = context ≡ contexts.Signature g
+IsReadIn w (in_query k) context =
     (q : QueryDecl) × (slice_get w.skeleton.queries k ≡ Some q)
-    × (scope ≡ scopes.Signature (asked_signature (signature_named w q.outer q.function)))
+    × (context ≡ contexts.Signature (asked_signature (signature_named w q.outer q.function)))
 
 -- ---- constraints
 
-module _ (text : Bytes) (s : Skeleton) (x : LexiconView) (scope : Scope) (t : Term) where
+module _ (text : Bytes) (s : Skeleton) (x : LexiconView) (context : Context) (t : Term) where
   -- The type parameter is the generic parameter of the signature that is declared with this name.
-  abbrev pub SaysParameter : Scope → Span → Type 0
-  SaysParameter scopes.Protocol p = ⊥
-  SaysParameter (scopes.Signature g) p = (q : ParamId) × (t ≡ Generic q) × IsParamNamed text s g (word text p) q
+  abbrev pub SaysParameter : Context → Span → Type 0
+  SaysParameter contexts.Protocol p = ⊥
+  SaysParameter (contexts.Signature g) p = (q : ParamId) × (t ≡ Generic q) × IsParamNamed text s g (word text p) q
 
   -- The type parameter is what a constraint is on: `Self`, the member of it that is declared, the generic parameter, or the written type.
   abbrev pub SaysSubject : Subject → Type 0
   SaysSubject (self_of p) = t ≡ self
   SaysSubject (associated a) = SaysFrom text x self_param t (decls.Plain a ∷ [])
-  SaysSubject (parameter k p) = SaysParameter scope p
-  SaysSubject (written u) = SaysType text s x scope t u
+  SaysSubject (parameter k p) = SaysParameter context p
+  SaysSubject (written u) = SaysType text s x context t u
 
-module _ (w : WordsView) (scope : Scope) where
+module _ (w : WordsView) (context : Context) where
   -- What the type stands for is the type.
   abbrev pub IsSaid : TypeDecl → Type 0
-  IsSaid t = SaysType w.text w.skeleton w.lexicon scope (type_in w scope t) t
+  IsSaid t = SaysType w.text w.skeleton w.lexicon context (type_in w context t) t
 
   -- These are the primary names of a protocol of this name.
   abbrev pub ArePrimaries : Bytes → List Span → Type 0
@@ -137,7 +137,7 @@ module _ (w : WordsView) (scope : Scope) where
   -- All that the constraint names is what is written.
   abbrev pub SaysConstraint : Constraint → Type 0
   SaysConstraint (bound subject bounds) =
-      SaysSubject w.text w.skeleton w.lexicon scope (subject_of w scope subject) subject
+      SaysSubject w.text w.skeleton w.lexicon context (subject_of w context subject) subject
       × ((e : Entity) → Contains bounds e → SaysEntity e)
   SaysConstraint (same t u) = IsSaid t × IsSaid u
 
@@ -162,7 +162,7 @@ asked (AsksEquals f t u) = f
 module _ (text : Bytes) (s : Skeleton) (w : TextWorld) where
   -- The type parameter is the type that is written in a query on the signature.
   abbrev pub SaysIn : FuncId → Term → TypeDecl → Type 0
-  SaysIn f t u = SaysType text s w.lexicon (scopes.Signature (signature_at w f).signature) t u
+  SaysIn f t u = SaysType text s w.lexicon (contexts.Signature (signature_at w f).signature) t u
 
   -- What is asked is what is written.
   abbrev pub SaysAsk : TermQuery → Ask → Type 0

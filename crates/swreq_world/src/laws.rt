@@ -14,7 +14,7 @@ ghost use Rattle.swreq_param.specs.declared.ids.ParamId.{ParamId};
 ghost use Rattle.swreq_param.specs.Terms.{Term};
 ghost use Rattle.swreq_resolve.specs.Resolving.{Resolve};
 ghost use Rattle.swreq_lowering.specs.declared.ids.FuncId.{FuncId};
-ghost use Rattle.swreq_lowering.specs.declared.scope.Scope.{Scope};
+ghost use Rattle.swreq_lowering.specs.declared.context.Context.{Context};
 ghost use Rattle.swreq_lowering.specs.Heads.{IsOverSelf};
 ghost use Rattle.swreq_lowering.specs.Queries.{TermQuery};
 ghost use Rattle.swreq_lowering.specs.Signatures.{func_id, in_order};
@@ -79,13 +79,13 @@ pub fn inheritance_is_what_is_written()
 pub fn ids_say_what_is_written()
     ensures types { (text : List ℕ) (s : Skeleton) (w : TextWorld) → IsWorldOf text s w → Resolve text s
         → (part : parts.Scope) (t : TypeDecl) → Contains (parts.types s) (part, t)
-        → (scope : Scope) → IsReadIn (words_of text s w) part scope → IsSaid (words_of text s w) scope t }
+        → (context : Context) → IsReadIn (words_of text s w) part context → IsSaid (words_of text s w) context t }
     ensures entities { (text : List ℕ) (s : Skeleton) (w : TextWorld) → IsWorldOf text s w → Resolve text s
         → (part : parts.Scope) (e : Entity) → Contains (parts.entities s) (part, e) → e.layout ≡ false
         → SaysProtocol text w.lexicon (proto_of (words_of text s w) e.span) e.span }
     ensures constraints { (text : List ℕ) (s : Skeleton) (w : TextWorld) → IsWorldOf text s w → Resolve text s
         → (part : parts.Scope) (c : Constraint) → Contains (parts.constraints s) (part, c)
-        → (scope : Scope) → IsReadIn (words_of text s w) part scope → SaysConstraint (words_of text s w) scope c }
+        → (context : Context) → IsReadIn (words_of text s w) part context → SaysConstraint (words_of text s w) context c }
     ensures declared { (text : List ℕ) (s : Skeleton) (w : TextWorld) → IsWorldOf text s w → Resolve text s
         → (p : ProtocolDecl) → Contains s.protocols p → SayNames (words_of text s w) p }
     ensures queries { (text : List ℕ) (s : Skeleton) (w : TextWorld) → IsWorldOf text s w → Resolve text s

@@ -4,7 +4,7 @@ use Rattle.swreq_param.specs.Terms.{self}
 use Rattle.swreq_param.specs.Terms.Term.{Member}
 use Rattle.swreq_param.specs.Tables.{term_at}
 use Rattle.swreq_param.proofs.Growing.{onward}
-use Rattle.swreq_lowering.specs.declared.scope.Scope.TheVariants.{Protocol}
+use Rattle.swreq_lowering.specs.declared.context.Context.TheVariants.{Protocol}
 use Rattle.swreq_lowering.specs.Requirements.{in_bounds}
 use Rattle.swreq_lowering.specs.Walk.{in_clause}
 use Rattle.swreq_lowering.specs.Words.{words_by, name_of}

@@ -1,5 +1,5 @@
 use Rattle.std.proofs.Common.{◌++◌, ◌∙◌, sym}
-use Rattle.swreq_lowering.specs.declared.scope.Scope.TheVariants.{Protocol}
+use Rattle.swreq_lowering.specs.declared.context.Context.TheVariants.{Protocol}
 use Rattle.swreq_lowering.specs.Requirements.{in_bounds}
 use Rattle.swreq_lowering.specs.Walk.{in_clause, in_members}
 use Rattle.swreq_lowering.specs.Words.{words_by}

@@ -18,5 +18,5 @@ returns-clause-adds c =
     (unchanged c.args.table.now) c.in_ok-push.ensures.items (c.bound_of.ensures.of c.args.table.now c.requires)
     (λ i. record { requirement = c.bound_of.ensures.means c.args.table.now i; left_at = c.args.at; right_at = c.args.at }))
     a)
-    (λ i. of_one_side (bound_of w t c.args.e.now) c.args.at ∷ arguments w c.args.scope t c.args.e.now.span.start (c.primaries_named-names.ensures i) (c.items.ensures i)))
+    (λ i. of_one_side (bound_of w t c.args.e.now) c.args.at ∷ arguments w c.args.context t c.args.e.now.span.start (c.primaries_named-names.ensures i) (c.items.ensures i)))
     c.add_arguments.ensures.adds

@@ -9,5 +9,5 @@ returns-clause-adds c =
     on_ok c.add_bounds.result
     (λ a. adds_same c.args.table.now c.add_bounds.new.table c.args.into.now.items c.add_bounds.new.into.items _ _
     (adds_later c.args.table.now c.spell.new.table c.add_bounds.new.table c.args.into.now.items c.add_bounds.new.into.items _ s.extends a)
-    (λ i. in_bounds (words_by c.args.words.now) c.args.scope (s.stands i) c.args.subject.now.head.start c.args.bounds.now))
+    (λ i. in_bounds (words_by c.args.words.now) c.args.context (s.stands i) c.args.subject.now.head.start c.args.bounds.now))
     c.add_bounds.ensures.adds

@@ -1,7 +1,7 @@
 use Rattle.swreq_param.specs.Tables.{term_at}
 use Rattle.std.proofs.Common.{◌≡◌, ◌∙◌}
 use Rattle.swreq_param.specs.Terms.Term.{Generic}
-use Rattle.swreq_lowering.specs.declared.scope.Scope.TheVariants as scopes
+use Rattle.swreq_lowering.specs.declared.context.Context.TheVariants as contexts
 use Rattle.swreq_lowering.specs.Requirements.{in_bounds}
 use Rattle.swreq_lowering.specs.Signatures.{own_depth}
 use Rattle.swreq_lowering.specs.Words.{words_by}
@@ -17,5 +17,5 @@ returns-clause-adds c =
     on_ok c.add_bounds.result
     (λ a. adds_same c.args.table.now c.add_bounds.new.table c.args.into.now.items c.add_bounds.new.into.items _ _
     (adds_later c.args.table.now c.param.new.self c.add_bounds.new.table c.args.into.now.items c.add_bounds.new.into.items _ (extends_interned c.args.table.now c.param.new.self _ c.in_ok-subject.subject s) a)
-    (λ i. in_bounds w (scopes.Signature c.args.signature) (is i) c.args.p.now.name.start (c.items.ensures i)))
+    (λ i. in_bounds w (contexts.Signature c.args.signature) (is i) c.args.p.now.name.start (c.items.ensures i)))
     c.add_bounds.ensures.adds

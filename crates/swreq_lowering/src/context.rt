@@ -1,9 +1,9 @@
-// Where types are written.
+// In what types are read.
 use swreq_names::Signature;
 
 /// Where a type is written, which tells what its first word stands for.
 #[derive(Clone, Copy, Debug, PartialEq, Eq)]
-pub enum Scope {
+pub enum Context {
     /// In a protocol: the first word is `Self` or a member name.
     Protocol,
     /// In a signature, or in a query on it: the first word is a generic parameter.
