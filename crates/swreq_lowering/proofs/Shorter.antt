@@ -37,7 +37,7 @@ use Rattle.swreq_lexicon.specs.Texts.{IsSmall}
 use Rattle.swreq_rank.proofs.Names.{few_names}
 use Rattle.swreq_rank.proofs.Rising.{rising_from_sorted}
 use Rattle.swreq_lowering.specs.Short.{HasShortLists}
-use Rattle.swreq_lowering.specs.Signatures.{params_of_struct, params_of_function, functions_of, outer_params, own_params, nested_from, functions_from, with_nested, merged, in_order}
+use Rattle.swreq_lowering.specs.Signatures.{params_of_struct, params_of_function, functions_of, outer_param_decls, own_param_decls, nested_from, functions_from, with_nested, merged_from, in_order}
 use Rattle.swreq_lowering.proofs.Sizes.{type_size, entity_size, bounds_size, requirement_size, clause_size, member_size, protocol_size, param_size, function_size, struct_size, ask_size, query_size, item_size, parts_bound}
 
 -- ---- sums
@@ -239,13 +239,13 @@ module _ (text : List ℕ) (s : Skeleton) where
   nested_within : (j : ℕ) (t : StructDecl) → length (params_of_function (slice_get t.functions j)) ≤ struct_size t
   nested_within j t = let i = found_sum length function_size params_of_function t.functions j refl function_count in omega arith
 
-  short_outer : skeleton_size s ≤ 1048576 → (g : Signature) → length (outer_params s g) ≤ 1048576
+  short_outer : skeleton_size s ≤ 1048576 → (g : Signature) → length (outer_param_decls s g) ≤ 1048576
   unfolding skeleton_size
   short_outer h (Struct i) = omega arith
   short_outer h (Function i) = omega arith
   short_outer h (Nested i j) = let k = struct_at i in omega arith
 
-  short_own : skeleton_size s ≤ 1048576 → (g : Signature) → length (own_params s g) ≤ 1048576
+  short_own : skeleton_size s ≤ 1048576 → (g : Signature) → length (own_param_decls s g) ≤ 1048576
   unfolding skeleton_size
   short_own h (Struct i) = let k = struct_at i in omega arith
   short_own h (Function i) = let k = found_sum length function_size params_of_function s.functions i refl function_count in omega arith
@@ -269,13 +269,13 @@ module _ (text : List ℕ) (s : Skeleton) where
   functions_count : (t : StructDecl) → 1 + length t.functions ≤ struct_size t
   functions_count t = let i = count_sum function_size t.functions (λ f. omega arith) in omega arith
 
-  merged_count : (i : ℕ) (ts : List StructDecl) (k : ℕ) (fs : List FunctionDecl) → length (merged i ts k fs) ≤ sum_by struct_size ts + length fs
+  merged_count : (i : ℕ) (ts : List StructDecl) (k : ℕ) (fs : List FunctionDecl) → length (merged_from i ts k fs) ≤ sum_by struct_size ts + length fs
   merged_count i [] k fs = let j = from_count k (length fs) in omega arith
   merged_count i (t ∷ ts) k fs =
       let n = prefix_len (stands_before t) fs in
       let rest = drop n fs in
-      let a = length-append (functions_from k n) (with_nested i t ++ merged (i + 1) ts (k + n) rest) in
-      let b = length-append (with_nested i t) (merged (i + 1) ts (k + n) rest) in
+      let a = length-append (functions_from k n) (with_nested i t ++ merged_from (i + 1) ts (k + n) rest) in
+      let b = length-append (with_nested i t) (merged_from (i + 1) ts (k + n) rest) in
       let c = from_count k n in
       let d = nested_count i 0 (length t.functions) in
       let e = merged_count (i + 1) ts (k + n) rest in

@@ -6,7 +6,7 @@ use Rattle.swreq_names.specs.Spaces.{spaces}
 use Rattle.swreq_lexicon.specs.Texts.{IsSmall}
 use Rattle.swreq_lowering.specs.Requirements.{in_protocol, in_struct, in_function, in_nested}
 use Rattle.swreq_lowering.specs.Words.{WordsView}
-use Rattle.swreq_lowering.specs.Signatures.{in_order, outer_params, own_params}
+use Rattle.swreq_lowering.specs.Signatures.{in_order, outer_param_decls, own_param_decls}
 use Rattle.swreq_lowering.specs.Small.{HasFewParams}
 
 -- A text of at most 1,048,576 bytes has no more protocols, associated types, names, signatures and generic parameters than that.
@@ -15,8 +15,8 @@ pub record HasShortLists (text : List ℕ) (s : Skeleton) : Type 0 where
   pub declared : HasFewParams (spaces text s)
   pub functions_of : (i : ℕ) → length (slice_index_or (spaces text s).nested i []) ≤ 1048576
   pub signatures : length (in_order s) ≤ 1048576
-  pub outer : (g : Signature) → length (outer_params s g) ≤ 1048576
-  pub own : (g : Signature) → length (own_params s g) ≤ 1048576
+  pub outer : (g : Signature) → length (outer_param_decls s g) ≤ 1048576
+  pub own : (g : Signature) → length (own_param_decls s g) ≤ 1048576
   pub structs : All (λ t. length t.params ≤ 1048576) s.structs
   pub functions : All (λ f. length f.params ≤ 1048576) s.functions
   pub nested : All (λ t. All (λ f. length f.params ≤ 1048576) t.functions) s.structs

@@ -26,15 +26,15 @@ params_of_function None = []
 params_of_function (Some f) = f.params
 
 -- A function of a struct has the struct's generic parameters.
-abbrev pub outer_params : Skeleton → Signature → List ParamDecl
-outer_params s (Struct i) = []
-outer_params s (Function i) = []
-outer_params s (Nested i j) = params_of_struct (slice_get s.structs i)
+abbrev pub outer_param_decls : Skeleton → Signature → List ParamDecl
+outer_param_decls s (Struct i) = []
+outer_param_decls s (Function i) = []
+outer_param_decls s (Nested i j) = params_of_struct (slice_get s.structs i)
 
-abbrev pub own_params : Skeleton → Signature → List ParamDecl
-own_params s (Struct i) = params_of_struct (slice_get s.structs i)
-own_params s (Function i) = params_of_function (slice_get s.functions i)
-own_params s (Nested i j) = params_of_function (slice_get (functions_of (slice_get s.structs i)) j)
+abbrev pub own_param_decls : Skeleton → Signature → List ParamDecl
+own_param_decls s (Struct i) = params_of_struct (slice_get s.structs i)
+own_param_decls s (Function i) = params_of_function (slice_get s.functions i)
+own_param_decls s (Nested i j) = params_of_function (slice_get (functions_of (slice_get s.structs i)) j)
 
 -- The depth of generic parameters within others: 1, or 0 where there are no others.
 abbrev pub depth_within : List ParamDecl → ℕ
@@ -43,7 +43,7 @@ depth_within (g ∷ gs) = 1
 
 -- A signature's own generic parameters have depth 1 where it is a function of a struct that has generic parameters, and else depth 0.
 abbrev pub own_depth : Skeleton → Signature → ℕ
-own_depth s g = depth_within (outer_params s g)
+own_depth s g = depth_within (outer_param_decls s g)
 
 -- how many have depth 0 and depth 1
 abbrev pub counts : List ParamDecl → List ParamDecl → Params
@@ -52,7 +52,7 @@ counts (g ∷ gs) own = record { outer = length (g ∷ gs); inner = length own }
 
 -- the generic parameters of a signature
 abbrev pub params_of : Skeleton → Signature → Params
-params_of s g = counts (outer_params s g) (own_params s g)
+params_of s g = counts (outer_param_decls s g) (own_param_decls s g)
 
 -- ---- the order
 
@@ -71,15 +71,15 @@ abbrev pub with_nested : ℕ → StructDecl → List Signature
 with_nested i s = Struct i ∷ nested_from i 0 (length s.functions)
 
 -- The structs from the i-th on and the functions at the top from the k-th on: before each struct the functions that stand before it.
-abbrev pub merged : ℕ → List StructDecl → ℕ → List FunctionDecl → List Signature
-merged i [] k fs = functions_from k (length fs)
-merged i (s ∷ ss) k fs =
+abbrev pub merged_from : ℕ → List StructDecl → ℕ → List FunctionDecl → List Signature
+merged_from i [] k fs = functions_from k (length fs)
+merged_from i (s ∷ ss) k fs =
     let n : ℕ = prefix_len (stands_before s) fs in
-    functions_from k n ++ (with_nested i s ++ merged (i + 1) ss (k + n) (drop n fs))
+    functions_from k n ++ (with_nested i s ++ merged_from (i + 1) ss (k + n) (drop n fs))
 
 -- the signatures of a text in written order
 abbrev pub in_order : Skeleton → List Signature
-in_order s = merged 0 s.structs 0 s.functions
+in_order s = merged_from 0 s.structs 0 s.functions
 
 abbrev pub is_signature : Signature → Signature → Bool
 is_signature (Struct i) (Struct k) = nat_eq i k

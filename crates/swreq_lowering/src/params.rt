@@ -1,6 +1,6 @@
 // The generic parameters of signatures.
 ghost use Rattle.std.specs.Prelude.{◌≡◌, ◌<◌, ◌^◌, length, slice_get};
-ghost use Rattle.swreq_lowering.specs.Signatures.{counts, depth_within, functions_of, outer_params, own_depth, own_params, params_of, params_of_function, params_of_struct};
+ghost use Rattle.swreq_lowering.specs.Signatures.{counts, depth_within, functions_of, outer_param_decls, own_depth, own_param_decls, params_of, params_of_function, params_of_struct};
 
 use swreq_decl::{FunctionDecl, ParamDecl, Skeleton, StructDecl};
 use swreq_derive::Params;
@@ -37,8 +37,8 @@ fn params_of_function(functions: &[FunctionDecl], place: usize) -> &[ParamDecl]
 }
 
 /// The generic parameters of the struct around a signature.
-fn outer_params(s: &Skeleton, signature: Signature) -> &[ParamDecl]
-    ensures { result.now ≡ outer_params s.now signature }
+fn outer_param_decls(s: &Skeleton, signature: Signature) -> &[ParamDecl]
+    ensures { result.now ≡ outer_param_decls s.now signature }
 {
     match signature {
         Signature::Nested { outer, .. } => params_of_struct(s.structs.items(), outer),
@@ -47,8 +47,8 @@ fn outer_params(s: &Skeleton, signature: Signature) -> &[ParamDecl]
 }
 
 /// The generic parameters of a signature itself.
-fn own_params(s: &Skeleton, signature: Signature) -> &[ParamDecl]
-    ensures { result.now ≡ own_params s.now signature }
+fn own_param_decls(s: &Skeleton, signature: Signature) -> &[ParamDecl]
+    ensures { result.now ≡ own_param_decls s.now signature }
 {
     match signature {
         Signature::Struct(place) => params_of_struct(s.structs.items(), place),
@@ -74,7 +74,7 @@ fn depth_within(params: &[ParamDecl]) -> u32
 pub fn own_depth(s: &Skeleton, signature: Signature) -> u32
     ensures { result ≡ own_depth s.now signature }
 {
-    depth_within(outer_params(s, signature))
+    depth_within(outer_param_decls(s, signature))
 }
 
 /// How many generic parameters have depth 0 and depth 1.
@@ -98,9 +98,12 @@ fn counts(outer: &[ParamDecl], own: &[ParamDecl]) -> Params
 /// The generic parameters of a signature. Those of a struct have depth 0. Those of its functions have depth 1 where the struct
 /// has some, and else depth 0.
 pub fn params_of(s: &Skeleton, signature: Signature) -> Params
-    requires outer { length (outer_params s.now signature) < 2 ^ 32 }
-    requires own { length (own_params s.now signature) < 2 ^ 32 }
+    requires outer { length (outer_param_decls s.now signature) < 2 ^ 32 }
+    requires own { length (own_param_decls s.now signature) < 2 ^ 32 }
     ensures { result ≡ params_of s.now signature }
 {
-    counts(outer_params(s, signature), own_params(s, signature))
+    counts(
+        outer_param_decls(s, signature),
+        own_param_decls(s, signature),
+    )
 }

@@ -22,7 +22,7 @@ use Rattle.swreq_names.specs.declared.signature.Signature.{Signature}
 use Rattle.swreq_correspondence.specs.Symbols.{IsInText}
 use Rattle.swreq_lowering.specs.Requirements.{PlacedRequirement}
 use Rattle.swreq_lowering.specs.Short.{HasShortLists}
-use Rattle.swreq_lowering.specs.Signatures.{counts, in_order, own_params, outer_params, params_of}
+use Rattle.swreq_lowering.specs.Signatures.{counts, in_order, own_param_decls, outer_param_decls, params_of}
 use Rattle.swreq_world.specs.Closed.{HasOwn, IsClosed, IsOfSignature}
 use Rattle.swreq_world.specs.Closed as closed
 use Rattle.swreq_world.specs.Text.{signature_in, signatures}
@@ -83,7 +83,7 @@ few_counts (g ∷ gs) own a b = (a, b)
 
 module _ (text : List ℕ) (s : Skeleton) (w : TextWorld) (world : IsWorldOf text s w) (short : HasShortLists text s) where
   few_of : (k : Signature) → AreFew (params_of s k)
-  few_of k = few_counts (outer_params s k) (own_params s k) (short.outer k) (short.own k)
+  few_of k = few_counts (outer_param_decls s k) (own_param_decls s k) (short.outer k) (short.own k)
 
   few_params : (g : SignatureOver PlacedRequirement) → Contains w.signatures g → AreFew g.params
   few_params g c =

@@ -11,7 +11,7 @@ use Rattle.swreq_decl.specs.declared.skeleton.StructDecl.{StructDecl}
 use Rattle.swreq_decl.specs.Signatures as declared
 use Rattle.swreq_decl.specs.Signatures.{of_struct, of_inner, of_function, with_functions, stands_before}
 use Rattle.swreq_names.specs.declared.signature.Signature.{Signature}
-use Rattle.swreq_lowering.specs.Signatures.{nested_from, functions_from, with_nested, merged, in_order}
+use Rattle.swreq_lowering.specs.Signatures.{nested_from, functions_from, with_nested, merged_from, in_order}
 use Rattle.swreq_world.specs.Declarations.{nested_declaration, declaration_of, HasSignature}
 use Rattle.swreq_world.proofs.Everywhere.{mapped_from, stands_mapped}
 use Rattle.swreq_world.proofs.Offsets.{AreRising, rising_drop, function_start}
@@ -109,12 +109,12 @@ module _ (s : Skeleton) where
       λ k. one k ∷ more k
 
   merged_are : (i : ℕ) (ss : List StructDecl) (k : ℕ) (fs : List FunctionDecl) (from : ℕ) → AreFrom s.structs i ss → AreFrom s.functions k fs
-      → AreRising function_start from fs → declarations (merged i ss k fs) ≡ all (declared.merged ss fs)
+      → AreRising function_start from fs → declarations (merged_from i ss k fs) ≡ all (declared.merged ss fs)
   merged_are i [] k fs from in_structs in_functions r =
       functions_are k (length fs) fs in_functions (omega arith) ∙ ap (λ gs. all (map (λ f. of_function f) gs)) (take_all (length fs) fs (omega arith))
   merged_are i (t ∷ ss) k fs from in_structs in_functions r =
       let n = prefix_len (stands_before t) fs in
-      let later = merged (i + 1) ss (k + n) (drop n fs) in
+      let later = merged_from (i + 1) ss (k + n) (drop n fs) in
       let top = map (λ f. of_function f) (take n fs) in
       let own = with_functions t in
       let others = declared.merged ss (drop n fs) in

@@ -9,7 +9,7 @@ use Rattle.swreq_decl.specs.declared.skeleton.StructDecl.{StructDecl}
 use Rattle.swreq_decl.specs.Signatures.{stands_before}
 use Rattle.swreq_names.specs.declared.signature.Signature.{Signature}
 use Rattle.swreq_names.specs.declared.signature.Signature.TheVariants.{Struct, Function, Nested}
-use Rattle.swreq_lowering.specs.Signatures.{nested_from, functions_from, with_nested, merged, in_order, func_id}
+use Rattle.swreq_lowering.specs.Signatures.{nested_from, functions_from, with_nested, merged_from, in_order, func_id}
 use Rattle.swreq_world.proofs.Standing.{IsIn, stands}
 
 -- ---- lists without repeats
@@ -71,14 +71,14 @@ from_sooner i k n (Struct m) h = omega (arith, h)
 from_sooner i k n (Function m) h = omega (arith, h)
 from_sooner i k n (Nested m l) h = omega (arith, h)
 
-all_from : (i : ℕ) (ss : List StructDecl) (k : ℕ) (fs : List FunctionDecl) (p : ℕ) (g : Signature) → slice_get (merged i ss k fs) p ≡ Some g → IsFrom i k g
+all_from : (i : ℕ) (ss : List StructDecl) (k : ℕ) (fs : List FunctionDecl) (p : ℕ) (g : Signature) → slice_get (merged_from i ss k fs) p ≡ Some g → IsFrom i k g
 all_from i [] k fs p g e =
     let (m, is, at, l) = function_at k (length fs) p g e in
     let h : k ≤ m = omega (arith, at) in
     subst (IsFrom i k) (sym is) h
 all_from i (s ∷ ss) k fs p g e =
     let n = prefix_len (stands_before s) fs in
-    let later = merged (i + 1) ss (k + n) (drop n fs) in
+    let later = merged_from (i + 1) ss (k + n) (drop n fs) in
     ⊎_elim (λ h. let (m, is, at, l) = function_at k n p g h in let o : k ≤ m = omega (arith, at) in subst (IsFrom i k) (sym is) o)
     (λ h. ⊎_elim (λ a. later_of_struct i k g (of_struct_at i s h.0 g a)) (λ a. from_sooner i k n g (all_from (i + 1) ss (k + n) (drop n fs) a.0 g a.2))
     (get_either (with_nested i s) later h.0 g h.2))
@@ -120,7 +120,7 @@ not_of_next i k (Struct m) h l = omega (arith, h, l)
 not_of_next i k (Function m) h l = h
 not_of_next i k (Nested m j) h l = omega (arith, h, l)
 
-merged_once : (i : ℕ) (ss : List StructDecl) (k : ℕ) (fs : List FunctionDecl) → IsOnce (merged i ss k fs)
+merged_once : (i : ℕ) (ss : List StructDecl) (k : ℕ) (fs : List FunctionDecl) → IsOnce (merged_from i ss k fs)
 merged_once i [] k fs = functions_once k (length fs)
 merged_once i (s ∷ ss) k fs =
     once_both (functions_from k n) (with_nested i s ++ later) (functions_once k n)
@@ -132,7 +132,7 @@ merged_once i (s ∷ ss) k fs =
     n = prefix_len (stands_before s) fs
 
     later : List Signature
-    later = merged (i + 1) ss (k + n) (drop n fs)
+    later = merged_from (i + 1) ss (k + n) (drop n fs)
 
     not_before : (p q : ℕ) (g : Signature) → slice_get (functions_from k n) p ≡ Some g
         → (slice_get (with_nested i s) q ≡ Some g) ⊎ ((j : ℕ) × (q ≡ length (with_nested i s) + j) × (slice_get later j ≡ Some g)) → ⊥

@@ -21,7 +21,7 @@ use Rattle.swreq_names.specs.Spaces as declarations
 use Rattle.swreq_param.specs.declared.ids.ParamId.{ParamId}
 use Rattle.swreq_param.specs.Terms.{self_param}
 use Rattle.swreq_rank.specs.Ranks.{Bytes}
-use Rattle.swreq_lowering.specs.Signatures.{params_of_struct, params_of_function, functions_of, outer_params, own_params, depth_within, own_depth, counts, params_of}
+use Rattle.swreq_lowering.specs.Signatures.{params_of_struct, params_of_function, functions_of, outer_param_decls, own_param_decls, depth_within, own_depth, counts, params_of}
 use Rattle.swreq_lowering.specs.Types.{param_id, param_named}
 use Rattle.swreq_lowering.specs.Words.{WordsView, declared}
 use Rattle.swreq_lowering.proofs.Referring.{outer_below, own_below}
@@ -82,12 +82,12 @@ module _ (words : Bytes) (s : Skeleton) where
       ap (λ (ds : List (List Declaration)). get_or ds j []) (at_mapped (λ (t : StructDecl). map (λ (f : FunctionDecl). of_params words f.params) t.functions) s.structs i t [] e)
       ∙ of_functions t.functions j (slice_get t.functions j) refl
 
-  pub outer_declared : (g : Signature) → declarations.outer_params (spaces words s) g ≡ of_params words (outer_params s g)
+  pub outer_declared : (g : Signature) → declarations.outer_params (spaces words s) g ≡ of_params words (outer_param_decls s g)
   outer_declared (Struct i) = refl
   outer_declared (Function i) = refl
   outer_declared (Nested i j) = of_structs i (slice_get s.structs i) refl
 
-  pub own_declared : (g : Signature) → declarations.own_params (spaces words s) g ≡ of_params words (own_params s g)
+  pub own_declared : (g : Signature) → declarations.own_params (spaces words s) g ≡ of_params words (own_param_decls s g)
   own_declared (Struct i) = of_structs i (slice_get s.structs i) refl
   own_declared (Function i) = of_functions s.functions i (slice_get s.functions i) refl
   own_declared (Nested i j) = of_nested_functions i j (slice_get s.structs i) refl
@@ -104,9 +104,9 @@ named_is w same g name e = by (param_of (declared w) g name) refl e
     by None n e = absurd cc
     by (Some (Outer k)) n e =
         let l = outer_below (declared w) g name k n in
-        let m = ap (λ (d : Spaces). length (declarations.outer_params d g)) same ∙ ap length (outer_declared w.text w.skeleton g) ∙ named w.text w.skeleton (outer_params w.skeleton g) in
-        outer_is (outer_params w.skeleton g) (own_params w.skeleton g) k (omega arith)
+        let m = ap (λ (d : Spaces). length (declarations.outer_params d g)) same ∙ ap length (outer_declared w.text w.skeleton g) ∙ named w.text w.skeleton (outer_param_decls w.skeleton g) in
+        outer_is (outer_param_decls w.skeleton g) (own_param_decls w.skeleton g) k (omega arith)
     by (Some (Own k)) n e =
         let l = own_below (declared w) g name k n in
-        let m = ap (λ (d : Spaces). length (declarations.own_params d g)) same ∙ ap length (own_declared w.text w.skeleton g) ∙ named w.text w.skeleton (own_params w.skeleton g) in
-        own_is (outer_params w.skeleton g) (own_params w.skeleton g) k (omega arith)
+        let m = ap (λ (d : Spaces). length (declarations.own_params d g)) same ∙ ap length (own_declared w.text w.skeleton g) ∙ named w.text w.skeleton (own_param_decls w.skeleton g) in
+        own_is (outer_param_decls w.skeleton g) (own_param_decls w.skeleton g) k (omega arith)

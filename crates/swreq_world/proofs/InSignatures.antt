@@ -27,7 +27,7 @@ use Rattle.swreq_lowering.specs.Heads.{IsOver}
 use Rattle.swreq_lowering.specs.Requirements.{PlacedRequirement, in_signature, in_struct, in_nested}
 use Rattle.swreq_lowering.specs.Walk.{in_clause, in_param, in_params}
 use Rattle.swreq_lowering.proofs.Walked.{signature_walked}
-use Rattle.swreq_lowering.specs.Signatures.{params_of_struct, params_of_function, functions_of, outer_params, own_params, own_depth, params_of}
+use Rattle.swreq_lowering.specs.Signatures.{params_of_struct, params_of_function, functions_of, outer_param_decls, own_param_decls, own_depth, params_of}
 use Rattle.swreq_lowering.specs.Types.{param_id, signature_head}
 use Rattle.swreq_lowering.specs.Words.{WordsView, declared}
 use Rattle.swreq_world.specs.Closed.{IsTermOf, IsParamOf, IsOfSignature, HasOwn}
@@ -57,19 +57,19 @@ module _ (w : WordsView) (inherits : ℕ → ℕ → Bool) (are : AreResolved w 
     pub starts : (s : Span) → begins (word w.text s) ≡ true → IsTermOf w.lexicon (signature_head w g s) × IsParam (head (signature_head w g s))
     starts s e = (tt, named_is w same g (word w.text s) e)
 
-    params_are : (k : ℕ) (ps : List ParamDecl) → k + length ps ≤ length (own_params w.skeleton g) → Resolved w (flat_map (of_param w.text (declared w) begins) ps) (flat_map (names.in_param w.text) ps)
+    params_are : (k : ℕ) (ps : List ParamDecl) → k + length ps ≤ length (own_param_decls w.skeleton g) → Resolved w (flat_map (of_param w.text (declared w) begins) ps) (flat_map (names.in_param w.text) ps)
         → All (IsWithin g) (in_params w g k ps)
     params_are k [] l h = All-nil (IsWithin g)
     params_are k (p ∷ ps) l h =
         let of_rest = flat_map (of_param w.text (declared w) begins) ps in
         let in_rest = flat_map (names.in_param w.text) ps in
-        let own = own_is (outer_params w.skeleton g) (own_params w.skeleton g) k (omega arith) in
+        let own = own_is (outer_param_decls w.skeleton g) (own_param_decls w.skeleton g) k (omega arith) in
         let q = parts w (of_param w.text (declared w) begins p) of_rest (names.in_param w.text p) in_rest h in
         All-append (IsWithin g) (in_param w g k p) (in_params w g (k + 1) ps)
         (bounds_are w are.refers (contexts.Signature g) begins IsParam starts (Generic (param_id (own_depth w.skeleton g) (Own k))) p.name.start p.bounds (tt, own) q.0)
         (params_are (k + 1) ps (omega arith) q.1)
 
-    signature_is : (ps : List ParamDecl) (clause : List ReqDecl) → ps ≡ own_params w.skeleton g → All Never (of_signature w.text (declared w) g ps clause)
+    signature_is : (ps : List ParamDecl) (clause : List ReqDecl) → ps ≡ own_param_decls w.skeleton g → All Never (of_signature w.text (declared w) g ps clause)
         → All (IsRanked w) (flat_map (names.in_param w.text) ps) → All (IsRanked w) (names.in_clause w.text clause) → All (IsWithin g) (in_signature w g ps clause)
     signature_is ps clause e h n m =
         let own = declarations.own_params (declared w) g in
@@ -127,7 +127,7 @@ module _ (w : WordsView) (inherits : ℕ → ℕ → Bool) (are : AreResolved w 
         wider : (r : TermRequirement) → IsOver (IsParamOf (params_of w.skeleton (Struct i))) r → IsOver (IsParamOf (params_of w.skeleton (Nested i j))) r
         wider =
             over_more (IsParamOf (params_of w.skeleton (Struct i))) (IsParamOf (params_of w.skeleton (Nested i j)))
-            (of_struct_too (params_of_struct (slice_get w.skeleton.structs i)) (own_params w.skeleton (Nested i j)))
+            (of_struct_too (params_of_struct (slice_get w.skeleton.structs i)) (own_param_decls w.skeleton (Nested i j)))
 
     nested_is : (j : ℕ) (o : Option FunctionDecl) → slice_get t.functions j ≡ o → All (IsWithin (Nested i j)) (of_nested w i j t o)
     nested_is j None n = All-nil (IsWithin (Nested i j))

@@ -23,9 +23,9 @@ use Rattle.swreq_resolve.specs.declared.refusal.Refusal.{Refusal}
 use Rattle.swreq_resolve.specs.Refusals.{begins_in_signature, by_place, duplicates, of_nested, of_param, of_requirement, of_signature}
 use Rattle.swreq_resolve.specs.Resolving.{HasNames}
 use Rattle.swreq_rank.specs.Ranks.{Bytes}
-use Rattle.swreq_lowering.specs.Signatures.{depth_within, outer_params, own_params, own_depth, params_of_struct, params_of_function, functions_of}
+use Rattle.swreq_lowering.specs.Signatures.{depth_within, outer_param_decls, own_param_decls, own_depth, params_of_struct, params_of_function, functions_of}
 use Rattle.swreq_lowering.specs.Types.{param_id}
-use Rattle.swreq_world.specs.Lookups.{params_of_depth, IsParamNamed}
+use Rattle.swreq_world.specs.Lookups.{param_decls_of_depth, IsParamNamed}
 use Rattle.swreq_world.proofs.Everywhere.{all_left, all_right, placed_piece}
 use Rattle.swreq_world.proofs.GenericParams.{outer_declared, own_declared}
 use Rattle.swreq_world.proofs.Offsets.{AreRising, starts_from}
@@ -45,14 +45,14 @@ module _ (text : Bytes) (outer own : List ParamDecl) where
   depth = depth_within outer
 
   abbrev IsCalled : Bytes → ParamId → Type 0
-  IsCalled name p = (q : ParamDecl) × (slice_get (params_of_depth outer own p.depth) p.index ≡ Some q) × (word text q.name ≡ name)
+  IsCalled name p = (q : ParamDecl) × (slice_get (param_decls_of_depth outer own p.depth) p.index ≡ Some q) × (word text q.name ≡ name)
 
   module _ (k : ℕ) (q : ParamDecl) where
-    at_outer : (os : List ParamDecl) → slice_get os k ≡ Some q → slice_get (params_of_depth os own 0) k ≡ Some q
+    at_outer : (os : List ParamDecl) → slice_get os k ≡ Some q → slice_get (param_decls_of_depth os own 0) k ≡ Some q
     at_outer [] e = absurd cc
     at_outer (g ∷ gs) e = e
 
-    pub at_own : (os : List ParamDecl) → slice_get own k ≡ Some q → slice_get (params_of_depth os own (depth_within os)) k ≡ Some q
+    pub at_own : (os : List ParamDecl) → slice_get own k ≡ Some q → slice_get (param_decls_of_depth os own (depth_within os)) k ≡ Some q
     at_own [] e = e
     at_own (g ∷ gs) e = e
 
@@ -115,7 +115,7 @@ module _ (text : Bytes) (outer own : List ParamDecl) (told : AreToldApart text o
       ap (λ o. option_map (param_id (depth_within outer)) (elim o as (λ _. Option Param) [ None ↦ option_map Own (place (of_params text own) name) | Some k ↦ Some (Outer k) ])) n
       ∙ ap (λ o. option_map (param_id (depth_within outer)) (option_map Own o)) e
 
-means : (text : Bytes) (outer own : List ParamDecl) → AreToldApart text outer own → (d k : ℕ) (q : ParamDecl) → slice_get (params_of_depth outer own d) k ≡ Some q
+means : (text : Bytes) (outer own : List ParamDecl) → AreToldApart text outer own → (d k : ℕ) (q : ParamDecl) → slice_get (param_decls_of_depth outer own d) k ≡ Some q
     → option_map (param_id (depth_within outer)) (param_in text outer own (word text q.name)) ≡ Some (record { depth = d; index = k })
 means text [] own told zero k q e = own_means text [] own told (word text q.name) k refl (own_first text [] own told k q e)
 means text [] own told (suc d) k q e = absurd cc
@@ -131,20 +131,20 @@ module _ (text : Bytes) (s : Skeleton) (g : Signature) where
   abbrev pub meant : Bytes → Option ParamId
   meant name = option_map (param_id (own_depth s g)) (param_of (spaces text s) g name)
 
-  param_is : (name : Bytes) → param_of (spaces text s) g name ≡ param_in text (outer_params s g) (own_params s g) name
+  param_is : (name : Bytes) → param_of (spaces text s) g name ≡ param_in text (outer_param_decls s g) (own_param_decls s g) name
   param_is name =
       λ i. elim (place (outer_declared text s g i) name) as (λ _. Option Param) [ None ↦ option_map Own (place (own_declared text s g i) name) | Some k ↦ Some (Outer k) ]
 
   pub param_says : (name : Bytes) (p : ParamId) → meant name ≡ Some p → IsParamNamed text s g name p
-  param_says name p e = found text (outer_params s g) (own_params s g) name p (sym (ap (option_map (param_id (own_depth s g))) (param_is name)) ∙ e)
+  param_says name p e = found text (outer_param_decls s g) (own_param_decls s g) name p (sym (ap (option_map (param_id (own_depth s g))) (param_is name)) ∙ e)
 
-  pub param_named : AreToldApart text (outer_params s g) (own_params s g) → (name : Bytes) (p : ParamId) → (meant name ≡ Some p) ↔ IsParamNamed text s g name p
+  pub param_named : AreToldApart text (outer_param_decls s g) (own_param_decls s g) → (name : Bytes) (p : ParamId) → (meant name ≡ Some p) ↔ IsParamNamed text s g name p
   param_named told name p = (
     param_says name p,
     λ called.
         ap (option_map (param_id (own_depth s g))) (param_is name)
-        ∙ ap (λ n. option_map (param_id (own_depth s g)) (param_in text (outer_params s g) (own_params s g) n)) (sym called.2)
-        ∙ means text (outer_params s g) (own_params s g) told p.depth p.index called.0 called.1,
+        ∙ ap (λ n. option_map (param_id (own_depth s g)) (param_in text (outer_param_decls s g) (own_param_decls s g) n)) (sym called.2)
+        ∙ means text (outer_param_decls s g) (own_param_decls s g) told p.depth p.index called.0 called.1,
   )
 
 -- ---- the signatures of a text
@@ -164,20 +164,20 @@ module _ (text : Bytes) (s : Skeleton) (names : HasNames text s) (of_structs : (
     abbrev others : List Refusal
     others = flat_map (of_param text d (begins_in_signature d g)) params ++ flat_map (of_requirement text d (begins_in_signature d g)) clause
 
-    once : All Never (duplicates (of_params text (own_params s g)) (of_params text (own_params s g)))
+    once : All Never (duplicates (of_params text (own_param_decls s g)) (of_params text (own_param_decls s g)))
     once =
         subst (λ ds. All Never (duplicates ds ds)) (own_declared text s g)
         (all_left Never (duplicates own_declarations own_declarations) (duplicates outer_declarations own_declarations ++ others) none)
 
-    apart : All Never (duplicates (of_params text (outer_params s g)) (of_params text (own_params s g)))
+    apart : All Never (duplicates (of_params text (outer_param_decls s g)) (of_params text (own_param_decls s g)))
     apart =
-        subst (λ ds. All Never (duplicates (of_params text (outer_params s g)) ds)) (own_declared text s g)
+        subst (λ ds. All Never (duplicates (of_params text (outer_param_decls s g)) ds)) (own_declared text s g)
         (subst (λ ds. All Never (duplicates ds own_declarations)) (outer_declared text s g)
         (all_left Never (duplicates outer_declarations own_declarations) others
         (all_right Never (duplicates own_declarations own_declarations) (duplicates outer_declarations own_declarations ++ others) none)))
 
-  top : (g : Signature) (ps : List ParamDecl) → own_params s g ≡ ps → outer_params s g ≡ [] → (from : ℕ) → AreRising param_start from ps
-      → All Never (duplicates (of_params text (own_params s g)) (of_params text (own_params s g))) → AreToldApart text [] (own_params s g)
+  top : (g : Signature) (ps : List ParamDecl) → own_param_decls s g ≡ ps → outer_param_decls s g ≡ [] → (from : ℕ) → AreRising param_start from ps
+      → All Never (duplicates (of_params text (own_param_decls s g)) (of_params text (own_param_decls s g))) → AreToldApart text [] (own_param_decls s g)
   top g ps own outer from rising once = record {
     outer_from = 0;
     outer_rising = tt;
@@ -186,7 +186,7 @@ module _ (text : Bytes) (s : Skeleton) (names : HasNames text s) (of_structs : (
     later = λ p c. no_member p c;
     outer_once = All-nil Never;
     own_once = once;
-    own_apart = nothing_before (of_params text (own_params s g));
+    own_apart = nothing_before (of_params text (own_param_decls s g));
   }
     where
       nothing_before : (ds : List Declaration) → All Never (duplicates [] ds)
@@ -194,7 +194,7 @@ module _ (text : Bytes) (s : Skeleton) (names : HasNames text s) (of_structs : (
       nothing_before (e ∷ ds) = nothing_before ds
 
   nested : (i j : ℕ) (t : StructDecl) (f : FunctionDecl) → slice_get s.structs i ≡ Some t → slice_get t.functions j ≡ Some f
-      → AreToldApart text (outer_params s (Nested i j)) (own_params s (Nested i j))
+      → AreToldApart text (outer_param_decls s (Nested i j)) (own_param_decls s (Nested i j))
   nested i j t f at there = record {
     outer_from = order.from;
     outer_rising = subst (AreRising param_start order.from) (sym outer) order.own;
@@ -212,10 +212,10 @@ module _ (text : Bytes) (s : Skeleton) (names : HasNames text s) (of_structs : (
       inside : Contains t.functions f
       inside = get_contains t.functions j f there
 
-      outer : outer_params s (Nested i j) ≡ t.params
+      outer : outer_param_decls s (Nested i j) ≡ t.params
       outer = ap params_of_struct at
 
-      own : own_params s (Nested i j) ≡ f.params
+      own : own_param_decls s (Nested i j) ≡ f.params
       own = ap (λ o. params_of_function (slice_get (functions_of o) j)) at ∙ ap params_of_function there
 
       functions : List Declaration
@@ -234,7 +234,7 @@ module _ (text : Bytes) (s : Skeleton) (names : HasNames text s) (of_structs : (
           (all_right Never (duplicates functions functions) all_of_inner
           (all_right Never (of_signature text d (Struct i) t.params t.clause) (duplicates functions functions ++ all_of_inner) (none_of_struct text s names i t at)))
 
-  pub told_apart : (g : Signature) → IsIn s g → AreToldApart text (outer_params s g) (own_params s g)
+  pub told_apart : (g : Signature) → IsIn s g → AreToldApart text (outer_param_decls s g) (own_param_decls s g)
   told_apart (Struct i) h =
       let (t, at) = there_is s.structs i h in
       let order = of_structs t (get_contains s.structs i t at) in

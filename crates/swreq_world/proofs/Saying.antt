@@ -43,7 +43,7 @@ use Rattle.swreq_lowering.specs.declared.context.Context.{Context}
 use Rattle.swreq_lowering.specs.declared.context.Context.TheVariants as contexts
 use Rattle.swreq_lowering.specs.Queries.{asked_signature, signature_named}
 use Rattle.swreq_lowering.specs.Requirements.{subject_of}
-use Rattle.swreq_lowering.specs.Signatures.{outer_params, own_depth, own_params}
+use Rattle.swreq_lowering.specs.Signatures.{outer_param_decls, own_depth, own_param_decls}
 use Rattle.swreq_lowering.specs.Types.{member_named, param_id, param_named, step_of, type_in}
 use Rattle.swreq_lowering.specs.Words.{WordsView, proto_of, name_of, primaries_of, primaries_at, primaries_named}
 use Rattle.swreq_world.specs.ReadBack.{ArePrimaries, IsReadIn, IsSaid, SayNames, SaySteps, SaysConstraint, SaysName, SaysProtocol, SaysStep, SaysSubject, SaysType, of_member, of_parameter, of_self}
@@ -251,7 +251,7 @@ module _ (text : Bytes) (s : Skeleton) (x : LexiconView) (is : IsLexiconOf text 
     subject_says (in_protocol i) context reads (parameter k p) h f = absurd h
     subject_says (in_signature g) context reads (parameter k p) (q, at, called) f =
         subst (λ r. SaysSubject text s x r (subject_of words r (parameter k p)) (parameter k p)) (sym reads)
-        (param_id (own_depth s g) (Own k), refl, (q, at_own text (outer_params s g) (own_params s g) k q (outer_params s g) at, ap (word text) called))
+        (param_id (own_depth s g) (Own k), refl, (q, at_own text (outer_param_decls s g) (own_param_decls s g) k q (outer_param_decls s g) at, ap (word text) called))
     subject_says (in_query j) context reads (parameter k p) h f = absurd h
     subject_says part context reads (written t) h f = f t (first_member t [])
 

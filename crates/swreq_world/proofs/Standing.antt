@@ -15,7 +15,7 @@ use Rattle.swreq_names.specs.declared.signature.Signature.{Signature}
 use Rattle.swreq_names.specs.declared.signature.Signature.TheVariants.{Struct, Function, Nested}
 use Rattle.swreq_lexicon.proofs.Positions.{fails_all}
 use Rattle.swreq_lexicon.proofs.SymbolPlaces.{get_left}
-use Rattle.swreq_lowering.specs.Signatures.{nested_from, functions_from, with_nested, merged, in_order, is_signature, place_in, func_id}
+use Rattle.swreq_lowering.specs.Signatures.{nested_from, functions_from, with_nested, merged_from, in_order, is_signature, place_in, func_id}
 use Rattle.swreq_lowering.specs.declared.ids.FuncId.{FuncId}
 use Rattle.swreq_lowering.specs.Requirements.{PlacedRequirement}
 use Rattle.swreq_lowering.specs.Words.{WordsView}
@@ -76,21 +76,21 @@ functions_there k (suc n) m h l =
     same : m ≤ k → k ≡ m
     same b = omega arith
 
-function_there : (i : ℕ) (ss : List StructDecl) (k : ℕ) (fs : List FunctionDecl) (m : ℕ) → k ≤ m → m < k + length fs → Contains (merged i ss k fs) (Function m)
+function_there : (i : ℕ) (ss : List StructDecl) (k : ℕ) (fs : List FunctionDecl) (m : ℕ) → k ≤ m → m < k + length fs → Contains (merged_from i ss k fs) (Function m)
 function_there i [] k fs m h l = functions_there k (length fs) m h l
 function_there i (s ∷ ss) k fs m h l =
     let n = prefix_len (stands_before s) fs in
-    let later = merged (i + 1) ss (k + n) (drop n fs) in
+    let later = merged_from (i + 1) ss (k + n) (drop n fs) in
     let e = length_rest fs n in
     ⊎_elim (λ b. Contains-append_left (functions_from k n) (with_nested i s ++ later) (Function m) (functions_there k n m h b))
     (λ b. Contains-append_right (functions_from k n) (with_nested i s ++ later) (Function m)
     (Contains-append_right (with_nested i s) later (Function m) (function_there (i + 1) ss (k + n) (drop n fs) m b (omega arith)))) (cases_lt m (k + n))
 
-struct_there : (i : ℕ) (ss : List StructDecl) (k : ℕ) (fs : List FunctionDecl) (m : ℕ) → i ≤ m → m < i + length ss → Contains (merged i ss k fs) (Struct m)
+struct_there : (i : ℕ) (ss : List StructDecl) (k : ℕ) (fs : List FunctionDecl) (m : ℕ) → i ≤ m → m < i + length ss → Contains (merged_from i ss k fs) (Struct m)
 struct_there i [] k fs m h l = absurd (omega arith)
 struct_there i (s ∷ ss) k fs m h l =
     let n = prefix_len (stands_before s) fs in
-    let later = merged (i + 1) ss (k + n) (drop n fs) in
+    let later = merged_from (i + 1) ss (k + n) (drop n fs) in
     Contains-append_right (functions_from k n) (with_nested i s ++ later) (Struct m)
     (⊎_elim (λ b. Contains-append_right (with_nested i s) later (Struct m) (struct_there (i + 1) ss (k + n) (drop n fs) m (omega arith) (omega arith)))
     (λ b. (0, omega arith, ap Struct (same b))) (cases_lt i m))
@@ -171,11 +171,11 @@ module _ (i : ℕ) (s : StructDecl) (ss : List StructDecl) (before later : List 
       past : (q : ℕ) → p ≡ length before + q → (slice_get own q ≡ Some (Struct m)) ⊎ ((r : ℕ) × (q ≡ length own + r) × (slice_get later r ≡ Some (Struct m))) → IsFollowed all i (s ∷ ss) m p
       past q a o = ⊎_elim (λ h. here q a h) (λ h. further q h.0 a h.1 (rest h.0 h.2)) o
 
-followed : (i : ℕ) (ss : List StructDecl) (k : ℕ) (fs : List FunctionDecl) (m p : ℕ) → slice_get (merged i ss k fs) p ≡ Some (Struct m) → IsFollowed (merged i ss k fs) i ss m p
+followed : (i : ℕ) (ss : List StructDecl) (k : ℕ) (fs : List FunctionDecl) (m p : ℕ) → slice_get (merged_from i ss k fs) p ≡ Some (Struct m) → IsFollowed (merged_from i ss k fs) i ss m p
 followed i [] k fs m p e = absurd (no_struct_at_top k (length fs) m p e)
 followed i (s ∷ ss) k fs m p e =
     let n = prefix_len (stands_before s) fs in
-    first_or_later i s ss (functions_from k n) (merged (i + 1) ss (k + n) (drop n fs)) m p (λ r h. followed (i + 1) ss (k + n) (drop n fs) m r h) (no_struct_at_top k n m p) e
+    first_or_later i s ss (functions_from k n) (merged_from (i + 1) ss (k + n) (drop n fs)) m p (λ r h. followed (i + 1) ss (k + n) (drop n fs) m r h) (no_struct_at_top k n m p) e
 
 -- ---- each signature
 

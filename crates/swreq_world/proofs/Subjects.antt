@@ -19,7 +19,7 @@ use Rattle.swreq_names.specs.Parts as parts
 use Rattle.swreq_names.specs.Parts.{Subject, self_of, associated, parameter, written, Constraint, bound, same, Scope, in_protocol, in_signature, in_query, numbered, standing, constraints}
 use Rattle.swreq_names.proofs.Pieces.{from_pieces}
 use Rattle.swreq_resolve.proofs.SameMembers.{number_of}
-use Rattle.swreq_lowering.specs.Signatures.{functions_of, own_params, params_of_function, params_of_struct}
+use Rattle.swreq_lowering.specs.Signatures.{functions_of, own_param_decls, params_of_function, params_of_struct}
 
 -- The scope is a protocol or a signature.
 abbrev pub IsDeclaration : Scope → Type 0
@@ -31,7 +31,7 @@ module _ (s : Skeleton) where
   abbrev pub IsDeclaredIn : Scope → Subject → Type 0
   IsDeclaredIn (in_protocol i) (associated a) = (p : ProtocolDecl) × (m : AssocDecl) × Contains s.protocols p × Contains p.members m × (m.name ≡ a)
   IsDeclaredIn (in_protocol i) (parameter k p) = ⊥
-  IsDeclaredIn (in_signature g) (parameter k p) = (q : ParamDecl) × (slice_get (own_params s g) k ≡ Some q) × (q.name ≡ p)
+  IsDeclaredIn (in_signature g) (parameter k p) = (q : ParamDecl) × (slice_get (own_param_decls s g) k ≡ Some q) × (q.name ≡ p)
   IsDeclaredIn (in_signature g) (associated a) = ⊥
   IsDeclaredIn (in_query k) y = ⊥
   IsDeclaredIn _ _ = Unit {0}
@@ -76,7 +76,7 @@ module _ (s : Skeleton) where
 
   -- ---- signatures
 
-  of_signature : (g : Signature) (ps : List ParamDecl) (rs : List ReqDecl) → own_params s g ≡ ps → (k : Constraint) → Contains (parts.of_signature ps rs) k → StandsIn (in_signature g) k
+  of_signature : (g : Signature) (ps : List ParamDecl) (rs : List ReqDecl) → own_param_decls s g ≡ ps → (k : Constraint) → Contains (parts.of_signature ps rs) k → StandsIn (in_signature g) k
   of_signature g ps rs own k h =
       ⊎_elim
       (λ l. let (q, n, e) = contains_of_map parts.of_param (numbered 0 ps) k l in

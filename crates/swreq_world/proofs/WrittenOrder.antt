@@ -7,7 +7,7 @@ use Rattle.swreq_decl.specs.declared.skeleton.StructDecl.{StructDecl}
 use Rattle.swreq_decl.specs.Signatures.{stands_before}
 use Rattle.swreq_names.specs.declared.signature.Signature.{Signature}
 use Rattle.swreq_names.specs.declared.signature.Signature.TheVariants.{Function, Nested}
-use Rattle.swreq_lowering.specs.Signatures.{functions_from, nested_from, with_nested, merged}
+use Rattle.swreq_lowering.specs.Signatures.{functions_from, nested_from, with_nested, merged_from}
 
 functions_after : (k n m : ℕ) → k + n ≡ m → functions_from k (suc n) ≡ functions_from k n ++ Function m ∷ []
 functions_after k zero m e = let f : k ≡ m = omega arith in ap (λ (j : ℕ). Function j ∷ []) f
@@ -57,20 +57,20 @@ module _ {A : Type 0} where
 -- a struct with the functions before it, and its own
 pub merged_next : (ss : List StructDecl) (fs : List FunctionDecl) (all so more before after : List Signature) (i at n : ℕ) (s : StructDecl) → i < length ss → s ≡ get_or ss i s
     → n ≡ prefix_len (stands_before s) (drop at fs)
-    → so ++ merged i (drop i ss) at (drop at fs) ≡ all → before ≡ so ++ functions_from at n → after ≡ before ++ with_nested i s
-    → after ++ merged (i + 1) (drop (i + 1) ss) (at + n) (drop (at + n) fs) ≡ all
+    → so ++ merged_from i (drop i ss) at (drop at fs) ≡ all → before ≡ so ++ functions_from at n → after ≡ before ++ with_nested i s
+    → after ++ merged_from (i + 1) (drop (i + 1) ss) (at + n) (drop (at + n) fs) ≡ all
 merged_next ss fs all so more before after i at n s h e c inv b a =
-    (λ j. a j ++ merged (i + 1) (drop (i + 1) ss) (at + n) (drop (at + n) fs))
-    ∙ (λ j. (b j ++ with_nested i s) ++ merged (i + 1) (drop (i + 1) ss) (at + n) (drop (at + n) fs))
-    ∙ append_assoc (so ++ functions_from at n) (with_nested i s) (merged (i + 1) (drop (i + 1) ss) (at + n) (drop (at + n) fs))
-    ∙ append_assoc so (functions_from at n) (with_nested i s ++ merged (i + 1) (drop (i + 1) ss) (at + n) (drop (at + n) fs))
-    ∙ (λ j. so ++ (functions_from at n ++ (with_nested i s ++ merged (i + 1) (drop (i + 1) ss) (at + n) (sym (drop_twice fs at n) j))))
-    ∙ (λ j. so ++ (functions_from at (c j) ++ (with_nested i s ++ merged (i + 1) (drop (i + 1) ss) (at + c j) (drop (c j) (drop at fs)))))
-    ∙ (λ j. so ++ merged i (sym (drop_at ss i s h e) j) at (drop at fs))
+    (λ j. a j ++ merged_from (i + 1) (drop (i + 1) ss) (at + n) (drop (at + n) fs))
+    ∙ (λ j. (b j ++ with_nested i s) ++ merged_from (i + 1) (drop (i + 1) ss) (at + n) (drop (at + n) fs))
+    ∙ append_assoc (so ++ functions_from at n) (with_nested i s) (merged_from (i + 1) (drop (i + 1) ss) (at + n) (drop (at + n) fs))
+    ∙ append_assoc so (functions_from at n) (with_nested i s ++ merged_from (i + 1) (drop (i + 1) ss) (at + n) (drop (at + n) fs))
+    ∙ (λ j. so ++ (functions_from at n ++ (with_nested i s ++ merged_from (i + 1) (drop (i + 1) ss) (at + n) (sym (drop_twice fs at n) j))))
+    ∙ (λ j. so ++ (functions_from at (c j) ++ (with_nested i s ++ merged_from (i + 1) (drop (i + 1) ss) (at + c j) (drop (c j) (drop at fs)))))
+    ∙ (λ j. so ++ merged_from i (sym (drop_at ss i s h e) j) at (drop at fs))
     ∙ inv
 
 -- the functions after the last struct
 pub merged_last : (ss : List StructDecl) (fs : List FunctionDecl) (all so after : List Signature) (i at : ℕ) → length ss ≤ i
-    → so ++ merged i (drop i ss) at (drop at fs) ≡ all → after ≡ so ++ functions_from at (length fs - at) → after ≡ all
+    → so ++ merged_from i (drop i ss) at (drop at fs) ≡ all → after ≡ so ++ functions_from at (length fs - at) → after ≡ all
 merged_last ss fs all so after i at h inv a =
-    a ∙ (λ j. so ++ functions_from at (sym (length_rest fs at) j)) ∙ (λ j. so ++ merged i (sym (drop_all i ss h) j) at (drop at fs)) ∙ inv
+    a ∙ (λ j. so ++ functions_from at (sym (length_rest fs at) j)) ∙ (λ j. so ++ merged_from i (sym (drop_all i ss h) j) at (drop at fs)) ∙ inv

@@ -8,7 +8,7 @@ use Rattle.swreq_names.specs.declared.signature.Signature.{Signature}
 use Rattle.swreq_names.specs.declared.signature.Signature.TheVariants.{Struct}
 use Rattle.swreq_names.specs.Spaces.{Spaces, word, signature_of, nested_of, param_of}
 use Rattle.swreq_lowering.specs.declared.ids.FuncId.{FuncId}
-use Rattle.swreq_lowering.specs.Signatures.{func_id, outer_params, own_params}
+use Rattle.swreq_lowering.specs.Signatures.{func_id, outer_param_decls, own_param_decls}
 use Rattle.swreq_lowering.specs.Types.{param_id}
 use Rattle.swreq_world.specs.Worlds.{WorldOver, signature_at}
 
@@ -45,16 +45,16 @@ abbrev pub IsNamedAt : {R Q : Type 0} → WorldOver R Q → Option (List ℕ) �
 IsNamedAt w outer name f = (f.place < length w.signatures) × ((signature_at w f).name ≡ name) × (outer_name w (signature_at w f).outer ≡ outer)
 
 -- the generic parameters of a depth, of those around a signature and its own
-abbrev pub params_of_depth : List ParamDecl → List ParamDecl → ℕ → List ParamDecl
-params_of_depth [] own zero = own
-params_of_depth [] own (suc d) = []
-params_of_depth (g ∷ gs) own zero = g ∷ gs
-params_of_depth (g ∷ gs) own (suc zero) = own
-params_of_depth (g ∷ gs) own (suc (suc d)) = []
+abbrev pub param_decls_of_depth : List ParamDecl → List ParamDecl → ℕ → List ParamDecl
+param_decls_of_depth [] own zero = own
+param_decls_of_depth [] own (suc d) = []
+param_decls_of_depth (g ∷ gs) own zero = g ∷ gs
+param_decls_of_depth (g ∷ gs) own (suc zero) = own
+param_decls_of_depth (g ∷ gs) own (suc (suc d)) = []
 
 -- the declaration of a generic parameter of a signature
 abbrev pub param_declaration : Skeleton → Signature → ParamId → Option ParamDecl
-param_declaration s g p = slice_get (params_of_depth (outer_params s g) (own_params s g) p.depth) p.index
+param_declaration s g p = slice_get (param_decls_of_depth (outer_param_decls s g) (own_param_decls s g) p.depth) p.index
 
 -- The generic parameter of the signature has this name.
 abbrev pub IsParamNamed : List ℕ → Skeleton → Signature → List ℕ → ParamId → Type 0
