@@ -1,5 +1,6 @@
 -- What the queries of a text ask.
-use Rattle.std.specs.Prelude.{cond, List, Option, Some, None}
+use Rattle.std.specs.Prelude.{ℕ, cond, List, Option, Some, None}
+use Rattle.std.specs.Option.{option_map}
 use Rattle.swreq_param.specs.declared.ids.ProtoId.{ProtoId}
 use Rattle.swreq_param.specs.Terms.{Term}
 use Rattle.swreq_decl.specs.declared.skeleton.Span.{Span}
@@ -8,7 +9,7 @@ use Rattle.swreq_decl.specs.declared.skeleton.Ask.TheVariants as asks
 use Rattle.swreq_decl.specs.declared.skeleton.QueryDecl.{QueryDecl}
 use Rattle.swreq_names.specs.declared.signature.Signature.{Signature}
 use Rattle.swreq_names.specs.declared.signature.Signature.TheVariants.{Function}
-use Rattle.swreq_names.specs.Spaces.{word, signature_of, nested_of}
+use Rattle.swreq_names.specs.Spaces.{Spaces, word, signature_of, nested_of}
 use Rattle.swreq_lowering.specs.declared.ids.FuncId.{FuncId}
 use Rattle.swreq_lowering.specs.declared.context.Context.TheVariants as contexts
 use Rattle.swreq_lowering.specs.Words.{WordsView, declared, proto_of}
@@ -23,6 +24,11 @@ pub data TermQuery : Type 0 where
   AsksAnyObject : (f : FuncId) (t : Term) → TermQuery
   AsksEquals : (f : FuncId) (t u : Term) → TermQuery
 
+-- the struct or function at the top of this name, or the function of the struct `outer`
+abbrev pub signature_named : Spaces → Option (List ℕ) → List ℕ → Option Signature
+signature_named d None name = signature_of d name
+signature_named d (Some outer) name = nested_of d outer name
+
 -- the signature that is asked; where the names of a text resolve, there is one
 abbrev pub asked_signature : Option Signature → Signature
 asked_signature None = Function 0
@@ -36,13 +42,12 @@ module _ (w : WordsView) where
   asked_of g f (asks.Is t e) = cond e.layout (AsksAnyObject f (type_in w (contexts.Signature g) t)) (AsksConforms f (type_in w (contexts.Signature g) t) (proto_of w e.span))
   asked_of g f (asks.Same t u) = AsksEquals f (type_in w (contexts.Signature g) t) (type_in w (contexts.Signature g) u)
 
-  -- the struct or function at the top of this name, or the function of this struct
-  abbrev pub signature_named : Option Span → Span → Option Signature
-  signature_named None f = signature_of (declared w) (word w.text f)
-  signature_named (Some s) f = nested_of (declared w) (word w.text s) (word w.text f)
+  -- the signature with these words in a query
+  abbrev pub signature_in_query : Option Span → Span → Option Signature
+  signature_in_query outer f = signature_named (declared w) (option_map (word w.text) outer) (word w.text f)
 
   -- a query, where the signatures stand in this order
   abbrev pub query_of : List Signature → QueryDecl → TermQuery
   query_of order q =
-      let g : Signature = asked_signature (signature_named q.outer q.function) in
+      let g : Signature = asked_signature (signature_in_query q.outer q.function) in
       asked_of g (func_id order g) q.ask

@@ -4,7 +4,7 @@ ghost use Rattle.swreq_param.specs.Terms.{Term};
 ghost use Rattle.swreq_param.specs.Tables.{Extends, IsOf, term_at};
 ghost use Rattle.swreq_lowering.specs.Adding.{Asks};
 ghost use Rattle.swreq_lowering.specs.ByTable.{query_by, HasQueryIdsOf};
-ghost use Rattle.swreq_lowering.specs.Queries.{asked_of, asked_signature, signature_named, TermQuery.AsksAnyObject, TermQuery.AsksConforms};
+ghost use Rattle.swreq_lowering.specs.Queries.{asked_of, asked_signature, signature_in_query, TermQuery.AsksAnyObject, TermQuery.AsksConforms};
 ghost use Rattle.swreq_lowering.specs.Words.{words_by, proto_of};
 
 use crate::context::Context;
@@ -19,17 +19,17 @@ use swreq_param::{ParamTable, TermId};
 
 /// The signature that a query asks, or the first function at the top where there is none.
 pub fn asked_signature(words: &Words<'_>, q: &QueryDecl) -> Signature
-    ensures { result ≡ asked_signature (signature_named (words_by words.now) q.now.outer q.now.function) }
+    ensures { result ≡ asked_signature (signature_in_query (words_by words.now) q.now.outer q.now.function) }
 {
-    match signature_named(words, q.outer, q.function) {
+    match signature_in_query(words, q.outer, q.function) {
         Some(signature) => signature,
         None => Signature::Function(0),
     }
 }
 
 /// The struct or function at the top of this name, or the function of the struct `outer`.
-fn signature_named(words: &Words<'_>, outer: Option<Span>, function: Span) -> Option<Signature>
-    ensures { result ≡ signature_named (words_by words.now) outer function }
+fn signature_in_query(words: &Words<'_>, outer: Option<Span>, function: Span) -> Option<Signature>
+    ensures { result ≡ signature_in_query (words_by words.now) outer function }
 {
     let names = words.lexicon.resolved();
     let name = word(words.text, function);

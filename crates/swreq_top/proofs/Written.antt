@@ -29,7 +29,7 @@ use Rattle.swreq_lowering.specs.declared.ids.FuncId.{FuncId}
 use Rattle.swreq_lowering.specs.declared.context.Context.{Context}
 use Rattle.swreq_lowering.specs.declared.context.Context.TheVariants as contexts
 use Rattle.swreq_lowering.specs.Queries.TermQuery.{AsksAnyObject, AsksConforms, AsksEquals, AsksReduced}
-use Rattle.swreq_lowering.specs.Queries.{asked_of, asked_signature, query_of, signature_named}
+use Rattle.swreq_lowering.specs.Queries.{asked_of, asked_signature, query_of, signature_in_query}
 use Rattle.swreq_lowering.specs.Requirements.{PlacedRequirement, bound_of, depth_in, equality, of_constraint, of_one_side, arguments, argument, in_bound, in_bounds, in_protocol, in_signature, in_struct, subject_at, subject_of}
 use Rattle.swreq_lowering.specs.Signatures.{func_id, functions_of, in_order, own_depth, params_of}
 use Rattle.swreq_lowering.specs.Types.{head_in, member_named, param_id, step_of, type_in}
@@ -197,14 +197,14 @@ module _ (w : WordsView) where
       ap (λ (v : Term). cond e.layout (AsksAnyObject f v) (AsksConforms f v (proto_of w e.span))) (type_same (contexts.Signature g) t)
   asked_same g f (asks.Same t u) = ap₂ (AsksEquals f) (type_same (contexts.Signature g) t) (type_same (contexts.Signature g) u)
 
-  named_same : (outer : Option Span) (f : Span) → signature_named (bare_words w) outer f ≡ signature_named w outer f
+  named_same : (outer : Option Span) (f : Span) → signature_in_query (bare_words w) outer f ≡ signature_in_query w outer f
   named_same None f = refl
   named_same (Some s) f = refl
 
   query_same : (order : List Signature) (q : QueryDecl) → query_of (bare_words w) order q ≡ query_of w order q
   query_same order q =
       ap (λ (o : Option Signature). asked_of (bare_words w) (asked_signature o) (func_id order (asked_signature o)) q.ask) (named_same q.outer q.function)
-      ∙ asked_same (asked_signature (signature_named w q.outer q.function)) (func_id order (asked_signature (signature_named w q.outer q.function))) q.ask
+      ∙ asked_same (asked_signature (signature_in_query w q.outer q.function)) (func_id order (asked_signature (signature_in_query w q.outer q.function))) q.ask
 
   pub queries_same : (order : List Signature) (qs : List QueryDecl) → map (query_of (bare_words w) order) qs ≡ map (query_of w order) qs
   queries_same order qs = alike (query_of (bare_words w) order) (query_of w order) (query_same order) qs

@@ -22,7 +22,8 @@ use Rattle.swreq_lowering.specs.Types.{param_id}
 use Rattle.swreq_lowering.specs.Words.{WordsView}
 use Rattle.swreq_world.specs.ByTable.{signature_by, world_by}
 use Rattle.swreq_world.specs.Declarations.{HasSignature}
-use Rattle.swreq_world.specs.Lookups.{func_named, order_of, outer_name, param_of_signature, signature_named, IsNamedAt, IsParamNamed}
+use Rattle.swreq_lowering.specs.Queries.{signature_named}
+use Rattle.swreq_world.specs.Lookups.{func_named, order_of, outer_name, param_of_signature, IsNamedAt, IsParamNamed}
 use Rattle.swreq_world.specs.Text.{outer_of, signature_in}
 use Rattle.swreq_world.specs.WorldOf.{IsWorldOf, words_of}
 use Rattle.swreq_world.specs.Worlds.{IdWorld, SignatureOver, TextWorld, no_signature, signature_at}

@@ -3,6 +3,7 @@ use Rattle.std.proofs.Common.{◌≡◌, ℕ, Bool, true, false, cond, [], Optio
 use Rattle.std.proofs.lemmas.List.Elements.{All-map}
 use Rattle.std.proofs.lemmas.Option.{slice_get_within, get_or_from_slice_get}
 use Rattle.std.specs.List.{All, flat_map}
+use Rattle.std.specs.Option.{option_map}
 use Rattle.swreq_decl.specs.declared.skeleton.Ask.{Ask}
 use Rattle.swreq_decl.specs.declared.skeleton.Ask.TheVariants as asked_for
 use Rattle.swreq_decl.specs.declared.skeleton.Entity.{Entity}
@@ -20,7 +21,7 @@ use Rattle.swreq_rank.specs.Ranks.{Bytes}
 use Rattle.swreq_lowering.specs.declared.ids.FuncId.{FuncId}
 use Rattle.swreq_lowering.specs.declared.context.Context.TheVariants as contexts
 use Rattle.swreq_lowering.specs.Requirements.{PlacedRequirement}
-use Rattle.swreq_lowering.specs.Queries.{asked_signature, asked_of, signature_named, query_of}
+use Rattle.swreq_lowering.specs.Queries.{asked_signature, asked_of, signature_in_query, query_of}
 use Rattle.swreq_lowering.specs.Queries.TermQuery.{AsksConforms, AsksAnyObject}
 use Rattle.swreq_lowering.specs.Signatures.{in_order, func_id, params_of}
 use Rattle.swreq_lowering.specs.Types.{type_in}
@@ -38,9 +39,8 @@ use Rattle.swreq_world.proofs.Standing.{IsIn, stands, signature_stands}
 
 -- ---- the signature that is asked
 
-named_is_in : (w : WordsView) → declared w ≡ spaces w.text w.skeleton → (outer : Option Span) (f : Span) (g : Signature) → signature_named w outer f ≡ Some g → IsIn w.skeleton g
-named_is_in w same None f g e = (found w same None (word w.text f) g e).is_in
-named_is_in w same (Some s) f g e = (found w same (Some (word w.text s)) (word w.text f) g e).is_in
+named_is_in : (w : WordsView) → declared w ≡ spaces w.text w.skeleton → (outer : Option Span) (f : Span) (g : Signature) → signature_in_query w outer f ≡ Some g → IsIn w.skeleton g
+named_is_in w same outer f g e = (found w same (option_map (word w.text) outer) (word w.text f) g e).is_in
 
 module _ (w : WordsView) (q : QueryDecl) where
   -- The query asks this signature.
@@ -56,7 +56,7 @@ module _ (w : WordsView) (q : QueryDecl) where
   asks_nested s None h = absurd (refused UnknownSignature s.start h)
   asks_nested s (Some i) h = asks_named (nested_in (declared w) i (word w.text q.function)) h
 
-  asks : (outer : Option Span) → All Never (of_query_in w.text (declared w) q outer) → Asks (signature_named w outer q.function)
+  asks : (outer : Option Span) → All Never (of_query_in w.text (declared w) q outer) → Asks (signature_in_query w outer q.function)
   asks None h = asks_named (signature_of (declared w) (word w.text q.function)) h
   asks (Some s) h = asks_nested s (struct_of (declared w) (word w.text s)) h
 

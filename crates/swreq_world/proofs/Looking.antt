@@ -7,7 +7,8 @@ use Rattle.swreq_lowering.specs.declared.ids.FuncId.{FuncId}
 use Rattle.swreq_lowering.specs.Signatures.{func_id}
 use Rattle.swreq_world.specs.declared.entry.Entry.{Entry}
 use Rattle.swreq_world.specs.Entries.{entry_view}
-use Rattle.swreq_world.specs.Lookups.{func_named, order_of, signature_named}
+use Rattle.swreq_lowering.specs.Queries.{signature_named}
+use Rattle.swreq_world.specs.Lookups.{func_named, order_of}
 use Rattle.swreq_world.specs.Worlds.{IdWorld}
 
 order_of_entries : (all es : List Entry) → map (λ e. e.signature) es ≡ map (λ g. g.signature) (map (entry_view all) es)

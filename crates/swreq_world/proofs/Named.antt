@@ -16,7 +16,7 @@ use Rattle.swreq_resolve.specs.Resolving.{HasNames}
 use Rattle.swreq_rank.specs.Ranks.{Bytes}
 use Rattle.swreq_lowering.specs.Signatures.{functions_of}
 use Rattle.swreq_lowering.specs.Words.{WordsView, declared}
-use Rattle.swreq_world.specs.Lookups.{signature_named}
+use Rattle.swreq_lowering.specs.Queries.{signature_named}
 use Rattle.swreq_world.specs.Text.{struct_name, function_name, name_of}
 use Rattle.swreq_world.proofs.Everywhere.{all_left, all_right, at_mapped}
 use Rattle.swreq_world.proofs.Offsets.{AreRising, struct_start}

@@ -41,7 +41,7 @@ use Rattle.swreq_lexicon.specs.Views.{LexiconView}
 use Rattle.swreq_lexicon.proofs.RankLaws.{rank_is}
 use Rattle.swreq_lowering.specs.declared.context.Context.{Context}
 use Rattle.swreq_lowering.specs.declared.context.Context.TheVariants as contexts
-use Rattle.swreq_lowering.specs.Queries.{asked_signature, signature_named}
+use Rattle.swreq_lowering.specs.Queries.{asked_signature, signature_in_query}
 use Rattle.swreq_lowering.specs.Requirements.{subject_of}
 use Rattle.swreq_lowering.specs.Signatures.{outer_param_decls, own_depth, own_param_decls}
 use Rattle.swreq_lowering.specs.Types.{member_named, param_id, param_named, step_of, type_in}
@@ -203,22 +203,22 @@ module _ (text : Bytes) (s : Skeleton) (x : LexiconView) (is : IsLexiconOf text 
 
     -- ---- queries
 
-    asked_same : (outer : Option Span) (f : Span) → signature_named words outer f ≡ signature_asked text s outer f
+    asked_same : (outer : Option Span) (f : Span) → signature_in_query words outer f ≡ signature_asked text s outer f
     asked_same None f = ap (λ (e : Spaces). signature_of e (word text f)) is.resolved.declared
     asked_same (Some o) f = ap (λ (e : Spaces). nested_of e (word text o) (word text f)) is.resolved.declared
 
     -- The signature that a query asks is the one that is named in it.
-    pub asks_named : (q : QueryDecl) → Contains s.queries q → signature_named words q.outer q.function ≡ Some (asked_signature (signature_named words q.outer q.function))
+    pub asks_named : (q : QueryDecl) → Contains s.queries q → signature_in_query words q.outer q.function ≡ Some (asked_signature (signature_in_query words q.outer q.function))
     asks_named q c =
         let (g, e) = asks text s no_refusal q c in
         let named = asked_same q.outer q.function ∙ e in
         named ∙ sym (ap (λ o. Some (asked_signature o)) named)
 
     pub query_type_says : (k : ℕ) (q : QueryDecl) → slice_get s.queries k ≡ Some q → (t : TypeDecl) → Contains (types s) (in_query k, t)
-        → SaysType text s x (contexts.Signature (asked_signature (signature_named words q.outer q.function)))
-        (type_in words (contexts.Signature (asked_signature (signature_named words q.outer q.function))) t) t
+        → SaysType text s x (contexts.Signature (asked_signature (signature_in_query words q.outer q.function)))
+        (type_in words (contexts.Signature (asked_signature (signature_in_query words q.outer q.function))) t) t
     query_type_says k q at t c =
-        let g = asked_signature (signature_named words q.outer q.function) in
+        let g = asked_signature (signature_in_query words q.outer q.function) in
         let asked = sym (asked_same q.outer q.function) ∙ asks_named q (get_contains s.queries k q at) in
         in_signature_says (in_query k) g t c (begins_asked text s no_refusal k q g at asked)
 

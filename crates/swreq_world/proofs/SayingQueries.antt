@@ -22,12 +22,11 @@ use Rattle.swreq_resolve.proofs.SameMembers.{has_number}
 use Rattle.swreq_rank.specs.Ranks.{Bytes}
 use Rattle.swreq_lowering.specs.declared.ids.FuncId.{FuncId}
 use Rattle.swreq_lowering.specs.declared.context.Context.TheVariants as contexts
-use Rattle.swreq_lowering.specs.Queries.{TermQuery, asked_of, asked_signature, query_of, signature_named}
+use Rattle.swreq_lowering.specs.Queries.{TermQuery, asked_of, asked_signature, query_of, signature_in_query}
 use Rattle.swreq_lowering.specs.Queries.TermQuery.{AsksConforms, AsksAnyObject}
 use Rattle.swreq_lowering.specs.Signatures.{func_id, in_order}
 use Rattle.swreq_lowering.specs.Types.{type_in}
 use Rattle.swreq_lowering.specs.Words.{WordsView, declared, proto_of}
-use Rattle.swreq_world.specs.Lookups as lookups
 use Rattle.swreq_world.specs.Lookups.{IsNamedAt}
 use Rattle.swreq_world.specs.ReadBack.{SaysAsk, SaysIn, SaysProtocol, SaysQuery, SaysType, asked}
 use Rattle.swreq_world.specs.WorldOf.{IsWorldOf, words_of}
@@ -83,13 +82,9 @@ module _ (text : Bytes) (s : Skeleton) (v : TextWorld) (is : IsWorldOf text s v)
 
   -- ---- queries
 
-  looked_up : (outer : Option Span) (f : Span) → lookups.signature_named (declared words) (option_map (word text) outer) (word text f) ≡ signature_named words outer f
-  looked_up None f = refl
-  looked_up (Some o) f = refl
-
   module _ (no_refusal : HasNames text s) (k : ℕ) (q : QueryDecl) (at : slice_get s.queries k ≡ Some q) where
     abbrev g : Signature
-    g = asked_signature (signature_named words q.outer q.function)
+    g = asked_signature (signature_in_query words q.outer q.function)
 
     abbrev f : FuncId
     f = func_id (in_order s) g
@@ -97,7 +92,7 @@ module _ (text : Bytes) (s : Skeleton) (v : TextWorld) (is : IsWorldOf text s v)
     is_named : IsNamed words (option_map (word text) q.outer) (word text q.function) g
     is_named =
         found words is.lexicon.resolved.declared (option_map (word text) q.outer) (word text q.function) g
-        (looked_up q.outer q.function ∙ asks_named text s v.lexicon is.lexicon no_refusal q (get_contains s.queries k q at))
+        (asks_named text s v.lexicon is.lexicon no_refusal q (get_contains s.queries k q at))
 
     here : (signature_at v f).signature ≡ g
     here = ap (λ (h : SignatureOver PlacedRequirement). h.signature) (at_place text s v is f g (stands s g is_named.is_in))

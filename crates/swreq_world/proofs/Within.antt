@@ -5,7 +5,7 @@ use Rattle.swreq_decl.specs.declared.skeleton.Span.{Span}
 use Rattle.swreq_names.specs.declared.signature.Signature.{Signature}
 use Rattle.swreq_names.specs.declared.signature.Signature.TheVariants.{Struct, Function, Nested}
 use Rattle.swreq_names.specs.Spaces.{Spaces, place, word, struct_of, function_of, nested_in, nested_of}
-use Rattle.swreq_lowering.specs.Queries.{asked_signature, signature_named}
+use Rattle.swreq_lowering.specs.Queries.{asked_signature, signature_in_query}
 use Rattle.swreq_lowering.specs.Signatures.{is_signature, place_in}
 use Rattle.swreq_lowering.specs.Words.{WordsView, declared}
 use Rattle.swreq_lowering.proofs.Referring.{from_below, place_below}
@@ -47,7 +47,7 @@ top_small None None = tt
 top_small None (Some k) = tt
 top_small (Some i) p = tt
 
-named_small : (w : WordsView) → Short (declared w) → (outer : Option Span) (f : Span) → IsSmallIf (signature_named w outer f)
+named_small : (w : WordsView) → Short (declared w) → (outer : Option Span) (f : Span) → IsSmallIf (signature_in_query w outer f)
 named_small w short None f = top_small (struct_of (declared w) (word w.text f)) (function_of (declared w) (word w.text f))
 named_small w short (Some s) f = of_struct_small (declared w) short (struct_of (declared w) (word w.text s)) (word w.text f)
 
@@ -56,9 +56,9 @@ unfolding IsSmallIf
 asked_by None h = tt
 asked_by (Some g) h = h
 
-pub asked_small : (w : WordsView) → ((i : ℕ) → length (get_or (declared w).nested i []) ≤ 1048576) → (outer : Option Span) (f : Span) → IsSmall (asked_signature (signature_named w outer f))
+pub asked_small : (w : WordsView) → ((i : ℕ) → length (get_or (declared w).nested i []) ≤ 1048576) → (outer : Option Span) (f : Span) → IsSmall (asked_signature (signature_in_query w outer f))
 unfolding Short
-asked_small w short outer f = asked_by (signature_named w outer f) (named_small w short outer f)
+asked_small w short outer f = asked_by (signature_in_query w outer f) (named_small w short outer f)
 
 pub found_small : (d : Spaces) → ((i : ℕ) → length (get_or d.nested i []) ≤ 1048576) → (outer name : List ℕ) (g : Signature) → nested_of d outer name ≡ Some g → IsSmall g
 unfolding Short IsSmallIf

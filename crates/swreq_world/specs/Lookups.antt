@@ -6,8 +6,9 @@ use Rattle.swreq_decl.specs.declared.skeleton.ParamDecl.{ParamDecl}
 use Rattle.swreq_decl.specs.declared.skeleton.Skeleton.{Skeleton}
 use Rattle.swreq_names.specs.declared.signature.Signature.{Signature}
 use Rattle.swreq_names.specs.declared.signature.Signature.TheVariants.{Struct}
-use Rattle.swreq_names.specs.Spaces.{Spaces, word, signature_of, nested_of, param_of}
+use Rattle.swreq_names.specs.Spaces.{word, param_of}
 use Rattle.swreq_lowering.specs.declared.ids.FuncId.{FuncId}
+use Rattle.swreq_lowering.specs.Queries.{signature_named}
 use Rattle.swreq_lowering.specs.Signatures.{func_id, outer_param_decls, own_param_decls}
 use Rattle.swreq_lowering.specs.Types.{param_id}
 use Rattle.swreq_world.specs.Worlds.{WorldOver, signature_at}
@@ -20,12 +21,7 @@ is_struct _ = false
 abbrev pub order_of : {R Q : Type 0} → WorldOver R Q → List Signature
 order_of w = map (λ g. g.signature) w.signatures
 
--- the struct or function at the top of this name, or the function of the struct `outer`
-abbrev pub signature_named : Spaces → Option (List ℕ) → List ℕ → Option Signature
-signature_named d None name = signature_of d name
-signature_named d (Some outer) name = nested_of d outer name
-
--- its place
+-- the place of the struct or function at the top of this name, or of the function of the struct `outer`
 abbrev pub func_named : {R Q : Type 0} → WorldOver R Q → Option (List ℕ) → List ℕ → Option FuncId
 func_named w outer name = option_map (func_id (order_of w)) (signature_named w.lexicon.resolved.declared outer name)
 

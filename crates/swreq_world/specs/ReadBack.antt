@@ -30,7 +30,7 @@ use Rattle.swreq_lexicon.specs.Views.{LexiconView}
 use Rattle.swreq_lowering.specs.declared.ids.FuncId.{FuncId}
 use Rattle.swreq_lowering.specs.declared.context.Context.{Context}
 use Rattle.swreq_lowering.specs.declared.context.Context.TheVariants as contexts
-use Rattle.swreq_lowering.specs.Queries.{TermQuery, asked_signature, signature_named}
+use Rattle.swreq_lowering.specs.Queries.{TermQuery, asked_signature, signature_in_query}
 use Rattle.swreq_lowering.specs.Queries.TermQuery.{AsksSignature, AsksReduced, AsksConforms, AsksAnyObject, AsksEquals}
 use Rattle.swreq_lowering.specs.Requirements.{subject_of}
 use Rattle.swreq_lowering.specs.Types.{type_in}
@@ -102,7 +102,7 @@ IsReadIn w (in_protocol i) context = context ≡ contexts.Protocol
 IsReadIn w (in_signature g) context = context ≡ contexts.Signature g
 IsReadIn w (in_query k) context =
     (q : QueryDecl) × (slice_get w.skeleton.queries k ≡ Some q)
-    × (context ≡ contexts.Signature (asked_signature (signature_named w q.outer q.function)))
+    × (context ≡ contexts.Signature (asked_signature (signature_in_query w q.outer q.function)))
 
 -- ---- constraints
 
