@@ -14,7 +14,7 @@ ghost use Rattle.swreq_lowering.specs.Words.{WordsView};
 use swreq_lex::laws::tokens_are_slices;
 
 /// The requirements of a protocol are over `τ_0_0` alone.
-pub fn protocols_require_of_self()
+pub fn protocols_write_of_self()
     ensures { (w : WordsView) (p : ProtocolDecl) → All (λ r. IsOverSelf r.requirement) (in_protocol w p) }
 {}
 
