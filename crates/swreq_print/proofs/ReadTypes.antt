@@ -16,7 +16,7 @@ use Rattle.swreq_param.specs.Terms.Term.{Generic}
 use Rattle.swreq_param.specs.ComparisonLaws.{as_steps, steps_of}
 use Rattle.swreq_lexicon.specs.declared.pair.ProtocolName.{ProtocolName}
 use Rattle.swreq_lexicon.specs.Views.{LexiconView, IsName, IsProtocol}
-use Rattle.swreq_print.specs.declared.types.Scope.TheVariants.{Signature}
+use Rattle.swreq_print.specs.declared.types.ParamForm.TheVariants.{Signature}
 use Rattle.swreq_print.specs.Names.{Text, protocol_name, name_text, pair_at}
 use Rattle.swreq_print.specs.Types.{param_text, bound_text, step_text, steps_text, type_text}
 use Rattle.swreq_print.specs.Reading.{in_name, IsPair, IsStep, HasSteps, TellsApart, HasNumbers, IsTypeOf}

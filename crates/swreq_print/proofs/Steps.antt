@@ -6,13 +6,13 @@ use Rattle.swreq_param.specs.declared.ids.Step.{Step}
 use Rattle.swreq_param.specs.Terms.{Term, with_steps}
 use Rattle.swreq_param.specs.Terms.Term.{Member}
 use Rattle.swreq_lexicon.specs.Views.{LexiconView}
-use Rattle.swreq_print.specs.declared.types.Scope.{Scope}
-use Rattle.swreq_print.specs.Types.{step_text, steps_text, type_in}
+use Rattle.swreq_print.specs.declared.types.ParamForm.{ParamForm}
+use Rattle.swreq_print.specs.Types.{step_text, steps_text, type_text_in}
 use Rattle.swreq_print.specs.Reading.{HasSteps, IsStep}
 
-pub type_by_steps : (x : LexiconView) (scope : Scope) (t : Term) (steps : List Step) → type_in x scope (with_steps t steps) ≡ type_in x scope t ++ steps_text x steps
-type_by_steps x scope t [] = sym (append-nil (type_in x scope t))
-type_by_steps x scope t (s ∷ steps) = type_by_steps x scope (Member t s) steps ∙ append_assoc (type_in x scope t) (step_text x s) (steps_text x steps)
+pub type_by_steps : (x : LexiconView) (form : ParamForm) (t : Term) (steps : List Step) → type_text_in x form (with_steps t steps) ≡ type_text_in x form t ++ steps_text x steps
+type_by_steps x form t [] = sym (append-nil (type_text_in x form t))
+type_by_steps x form t (s ∷ steps) = type_by_steps x form (Member t s) steps ∙ append_assoc (type_text_in x form t) (step_text x s) (steps_text x steps)
 
 pub steps_of_text : (x : LexiconView) (t : Term) (steps : List Step) → HasSteps x (with_steps t steps) → HasSteps x t × AllByRecursion (IsStep x) steps
 steps_of_text x t [] h = (h, tt)

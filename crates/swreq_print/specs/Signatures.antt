@@ -5,23 +5,23 @@ use Rattle.swreq_param.specs.declared.ids.ParamId.{ParamId}
 use Rattle.swreq_derive.specs.Derivation.{TermRequirement}
 use Rattle.swreq_derive.specs.Derivation.TermRequirement.{Conforms, IsAnyObject, Equals}
 use Rattle.swreq_lexicon.specs.Views.{LexiconView}
-use Rattle.swreq_print.specs.declared.types.Scope.{Scope}
-use Rattle.swreq_print.specs.declared.types.Scope.TheVariants.{Protocol, Signature}
+use Rattle.swreq_print.specs.declared.types.ParamForm.{ParamForm}
+use Rattle.swreq_print.specs.declared.types.ParamForm.TheVariants.{Protocol, Signature}
 use Rattle.swreq_print.specs.Names.{Text, protocol_name}
-use Rattle.swreq_print.specs.Types.{param_text, type_in}
+use Rattle.swreq_print.specs.Types.{param_text, type_text_in}
 
 -- `T : P`, `T : AnyObject` or `T == U`
-abbrev pub requirement_in : LexiconView → Scope → TermRequirement → Text
-requirement_in x scope (Conforms t p) = type_in x scope t ++ (codes " : " ++ protocol_name x p)
-requirement_in x scope (IsAnyObject t) = type_in x scope t ++ codes " : AnyObject"
-requirement_in x scope (Equals t u) = type_in x scope t ++ (codes " == " ++ type_in x scope u)
+abbrev pub requirement_text_in : LexiconView → ParamForm → TermRequirement → Text
+requirement_text_in x form (Conforms t p) = type_text_in x form t ++ (codes " : " ++ protocol_name x p)
+requirement_text_in x form (IsAnyObject t) = type_text_in x form t ++ codes " : AnyObject"
+requirement_text_in x form (Equals t u) = type_text_in x form t ++ (codes " == " ++ type_text_in x form u)
 
 abbrev pub requirement_text : LexiconView → TermRequirement → Text
-requirement_text x r = requirement_in x Signature r
+requirement_text x r = requirement_text_in x Signature r
 
 -- with `Self` for the generic parameter
 abbrev pub self_text : LexiconView → TermRequirement → Text
-self_text x r = requirement_in x Protocol r
+self_text x r = requirement_text_in x Protocol r
 
 -- ` where ` and the requirements, where there are any
 abbrev pub where_text : LexiconView → List TermRequirement → Text

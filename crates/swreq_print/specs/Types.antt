@@ -8,8 +8,8 @@ use Rattle.swreq_param.specs.Terms.{Term}
 use Rattle.swreq_param.specs.Terms.Term.{Generic, Member}
 use Rattle.swreq_lexicon.specs.declared.pair.ProtocolName.{ProtocolName}
 use Rattle.swreq_lexicon.specs.Views.{LexiconView}
-use Rattle.swreq_print.specs.declared.types.Scope.{Scope}
-use Rattle.swreq_print.specs.declared.types.Scope.TheVariants.{Protocol, Signature}
+use Rattle.swreq_print.specs.declared.types.ParamForm.{ParamForm}
+use Rattle.swreq_print.specs.declared.types.ParamForm.TheVariants.{Protocol, Signature}
 use Rattle.swreq_print.specs.Names.{Text, protocol_name, name_text, pair_at}
 
 -- `τ` in UTF-8
@@ -33,14 +33,14 @@ abbrev pub steps_text : LexiconView → List Step → Text
 steps_text x steps = flat_map (step_text x) steps
 
 -- In a signature a generic parameter is `τ_d_i`, and in a protocol `Self`.
-abbrev pub head_text : Scope → ParamId → Text
+abbrev pub head_text : ParamForm → ParamId → Text
 head_text Signature g = param_text g
 head_text Protocol g = codes "Self"
 
 -- A generic parameter, or the base and the last step.
-abbrev pub type_in : LexiconView → Scope → Term → Text
-type_in x scope (Generic g) = head_text scope g
-type_in x scope (Member t step) = type_in x scope t ++ step_text x step
+abbrev pub type_text_in : LexiconView → ParamForm → Term → Text
+type_text_in x form (Generic g) = head_text form g
+type_text_in x form (Member t step) = type_text_in x form t ++ step_text x step
 
 abbrev pub type_text : LexiconView → Term → Text
-type_text x t = type_in x Signature t
+type_text x t = type_text_in x Signature t

@@ -5,10 +5,10 @@ ghost use Rattle.std.specs.List.{All};
 ghost use Rattle.swreq_derive.specs.Facts.{generic_params, params_of_depth, requirement_of};
 ghost use Rattle.swreq_lowering.specs.ByTable.{HasIdsOf};
 ghost use Rattle.swreq_print.specs.Types.{param_text};
-ghost use Rattle.swreq_print.specs.Signatures.{requirement_in, requirement_text, self_text, signature_text, where_text};
+ghost use Rattle.swreq_print.specs.Signatures.{requirement_text_in, requirement_text, self_text, signature_text, where_text};
 
 use crate::names::protocol_name;
-use crate::types::{Scope, put_param, put_type};
+use crate::types::{ParamForm, put_param, put_type};
 use std::alloc::{AllocError, Global};
 use swreq_derive::{Params, Requirement};
 use swreq_lexicon::Lexicon;
@@ -19,27 +19,27 @@ fn put_requirement(
     alloc: Global,
     names: &Lexicon,
     table: &ParamTable,
-    scope: Scope,
+    form: ParamForm,
     r: &Requirement,
     out: &mut Vec<u8>,
 ) -> Result<(), AllocError>
     requires { HasIdsOf table.now r.now }
-    ensures { OnOk result (out.new.items ≡ out.old.items ++ requirement_in names.now scope (requirement_of table.now r.now)) }
+    ensures { OnOk result (out.new.items ≡ out.old.items ++ requirement_text_in names.now form (requirement_of table.now r.now)) }
 {
     match *r {
         Requirement::Conf { subject, proto } => {
-            put_type(alloc, names, table, scope, subject, out)?;
+            put_type(alloc, names, table, form, subject, out)?;
             append_bytes(out, b" : ")?;
             append_bytes(out, protocol_name(names, proto))
         }
         Requirement::Layout { subject } => {
-            put_type(alloc, names, table, scope, subject, out)?;
+            put_type(alloc, names, table, form, subject, out)?;
             append_bytes(out, b" : AnyObject")
         }
         Requirement::Same { left, right } => {
-            put_type(alloc, names, table, scope, left, out)?;
+            put_type(alloc, names, table, form, left, out)?;
             append_bytes(out, b" == ")?;
-            put_type(alloc, names, table, scope, right, out)
+            put_type(alloc, names, table, form, right, out)
         }
     }
 }
@@ -138,7 +138,7 @@ pub fn requirement_text(
     ensures err { OnErr result (out.new.items ≡ out.old.items) }
 {
     let mut text = Vec::new(alloc);
-    put_requirement(alloc, names, table, Scope::Signature, r, &mut text)?;
+    put_requirement(alloc, names, table, ParamForm::Signature, r, &mut text)?;
     append_bytes(out, &text)
 }
 
@@ -155,7 +155,7 @@ pub fn self_text(
     ensures err { OnErr result (out.new.items ≡ out.old.items) }
 {
     let mut text = Vec::new(alloc);
-    put_requirement(alloc, names, table, Scope::Protocol, r, &mut text)?;
+    put_requirement(alloc, names, table, ParamForm::Protocol, r, &mut text)?;
     append_bytes(out, &text)
 }
 

@@ -4,7 +4,7 @@ ghost use Rattle.std.specs.Prelude.{◌≡◌, ◌++◌, codes, OnErr, OnOk};
 ghost use Rattle.swreq_param.specs.Owned.{as_term};
 ghost use Rattle.swreq_param.specs.Tables.{IsOf, term_at};
 ghost use Rattle.swreq_text.specs.Joined.{GrewByPart};
-ghost use Rattle.swreq_print.specs.Types.{bound_text, head_text, param_text, step_text, steps_text, type_in, type_text};
+ghost use Rattle.swreq_print.specs.Types.{bound_text, head_text, param_text, step_text, steps_text, type_text_in, type_text};
 
 use crate::names::{name_text, pair_at, protocol_name};
 use std::alloc::{AllocError, Global};
@@ -12,9 +12,9 @@ use swreq_lexicon::{Lexicon, ProtocolName};
 use swreq_param::{ParamId, ParamTable, Step, TermId, TypeParam};
 use swreq_text::{append_bytes, append_number};
 
-/// Where a type parameter stands, and so how its generic parameter is printed.
+/// How a generic parameter is printed, by where it stands.
 #[derive(Clone, Copy)]
-pub(crate) enum Scope {
+pub(crate) enum ParamForm {
     /// In a signature: `τ_d_i`.
     Signature,
     /// In a protocol: `Self`.
@@ -67,24 +67,24 @@ fn put_steps(names: &Lexicon, steps: &[Step], out: &mut Vec<u8>) -> Result<(), A
     Ok(())
 }
 
-fn put_head(scope: Scope, param: ParamId, out: &mut Vec<u8>) -> Result<(), AllocError>
-    ensures { OnOk result (out.new.items ≡ out.old.items ++ head_text scope param) }
+fn put_head(form: ParamForm, param: ParamId, out: &mut Vec<u8>) -> Result<(), AllocError>
+    ensures { OnOk result (out.new.items ≡ out.old.items ++ head_text form param) }
 {
-    match scope {
-        Scope::Signature => put_param(param, out),
-        Scope::Protocol => append_bytes(out, b"Self"),
+    match form {
+        ParamForm::Signature => put_param(param, out),
+        ParamForm::Protocol => append_bytes(out, b"Self"),
     }
 }
 
 fn put_owned(
     names: &Lexicon,
-    scope: Scope,
+    form: ParamForm,
     t: &TypeParam,
     out: &mut Vec<u8>,
 ) -> Result<(), AllocError>
-    ensures { OnOk result (out.new.items ≡ out.old.items ++ type_in names.now scope (as_term t.now)) }
+    ensures { OnOk result (out.new.items ≡ out.old.items ++ type_text_in names.now form (as_term t.now)) }
 {
-    put_head(scope, t.head, out)?;
+    put_head(form, t.head, out)?;
     put_steps(names, t.steps.items(), out)
 }
 
@@ -92,15 +92,15 @@ pub(crate) fn put_type(
     alloc: Global,
     names: &Lexicon,
     table: &ParamTable,
-    scope: Scope,
+    form: ParamForm,
     t: TermId,
     out: &mut Vec<u8>,
 ) -> Result<(), AllocError>
     requires { IsOf table.now t }
-    ensures { OnOk result (out.new.items ≡ out.old.items ++ type_in names.now scope (term_at table.now t)) }
+    ensures { OnOk result (out.new.items ≡ out.old.items ++ type_text_in names.now form (term_at table.now t)) }
 {
     let owned = table.owned(alloc, t)?;
-    put_owned(names, scope, &owned, out)
+    put_owned(names, form, &owned, out)
 }
 
 /// Appends the type parameter with this generic parameter and these steps, as `τ_0_0.[P]A.B`.
@@ -134,6 +134,6 @@ pub fn type_text(
     ensures err { OnErr result (out.new.items ≡ out.old.items) }
 {
     let mut text = Vec::new(alloc);
-    put_type(alloc, names, table, Scope::Signature, t, &mut text)?;
+    put_type(alloc, names, table, ParamForm::Signature, t, &mut text)?;
     append_bytes(out, &text)
 }
