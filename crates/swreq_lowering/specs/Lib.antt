@@ -7,6 +7,7 @@ pub mod Requirements
 pub mod Standing
 pub mod Walk
 pub mod Heads
+pub mod OfText
 pub mod Queries
 pub mod ByTable
 pub mod Adding

@@ -9,7 +9,6 @@ use Rattle.swreq_param.specs.declared.ids.AssocId.{AssocId}
 use Rattle.swreq_param.specs.declared.ids.NameId.{NameId}
 use Rattle.swreq_param.specs.declared.ids.ParamId.{ParamId}
 use Rattle.swreq_param.specs.declared.ids.ProtoId.{ProtoId}
-use Rattle.swreq_param.specs.declared.ids.Step.TheVariants.{Bound, Name}
 use Rattle.swreq_param.specs.Terms.{Term, head}
 use Rattle.swreq_param.specs.Terms.Term.{Generic, Member}
 use Rattle.swreq_derive.specs.Derivation.{Derivable, TermRequirement, TermStatement, Declares, for_self}
@@ -21,32 +20,27 @@ use Rattle.swreq_orders.proofs.Members.{first_member, later_member, no_member, e
 use Rattle.swreq_lexicon.specs.Lexicons.{pair}
 use Rattle.swreq_lexicon.specs.Views.{LexiconView, IsName}
 use Rattle.swreq_lowering.specs.Heads.{IsOver}
+use Rattle.swreq_lowering.specs.OfText.{IsRequirementOf, IsTermOf}
 use Rattle.swreq_lowering.specs.Requirements.{PlacedRequirement}
-use Rattle.swreq_world.specs.Closed.{IsClosed, IsOfProtocol, IsTermOf}
-use Rattle.swreq_world.specs.Closed as closed
+use Rattle.swreq_world.specs.Closed.{IsClosed, IsOfProtocol}
 use Rattle.swreq_world.specs.Worlds.{TextWorld, requirements_of}
 use Rattle.swreq_symbols.specs.Meaning.{facts_of}
 use Rattle.swreq_symbols.proofs.Declared.{at_rank, of_text}
-use Rattle.swreq_print.specs.Reading.{HasNumbers, HasSteps, IsAssociated, IsRequirementOf, IsTypeOf}
+use Rattle.swreq_print.specs.Reading.{HasNumbers, IsAssociated, IsReadableRequirement, IsReadableType}
 
 -- ---- type parameters
 
 module _ (x : LexiconView) where
-  steps_are : (t : Term) → IsTermOf x t → HasSteps x t
-  steps_are (Generic g) h = h
-  steps_are (Member t (Name a)) h = (steps_are t h.0, h.1)
-  steps_are (Member t (Bound d)) h = (steps_are t h.0, h.1)
-
-  for_self_of : (t u : Term) → IsTypeOf x t → HasSteps x u → IsTypeOf x (for_self t u)
+  for_self_of : (t u : Term) → IsReadableType x t → IsTermOf x u → IsReadableType x (for_self t u)
   for_self_of t (Generic g) h k = h
   for_self_of t (Member u s) h k = let i = for_self_of t u h k.0 in (i.0, (i.1, k.1))
 
-  type_of : (Is : ParamId → Type 0) → ((g : ParamId) → Is g → HasNumbers g) → (t : Term) → Is (head t) → IsTermOf x t → IsTypeOf x t
-  type_of Is numbers t i h = (numbers (head t) i, steps_are t h)
+  type_of : (Is : ParamId → Type 0) → ((g : ParamId) → Is g → HasNumbers g) → (t : Term) → Is (head t) → IsTermOf x t → IsReadableType x t
+  type_of Is numbers t i h = (numbers (head t) i, h)
 
   -- a requirement of the text, over generic parameters whose numbers have 32 bits
-  pub requirement_is : (Is : ParamId → Type 0) → ((g : ParamId) → Is g → HasNumbers g) → (r : TermRequirement) → closed.IsRequirementOf x r → IsOver Is r
-      → IsRequirementOf x r
+  pub requirement_is : (Is : ParamId → Type 0) → ((g : ParamId) → Is g → HasNumbers g) → (r : TermRequirement) → IsRequirementOf x r → IsOver Is r
+      → IsReadableRequirement x r
   requirement_is Is numbers (Conforms t p) h i = (type_of Is numbers t i h.0, h.1)
   requirement_is Is numbers (IsAnyObject t) h i = type_of Is numbers t i h
   requirement_is Is numbers (Equals t u) h i = (type_of Is numbers t i.0 h.0, type_of Is numbers u i.1 h.1)
@@ -58,17 +52,17 @@ module _ (w : TextWorld) (is : IsClosed w) where
   x = w.lexicon
 
   -- a requirement of a protocol
-  of_protocol : (p : ProtoId) (r : TermRequirement) → Contains ((facts_of w).of_protocol p) r → closed.IsRequirementOf x r
+  of_protocol : (p : ProtoId) (r : TermRequirement) → Contains ((facts_of w).of_protocol p) r → IsRequirementOf x r
   of_protocol p r c = elim (cases_lt p.rank (length w.requirements)) [
     | inl l ↦ among (requirements_of w p) (All-get_or (λ z. All (IsOfProtocol x) z) w.requirements p.rank [] l is.requirements) c
     | inr l ↦ no_member r (subst (λ z. Contains (map (λ (q : PlacedRequirement). q.requirement) z) r) (get_or_past w.requirements p.rank [] l) c)
   ]
     where
-      among : (rs : List PlacedRequirement) → All (IsOfProtocol x) rs → Contains (map (λ (q : PlacedRequirement). q.requirement) rs) r → closed.IsRequirementOf x r
+      among : (rs : List PlacedRequirement) → All (IsOfProtocol x) rs → Contains (map (λ (q : PlacedRequirement). q.requirement) rs) r → IsRequirementOf x r
       among rs all k =
-          let each = All-weaker (IsOfProtocol x) (λ q. closed.IsRequirementOf x q.requirement) (λ q h. h.0) rs all in
-          All-contains (closed.IsRequirementOf x) (map (λ (q : PlacedRequirement). q.requirement) rs) r
-          (All-map (closed.IsRequirementOf x) (λ (q : PlacedRequirement). q.requirement) rs each) k
+          let each = All-weaker (IsOfProtocol x) (λ q. IsRequirementOf x q.requirement) (λ q h. h.0) rs all in
+          All-contains (IsRequirementOf x) (map (λ (q : PlacedRequirement). q.requirement) rs) r
+          (All-map (IsRequirementOf x) (λ (q : PlacedRequirement). q.requirement) rs each) k
 
   declared_name : (p : ProtoId) (a : NameId) (d : AssocId) → Declares (facts_of w) p a d → IsName x a
   declared_name p a d c = (of_text x p a d is.ids c).1
@@ -78,11 +72,11 @@ module _ (w : TextWorld) (is : IsClosed w) where
 
   -- The statement speaks of the text.
   abbrev pub Speaks : TermStatement → Type 0
-  Speaks (IsValid t) = IsTypeOf x t
-  Speaks (Requires r) = IsRequirementOf x r
+  Speaks (IsValid t) = IsReadableType x t
+  Speaks (Requires r) = IsReadableRequirement x r
 
   module _ (gs : List ParamId) (rs : List TermRequirement) (numbers : (g : ParamId) → Contains gs g → HasNumbers g)
-      (own : (r : TermRequirement) → Contains rs r → IsRequirementOf x r) where
+      (own : (r : TermRequirement) → Contains rs r → IsReadableRequirement x r) where
     pub speaks : {st : TermStatement} → Derivable (facts_of w) (Written gs rs) st → Speaks st
     speaks (generic {g = g} h) = (numbers g h, tt)
     speaks (conf {t = t} {p = p} h v) = own (Conforms t p) h
@@ -93,11 +87,11 @@ module _ (w : TextWorld) (is : IsClosed w) where
     speaks (assoc_bind {p = p} {a = a} {d = d} e c) =
         let i = (speaks e).0 in ((i.0, (i.1, declared_assoc p a d c)), (i.0, (i.1, declared_name p a d c)))
     speaks (assoc_conf {t = t} {u = u} {p = p} {q = q} e c v) =
-        let k = of_protocol p (Conforms u q) c in (for_self_of x t u (speaks e).0 (steps_are x u k.0), k.1)
+        let k = of_protocol p (Conforms u q) c in (for_self_of x t u (speaks e).0 k.0, k.1)
     speaks (assoc_same {t = t} {u = u} {v = v} {p = p} e c h k) =
         let i = of_protocol p (Equals u v) c in
-        let j = (speaks e).0 in (for_self_of x t u j (steps_are x u i.0), for_self_of x t v j (steps_are x v i.1))
-    speaks (assoc_layout {t = t} {u = u} {p = p} e c v) = for_self_of x t u (speaks e).0 (steps_are x u (of_protocol p (IsAnyObject u) c))
+        let j = (speaks e).0 in (for_self_of x t u j i.0, for_self_of x t v j i.1)
+    speaks (assoc_layout {t = t} {u = u} {p = p} e c v) = for_self_of x t u (speaks e).0 (of_protocol p (IsAnyObject u) c)
     speaks (reflex e) = let i = speaks e in (i, i)
     speaks (symm e) = let i = speaks e in (i.1, i.0)
     speaks (trans e h) = ((speaks e).0, (speaks h).1)

@@ -20,17 +20,17 @@ use Rattle.swreq_canonical.specs.Minimised.{IsMinimised}
 use Rattle.swreq_canonical.proofs.Agreement.{minimised_canonical, same_minimised}
 use Rattle.swreq_names.specs.declared.signature.Signature.{Signature}
 use Rattle.swreq_correspondence.specs.Symbols.{IsInText}
+use Rattle.swreq_lowering.specs.OfText.{IsRequirementOf}
 use Rattle.swreq_lowering.specs.Requirements.{PlacedRequirement}
 use Rattle.swreq_lowering.specs.Short.{HasShortLists}
 use Rattle.swreq_lowering.specs.Signatures.{counts, in_order, own_param_decls, outer_param_decls, params_of}
 use Rattle.swreq_world.specs.Closed.{HasOwn, IsClosed, IsOfSignature}
-use Rattle.swreq_world.specs.Closed as closed
 use Rattle.swreq_world.specs.Text.{signature_in, signatures}
 use Rattle.swreq_world.specs.WorldOf.{IsWorldOf, words_of}
 use Rattle.swreq_world.specs.Worlds.{SignatureOver, TextWorld}
 use Rattle.swreq_symbols.specs.Meaning.{facts_of, symbols_of}
 use Rattle.swreq_symbols.proofs.Symbols.{list_law}
-use Rattle.swreq_print.specs.Reading.{HasNumbers, IsRequirementOf, IsSignatureOf}
+use Rattle.swreq_print.specs.Reading.{HasNumbers, IsReadableRequirement, IsReadableSignature}
 use Rattle.swreq_print.specs.Signatures.{signature_text}
 use Rattle.swreq_output.specs.Ended.{HasEnded}
 use Rattle.swreq_output.specs.Signatures.{IsMinimisedLine}
@@ -100,32 +100,32 @@ module _ (text : List ℕ) (s : Skeleton) (w : TextWorld) (world : IsWorldOf tex
       of_signature : All (IsOfSignature w.lexicon g.params) g.requirements
       of_signature = All-contains (HasOwn w.lexicon) w.signatures g is.signatures c
 
-      own : (r : TermRequirement) → Contains (written_list g) r → IsRequirementOf w.lexicon r
+      own : (r : TermRequirement) → Contains (written_list g) r → IsReadableRequirement w.lexicon r
       own r h =
-          All-contains (IsRequirementOf w.lexicon) (written_list g) r
-          (All-map (IsRequirementOf w.lexicon) (λ (q : PlacedRequirement). q.requirement) g.requirements
-          (All-weaker (IsOfSignature w.lexicon g.params) (λ (q : PlacedRequirement). IsRequirementOf w.lexicon q.requirement)
+          All-contains (IsReadableRequirement w.lexicon) (written_list g) r
+          (All-map (IsReadableRequirement w.lexicon) (λ (q : PlacedRequirement). q.requirement) g.requirements
+          (All-weaker (IsOfSignature w.lexicon g.params) (λ (q : PlacedRequirement). IsReadableRequirement w.lexicon q.requirement)
           (λ q i. requirement_is w.lexicon (λ z. Contains (generic_params g.params) z) (numbers g.params (few_params g c)) q.requirement i.0 i.1) g.requirements of_signature)) h
 
       in_text : IsInText (symbols_of w.lexicon) (Written (generic_params g.params) (written_list g))
       in_text = list_law w.lexicon is.ids (generic_params g.params) (written_list g)
-          (All-map (closed.IsRequirementOf w.lexicon) (λ (q : PlacedRequirement). q.requirement) g.requirements
-          (All-weaker (IsOfSignature w.lexicon g.params) (λ (q : PlacedRequirement). closed.IsRequirementOf w.lexicon q.requirement) (λ q i. i.0) g.requirements of_signature))
+          (All-map (IsRequirementOf w.lexicon) (λ (q : PlacedRequirement). q.requirement) g.requirements
+          (All-weaker (IsOfSignature w.lexicon g.params) (λ (q : PlacedRequirement). IsRequirementOf w.lexicon q.requirement) (λ q i. i.0) g.requirements of_signature))
 
       minimised_of_text : (list : List TermRequirement) → IsMinimised (facts_of w) (generic_params g.params) (written_list g) list
-          → IsSignatureOf w.lexicon (generic_params g.params) list
+          → IsReadableSignature w.lexicon (generic_params g.params) list
       minimised_of_text list m = record {
         numbers = each_by_recursion HasNumbers (generic_params g.params) (numbers g.params (few_params g c));
-        requirements = each_by_recursion (IsRequirementOf w.lexicon) list (λ r h.
+        requirements = each_by_recursion (IsReadableRequirement w.lexicon) list (λ r h.
             speaks w is (generic_params g.params) (written_list g) (numbers g.params (few_params g c)) own
             (minimised_canonical (facts_of w) (generic_params g.params) (written_list g) list m r h).0);
       }
 
     -- ---- two of one line
 
-    module _ (tells_params : (ps others : List ParamId) (rs qs : List TermRequirement) → IsSignatureOf w.lexicon ps rs → IsSignatureOf w.lexicon others qs
+    module _ (tells_params : (ps others : List ParamId) (rs qs : List TermRequirement) → IsReadableSignature w.lexicon ps rs → IsReadableSignature w.lexicon others qs
         → signature_text w.lexicon ps rs ≡ signature_text w.lexicon others qs → ps ≡ others)
-        (tells_requirements : (ps others : List ParamId) (rs qs : List TermRequirement) → IsSignatureOf w.lexicon ps rs → IsSignatureOf w.lexicon others qs
+        (tells_requirements : (ps others : List ParamId) (rs qs : List TermRequirement) → IsReadableSignature w.lexicon ps rs → IsReadableSignature w.lexicon others qs
         → signature_text w.lexicon ps rs ≡ signature_text w.lexicon others qs → rs ≡ qs)
         (g h : SignatureOver PlacedRequirement) (c : Contains w.signatures g) (k : Contains w.signatures h)
         (line : List ℕ) (a : IsMinimisedLine w g line) (b : IsMinimisedLine w h line) where

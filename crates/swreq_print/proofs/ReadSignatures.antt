@@ -11,13 +11,13 @@ use Rattle.swreq_lexicon.specs.Views.{LexiconView, IsProtocol}
 use Rattle.swreq_print.specs.Names.{Text, protocol_name}
 use Rattle.swreq_print.specs.Types.{param_text, type_text}
 use Rattle.swreq_print.specs.Signatures.{requirement_text, where_text, signature_text}
-use Rattle.swreq_print.specs.Reading.{in_name, TellsApart, HasNumbers, IsTypeOf, IsRequirementOf, IsSignatureOf}
+use Rattle.swreq_print.specs.Reading.{in_name, TellsApart, HasNumbers, IsReadableType, IsReadableRequirement, IsReadableSignature}
 use Rattle.swreq_print.proofs.Cutting.{Stops, NoComma, cut, rest_of, numbers_apart, some_read}
 use Rattle.swreq_print.proofs.ReadTypes.{in_number, EndsType, stops_name, param_read, protocol_read, type_read}
 
 module _ (x : LexiconView) (names : TellsApart x) where
   -- the subject, and what stands behind it
-  subject : (t u : Term) (a b v w : Text) → IsTypeOf x t → IsTypeOf x u → (type_text x t ++ (32 ∷ a)) ++ v ≡ (type_text x u ++ (32 ∷ b)) ++ w
+  subject : (t u : Term) (a b v w : Text) → IsReadableType x t → IsReadableType x u → (type_text x t ++ (32 ∷ a)) ++ v ≡ (type_text x u ++ (32 ∷ b)) ++ w
       → (t ≡ u) × (a ++ v ≡ b ++ w)
   unfolding rest_of
   subject t u a b v w ot ou e =
@@ -33,7 +33,7 @@ module _ (x : LexiconView) (names : TellsApart x) where
       names.no_any_object p op
       (cut in_name (protocol_name x p) (codes "AnyObject") v w (names.protocols p op).bytes refl (stops_name v sv.0) (stops_name w sw.0) e).0
 
-  requirement_read : (r q : TermRequirement) (v w : Text) → IsRequirementOf x r → IsRequirementOf x q → EndsType v → EndsType w
+  requirement_read : (r q : TermRequirement) (v w : Text) → IsReadableRequirement x r → IsReadableRequirement x q → EndsType v → EndsType w
       → requirement_text x r ++ v ≡ requirement_text x q ++ w → (r ≡ q) × (v ≡ w)
   unfolding rest_of
   requirement_read (Conforms t p) (Conforms u q) v w (ot, op) (ou, oq) sv sw e =
@@ -65,14 +65,14 @@ module _ (x : LexiconView) (names : TellsApart x) where
       let j = type_read x names p q v w op oq sv sw (ap (λ z. rest_of (rest_of (rest_of z))) k.1) in
       (ap₂ Equals k.0 j.0, j.1)
 
-  where_read : (rs qs : List TermRequirement) → AllByRecursion (IsRequirementOf x) rs → AllByRecursion (IsRequirementOf x) qs
+  where_read : (rs qs : List TermRequirement) → AllByRecursion (IsReadableRequirement x) rs → AllByRecursion (IsReadableRequirement x) qs
       → where_text x rs ++ (62 ∷ []) ≡ where_text x qs ++ (62 ∷ []) → rs ≡ qs
   unfolding rest_of
   where_read [] [] o k e = refl
   where_read [] (q ∷ qs) o k e = absurd (numbers_apart 62 32 (λ i. omega arith) _ _ e)
   where_read (r ∷ rs) [] o k e = absurd (numbers_apart 32 62 (λ i. omega arith) _ _ e)
   where_read (r ∷ rs) (q ∷ qs) o k e =
-      (some_read (requirement_text x) (IsRequirementOf x) EndsType requirement_read (λ t. (refl, refl)) r q rs qs (62 ∷ []) (62 ∷ []) o k
+      (some_read (requirement_text x) (IsReadableRequirement x) EndsType requirement_read (λ t. (refl, refl)) r q rs qs (62 ∷ []) (62 ∷ []) o k
       (refl, refl) (refl, refl) (λ i. omega arith) (λ i. omega arith)
       (ap (λ z. rest_of (rest_of (rest_of (rest_of (rest_of (rest_of (rest_of z))))))) e)).0
 
@@ -88,7 +88,7 @@ module _ (x : LexiconView) (names : TellsApart x) where
   no_param [] g v w e = numbers_apart 62 207 (λ i. omega arith) _ _ e
   no_param (r ∷ rs) g v w e = numbers_apart 32 207 (λ i. omega arith) _ _ e
 
-  pub signature_read : (params others : List ParamId) (rs qs : List TermRequirement) → IsSignatureOf x params rs → IsSignatureOf x others qs
+  pub signature_read : (params others : List ParamId) (rs qs : List TermRequirement) → IsReadableSignature x params rs → IsReadableSignature x others qs
       → signature_text x params rs ≡ signature_text x others qs → (params ≡ others) × (rs ≡ qs)
   unfolding rest_of
   signature_read [] [] rs qs o k e = (refl, where_read rs qs o.requirements k.requirements (ap rest_of e))

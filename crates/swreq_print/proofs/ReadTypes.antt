@@ -19,7 +19,8 @@ use Rattle.swreq_lexicon.specs.Views.{LexiconView, IsName, IsProtocol}
 use Rattle.swreq_print.specs.declared.types.ParamForm.TheVariants.{Signature}
 use Rattle.swreq_print.specs.Names.{Text, protocol_name, name_text, pair_at}
 use Rattle.swreq_print.specs.Types.{param_text, bound_text, step_text, steps_text, type_text}
-use Rattle.swreq_print.specs.Reading.{in_name, IsPair, IsStep, HasSteps, TellsApart, HasNumbers, IsTypeOf}
+use Rattle.swreq_lowering.specs.OfText.{IsStepOf, IsTermOf}
+use Rattle.swreq_print.specs.Reading.{in_name, IsPair, TellsApart, HasNumbers, IsReadableType}
 use Rattle.swreq_print.proofs.Cutting.{Stops, cut, rest_of, first_of, empty_not}
 use Rattle.swreq_print.proofs.Steps.{steps_of_text, type_by_steps}
 
@@ -109,7 +110,7 @@ module _ (x : LexiconView) (names : TellsApart x) where
       let j = name_read d.name e.name v w od.1 oe.1 sv sw (ap rest_of k.1) in
       ((λ i. record { proto = k.0 i; name = j.0 i }), j.1)
 
-  step_read : (s t : Step) (v w : Text) → IsStep x s → IsStep x t → Stops in_name v → Stops in_name w
+  step_read : (s t : Step) (v w : Text) → IsStepOf x s → IsStepOf x t → Stops in_name v → Stops in_name w
       → step_text x s ++ v ≡ step_text x t ++ w → (s ≡ t) × (v ≡ w)
   unfolding rest_of
   step_read (Name a) (Name b) v w os ot sv sw e = let k = name_read a b v w os ot sv sw (ap rest_of e) in (ap Name k.0, k.1)
@@ -137,7 +138,7 @@ module _ (x : LexiconView) (names : TellsApart x) where
   no_dot (Name a) (c ∷ v) w stop e = true≢false (sym (ap in_type (ap (first_of 0) e)) ∙ stop)
   no_dot (Bound d) (c ∷ v) w stop e = true≢false (sym (ap in_type (ap (first_of 0) e)) ∙ stop)
 
-  steps_read : (xs ys : List Step) (v w : Text) → AllByRecursion (IsStep x) xs → AllByRecursion (IsStep x) ys → Stops in_type v → Stops in_type w
+  steps_read : (xs ys : List Step) (v w : Text) → AllByRecursion (IsStepOf x) xs → AllByRecursion (IsStepOf x) ys → Stops in_type v → Stops in_type w
       → steps_text x xs ++ v ≡ steps_text x ys ++ w → (xs ≡ ys) × (v ≡ w)
   steps_read [] [] v w ox oy sv sw e = (refl, e)
   steps_read [] (t ∷ ys) v w ox oy sv sw e = absurd (no_dot t v (steps_text x ys ++ w) sv (e ∙ append_assoc (step_text x t) (steps_text x ys) w))
@@ -153,10 +154,10 @@ module _ (x : LexiconView) (names : TellsApart x) where
   by_steps : (t : Term) → type_text x t ≡ param_text (head t) ++ steps_text x (steps_of t)
   by_steps t = ap (type_text x) (sym (as_steps t)) ∙ type_by_steps x Signature (Generic (head t)) (steps_of t)
 
-  each_step : (t : Term) → HasSteps x t → AllByRecursion (IsStep x) (steps_of t)
+  each_step : (t : Term) → IsTermOf x t → AllByRecursion (IsStepOf x) (steps_of t)
   each_step t h = (steps_of_text x (Generic (head t)) (steps_of t) (rw (as_steps t) h)).1
 
-  pub type_read : (t u : Term) (v w : Text) → IsTypeOf x t → IsTypeOf x u → EndsType v → EndsType w → type_text x t ++ v ≡ type_text x u ++ w
+  pub type_read : (t u : Term) (v w : Text) → IsReadableType x t → IsReadableType x u → EndsType v → EndsType w → type_text x t ++ v ≡ type_text x u ++ w
       → (t ≡ u) × (v ≡ w)
   type_read t u v w ot ou sv sw e =
       let inner : param_text (head t) ++ (steps_text x (steps_of t) ++ v) ≡ param_text (head u) ++ (steps_text x (steps_of u) ++ w)

@@ -5,14 +5,12 @@ use Rattle.swreq_param.specs.declared.ids.AssocId.{AssocId}
 use Rattle.swreq_param.specs.declared.ids.NameId.{NameId}
 use Rattle.swreq_param.specs.declared.ids.ParamId.{ParamId}
 use Rattle.swreq_param.specs.declared.ids.ProtoId.{ProtoId}
-use Rattle.swreq_param.specs.declared.ids.Step.{Step}
-use Rattle.swreq_param.specs.declared.ids.Step.TheVariants.{Bound, Name}
 use Rattle.swreq_param.specs.Terms.{Term, head}
-use Rattle.swreq_param.specs.Terms.Term.{Generic, Member}
 use Rattle.swreq_derive.specs.Derivation.{TermRequirement}
 use Rattle.swreq_derive.specs.Derivation.TermRequirement.{Conforms, IsAnyObject, Equals}
 use Rattle.swreq_lexicon.specs.declared.pair.ProtocolName.{ProtocolName}
 use Rattle.swreq_lexicon.specs.Views.{LexiconView, IsProtocol, IsName}
+use Rattle.swreq_lowering.specs.OfText.{IsTermOf}
 use Rattle.swreq_print.specs.Names.{Text, protocol_name, name_text, pair_at}
 
 -- ---- ids of the text
@@ -23,15 +21,6 @@ IsAssociated x d = d.rank < length x.associated
 -- Its protocol and its name are of the text.
 abbrev pub IsPair : LexiconView → ProtocolName → Type 0
 IsPair x d = IsProtocol x d.proto × IsName x d.name
-
-abbrev pub IsStep : LexiconView → Step → Type 0
-IsStep x (Name a) = IsName x a
-IsStep x (Bound d) = IsAssociated x d
-
--- Each step is of the text.
-abbrev pub HasSteps : LexiconView → Term → Type 0
-HasSteps x (Generic g) = Unit {0}
-HasSteps x (Member t step) = HasSteps x t × IsStep x step
 
 -- ---- names
 
@@ -62,16 +51,17 @@ pub record TellsApart (x : LexiconView) : Type 0 where
 abbrev pub HasNumbers : ParamId → Type 0
 HasNumbers g = (g.depth < 2 ^ 32) × (g.index < 2 ^ 32)
 
--- a type parameter of the text
-abbrev pub IsTypeOf : LexiconView → Term → Type 0
-IsTypeOf x t = HasNumbers (head t) × HasSteps x t
+-- a type parameter of the text, with such numbers
+abbrev pub IsReadableType : LexiconView → Term → Type 0
+IsReadableType x t = HasNumbers (head t) × IsTermOf x t
 
-abbrev pub IsRequirementOf : LexiconView → TermRequirement → Type 0
-IsRequirementOf x (Conforms t p) = IsTypeOf x t × IsProtocol x p
-IsRequirementOf x (IsAnyObject t) = IsTypeOf x t
-IsRequirementOf x (Equals t u) = IsTypeOf x t × IsTypeOf x u
+-- a requirement of the text, with such numbers
+abbrev pub IsReadableRequirement : LexiconView → TermRequirement → Type 0
+IsReadableRequirement x (Conforms t p) = IsReadableType x t × IsProtocol x p
+IsReadableRequirement x (IsAnyObject t) = IsReadableType x t
+IsReadableRequirement x (Equals t u) = IsReadableType x t × IsReadableType x u
 
--- a signature of the text
-pub record IsSignatureOf (x : LexiconView) (params : List ParamId) (rs : List TermRequirement) : Type 0 where
+-- a signature of the text, with such numbers
+pub record IsReadableSignature (x : LexiconView) (params : List ParamId) (rs : List TermRequirement) : Type 0 where
   pub numbers : AllByRecursion HasNumbers params
-  pub requirements : AllByRecursion (IsRequirementOf x) rs
+  pub requirements : AllByRecursion (IsReadableRequirement x) rs

@@ -1,21 +1,17 @@
 -- What holds of the world of each text whose names resolve: all that is written in it is of the world, and inheritance is written.
 use Rattle.std.specs.Prelude.{◌≡◌, ◌↔◌, ◌<◌, ℕ, length, Contains, All, IsTrue, Some, slice_get}
 use Rattle.swreq_derive.specs.declared.known.Params.{Params}
-use Rattle.swreq_derive.specs.Derivation.{TermRequirement}
-use Rattle.swreq_derive.specs.Derivation.TermRequirement.{Conforms, IsAnyObject, Equals}
 use Rattle.swreq_derive.specs.Facts.{AreOneToOne, generic_params}
 use Rattle.swreq_param.specs.declared.ids.NameId.{NameId}
 use Rattle.swreq_param.specs.declared.ids.ParamId.{ParamId}
 use Rattle.swreq_param.specs.declared.ids.ProtoId.{ProtoId}
-use Rattle.swreq_param.specs.declared.ids.Step.{Step}
-use Rattle.swreq_param.specs.declared.ids.Step.TheVariants.{Bound, Name}
 use Rattle.swreq_param.specs.Terms.{Term, head}
-use Rattle.swreq_param.specs.Terms.Term.{Generic, Member}
 use Rattle.swreq_lexicon.specs.declared.pair.ProtocolName.{ProtocolName}
 use Rattle.swreq_lexicon.specs.Lexicons.{pair, associated_types}
 use Rattle.swreq_lexicon.specs.Views.{LexiconView, IsProtocol, IsName, HasMember, inherits}
 use Rattle.swreq_lowering.specs.declared.ids.FuncId.{FuncId}
 use Rattle.swreq_lowering.specs.Heads.{IsOver, IsOverSelf}
+pub use Rattle.swreq_lowering.specs.OfText.{IsStepOf, IsTermOf, IsRequirementOf}
 use Rattle.swreq_lowering.specs.Requirements.{PlacedRequirement}
 use Rattle.swreq_lowering.specs.Queries.{TermQuery}
 use Rattle.swreq_lowering.specs.Queries.TermQuery.{AsksSignature, AsksReduced, AsksConforms, AsksAnyObject, AsksEquals}
@@ -41,22 +37,6 @@ pub record AreIds (x : LexiconView) : Type 0 where
       → d.name.rank < e.name.rank → i < j
 
 -- ---- what is written
-
-module _ (x : LexiconView) where
-  -- The name or the associated type is of the text.
-  abbrev pub IsStepOf : Step → Type 0
-  IsStepOf (Name a) = IsName x a
-  IsStepOf (Bound d) = d.rank < length x.associated
-
-  -- The members of the type parameter are of the text.
-  abbrev pub IsTermOf : Term → Type 0
-  IsTermOf (Generic g) = Unit {0}
-  IsTermOf (Member t s) = IsTermOf t × IsStepOf s
-
-  abbrev pub IsRequirementOf : TermRequirement → Type 0
-  IsRequirementOf (Conforms t p) = IsTermOf t × IsProtocol x p
-  IsRequirementOf (IsAnyObject t) = IsTermOf t
-  IsRequirementOf (Equals t u) = IsTermOf t × IsTermOf u
 
 -- one of these generic parameters
 abbrev pub IsParamOf : Params → ParamId → Type 0
