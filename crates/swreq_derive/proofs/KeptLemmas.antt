@@ -5,7 +5,7 @@ use Rattle.swreq_param.specs.declared.ids.ProtoId.{ProtoId}
 use Rattle.swreq_derive.specs.Derivation.{TermRequirement, TermStatement, AssociatedType, Source, Derives, Derivable}
 use Rattle.swreq_derive.specs.Derivation.Source.{SelfOf}
 use Rattle.swreq_derive.specs.Derivation.Derives.{generic, conf, same, layout, assoc_name, assoc_decl, assoc_bind, assoc_conf, assoc_same, assoc_layout, reflex, symm, trans, same_conf, same_layout, same_name, same_decl}
-use Rattle.swreq_derive.specs.Kept.{Owned, owned_by, kept_facts, DeriveTheSame, Keeps}
+use Rattle.swreq_derive.specs.Kept.{Owned, owned_by, owned_facts, DeriveTheSame, Keeps}
 use Rattle.swreq_derive.specs.Kept.Keeps.{nothing, left_out, kept}
 use Rattle.swreq_orders.proofs.Members.{first_member, later_member, member_cases, no_member, added_cases, added_later, added_first}
 
@@ -54,7 +54,7 @@ owned_grows os ks g p r h =
 
 -- A larger family derives what a smaller one does.
 pub family_grows : (ds : List AssociatedType) (os ks : List Owned) → ((o : Owned) → Contains os o → Contains ks o) → (p : ProtoId) (st : TermStatement)
-    → Derivable (kept_facts ds os) (SelfOf p) st → Derivable (kept_facts ds ks) (SelfOf p) st
+    → Derivable (owned_facts ds os) (SelfOf p) st → Derivable (owned_facts ds ks) (SelfOf p) st
 family_grows ds os ks g p st e = grows_with_protocols e (owned_grows os ks g)
 
 -- ---- what is left

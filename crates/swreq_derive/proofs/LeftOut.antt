@@ -8,7 +8,7 @@ use Rattle.swreq_derive.specs.Derivation.TermRequirement.{Conforms, IsAnyObject,
 use Rattle.swreq_derive.specs.Derivation.TermStatement.{Requires}
 use Rattle.swreq_derive.specs.Derivation.Source.{SelfOf}
 use Rattle.swreq_derive.specs.Derivation.Derives.{generic, conf, same, layout, assoc_name, assoc_decl, assoc_bind, assoc_conf, assoc_same, assoc_layout, reflex, symm, trans, same_conf, same_layout, same_name, same_decl}
-use Rattle.swreq_derive.specs.Kept.{Owned, owned_by, kept_facts, DeriveTheSame}
+use Rattle.swreq_derive.specs.Kept.{Owned, owned_by, owned_facts, DeriveTheSame}
 use Rattle.swreq_orders.proofs.Members.{member_cases}
 use Rattle.swreq_derive.proofs.Substitution.{stands_for_self}
 use Rattle.swreq_derive.proofs.KeptLemmas.{owned_member, member_owned, family_grows, within}
@@ -60,18 +60,18 @@ without (same_layout e h) less k = same_layout (without e less k) (without h les
 without (same_name e h d) less k = same_name (without e less k) (without h less k) d
 without (same_decl e h d) less k = same_decl (without e less k) (without h less k) d
 
-pub can_go : (ds : List AssociatedType) (front out : List Owned) (o : Owned) → Derivable (kept_facts ds (front ++ out)) (SelfOf o.proto) (Requires o.requirement)
+pub can_go : (ds : List AssociatedType) (front out : List Owned) (o : Owned) → Derivable (owned_facts ds (front ++ out)) (SelfOf o.proto) (Requires o.requirement)
     → DeriveTheSame ds (front ++ out) (front ++ (o ∷ out))
 can_go ds front out o k p st = (
   (λ e. family_grows ds (front ++ out) (front ++ (o ∷ out)) (within front [] out o) p st e),
   λ e. without e (owned_by (front ++ out)) (λ q r h. elim (with_or_without front out o q r h) [
     | inl i ↦ inl i
-    | inr i ↦ inr (subst (λ z. Derivable (kept_facts ds (front ++ out)) (SelfOf z) (Requires r)) (sym i.0)
-        (subst (λ z. Derivable (kept_facts ds (front ++ out)) (SelfOf o.proto) (Requires z)) (sym i.1) k))
+    | inr i ↦ inr (subst (λ z. Derivable (owned_facts ds (front ++ out)) (SelfOf z) (Requires r)) (sym i.0)
+        (subst (λ z. Derivable (owned_facts ds (front ++ out)) (SelfOf o.proto) (Requires z)) (sym i.1) k))
   ]),
 )
 
 -- Where the same is derivable without it, a requirement that is derivable with it is derivable without it.
-pub is_derived : (ds : List AssociatedType) (front out : List Owned) (o : Owned) → Derivable (kept_facts ds (front ++ (o ∷ out))) (SelfOf o.proto) (Requires o.requirement)
-    → DeriveTheSame ds (front ++ out) (front ++ (o ∷ out)) → Derivable (kept_facts ds (front ++ out)) (SelfOf o.proto) (Requires o.requirement)
+pub is_derived : (ds : List AssociatedType) (front out : List Owned) (o : Owned) → Derivable (owned_facts ds (front ++ (o ∷ out))) (SelfOf o.proto) (Requires o.requirement)
+    → DeriveTheSame ds (front ++ out) (front ++ (o ∷ out)) → Derivable (owned_facts ds (front ++ out)) (SelfOf o.proto) (Requires o.requirement)
 is_derived ds front out o e alike = (alike o.proto (Requires o.requirement)).1 e

@@ -15,12 +15,12 @@ owned_by [] p = []
 owned_by (o ∷ os) p = if nat_eq o.proto.rank p.rank then o.requirement ∷ owned_by os p else owned_by os p
 
 -- the protocols with these requirements in place of theirs
-abbrev pub kept_facts : List AssociatedType → List Owned → TermFacts
-kept_facts ds os = record { associated_types = ds; of_protocol = owned_by os }
+abbrev pub owned_facts : List AssociatedType → List Owned → TermFacts
+owned_facts ds os = record { associated_types = ds; of_protocol = owned_by os }
 
 -- For every protocol P the same statements are derivable from [τ_0_0 : P] with the one family and with the other.
 abbrev pub DeriveTheSame : List AssociatedType → List Owned → List Owned → Type 0
-DeriveTheSame ds os ks = (p : ProtoId) (st : TermStatement) → Derivable (kept_facts ds os) (SelfOf p) st ↔ Derivable (kept_facts ds ks) (SelfOf p) st
+DeriveTheSame ds os ks = (p : ProtoId) (st : TermStatement) → Derivable (owned_facts ds os) (SelfOf p) st ↔ Derivable (owned_facts ds ks) (SelfOf p) st
 
 -- Going through a family from its last requirement to its first, each is left out without which the same is derivable. `Keeps ds front rest out`
 -- says that `out` is left of `rest` where `front` stands before it and is still to come.
