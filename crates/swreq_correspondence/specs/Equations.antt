@@ -8,7 +8,7 @@ use Rattle.swreq_word.specs.Relations.{Chain}
 use Rattle.swreq_derive.specs.Derivation.{TermRequirement, TermFacts, Source, HasRequirement}
 use Rattle.swreq_derive.specs.Derivation.Source.{Written, SelfOf}
 use Rattle.swreq_derive.specs.Derivation.TermRequirement.{Conforms}
-use Rattle.swreq_derive.specs.WellFormed.{HasValidSides}
+use Rattle.swreq_derive.specs.WellFormed.{IsUsable, IsUsableOf}
 use Rattle.swreq_correspondence.specs.Symbols.{Word, Symbols, IsOfText, IsRank, proto_of, name_of, left_side, right_side}
 
 -- What a source itself gives: a written list those of its members that are chosen, and [τ_0_0 : P] its one member.
@@ -38,10 +38,10 @@ Linking E = Chain (Link E)
 
 -- the usable requirements of a protocol, and of a list
 abbrev pub UsableOf : TermFacts → ProtoId → TermRequirement → Type 0
-UsableOf f p r = Contains (f.of_protocol p) r × HasValidSides f (SelfOf p) r
+UsableOf f p r = Contains (f.of_protocol p) r × IsUsableOf f p r
 
 abbrev pub UsableIn : TermFacts → Source → TermRequirement → Type 0
-UsableIn f s r = HasRequirement s r × HasValidSides f s r
+UsableIn f s r = HasRequirement s r × IsUsable f s r
 
 -- the equations of the usable requirements of the protocols and of the source
 abbrev pub UsableEquation : Symbols → TermFacts → Source → Word → Word → Type 0
