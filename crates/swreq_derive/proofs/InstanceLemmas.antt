@@ -16,14 +16,14 @@ use Rattle.swreq_derive.specs.declared.lines.DerivRule.TheVariants as Rule
 use Rattle.swreq_derive.specs.Derivation.{TermRequirement}
 use Rattle.swreq_derive.specs.Derivation.TermRequirement.{Conforms, IsAnyObject, Equals}
 use Rattle.swreq_derive.specs.Derivation.TermStatement.{IsValid, Requires}
-use Rattle.swreq_derive.specs.Facts.{requirement_of, statement_of, IdFacts, generic_params, IsRequirementOf, IsStatementOf, AreFactsOf}
+use Rattle.swreq_derive.specs.Facts.{requirement_of, statement_of, IdFacts, generic_params, IsRequirementOver, IsStatementOver, AreFactsOf}
 use Rattle.swreq_derive.specs.Instances.{HasNumber}
 use Rattle.swreq_derive.specs.Lines.{IsGiven}
 use Rattle.swreq_orders.proofs.Elements.{get_map, get_of_map}
 
 -- ---- equal type parameters have equal ids
 
-pub same_requirement : (terms : List Term) (m : IdFacts) → AreDistinct terms → (a b : Requirement) → IsRequirementOf terms m a → IsRequirementOf terms m b
+pub same_requirement : (terms : List Term) (m : IdFacts) → AreDistinct terms → (a b : Requirement) → IsRequirementOver terms m a → IsRequirementOver terms m b
     → requirement_of terms a ≡ requirement_of terms b → a ≡ b
 same_requirement terms m d (Conf x p) (Conf y q) h k e = let i : x ≡ y = d x y h.0 k.0 (cc) in let j : p ≡ q = cc in cc
 same_requirement terms m d (Conf x p) (Layout y) h k e = absurd cc
@@ -35,7 +35,7 @@ same_requirement terms m d (Same x w) (Conf y q) h k e = absurd cc
 same_requirement terms m d (Same x w) (Layout y) h k e = absurd cc
 same_requirement terms m d (Same x w) (Same y z) h k e = let i : x ≡ y = d x y h.0 k.0 (cc) in let j : w ≡ z = d w z h.1 k.1 (cc) in cc
 
-pub same_statement : (terms : List Term) (m : IdFacts) → AreDistinct terms → (a b : Statement) → IsStatementOf terms m a → IsStatementOf terms m b
+pub same_statement : (terms : List Term) (m : IdFacts) → AreDistinct terms → (a b : Statement) → IsStatementOver terms m a → IsStatementOver terms m b
     → statement_of terms a ≡ statement_of terms b → a ≡ b
 same_statement terms m d (Valid x) (Valid y) h k e = ap Valid (d x y h k (cc))
 same_statement terms m d (Valid x) (Holds r) h k e = absurd cc
@@ -104,7 +104,7 @@ IsListed ws n c = (r : Requirement) × HasNumber n ws r × (c ≡ Holds r)
 
 -- a statement of the table that stands for the n-th requirement is the n-th requirement
 listed : (terms : List Term) (m : IdFacts) (ws : List Requirement) (n : ℕ) (c : Statement) (r : TermRequirement) → AreDistinct terms
-    → ((q : Requirement) → Contains ws q → IsRequirementOf terms m q) → IsStatementOf terms m c
+    → ((q : Requirement) → Contains ws q → IsRequirementOver terms m q) → IsStatementOver terms m c
     → statement_of terms c ≡ Requires r → HasNumber n (map (requirement_of terms) ws) r → IsListed ws n c
 listed terms m ws n c r d of h e w =
     let k = number_map (requirement_of terms) n ws r w in
@@ -119,21 +119,21 @@ unlisted terms ws n c r w e =
     inner : {a b : TermRequirement} → Requires a ≡ Requires b → a ≡ b
     inner e = cc
 
-pub conf_given : (terms : List Term) (m : IdFacts) (n : ℕ) (c : Statement) (x : TermId) (p : ProtoId) → AreDistinct terms → AreFactsOf terms m → IsStatementOf terms m c
+pub conf_given : (terms : List Term) (m : IdFacts) (n : ℕ) (c : Statement) (x : TermId) (p : ProtoId) → AreDistinct terms → AreFactsOf terms m → IsStatementOver terms m c
     → c ≡ Holds (Conf x p) → IsListed m.written n c ↔ IsGiven terms m (Rule.Conf n) [] c
 conf_given terms m n c x p d f h e = (
   (λ w. (term_at terms x, p, refl, ap (statement_of terms) e, unlisted terms m.written n c (Conforms (term_at terms x) p) w (ap (statement_of terms) e))),
   λ w. listed terms m m.written n c (Conforms w.0 w.1) d f.list h w.3 w.4,
 )
 
-pub same_given : (terms : List Term) (m : IdFacts) (n : ℕ) (c : Statement) (x y : TermId) → AreDistinct terms → AreFactsOf terms m → IsStatementOf terms m c
+pub same_given : (terms : List Term) (m : IdFacts) (n : ℕ) (c : Statement) (x y : TermId) → AreDistinct terms → AreFactsOf terms m → IsStatementOver terms m c
     → c ≡ Holds (Same x y) → IsListed m.written n c ↔ IsGiven terms m (Rule.Same n) [] c
 same_given terms m n c x y d f h e = (
   (λ w. (term_at terms x, term_at terms y, refl, ap (statement_of terms) e, unlisted terms m.written n c (Equals (term_at terms x) (term_at terms y)) w (ap (statement_of terms) e))),
   λ w. listed terms m m.written n c (Equals w.0 w.1) d f.list h w.3 w.4,
 )
 
-pub layout_given : (terms : List Term) (m : IdFacts) (n : ℕ) (c : Statement) (x : TermId) → AreDistinct terms → AreFactsOf terms m → IsStatementOf terms m c
+pub layout_given : (terms : List Term) (m : IdFacts) (n : ℕ) (c : Statement) (x : TermId) → AreDistinct terms → AreFactsOf terms m → IsStatementOver terms m c
     → c ≡ Holds (Layout x) → IsListed m.written n c ↔ IsGiven terms m (Rule.Layout n) [] c
 layout_given terms m n c x d f h e = (
   (λ w. (term_at terms x, refl, ap (statement_of terms) e, unlisted terms m.written n c (IsAnyObject (term_at terms x)) w (ap (statement_of terms) e))),
@@ -142,33 +142,33 @@ layout_given terms m n c x d f h e = (
 
 -- ---- equality
 
-pub reflex_given : (terms : List Term) (m : IdFacts) (a c : Statement) (t : TermId) → AreDistinct terms → IsStatementOf terms m a → IsStatementOf terms m c
+pub reflex_given : (terms : List Term) (m : IdFacts) (a c : Statement) (t : TermId) → AreDistinct terms → IsStatementOver terms m a → IsStatementOver terms m c
     → a ≡ Valid t → (c ≡ Holds (Same t t)) ↔ IsGiven terms m Rule.Reflex (a ∷ []) c
 reflex_given terms m a c t d h k e =
     let s : statement_of terms a ≡ IsValid (term_at terms t) = ap (statement_of terms) e in
-    let o : IsStatementOf terms m (Valid t) = subst (λ z. IsStatementOf terms m z) e h in (
+    let o : IsStatementOver terms m (Valid t) = subst (λ z. IsStatementOver terms m z) e h in (
       (λ i. (term_at terms t, ap (λ z. z ∷ []) s, ap (statement_of terms) i)),
       λ w. same_statement terms m d c (Holds (Same t t)) k (o, o)
           (let i : statement_of terms a ∷ [] ≡ IsValid w.0 ∷ [] = w.1 in let j : statement_of terms c ≡ Requires (Equals w.0 w.0) = w.2 in cc),
     )
 
-pub symm_given : (terms : List Term) (m : IdFacts) (a c : Statement) (t u : TermId) → AreDistinct terms → IsStatementOf terms m a → IsStatementOf terms m c
+pub symm_given : (terms : List Term) (m : IdFacts) (a c : Statement) (t u : TermId) → AreDistinct terms → IsStatementOver terms m a → IsStatementOver terms m c
     → a ≡ Holds (Same t u) → (c ≡ Holds (Same u t)) ↔ IsGiven terms m Rule.Symm (a ∷ []) c
 symm_given terms m a c t u d h k e =
     let s : statement_of terms a ≡ Requires (Equals (term_at terms t) (term_at terms u)) = ap (statement_of terms) e in
-    let o : IsStatementOf terms m (Holds (Same t u)) = subst (λ z. IsStatementOf terms m z) e h in (
+    let o : IsStatementOver terms m (Holds (Same t u)) = subst (λ z. IsStatementOver terms m z) e h in (
       (λ i. (term_at terms t, term_at terms u, ap (λ z. z ∷ []) s, ap (statement_of terms) i)),
       λ w. same_statement terms m d c (Holds (Same u t)) k (o.1, o.0)
           (let i : statement_of terms a ∷ [] ≡ Requires (Equals w.0 w.1) ∷ [] = w.2 in let j : statement_of terms c ≡ Requires (Equals w.1 w.0) = w.3 in cc),
     )
 
-pub trans_given : (terms : List Term) (m : IdFacts) (a b c : Statement) (t u w v : TermId) → AreDistinct terms → IsStatementOf terms m a → IsStatementOf terms m b → IsStatementOf terms m c
+pub trans_given : (terms : List Term) (m : IdFacts) (a b c : Statement) (t u w v : TermId) → AreDistinct terms → IsStatementOver terms m a → IsStatementOver terms m b → IsStatementOver terms m c
     → a ≡ Holds (Same t u) → b ≡ Holds (Same w v) → ((u ≡ w) × (c ≡ Holds (Same t v))) ↔ IsGiven terms m Rule.Trans (a ∷ b ∷ []) c
 trans_given terms m a b c t u w v d h k l e f =
     let s : statement_of terms a ≡ Requires (Equals (term_at terms t) (term_at terms u)) = ap (statement_of terms) e in
     let r : statement_of terms b ≡ Requires (Equals (term_at terms w) (term_at terms v)) = ap (statement_of terms) f in
-    let o : IsStatementOf terms m (Holds (Same t u)) = subst (λ z. IsStatementOf terms m z) e h in
-    let n : IsStatementOf terms m (Holds (Same w v)) = subst (λ z. IsStatementOf terms m z) f k in (
+    let o : IsStatementOver terms m (Holds (Same t u)) = subst (λ z. IsStatementOver terms m z) e h in
+    let n : IsStatementOver terms m (Holds (Same w v)) = subst (λ z. IsStatementOver terms m z) f k in (
       (λ i. (
         term_at terms t,
         term_at terms u,
@@ -181,11 +181,11 @@ trans_given terms m a b c t u w v d h k l e f =
           (d u w o.1 n.0 (cc), same_statement terms m d c (Holds (Same t v)) l (o.0, n.1) (cc))),
     )
 
-pub same_conf_given : (terms : List Term) (m : IdFacts) (p : ProtoId) (a b c : Statement) (t u : TermId) → AreDistinct terms → IsStatementOf terms m a → IsStatementOf terms m b → IsStatementOf terms m c
+pub same_conf_given : (terms : List Term) (m : IdFacts) (p : ProtoId) (a b c : Statement) (t u : TermId) → AreDistinct terms → IsStatementOver terms m a → IsStatementOver terms m b → IsStatementOver terms m c
     → b ≡ Holds (Same t u) → ((a ≡ Holds (Conf u p)) × (c ≡ Holds (Conf t p))) ↔ IsGiven terms m (Rule.SameConf p) (a ∷ b ∷ []) c
 same_conf_given terms m p a b c t u d h k l f =
     let r : statement_of terms b ≡ Requires (Equals (term_at terms t) (term_at terms u)) = ap (statement_of terms) f in
-    let n : IsStatementOf terms m (Holds (Same t u)) = subst (λ z. IsStatementOf terms m z) f k in (
+    let n : IsStatementOver terms m (Holds (Same t u)) = subst (λ z. IsStatementOver terms m z) f k in (
       (λ i. (
         term_at terms t,
         term_at terms u,
@@ -196,16 +196,16 @@ same_conf_given terms m p a b c t u d h k l f =
           let j : statement_of terms c ≡ Requires (Conforms q.0 p) = q.3 in
           let x = conf_shape terms a q.1 p (cc) in
           let y = conf_shape terms c q.0 p j in
-          let ox : IsStatementOf terms m (Holds (Conf x.0 p)) = subst (λ z. IsStatementOf terms m z) x.1 h in
-          let oy : IsStatementOf terms m (Holds (Conf y.0 p)) = subst (λ z. IsStatementOf terms m z) y.1 l in
+          let ox : IsStatementOver terms m (Holds (Conf x.0 p)) = subst (λ z. IsStatementOver terms m z) x.1 h in
+          let oy : IsStatementOver terms m (Holds (Conf y.0 p)) = subst (λ z. IsStatementOver terms m z) y.1 l in
           (x.1 ∙ ap (λ z. Holds (Conf z p)) (d x.0 u ox.0 n.1 (let z = x.2 in cc)), y.1 ∙ ap (λ z. Holds (Conf z p)) (d y.0 t oy.0 n.0 (let z = y.2 in cc)))),
     )
 
-pub same_layout_given : (terms : List Term) (m : IdFacts) (a b c : Statement) (t u : TermId) → AreDistinct terms → IsStatementOf terms m a → IsStatementOf terms m b → IsStatementOf terms m c
+pub same_layout_given : (terms : List Term) (m : IdFacts) (a b c : Statement) (t u : TermId) → AreDistinct terms → IsStatementOver terms m a → IsStatementOver terms m b → IsStatementOver terms m c
     → b ≡ Holds (Same t u) → ((a ≡ Holds (Layout u)) × (c ≡ Holds (Layout t))) ↔ IsGiven terms m Rule.SameLayout (a ∷ b ∷ []) c
 same_layout_given terms m a b c t u d h k l f =
     let r : statement_of terms b ≡ Requires (Equals (term_at terms t) (term_at terms u)) = ap (statement_of terms) f in
-    let n : IsStatementOf terms m (Holds (Same t u)) = subst (λ z. IsStatementOf terms m z) f k in (
+    let n : IsStatementOver terms m (Holds (Same t u)) = subst (λ z. IsStatementOver terms m z) f k in (
       (λ i. (
         term_at terms t,
         term_at terms u,

@@ -11,7 +11,7 @@ use Rattle.swreq_derive.specs.Derivation.{TermRequirement, TermStatement, TermFa
 use Rattle.swreq_derive.specs.Derivation.Source.{Written}
 use Rattle.swreq_derive.specs.Derivation.TermRequirement.{Conforms, IsAnyObject, Equals}
 use Rattle.swreq_derive.specs.Derivation.Derives.{generic, conf, same, layout, assoc_name, assoc_decl, assoc_bind, assoc_conf, assoc_same, assoc_layout, reflex, symm, trans, same_conf, same_layout, same_name, same_decl}
-use Rattle.swreq_derive.specs.Facts.{requirement_of, statement_of, IdFacts, generic_params, term_facts, term_source, IsStatementOf}
+use Rattle.swreq_derive.specs.Facts.{requirement_of, statement_of, IdFacts, generic_params, term_facts, term_source, IsStatementOver}
 use Rattle.swreq_derive.specs.Instances.{statements_of, TermLine, HasNumber, IsInstance, AreStated, Follows, IsDerivation}
 use Rattle.swreq_derive.specs.Lines.{stated_by, line_of, IsGiven, IsNext, AreLinesOf, AreDerived, IsFirstNotDerived}
 use Rattle.swreq_derive.proofs.Guard.{unguarded}
@@ -121,13 +121,13 @@ map_stated g earlier (n ∷ ns) (st ∷ sts) h =
     (x.0 ∷ os, (x.1, w), λ i. x.2 i ∷ e i)
 
 pub stated_of : (terms : List Term) (m : IdFacts) (earlier : List Line) (ns : List ℕ) (sts : List Statement) → AreLinesOf terms m earlier → AreStated (stated_by earlier) ns sts
-    → Each (IsStatementOf terms m) sts
+    → Each (IsStatementOver terms m) sts
 stated_of terms m earlier [] [] of h = tt
 stated_of terms m earlier [] (st ∷ sts) of h = absurd h
 stated_of terms m earlier (n ∷ ns) [] of h = absurd h
 stated_of terms m earlier (n ∷ ns) (st ∷ sts) of h =
     let x = number_map (λ (z : Line). z.statement) n earlier st h.0 in
-    (subst (IsStatementOf terms m) x.2 (of (n - 1) x.0 x.1.1).1, stated_of terms m earlier ns sts of h.1)
+    (subst (IsStatementOver terms m) x.2 (of (n - 1) x.0 x.1.1).1, stated_of terms m earlier ns sts of h.1)
 
 -- Where these are the statements of the premises, a line follows just where its rule gives what it states.
 pub follows_from : (terms : List Term) (m : IdFacts) (earlier : List Statement) (l : Line) (sts : List Statement) (b : _) → AreStated earlier l.premises sts

@@ -17,7 +17,7 @@ use Rattle.swreq_derive.specs.declared.lines.DerivRule.TheVariants as Rule
 use Rattle.swreq_derive.specs.Derivation.{TermRequirement, for_self}
 use Rattle.swreq_derive.specs.Derivation.TermRequirement.{Conforms, IsAnyObject, Equals}
 use Rattle.swreq_derive.specs.Derivation.TermStatement.{IsValid, Requires}
-use Rattle.swreq_derive.specs.Facts.{requirement_of, statement_of, IdFacts, AreOneToOne, AreFactsOf, IsRequirementOf, IsStatementOf}
+use Rattle.swreq_derive.specs.Facts.{requirement_of, statement_of, IdFacts, AreOneToOne, AreFactsOf, IsRequirementOver, IsStatementOver}
 use Rattle.swreq_derive.specs.Instances.{HasNumber}
 use Rattle.swreq_derive.specs.Lines.{IsGiven}
 use Rattle.swreq_derive.proofs.InstanceLemmas.{conf_shape, layout_shape, same_shape, number_map, map_number, one_number, contains_number}
@@ -126,7 +126,7 @@ assoc_same_given terms m p q n f c t u v x y e g k =
 
 -- From [U : P] and [T == U] the members T.X and U.X are equal, where X is what P makes of a declared name.
 same_member_given : (terms : List Term) (m : IdFacts) (member : AssocId → Step) (p : ProtoId) (a : NameId) (x : AssocId) (f s c : Statement) (t u l r : TermId)
-    → AreDistinct terms → IsStatementOf terms m f → IsOf terms u → s ≡ Holds (Same t u) → c ≡ Holds (Same l r)
+    → AreDistinct terms → IsStatementOver terms m f → IsOf terms u → s ≡ Holds (Same t u) → c ≡ Holds (Same l r)
     → IsDeclared m p a x → ((d : AssocId) → IsDeclared m p a d → member x ≡ member d)
     → ((f ≡ Holds (Conf u p)) × (term_at terms l ≡ Member (term_at terms t) (member x)) × (term_at terms r ≡ Member (term_at terms u) (member x)))
     ↔ ((v : Term) × (w : Term) × (d : AssocId)
@@ -147,18 +147,18 @@ same_member_given terms m member p a x f s c t u l r d h o e g k one =
           let j : statement_of terms c ≡ Requires (Equals (Member w.0 (member w.2)) (Member w.1 (member w.2))) = w.4 in
           let v : member x ≡ member w.2 = one w.2 w.5 in
           let y = conf_shape terms f w.1 p (cc) in
-          let oy : IsStatementOf terms m (Holds (Conf y.0 p)) = subst (λ z. IsStatementOf terms m z) y.1 h in
+          let oy : IsStatementOver terms m (Holds (Conf y.0 p)) = subst (λ z. IsStatementOver terms m z) y.1 h in
           (y.1 ∙ ap (λ z. Holds (Conf z p)) (d y.0 u oy.0 o (let z = y.2 in cc)), (cc), cc)),
     )
 
 pub same_name_given : (terms : List Term) (m : IdFacts) (p : ProtoId) (a : NameId) (x : AssocId) (f s c : Statement) (t u l r : TermId) → AreDistinct terms
-    → IsStatementOf terms m f → IsOf terms u
+    → IsStatementOver terms m f → IsOf terms u
     → s ≡ Holds (Same t u) → c ≡ Holds (Same l r) → IsDeclared m p a x
     → ((f ≡ Holds (Conf u p)) × (term_at terms l ≡ Member (term_at terms t) (Name a)) × (term_at terms r ≡ Member (term_at terms u) (Name a))) ↔ IsGiven terms m (Rule.SameName p a) (f ∷ s ∷ []) c
 same_name_given terms m p a x f s c t u l r d h o e g k = same_member_given terms m (λ _. Name a) p a x f s c t u l r d h o e g k (λ y i. refl)
 
 pub same_decl_given : (terms : List Term) (m : IdFacts) (p : ProtoId) (a : NameId) (x : AssocId) (f s c : Statement) (t u l r : TermId) → AreDistinct terms → AreOneToOne m.associated_types
-    → IsStatementOf terms m f → IsOf terms u
+    → IsStatementOver terms m f → IsOf terms u
     → s ≡ Holds (Same t u) → c ≡ Holds (Same l r) → IsDeclared m p a x
     → ((f ≡ Holds (Conf u p)) × (term_at terms l ≡ Member (term_at terms t) (Bound x)) × (term_at terms r ≡ Member (term_at terms u) (Bound x))) ↔ IsGiven terms m (Rule.SameDecl p a) (f ∷ s ∷ []) c
 same_decl_given terms m p a x f s c t u l r d one h o e g k =
@@ -170,8 +170,8 @@ pub requirement_same : {r x : Requirement} → Holds r ≡ Holds x → r ≡ x
 requirement_same e = cc
 
 pub used_is_of : (terms : List Term) (m : IdFacts) (p : ProtoId) (n : ℕ) (r x : Requirement) → AreFactsOf terms m → p.rank < m.protocols
-    → HasNumber n (m.of_protocol p) r → Holds r ≡ Holds x → IsRequirementOf terms m x
-used_is_of terms m p n r x f h k e = subst (λ z. IsRequirementOf terms m z) (requirement_same e) (f.protocols p r h (contains_number n (m.of_protocol p) r k))
+    → HasNumber n (m.of_protocol p) r → Holds r ≡ Holds x → IsRequirementOver terms m x
+used_is_of terms m p n r x f h k e = subst (λ z. IsRequirementOver terms m z) (requirement_same e) (f.protocols p r h (contains_number n (m.of_protocol p) r k))
 
 pub number_used : (m : IdFacts) (p : ProtoId) (n : ℕ) (r x : Requirement) → HasNumber n (m.of_protocol p) r → Holds r ≡ Holds x → HasNumber n (m.of_protocol p) x
 number_used m p n r x h e = subst (λ z. HasNumber n (m.of_protocol p) z) (requirement_same e) h

@@ -66,16 +66,16 @@ term_source terms m = Written (generic_params m.params) (map (requirement_of ter
 
 -- ---- ids of the table and of the facts
 
-abbrev pub IsRequirementOf : List Term → IdFacts → Requirement → Type 0
-IsRequirementOf terms m (Conf t p) = IsOf terms t × (p.rank < m.protocols)
-IsRequirementOf terms m (Layout t) = IsOf terms t
-IsRequirementOf terms m (Same t u) = IsOf terms t × IsOf terms u
+abbrev pub IsRequirementOver : List Term → IdFacts → Requirement → Type 0
+IsRequirementOver terms m (Conf t p) = IsOf terms t × (p.rank < m.protocols)
+IsRequirementOver terms m (Layout t) = IsOf terms t
+IsRequirementOver terms m (Same t u) = IsOf terms t × IsOf terms u
 
-abbrev pub IsStatementOf : List Term → IdFacts → Statement → Type 0
-IsStatementOf terms m (Valid t) = IsOf terms t
-IsStatementOf terms m (Holds r) = IsRequirementOf terms m r
+abbrev pub IsStatementOver : List Term → IdFacts → Statement → Type 0
+IsStatementOver terms m (Valid t) = IsOf terms t
+IsStatementOver terms m (Holds r) = IsRequirementOver terms m r
 
 -- The ids in the list and in the protocols' lists are of the table and of the facts.
 pub record AreFactsOf (terms : List Term) (m : IdFacts) : Type 0 where
-  pub list : (r : Requirement) → Contains m.written r → IsRequirementOf terms m r
-  pub protocols : (p : ProtoId) (r : Requirement) → p.rank < m.protocols → Contains (m.of_protocol p) r → IsRequirementOf terms m r
+  pub list : (r : Requirement) → Contains m.written r → IsRequirementOver terms m r
+  pub protocols : (p : ProtoId) (r : Requirement) → p.rank < m.protocols → Contains (m.of_protocol p) r → IsRequirementOver terms m r

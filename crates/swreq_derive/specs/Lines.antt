@@ -7,7 +7,7 @@ use Rattle.swreq_derive.specs.declared.lines.Line.{Line}
 use Rattle.swreq_derive.specs.declared.premises.Premises.{Premises}
 use Rattle.swreq_derive.specs.declared.premises.Premises.TheVariants.{Zero, One, Two, Other}
 use Rattle.swreq_derive.specs.declared.requirements.Statement.{Statement}
-use Rattle.swreq_derive.specs.Facts.{requirement_of, statement_of, IdFacts, generic_params, term_facts, IsStatementOf}
+use Rattle.swreq_derive.specs.Facts.{requirement_of, statement_of, IdFacts, generic_params, term_facts, IsStatementOver}
 use Rattle.swreq_derive.specs.Instances.{TermLine, IsInstance, AreStated, Follows, IsDerivation, IsFirstBad}
 
 -- From these premises the rule gives this conclusion, over the facts.
@@ -56,7 +56,7 @@ IsRuleOf m (Rule.SameDecl p a) = (p.rank < m.protocols) × (a.rank < m.names)
 
 -- The ids of the line are of the table and of the facts.
 abbrev pub IsLineOf : List Term → IdFacts → Line → Type 0
-IsLineOf terms m l = IsRuleOf m l.rule × IsStatementOf terms m l.statement
+IsLineOf terms m l = IsRuleOf m l.rule × IsStatementOver terms m l.statement
 
 abbrev pub AreLinesOf : List Term → IdFacts → List Line → Type 0
 AreLinesOf terms m ls = (k : ℕ) (l : Line) → slice_get ls k ≡ Some l → IsLineOf terms m l

@@ -3,7 +3,7 @@
 ghost use Rattle.std.specs.Prelude.{◌↔◌, ◌<◌, [], ◌∷◌, IsTrue};
 ghost use Rattle.swreq_param.specs.Tables.{AreDistinct};
 ghost use Rattle.swreq_derive.specs.declared.lines.DerivRule.TheVariants as Rule;
-ghost use Rattle.swreq_derive.specs.Facts.{IsStatementOf};
+ghost use Rattle.swreq_derive.specs.Facts.{IsStatementOver};
 ghost use Rattle.swreq_derive.specs.Lines.{IsGiven};
 
 use crate::comparing::{are_members, is_member};
@@ -23,8 +23,8 @@ pub(crate) fn assoc_name<F: Facts>(
     requires distinct { AreDistinct table.now }
     requires proto { p.rank < (F.meaning facts.now).protocols }
     requires name { a.rank < (F.meaning facts.now).names }
-    requires first { IsStatementOf table.now (F.meaning facts.now) first }
-    requires conclusion { IsStatementOf table.now (F.meaning facts.now) conclusion }
+    requires first { IsStatementOver table.now (F.meaning facts.now) first }
+    requires conclusion { IsStatementOver table.now (F.meaning facts.now) conclusion }
     ensures { IsTrue result ↔ IsGiven table.now (F.meaning facts.now) (Rule.AssocName p a) (first ∷ []) conclusion }
 {
     match first.as_conf() {
@@ -50,8 +50,8 @@ pub(crate) fn assoc_decl<F: Facts>(
     requires distinct { AreDistinct table.now }
     requires proto { p.rank < (F.meaning facts.now).protocols }
     requires name { a.rank < (F.meaning facts.now).names }
-    requires first { IsStatementOf table.now (F.meaning facts.now) first }
-    requires conclusion { IsStatementOf table.now (F.meaning facts.now) conclusion }
+    requires first { IsStatementOver table.now (F.meaning facts.now) first }
+    requires conclusion { IsStatementOver table.now (F.meaning facts.now) conclusion }
     ensures { IsTrue result ↔ IsGiven table.now (F.meaning facts.now) (Rule.AssocDecl p a) (first ∷ []) conclusion }
 {
     match first.as_conf() {
@@ -77,8 +77,8 @@ pub(crate) fn assoc_bind<F: Facts>(
     requires distinct { AreDistinct table.now }
     requires proto { p.rank < (F.meaning facts.now).protocols }
     requires name { a.rank < (F.meaning facts.now).names }
-    requires first { IsStatementOf table.now (F.meaning facts.now) first }
-    requires conclusion { IsStatementOf table.now (F.meaning facts.now) conclusion }
+    requires first { IsStatementOver table.now (F.meaning facts.now) first }
+    requires conclusion { IsStatementOver table.now (F.meaning facts.now) conclusion }
     ensures { IsTrue result ↔ IsGiven table.now (F.meaning facts.now) (Rule.AssocBind p a) (first ∷ []) conclusion }
 {
     match first.as_conf() {
@@ -107,9 +107,9 @@ pub(crate) fn same_name<F: Facts>(
     requires distinct { AreDistinct table.now }
     requires proto { p.rank < (F.meaning facts.now).protocols }
     requires name { a.rank < (F.meaning facts.now).names }
-    requires first { IsStatementOf table.now (F.meaning facts.now) first }
-    requires second { IsStatementOf table.now (F.meaning facts.now) second }
-    requires conclusion { IsStatementOf table.now (F.meaning facts.now) conclusion }
+    requires first { IsStatementOver table.now (F.meaning facts.now) first }
+    requires second { IsStatementOver table.now (F.meaning facts.now) second }
+    requires conclusion { IsStatementOver table.now (F.meaning facts.now) conclusion }
     ensures { IsTrue result ↔ IsGiven table.now (F.meaning facts.now) (Rule.SameName p a) (first ∷ second ∷ []) conclusion }
 {
     match second.as_same() {
@@ -139,9 +139,9 @@ pub(crate) fn same_decl<F: Facts>(
     requires distinct { AreDistinct table.now }
     requires proto { p.rank < (F.meaning facts.now).protocols }
     requires name { a.rank < (F.meaning facts.now).names }
-    requires first { IsStatementOf table.now (F.meaning facts.now) first }
-    requires second { IsStatementOf table.now (F.meaning facts.now) second }
-    requires conclusion { IsStatementOf table.now (F.meaning facts.now) conclusion }
+    requires first { IsStatementOver table.now (F.meaning facts.now) first }
+    requires second { IsStatementOver table.now (F.meaning facts.now) second }
+    requires conclusion { IsStatementOver table.now (F.meaning facts.now) conclusion }
     ensures { IsTrue result ↔ IsGiven table.now (F.meaning facts.now) (Rule.SameDecl p a) (first ∷ second ∷ []) conclusion }
 {
     match second.as_same() {

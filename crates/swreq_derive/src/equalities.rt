@@ -3,7 +3,7 @@ ghost use Rattle.std.specs.Prelude.{◌↔◌, List, [], ◌∷◌, IsTrue};
 ghost use Rattle.swreq_param.specs.Terms.{Term};
 ghost use Rattle.swreq_param.specs.Tables.{AreDistinct};
 ghost use Rattle.swreq_derive.specs.declared.lines.DerivRule.TheVariants as Rule;
-ghost use Rattle.swreq_derive.specs.Facts.{IsStatementOf, IdFacts};
+ghost use Rattle.swreq_derive.specs.Facts.{IsStatementOver, IdFacts};
 ghost use Rattle.swreq_derive.specs.Lines.{IsGiven};
 
 use crate::requirements::{Requirement, Statement};
@@ -12,7 +12,7 @@ use swreq_param::ProtoId;
 
 pub(crate) fn reflex(first: Statement, conclusion: Statement) -> bool
     ensures { (terms : List Term) (m : IdFacts) → AreDistinct terms
-        → IsStatementOf terms m first → IsStatementOf terms m conclusion
+        → IsStatementOver terms m first → IsStatementOver terms m conclusion
         → IsTrue result ↔ IsGiven terms m Rule.Reflex (first ∷ []) conclusion }
 {
     match first.as_valid() {
@@ -28,7 +28,7 @@ pub(crate) fn reflex(first: Statement, conclusion: Statement) -> bool
 
 pub(crate) fn symm(first: Statement, conclusion: Statement) -> bool
     ensures { (terms : List Term) (m : IdFacts) → AreDistinct terms
-        → IsStatementOf terms m first → IsStatementOf terms m conclusion
+        → IsStatementOver terms m first → IsStatementOver terms m conclusion
         → IsTrue result ↔ IsGiven terms m Rule.Symm (first ∷ []) conclusion }
 {
     match first.as_same() {
@@ -44,7 +44,7 @@ pub(crate) fn symm(first: Statement, conclusion: Statement) -> bool
 
 pub(crate) fn trans(first: Statement, second: Statement, conclusion: Statement) -> bool
     ensures { (terms : List Term) (m : IdFacts) → AreDistinct terms
-        → IsStatementOf terms m first → IsStatementOf terms m second → IsStatementOf terms m conclusion
+        → IsStatementOver terms m first → IsStatementOver terms m second → IsStatementOver terms m conclusion
         → IsTrue result ↔ IsGiven terms m Rule.Trans (first ∷ second ∷ []) conclusion }
 {
     match first.as_same() {
@@ -71,7 +71,7 @@ pub(crate) fn same_conf(
     conclusion: Statement,
 ) -> bool
     ensures { (terms : List Term) (m : IdFacts) → AreDistinct terms
-        → IsStatementOf terms m first → IsStatementOf terms m second → IsStatementOf terms m conclusion
+        → IsStatementOver terms m first → IsStatementOver terms m second → IsStatementOver terms m conclusion
         → IsTrue result ↔ IsGiven terms m (Rule.SameConf p) (first ∷ second ∷ []) conclusion }
 {
     match second.as_same() {
@@ -100,7 +100,7 @@ pub(crate) fn same_conf(
 
 pub(crate) fn same_layout(first: Statement, second: Statement, conclusion: Statement) -> bool
     ensures { (terms : List Term) (m : IdFacts) → AreDistinct terms
-        → IsStatementOf terms m first → IsStatementOf terms m second → IsStatementOf terms m conclusion
+        → IsStatementOver terms m first → IsStatementOver terms m second → IsStatementOver terms m conclusion
         → IsTrue result ↔ IsGiven terms m Rule.SameLayout (first ∷ second ∷ []) conclusion }
 {
     match second.as_same() {

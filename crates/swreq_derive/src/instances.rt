@@ -1,7 +1,7 @@
 //! Whether a rule gives a statement from its premises.
 ghost use Rattle.std.specs.Prelude.{◌↔◌, [], ◌∷◌, IsTrue};
 ghost use Rattle.swreq_param.specs.Tables.{AreDistinct};
-ghost use Rattle.swreq_derive.specs.Facts.{IsStatementOf, AreFactsOf};
+ghost use Rattle.swreq_derive.specs.Facts.{IsStatementOver, AreFactsOf};
 ghost use Rattle.swreq_derive.specs.Lines.{IsGiven, IsRuleOf};
 
 use crate::associated::{assoc_bind, assoc_decl, assoc_name, same_decl, same_name};
@@ -23,7 +23,7 @@ pub(crate) fn gives_from_none<F: Facts>(
     requires distinct { AreDistinct table.now }
     requires facts { AreFactsOf table.now (F.meaning facts.now) }
     requires rule { IsRuleOf (F.meaning facts.now) rule }
-    requires conclusion { IsStatementOf table.now (F.meaning facts.now) conclusion }
+    requires conclusion { IsStatementOver table.now (F.meaning facts.now) conclusion }
     ensures { IsTrue result ↔ IsGiven table.now (F.meaning facts.now) rule [] conclusion }
 {
     match rule {
@@ -46,8 +46,8 @@ pub(crate) fn gives_from_one<F: Facts>(
     requires distinct { AreDistinct table.now }
     requires facts { AreFactsOf table.now (F.meaning facts.now) }
     requires rule { IsRuleOf (F.meaning facts.now) rule }
-    requires first { IsStatementOf table.now (F.meaning facts.now) first }
-    requires conclusion { IsStatementOf table.now (F.meaning facts.now) conclusion }
+    requires first { IsStatementOver table.now (F.meaning facts.now) first }
+    requires conclusion { IsStatementOver table.now (F.meaning facts.now) conclusion }
     ensures { IsTrue result ↔ IsGiven table.now (F.meaning facts.now) rule (first ∷ []) conclusion }
 {
     match rule {
@@ -75,9 +75,9 @@ pub(crate) fn gives_from_two<F: Facts>(
     requires distinct { AreDistinct table.now }
     requires facts { AreFactsOf table.now (F.meaning facts.now) }
     requires rule { IsRuleOf (F.meaning facts.now) rule }
-    requires first { IsStatementOf table.now (F.meaning facts.now) first }
-    requires second { IsStatementOf table.now (F.meaning facts.now) second }
-    requires conclusion { IsStatementOf table.now (F.meaning facts.now) conclusion }
+    requires first { IsStatementOver table.now (F.meaning facts.now) first }
+    requires second { IsStatementOver table.now (F.meaning facts.now) second }
+    requires conclusion { IsStatementOver table.now (F.meaning facts.now) conclusion }
     ensures { IsTrue result ↔ IsGiven table.now (F.meaning facts.now) rule (first ∷ second ∷ []) conclusion }
 {
     match rule {

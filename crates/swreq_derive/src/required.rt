@@ -3,7 +3,7 @@
 ghost use Rattle.std.specs.Prelude.{◌↔◌, ◌<◌, [], ◌∷◌, IsTrue};
 ghost use Rattle.swreq_param.specs.Tables.{AreDistinct};
 ghost use Rattle.swreq_derive.specs.declared.lines.DerivRule.TheVariants as Rule;
-ghost use Rattle.swreq_derive.specs.Facts.{IsStatementOf, AreFactsOf};
+ghost use Rattle.swreq_derive.specs.Facts.{IsStatementOver, AreFactsOf};
 ghost use Rattle.swreq_derive.specs.Lines.{IsGiven};
 
 use crate::comparing::{are_for_self, is_for_self};
@@ -23,8 +23,8 @@ pub(crate) fn assoc_conf<F: Facts>(
     requires distinct { AreDistinct table.now }
     requires facts { AreFactsOf table.now (F.meaning facts.now) }
     requires proto { p.rank < (F.meaning facts.now).protocols }
-    requires first { IsStatementOf table.now (F.meaning facts.now) first }
-    requires conclusion { IsStatementOf table.now (F.meaning facts.now) conclusion }
+    requires first { IsStatementOver table.now (F.meaning facts.now) first }
+    requires conclusion { IsStatementOver table.now (F.meaning facts.now) conclusion }
     ensures { IsTrue result ↔ IsGiven table.now (F.meaning facts.now) (Rule.AssocConf p n) (first ∷ []) conclusion }
 {
     match first.as_conf() {
@@ -53,8 +53,8 @@ pub(crate) fn assoc_same<F: Facts>(
     requires distinct { AreDistinct table.now }
     requires facts { AreFactsOf table.now (F.meaning facts.now) }
     requires proto { p.rank < (F.meaning facts.now).protocols }
-    requires first { IsStatementOf table.now (F.meaning facts.now) first }
-    requires conclusion { IsStatementOf table.now (F.meaning facts.now) conclusion }
+    requires first { IsStatementOver table.now (F.meaning facts.now) first }
+    requires conclusion { IsStatementOver table.now (F.meaning facts.now) conclusion }
     ensures { IsTrue result ↔ IsGiven table.now (F.meaning facts.now) (Rule.AssocSame p n) (first ∷ []) conclusion }
 {
     match first.as_conf() {
@@ -83,8 +83,8 @@ pub(crate) fn assoc_layout<F: Facts>(
     requires distinct { AreDistinct table.now }
     requires facts { AreFactsOf table.now (F.meaning facts.now) }
     requires proto { p.rank < (F.meaning facts.now).protocols }
-    requires first { IsStatementOf table.now (F.meaning facts.now) first }
-    requires conclusion { IsStatementOf table.now (F.meaning facts.now) conclusion }
+    requires first { IsStatementOver table.now (F.meaning facts.now) first }
+    requires conclusion { IsStatementOver table.now (F.meaning facts.now) conclusion }
     ensures { IsTrue result ↔ IsGiven table.now (F.meaning facts.now) (Rule.AssocLayout p n) (first ∷ []) conclusion }
 {
     match first.as_conf() {

@@ -4,7 +4,7 @@ ghost use Rattle.swreq_param.specs.Tables.{AreDistinct};
 ghost use Rattle.swreq_derive.specs.declared.requirements.Requirement.{Requirement};
 ghost use Rattle.swreq_derive.specs.declared.requirements.Statement.TheVariants.{Holds};
 ghost use Rattle.swreq_derive.specs.declared.lines.DerivRule.TheVariants as Rule;
-ghost use Rattle.swreq_derive.specs.Facts.{IsStatementOf, AreFactsOf};
+ghost use Rattle.swreq_derive.specs.Facts.{IsStatementOver, AreFactsOf};
 ghost use Rattle.swreq_derive.specs.Instances.{HasNumber};
 ghost use Rattle.swreq_derive.specs.Lines.{IsGiven};
 
@@ -24,7 +24,7 @@ pub(crate) fn is_listed(list: &[Requirement], number: u32, conclusion: Statement
 }
 
 pub(crate) fn generic<F: Facts>(facts: &F, table: &ParamTable, conclusion: Statement) -> bool
-    requires conclusion { IsStatementOf table.now (F.meaning facts.now) conclusion }
+    requires conclusion { IsStatementOver table.now (F.meaning facts.now) conclusion }
     ensures { IsTrue result ↔ IsGiven table.now (F.meaning facts.now) Rule.Generic [] conclusion }
 {
     match conclusion.as_valid() {
@@ -39,7 +39,7 @@ pub(crate) fn generic<F: Facts>(facts: &F, table: &ParamTable, conclusion: State
 pub(crate) fn conf<F: Facts>(facts: &F, table: &ParamTable, n: u32, conclusion: Statement) -> bool
     requires distinct { AreDistinct table.now }
     requires facts { AreFactsOf table.now (F.meaning facts.now) }
-    requires conclusion { IsStatementOf table.now (F.meaning facts.now) conclusion }
+    requires conclusion { IsStatementOver table.now (F.meaning facts.now) conclusion }
     ensures { IsTrue result ↔ IsGiven table.now (F.meaning facts.now) (Rule.Conf n) [] conclusion }
 {
     match conclusion.as_conf() {
@@ -51,7 +51,7 @@ pub(crate) fn conf<F: Facts>(facts: &F, table: &ParamTable, n: u32, conclusion: 
 pub(crate) fn same<F: Facts>(facts: &F, table: &ParamTable, n: u32, conclusion: Statement) -> bool
     requires distinct { AreDistinct table.now }
     requires facts { AreFactsOf table.now (F.meaning facts.now) }
-    requires conclusion { IsStatementOf table.now (F.meaning facts.now) conclusion }
+    requires conclusion { IsStatementOver table.now (F.meaning facts.now) conclusion }
     ensures { IsTrue result ↔ IsGiven table.now (F.meaning facts.now) (Rule.Same n) [] conclusion }
 {
     match conclusion.as_same() {
@@ -63,7 +63,7 @@ pub(crate) fn same<F: Facts>(facts: &F, table: &ParamTable, n: u32, conclusion: 
 pub(crate) fn layout<F: Facts>(facts: &F, table: &ParamTable, n: u32, conclusion: Statement) -> bool
     requires distinct { AreDistinct table.now }
     requires facts { AreFactsOf table.now (F.meaning facts.now) }
-    requires conclusion { IsStatementOf table.now (F.meaning facts.now) conclusion }
+    requires conclusion { IsStatementOver table.now (F.meaning facts.now) conclusion }
     ensures { IsTrue result ↔ IsGiven table.now (F.meaning facts.now) (Rule.Layout n) [] conclusion }
 {
     match conclusion.as_layout() {

@@ -1,7 +1,7 @@
 //! Tests of what the checker requires: that ids are of the table and of the text.
 ghost use Rattle.std.specs.Prelude.{◌≡◌, ◌<◌, IsTrue, Contains};
 ghost use Rattle.swreq_derive.specs.declared.requirements.Requirement.{Requirement};
-ghost use Rattle.swreq_derive.specs.Facts.{IdFacts, IsRequirementOf, IsStatementOf, AreFactsOf};
+ghost use Rattle.swreq_derive.specs.Facts.{IdFacts, IsRequirementOver, IsStatementOver, AreFactsOf};
 ghost use Rattle.swreq_derive.specs.Lines.{IsRuleOf, IsLineOf, AreLinesOf};
 
 use crate::text::Text;
@@ -44,7 +44,7 @@ fn are_lines(table: &ParamTable, lines: &[Line]) -> bool
 /// Whether the ids of the requirements are of the table, and of two protocols.
 fn are_requirements(table: &ParamTable, list: &[Requirement]) -> bool
     ensures { (m : IdFacts) → m.protocols ≡ 2
-        → IsTrue result → (r : Requirement) → Contains list.now r → IsRequirementOf table.now m r }
+        → IsTrue result → (r : Requirement) → Contains list.now r → IsRequirementOver table.now m r }
 {
     for r in list {
         if !is_requirement(table, *r) {
@@ -61,7 +61,7 @@ fn is_line(table: &ParamTable, line: &Line) -> bool
 }
 
 fn is_statement(table: &ParamTable, st: Statement) -> bool
-    ensures { (m : IdFacts) → m.protocols ≡ 2 → IsTrue result → IsStatementOf table.now m st }
+    ensures { (m : IdFacts) → m.protocols ≡ 2 → IsTrue result → IsStatementOver table.now m st }
 {
     match st {
         Statement::Valid { t } => t.place < table.len(),
@@ -70,7 +70,7 @@ fn is_statement(table: &ParamTable, st: Statement) -> bool
 }
 
 fn is_requirement(table: &ParamTable, r: Requirement) -> bool
-    ensures { (m : IdFacts) → m.protocols ≡ 2 → IsTrue result → IsRequirementOf table.now m r }
+    ensures { (m : IdFacts) → m.protocols ≡ 2 → IsTrue result → IsRequirementOver table.now m r }
 {
     let count = table.len();
     match r {

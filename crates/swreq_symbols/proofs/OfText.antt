@@ -13,7 +13,7 @@ use Rattle.swreq_derive.specs.Derivation.{TermRequirement}
 use Rattle.swreq_derive.specs.Derivation.Source.{Written as WrittenList}
 use Rattle.swreq_derive.specs.declared.requirements.Requirement.{Requirement}
 use Rattle.swreq_derive.specs.declared.requirements.Requirement.TheVariants.{Conf, Layout, Same}
-use Rattle.swreq_derive.specs.Facts.{AreFactsOf, generic_params, requirement_of, term_facts, term_source, IsRequirementOf as IsOfFacts}
+use Rattle.swreq_derive.specs.Facts.{AreFactsOf, generic_params, requirement_of, term_facts, term_source, IsRequirementOver}
 use Rattle.swreq_lexicon.specs.Lexicons.{associated_types}
 use Rattle.swreq_lowering.specs.declared.ids.FuncId.{FuncId}
 use Rattle.swreq_lowering.specs.declared.ids.Written.{Written}
@@ -86,7 +86,7 @@ module _ (w : IdWorld) (terms : List Term) where
         )
 
     -- a requirement of the table and of the text is one of the facts
-    of_facts : (f : FuncId) (r : Requirement) → IsRequirementIn terms w.lexicon r → IsOfFacts terms (facts_at w f) r
+    of_facts : (f : FuncId) (r : Requirement) → IsRequirementIn terms w.lexicon r → IsRequirementOver terms (facts_at w f) r
     of_facts f (Conf t p) h = (h.0, h.1.1)
     of_facts f (Layout t) h = h.0
     of_facts f (Same t u) h = h.0
