@@ -41,8 +41,8 @@ pub data Answer : Type 0 where
 
 module _ (derivable : TermStatement → Type 0) where
   -- Each side is valid.
-  abbrev pub HasValidSides : TermQuery → Type 0
-  HasValidSides q = (s : Term) → IsSide q s → derivable (IsValid s)
+  abbrev pub HasOnlyValidSides : TermQuery → Type 0
+  HasOnlyValidSides q = (s : Term) → IsSide q s → derivable (IsValid s)
 
   -- R is the reduced type of T: [T == R] is derivable, and no U that is derivably equal to T comes before R.
   abbrev pub IsLeastEqual : Term → Term → Type 0
@@ -52,9 +52,9 @@ module _ (derivable : TermStatement → Type 0) where
   -- it is not, and to a query of a type the reduced type.
   abbrev pub IsAnswer : TermQuery → Answer → Type 0
   IsAnswer q Invalid = (s : Term) × IsSide q s × (derivable (IsValid s) → ⊥)
-  IsAnswer q Yes = HasValidSides q × ((r : TermRequirement) × (asked q ≡ Some r) × derivable (Requires r))
-  IsAnswer q No = HasValidSides q × ((r : TermRequirement) × (asked q ≡ Some r) × (derivable (Requires r) → ⊥))
-  IsAnswer q (Reduced u) = HasValidSides q × ((f : FuncId) × (t : Term) × (q ≡ AsksReduced f t) × IsLeastEqual t u)
+  IsAnswer q Yes = HasOnlyValidSides q × ((r : TermRequirement) × (asked q ≡ Some r) × derivable (Requires r))
+  IsAnswer q No = HasOnlyValidSides q × ((r : TermRequirement) × (asked q ≡ Some r) × (derivable (Requires r) → ⊥))
+  IsAnswer q (Reduced u) = HasOnlyValidSides q × ((f : FuncId) × (t : Term) × (q ≡ AsksReduced f t) × IsLeastEqual t u)
 
 -- ---- lines
 

@@ -31,7 +31,7 @@ use Rattle.swreq_world.proofs.Closing.{closed}
 use Rattle.swreq_world.proofs.Offsets.{protocols_rising}
 use Rattle.swreq_symbols.specs.Meaning.{facts_of}
 use Rattle.swreq_print.specs.Names.{Text}
-use Rattle.swreq_query.specs.Answers.{Answer, HasValidSides, IsAnswer, IsLeastEqual, answer_line, asked}
+use Rattle.swreq_query.specs.Answers.{Answer, HasOnlyValidSides, IsAnswer, IsLeastEqual, answer_line, asked}
 use Rattle.swreq_query.specs.Answers.Answer.{Invalid, Yes, No, Reduced}
 use Rattle.swreq_query.proofs.OneAnswer.{one_line}
 use Rattle.swreq_output.specs.Signatures.{IsMinimisedLine, full_name}
@@ -76,7 +76,7 @@ module _ (w : TextWorld) (q : TermQuery) (line : Text) (answers : AnswersByTypes
       of_answer (Reduced u) h e = absurd (asks_one h.1.0 h.1.1 h.1.2)
 
   -- and one that is implied has that line
-  implied_is_yes : (r : TermRequirement) → asked q ≡ Some r → (IsImplied w q (Requires r) → HasValidSides (IsImplied w q) q)
+  implied_is_yes : (r : TermRequirement) → asked q ≡ Some r → (IsImplied w q (Requires r) → HasOnlyValidSides (IsImplied w q) q)
       → IsImplied w q (Requires r) → line ≡ codes "yes\n"
   implied_is_yes r asks sides h =
       one_line (IsImplied w q) w.lexicon q line (codes "yes\n") answers (Yes, (sides h, (r, asks, h)), refl)
