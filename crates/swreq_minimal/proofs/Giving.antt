@@ -13,7 +13,7 @@ use Rattle.swreq_correspondence.specs.Symbols.{MemberName, Word, name_of, proto_
 use Rattle.swreq_symbols.specs.Meaning.{member_name, symbols_of}
 use Rattle.swreq_symbols.proofs.Declared.{is_rank, member_is}
 use Rattle.swreq_map.specs.Properties.{Vanishes}
-use Rattle.swreq_symbols.specs.Vanishing.{IsFirstBehind, IsGiven}
+use Rattle.swreq_symbols.specs.Vanishing.{IsFirstBehind, IsGivenBehind}
 use Rattle.swreq_minimal.specs.Typed.{IsMemberBehind}
 
 module _ (x : LexiconView) (rules : List Rule) (w : Word) where
@@ -39,10 +39,10 @@ module _ (x : LexiconView) (rules : List Rule) (w : Word) where
         (subst (λ j. Vanishes rules w (Proto (proto_of (symbols_of x) j).rank)) (sym (same_members e)) v))
 
     pub member_given : Vanishes rules w (Proto s.proto.rank) → (o : Option AssocId)
-        → MatchOption o ((d : AssocId) → IsGiven x rules w s.name d → ⊥) (IsFirstBehind x rules w s.name)
+        → MatchOption o ((d : AssocId) → IsGivenBehind x rules w s.name d → ⊥) (IsFirstBehind x rules w s.name)
         → MatchOption o ((d : AssocId) → IsMemberBehind x rules w (MemberSymbol rank) d → ⊥) (IsMemberBehind x rules w (MemberSymbol rank))
     member_given v None n = λ d h. let (k, e, r, u, f) = h in
-        n d (subst (λ a. IsGiven x rules w a d) name_is (subst (λ j. IsGiven x rules w (name_of (symbols_of x) j) d) (sym (same_members e)) f.given))
+        n d (subst (λ a. IsGivenBehind x rules w a d) name_is (subst (λ j. IsGivenBehind x rules w (name_of (symbols_of x) j) d) (sym (same_members e)) f.given))
     member_given v (Some d) f = (
       rank,
       refl,

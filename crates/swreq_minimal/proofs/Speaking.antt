@@ -29,7 +29,7 @@ use Rattle.swreq_symbols.specs.Known.{IsRequirementIn}
 use Rattle.swreq_symbols.specs.Meaning.{symbols_of}
 use Rattle.swreq_world.specs.Closed.{IsTermOf}
 use Rattle.swreq_lowering.proofs.Growing.{of_stays}
-use Rattle.swreq_symbols.specs.Vanishing.{IsFirstBehind, IsGiven}
+use Rattle.swreq_symbols.specs.Vanishing.{IsFirstBehind, IsGivenBehind}
 use Rattle.swreq_minimal.specs.Typed.{Finds, Identifies, IsTypeBy, SaysBy, SpeaksBy}
 use Rattle.swreq_minimal.proofs.Passing.{parted}
 use Rattle.swreq_minimal.proofs.Typing.{given_of_text, none_of_nothing, nothing_before, one_type, type_of_text}
@@ -89,10 +89,10 @@ module _ (x : LexiconView) (rules : List Rule) (params : Params) where
 
   -- the first associated type of the name for which a symbol stands
   pub named_first : (front : Word) (y : Symbol) (a : NameId) → IsNamed (symbols_of x) y a → (o : Option AssocId)
-      → MatchOption o ((d : AssocId) → IsGiven x rules front a d → ⊥) (IsFirstBehind x rules front a)
+      → MatchOption o ((d : AssocId) → IsGivenBehind x rules front a d → ⊥) (IsFirstBehind x rules front a)
       → MatchOption o ((b : NameId) (d : AssocId) → IsNamed (symbols_of x) y b → IsFirstBehind x rules front b d → ⊥)
       (λ d. (b : NameId) × IsNamed (symbols_of x) y b × IsFirstBehind x rules front b d)
-  named_first front y a named None n = λ b d m f. n d (subst (λ z. IsGiven x rules front z d) (one_name (symbols_of x) y b a m named) f.given)
+  named_first front y a named None n = λ b d m f. n d (subst (λ z. IsGivenBehind x rules front z d) (one_name (symbols_of x) y b a m named) f.given)
   named_first front y a named (Some d) f = (a, named, f)
 
   spoken_behind : (front : Word) (y : Symbol) (t : Term) → 0 < length front → SpeaksBy x rules params (front ++ y ∷ []) t

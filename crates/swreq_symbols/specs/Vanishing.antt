@@ -28,15 +28,15 @@ abbrev pub IsDeclared : LexiconView → ProtoId → NameId → AssocId → Type 
 IsDeclared x p a d = Contains (associated_types x.associated) (record { proto = p; name = a; assoc = d })
 
 -- d is an associated type A of a protocol whose symbol vanishes behind the word.
-abbrev pub IsGiven : LexiconView → List Rule → Word → NameId → AssocId → Type 0
-IsGiven x rules w a d = (p : ProtoId) × IsDeclared x p a d × Vanishes rules w (Proto p.rank)
+abbrev pub IsGivenBehind : LexiconView → List Rule → Word → NameId → AssocId → Type 0
+IsGivenBehind x rules w a d = (p : ProtoId) × IsDeclared x p a d × Vanishes rules w (Proto p.rank)
 
 -- It is the first such associated type.
 pub record IsFirstBehind (x : LexiconView) (rules : List Rule) (w : Word) (a : NameId) (d : AssocId) : Type 0 where
-  pub given : IsGiven x rules w a d
-  pub first : (e : AssocId) → IsGiven x rules w a e → d.rank ≤ e.rank
+  pub given : IsGivenBehind x rules w a d
+  pub first : (e : AssocId) → IsGivenBehind x rules w a e → d.rank ≤ e.rank
 
 -- Behind the word an associated type with the name is given, or that associated type.
 abbrev pub HasStep : LexiconView → List Rule → Word → Step → Type 0
-HasStep x rules w (Name a) = (d : AssocId) × IsGiven x rules w a d
-HasStep x rules w (Bound d) = (a : NameId) × IsGiven x rules w a d
+HasStep x rules w (Name a) = (d : AssocId) × IsGivenBehind x rules w a d
+HasStep x rules w (Bound d) = (a : NameId) × IsGivenBehind x rules w a d

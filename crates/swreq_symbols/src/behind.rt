@@ -1,7 +1,7 @@
 //! The first associated type with a name whose protocol vanishes behind a word, without memory.
 ghost use Rattle.std.specs.Prelude.{◌≡◌, ◌↔◌, ◌+◌, ◌≤◌, ◌<◌, length, vec_capacity, IsTrue, MatchOption};
 ghost use Rattle.swreq_param.specs.declared.ids.AssocId.{AssocId};
-ghost use Rattle.swreq_symbols.specs.Vanishing.{IsFirstBehind, IsGiven, IsLeastBy};
+ghost use Rattle.swreq_symbols.specs.Vanishing.{IsFirstBehind, IsGivenBehind, IsLeastBy};
 
 use swreq_complete::CompleteRules;
 use swreq_map::vanishes;
@@ -21,7 +21,7 @@ fn is_given(
     requires d { d.rank < length world.now.lexicon.associated }
     requires least { IsLeastBy rules.now word.now }
     requires fits { length word.now + 1 ≤ vec_capacity test.old }
-    ensures answer { IsTrue result ↔ IsGiven world.now.lexicon rules.now word.now a d }
+    ensures answer { IsTrue result ↔ IsGivenBehind world.now.lexicon rules.now word.now a d }
     ensures room { vec_capacity test.old ≤ vec_capacity test.new }
 {
     let declared = world.assoc(d);
@@ -50,7 +50,7 @@ pub fn first_behind(
     requires least { IsLeastBy rules.now word.now }
     requires fits { length word.now + 1 ≤ vec_capacity test.old }
     ensures answer { MatchOption result
-        ((d : AssocId) → IsGiven world.now.lexicon rules.now word.now a d → ⊥)
+        ((d : AssocId) → IsGivenBehind world.now.lexicon rules.now word.now a d → ⊥)
         (IsFirstBehind world.now.lexicon rules.now word.now a) }
     ensures room { vec_capacity test.old ≤ vec_capacity test.new }
 {
