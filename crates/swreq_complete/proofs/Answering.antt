@@ -24,7 +24,7 @@ use Rattle.swreq_complete.specs.Search.{Found}
 use Rattle.swreq_complete.specs.Limits.{AreInRange, IsWithin, Passes, EndsWithin}
 use Rattle.swreq_complete.specs.Reached.{BeginsWith}
 use Rattle.swreq_complete.specs.Answers.{IsAnswer}
-use Rattle.swreq_complete.specs.Events.{events, Tells}
+use Rattle.swreq_complete.specs.Events.{events, TellsEvents}
 use Rattle.swreq_complete.specs.Settling.{Grown}
 use Rattle.swreq_complete.proofs.Ended.{pairs_meet}
 use Rattle.swreq_rule.proofs.Search.{all_steps}
@@ -43,7 +43,7 @@ events_grown old new told told' told'' s g =
 
 module _ (limits : Limits) (given : List (List Symbol × List Symbol)) (base : List Rule) (told told' told'' : Option (List Event))
     (start : GrewBy told told' (Start (length base) ∷ [])) where
-  pub memory_told : (t : List Rule) → IsWithin limits (length base) given t → Grown base t told' told'' → Tells limits base given told told'' (Err Memory)
+  pub memory_told : (t : List Rule) → IsWithin limits (length base) given t → Grown base t told' told'' → TellsEvents limits base given told told'' (Err Memory)
   memory_told t w g = inr (t, over_grown base t told' told'' g, w, events_grown base t told told' told'' start g)
 
 ended_complete : (base : List Rule) (given : List (List Symbol × List Symbol)) (limits : Limits) (new : List Rule) → AreInRange limits
@@ -64,7 +64,7 @@ module _ (limits : Limits) (given : List (List Symbol × List Symbol)) (base lis
   grown t = subst (λ (x : List Rule). Grown x t told' told'') same
 
   pub ok_answer : EndsWithin limits count given new × Grown list new told' told''
-      → IsAnswer limits base given (Ok new) × Tells limits base given told told'' (Ok new) × (AreInRange limits → IsComplete list → IsComplete new)
+      → IsAnswer limits base given (Ok new) × TellsEvents limits base given told told'' (Ok new) × (AreInRange limits → IsComplete list → IsComplete new)
   ok_answer d =
       let e : EndsWithin limits (length base) given new = subst (λ n. EndsWithin limits n given new) counted d.0 in
       let g = grown new d.1 in
@@ -72,22 +72,22 @@ module _ (limits : Limits) (given : List (List Symbol × List Symbol)) (base lis
       ((o, e), events_grown base new told told' told'' begun g, λ range c. ended_complete base given limits new range (subst IsComplete same c) o e)
 
   pub limit_answer : (which : Which) → Passes limits count given new which × Grown list new told' told''
-      → IsAnswer limits base given (Err (Limit which new)) × Tells limits base given told told'' (Err (Limit which new))
+      → IsAnswer limits base given (Err (Limit which new)) × TellsEvents limits base given told told'' (Err (Limit which new))
   limit_answer which d =
       let e : Passes limits (length base) given new which = subst (λ n. Passes limits n given new which) counted d.0 in
       let g = grown new d.1 in
       ((over_grown base new told' told'' g, e), events_grown base new told told' told'' begun g)
 
-  pub memory_answer : (t : List Rule) × IsWithin limits count given t × Grown list t told' told'' → Tells limits base given told told'' (Err Memory)
+  pub memory_answer : (t : List Rule) × IsWithin limits count given t × Grown list t told' told'' → TellsEvents limits base given told told'' (Err Memory)
   memory_answer d = memory_told limits given base told told' told'' begun d.0 (subst (λ n. IsWithin limits n given d.0) counted d.1) (grown d.0 d.2)
 
   pub passed_answer : (which : Which) → Passes limits count given new which × Grown list new told' told'' → (failed : Failed)
       → (failed ≡ Limit which new) ⊎ (failed ≡ Memory)
-      → IsAnswer limits base given (Err failed) × Tells limits base given told told'' (Err failed)
+      → IsAnswer limits base given (Err failed) × TellsEvents limits base given told told'' (Err failed)
   passed_answer which d failed (inl e) =
-      subst (λ (x : Failed). IsAnswer limits base given (Err x) × Tells limits base given told told'' (Err x)) (sym e) (limit_answer which d)
+      subst (λ (x : Failed). IsAnswer limits base given (Err x) × TellsEvents limits base given told told'' (Err x)) (sym e) (limit_answer which d)
   passed_answer which d failed (inr e) =
-      subst (λ (x : Failed). IsAnswer limits base given (Err x) × Tells limits base given told told'' (Err x)) (sym e) (tt, memory_answer (new, d.0.within, d.1))
+      subst (λ (x : Failed). IsAnswer limits base given (Err x) × TellsEvents limits base given told told'' (Err x)) (sym e) (tt, memory_answer (new, d.0.within, d.1))
 
 -- what reduction and the search for the reduced system give over complete rules
 pub reduces_least : (rules : List Rule) → IsComplete rules → (u v : List Symbol) → Reduces rules u v → Linked (Step rules) u v × IsLeast (Linked (Step rules)) v

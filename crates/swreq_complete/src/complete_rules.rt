@@ -7,7 +7,7 @@ ghost use Rattle.swreq_rule.specs.Steps.{Step};
 ghost use Rattle.swreq_complete.specs.declared.limit.Failed.TheVariants.{Limit, Memory};
 ghost use Rattle.swreq_complete.specs.Answers.{IsAnswer, IsOnlyAnswer};
 ghost use Rattle.swreq_complete.specs.Complete.{IsComplete};
-ghost use Rattle.swreq_complete.specs.Events.{Tells};
+ghost use Rattle.swreq_complete.specs.Events.{TellsEvents};
 ghost use Rattle.swreq_complete.specs.Index.{IsIndexOf};
 ghost use Rattle.swreq_complete.specs.Limits.{AreInRange};
 ghost use Rattle.swreq_word.specs.Least.{IsLeast};
@@ -150,7 +150,7 @@ pub fn extend<W: Watch>(
     requires { AreInRange limits }
     ensures answer { IsAnswer limits base given.now result }
     ensures only { IsOnlyAnswer limits base given.now result }
-    ensures told { Tells limits base given.now (W.told watch.old) (W.told watch.new) result }
+    ensures told { TellsEvents limits base given.now (W.told watch.old) (W.told watch.new) result }
 {
     let mut list = base.list;
     let count = list.rules().len();

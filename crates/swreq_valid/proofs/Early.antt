@@ -15,7 +15,7 @@ use Rattle.swreq_complete.specs.declared.limit.Failed.{Failed}
 use Rattle.swreq_complete.specs.declared.limit.Failed.TheVariants.{Limit, Memory}
 use Rattle.swreq_complete.specs.declared.limit.Limits.{Limits}
 use Rattle.swreq_complete.specs.Answers.{IsAnswer}
-use Rattle.swreq_complete.specs.Events.{Tells as TellsEvents}
+use Rattle.swreq_complete.specs.Events.{TellsEvents}
 use Rattle.swreq_complete.specs.Limits.{IsWithin}
 use Rattle.swreq_complete.specs.Moments.{Before, HasSides}
 use Rattle.swreq_complete.specs.Reached.{IsReached}

@@ -9,7 +9,7 @@ use Rattle.swreq_complete.specs.declared.limit.Limits.{Limits}
 use Rattle.swreq_complete.specs.declared.limit.Failed.{Failed}
 use Rattle.swreq_complete.specs.declared.limit.Failed.TheVariants.{Limit, Memory}
 use Rattle.swreq_complete.specs.Answers.{IsAnswer}
-use Rattle.swreq_complete.specs.Events.{events, Tells as TellsEvents}
+use Rattle.swreq_complete.specs.Events.{events, TellsEvents}
 use Rattle.swreq_complete.specs.Limits.{IsWithin}
 use Rattle.swreq_correspondence.specs.Symbols.{Word}
 use Rattle.swreq_rounds.specs.Plan.{Item, Plan, given, AreShown}

@@ -5,7 +5,7 @@ ghost use Rattle.std.specs.List.{list_all};
 ghost use Rattle.swreq_derive.specs.Derivation.{TermRequirement};
 ghost use Rattle.swreq_rule.specs.declared.rules.Rule.{Rule};
 ghost use Rattle.swreq_complete.specs.Answers.{IsAnswer};
-ghost use Rattle.swreq_complete.specs.Events.{Tells as TellsEvents};
+ghost use Rattle.swreq_complete.specs.Events.{TellsEvents};
 ghost use Rattle.swreq_complete.specs.Limits.{AreInRange};
 ghost use Rattle.swreq_rounds.specs.Plan.{AreShown, Item, equation_of, given};
 ghost use Rattle.swreq_symbols.specs.Known.{IsRequirementIn, IsTextOver};

@@ -3,7 +3,7 @@ ghost use Rattle.std.specs.Prelude.{◌≡◌, ◌+◌, [], Err, IsTrue, MatchOp
 ghost use Rattle.std.specs.List.{list_all};
 ghost use Rattle.swreq_complete.specs.declared.limit.Failed.TheVariants.{Limit};
 ghost use Rattle.swreq_complete.specs.Answers.{IsAnswer};
-ghost use Rattle.swreq_complete.specs.Events.{Tells};
+ghost use Rattle.swreq_complete.specs.Events.{TellsEvents};
 ghost use Rattle.swreq_complete.specs.Limits.{AreInRange};
 ghost use Rattle.swreq_rounds.specs.Given.{basic_equations};
 ghost use Rattle.swreq_rounds.specs.Plan.{Plan};
@@ -74,7 +74,7 @@ fn stop<W: Watch>(
     requires limits { AreInRange limits }
     requires stops { StopsAmong limits equations.now }
     ensures answer { IsAnswer limits [] equations.now (Err result) }
-    ensures told { Tells limits [] equations.now (W.told watch.old) (W.told watch.new) (Err result) }
+    ensures told { TellsEvents limits [] equations.now (W.told watch.old) (W.told watch.new) (Err result) }
 {
     match extend(alloc, CompleteRules::empty(alloc), equations, limits, watch) {
         Ok(_) => unreachable!(),
@@ -98,7 +98,7 @@ fn stop_among<W: Watch>(
     ensures { MatchOption result
         (W.told watch.new ≡ W.told watch.old)
         (λ failed. StopsAmong limits equations.now × IsAnswer limits [] equations.now (Err failed)
-        × Tells limits [] equations.now (W.told watch.old) (W.told watch.new) (Err failed)) }
+        × TellsEvents limits [] equations.now (W.told watch.old) (W.told watch.new) (Err failed)) }
 {
     if stops_among(alloc, equations, limits) {
         Some(stop(alloc, equations, limits, watch))

@@ -2,7 +2,7 @@ use Rattle.std.proofs.Common.{◌∙◌, sym, ap, subst, arith, Bool, List, [], 
 use Rattle.std.proofs.lemmas.Result.{err_from_is_err_and}
 use Rattle.swreq_rule.specs.declared.rules.Rule.{Rule}
 use Rattle.swreq_complete.specs.Answers.{IsAnswer}
-use Rattle.swreq_complete.specs.Events.{Tells as TellsEvents}
+use Rattle.swreq_complete.specs.Events.{TellsEvents}
 use Rattle.swreq_rounds.specs.Plan.{AreShown, given}
 use Rattle.swreq_valid.specs.Answers.{Answers}
 use Rattle.swreq_valid.specs.Flags.{Tells, chosen}
