@@ -50,5 +50,5 @@ abbrev pub Inherits : List ℕ → Skeleton → ℕ → ℕ → Type 0
 Inherits text s = Leads (inheritance text s)
 
 -- The table tells which protocol inherits which.
-abbrev pub Tells : List ℕ → Skeleton → (ℕ → ℕ → Bool) → Type 0
-Tells text s inherits = (i j : ℕ) → IsTrue (inherits i j) ↔ Inherits text s i j
+abbrev pub TellsInheritance : List ℕ → Skeleton → (ℕ → ℕ → Bool) → Type 0
+TellsInheritance text s inherits = (i j : ℕ) → IsTrue (inherits i j) ↔ Inherits text s i j

@@ -17,7 +17,7 @@ use Rattle.swreq_resolve.specs.Errors.{error_of}
 use Rattle.swreq_names.specs.Spaces.{Spaces, spaces}
 use Rattle.swreq_resolve.specs.First.{least, IsFirst}
 use Rattle.swreq_resolve.specs.Refusals.{refusals, refusals_in}
-use Rattle.swreq_names.specs.Inheritance.{direct, inheritance, Tells, Inherits}
+use Rattle.swreq_names.specs.Inheritance.{direct, inheritance, TellsInheritance, Inherits}
 use Rattle.swreq_resolve.specs.Cycles.{HasNoLoop, IsLoopAt}
 use Rattle.swreq_names.specs.Names.{NamesView, HasDeclared}
 use Rattle.swreq_resolve.specs.Resolving.{HasNames, Resolve, Refuses, RefusesName, RefusesCycle, IsFirstCycle}
@@ -62,11 +62,11 @@ module _ (text : List ℕ) (s : Skeleton) (n : NamesView) (h : HasDeclared text 
 -- ---- one answer
 
 -- two tables that tell are one
-one_table : (text : List ℕ) (s : Skeleton) (t u : ℕ → ℕ → Bool) → Tells text s t → Tells text s u → t ≡ u
+one_table : (text : List ℕ) (s : Skeleton) (t u : ℕ → ℕ → Bool) → TellsInheritance text s t → TellsInheritance text s u → t ≡ u
 one_table text s t u a b = λ k i j. same_bool (t i j) (u i j) (λ h. (b i j).1 ((a i j).0 h)) (λ h. (a i j).1 ((b i j).0 h)) k
 
 module _ (text : List ℕ) (s : Skeleton) where
-  first_with : (r : Refusal) (t : ℕ → ℕ → Bool) → Tells text s t → RefusesName text s r → IsFirst (refusals text t s) r
+  first_with : (r : Refusal) (t : ℕ → ℕ → Bool) → TellsInheritance text s t → RefusesName text s r → IsFirst (refusals text t s) r
   first_with r t a n = subst (λ (u : ℕ → ℕ → Bool). IsFirst (refusals text u s) r) (one_table text s n.inherits t n.tells a) n.first
 
   no_refused_name : (r : Refusal) → HasNames text s → RefusesName text s r → ⊥
@@ -115,7 +115,7 @@ loops : (t : ℕ → ℕ → Bool) (n : ℕ) → Loops t n
 loops t zero = inl (λ i l. absurd (omega arith))
 loops t (suc n) = loops_more t n (t n n) refl (loops t n)
 
-module _ (text : List ℕ) (s : Skeleton) (t : ℕ → ℕ → Bool) (tells : Tells text s t) where
+module _ (text : List ℕ) (s : Skeleton) (t : ℕ → ℕ → Bool) (tells : TellsInheritance text s t) where
   abbrev Answer : Type 0
   Answer = Resolve text s ⊎ ((e : NameErr) × Refuses text s e)
 

@@ -19,7 +19,7 @@ use Rattle.swreq_decl.specs.declared.skeleton.Skeleton.{Skeleton}
 use Rattle.swreq_names.specs.declared.directory.Declaration.{Declaration}
 use Rattle.swreq_names.specs.declared.signature.Signature.{Signature}
 use Rattle.swreq_names.specs.declared.signature.Signature.TheVariants.{Struct, Function, Nested}
-use Rattle.swreq_names.specs.Inheritance.{Tells}
+use Rattle.swreq_names.specs.Inheritance.{TellsInheritance}
 use Rattle.swreq_names.specs.Parts.{Scope, in_protocol, in_signature, in_query, numbered, entities, types}
 use Rattle.swreq_names.specs.Spaces.{word, declarations, of_params, place, self_bytes, protocol_of, struct_of, function_of, signature_of, nested_in, outer_params, own_params, declares, has_member, Spaces, spaces}
 use Rattle.swreq_resolve.specs.declared.refusal.Fault.TheVariants.{Duplicate, NotAProtocol, ConcreteType, NoSuchMember, UnknownSignature, WrongArity}
@@ -47,7 +47,7 @@ within_inner f [] i j y c = no_member y c
 within_inner f (x ∷ xs) zero j y c = (x, refl, c)
 within_inner f (x ∷ xs) (suc i) j y c = within_inner f xs i j y c
 
-module _ (text : List ℕ) (s : Skeleton) (inherits : ℕ → ℕ → Bool) (tells : Tells text s inherits) (order : IsInOrder (spaces text s)) where
+module _ (text : List ℕ) (s : Skeleton) (inherits : ℕ → ℕ → Bool) (tells : TellsInheritance text s inherits) (order : IsInOrder (spaces text s)) where
   abbrev d : Spaces
   d = spaces text s
 

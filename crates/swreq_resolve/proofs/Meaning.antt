@@ -16,7 +16,7 @@ use Rattle.swreq_names.specs.declared.signature.Signature.{Signature}
 use Rattle.swreq_names.specs.declared.signature.Param.{Param}
 use Rattle.swreq_names.specs.declared.signature.Param.TheVariants.{Outer, Own}
 use Rattle.swreq_names.specs.Directories.{names_of}
-use Rattle.swreq_names.specs.Inheritance.{Tells}
+use Rattle.swreq_names.specs.Inheritance.{TellsInheritance}
 use Rattle.swreq_names.specs.Spaces.{place, is_declared, offset_of, is_declared_before, self_bytes, outer_params, own_params, declares, any_below, has_member, Spaces, spaces}
 use Rattle.swreq_names.proofs.Beginnings.{below_from}
 use Rattle.swreq_names.proofs.Firsts.{same_true}
@@ -220,7 +220,7 @@ module _ (text : List ℕ) (s : Skeleton) where
 
   -- ---- member names
 
-  module _ (inherits : ℕ → ℕ → Bool) (tells : Tells text s inherits) (i : ℕ) (name : List ℕ) where
+  module _ (inherits : ℕ → ℕ → Bool) (tells : TellsInheritance text s inherits) (i : ℕ) (name : List ℕ) where
     abbrev inherited : ℕ → Bool
     inherited j = inherits i j && declares d j name
 

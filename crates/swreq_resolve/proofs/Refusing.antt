@@ -16,7 +16,7 @@ use Rattle.swreq_decl.specs.declared.skeleton.Skeleton.{Skeleton}
 use Rattle.swreq_names.specs.declared.directory.Declaration.{Declaration}
 use Rattle.swreq_names.specs.declared.signature.Signature.{Signature}
 use Rattle.swreq_names.specs.declared.signature.Signature.TheVariants.{Struct, Function, Nested}
-use Rattle.swreq_names.specs.Inheritance.{Tells}
+use Rattle.swreq_names.specs.Inheritance.{TellsInheritance}
 use Rattle.swreq_names.specs.Parts.{Scope, in_protocol, in_signature, in_query, numbered, entities, types}
 use Rattle.swreq_names.specs.Spaces.{word, place, self_bytes, protocol_of, struct_of, function_of, outer_params, own_params, declares, has_member, Spaces, spaces}
 use Rattle.swreq_resolve.specs.declared.refusal.Fault.TheVariants.{Duplicate, NotAProtocol, ConcreteType, NoSuchMember, UnknownSignature, WrongArity}
@@ -30,7 +30,7 @@ use Rattle.swreq_resolve.proofs.References.{none_to, protocol, struct, function,
 use Rattle.swreq_resolve.proofs.Gathered.{signature_asked, begins_at, named_by, typed_by, named_at, typed_at, again_in_protocol, primaries_in_protocol, own_of_protocol, again_in_signature, again_in_function, again_in_nested, again_in_struct, unknown_signature, unknown_struct, unknown_in, unknown, own, asked, of_entities, of_types, all_gathered}
 use Rattle.swreq_resolve.proofs.Duplicates.{when_to, refuted, duplicates_to, of_space_to}
 
-module _ (text : List ℕ) (s : Skeleton) (inherits : ℕ → ℕ → Bool) (tells : Tells text s inherits) (order : IsInOrder (spaces text s)) where
+module _ (text : List ℕ) (s : Skeleton) (inherits : ℕ → ℕ → Bool) (tells : TellsInheritance text s inherits) (order : IsInOrder (spaces text s)) where
   abbrev d : Spaces
   d = spaces text s
 

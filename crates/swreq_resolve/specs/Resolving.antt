@@ -2,7 +2,7 @@
 use Rattle.std.specs.Prelude.{◌≡◌, ◌⊎◌, ℕ, ◌<◌, Bool, List, [], slice_get, Some}
 use Rattle.swreq_decl.specs.declared.skeleton.ProtocolDecl.{ProtocolDecl}
 use Rattle.swreq_decl.specs.declared.skeleton.Skeleton.{Skeleton}
-use Rattle.swreq_names.specs.Inheritance.{Inherits, Tells}
+use Rattle.swreq_names.specs.Inheritance.{Inherits, TellsInheritance}
 use Rattle.swreq_resolve.specs.declared.refusal.Refusal.{Refusal}
 use Rattle.swreq_resolve.specs.declared.refusal.NameErr.{NameErr}
 use Rattle.swreq_resolve.specs.declared.refusal.NameErr.TheVariants.{Cycle}
@@ -13,7 +13,7 @@ use Rattle.swreq_resolve.specs.Refusals.{refusals}
 -- No name is refused.
 pub record HasNames (text : List ℕ) (s : Skeleton) : Type 0 where
   pub inherits : ℕ → ℕ → Bool
-  pub tells : Tells text s inherits
+  pub tells : TellsInheritance text s inherits
   pub none : refusals text inherits s ≡ []
 
 -- The names resolve, and no protocol inherits itself.
@@ -24,7 +24,7 @@ pub record Resolve (text : List ℕ) (s : Skeleton) : Type 0 where
 -- This is the first of the refusals of names.
 pub record RefusesName (text : List ℕ) (s : Skeleton) (r : Refusal) : Type 0 where
   pub inherits : ℕ → ℕ → Bool
-  pub tells : Tells text s inherits
+  pub tells : TellsInheritance text s inherits
   pub first : IsFirst (refusals text inherits s) r
 
 -- The protocol at this place in written order is the first that inherits itself.

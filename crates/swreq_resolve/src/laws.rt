@@ -5,7 +5,7 @@ ghost use Rattle.swreq_decl.specs.declared.skeleton.Skeleton.{Skeleton};
 ghost use Rattle.swreq_decl.specs.declared.skeleton.TypeDecl.{TypeDecl};
 ghost use Rattle.swreq_decl.specs.Skeletons.{StandsFor};
 ghost use Rattle.swreq_names.specs.declared.signature.Signature.{Signature};
-ghost use Rattle.swreq_names.specs.Inheritance.{Tells};
+ghost use Rattle.swreq_names.specs.Inheritance.{TellsInheritance};
 ghost use Rattle.swreq_names.specs.Parts.{Scope};
 ghost use Rattle.swreq_names.specs.Spaces.{spaces};
 ghost use Rattle.swreq_resolve.specs.declared.refusal.NameErr.{NameErr};
@@ -22,7 +22,7 @@ use swreq_lex::laws::tokens_are_slices;
 /// protocol inherits which.
 pub fn one_answer(text: &[u8], s: &Skeleton)
     ensures never_both { (e : NameErr) → Resolve text.now s.now → ¬ (Refuses text.now s.now e) }
-    ensures some { (inherits : ℕ → ℕ → Bool) → Tells text.now s.now inherits
+    ensures some { (inherits : ℕ → ℕ → Bool) → TellsInheritance text.now s.now inherits
         → Resolve text.now s.now ⊎ ((e : NameErr) × Refuses text.now s.now e) }
     ensures one { (e f : NameErr) → Refuses text.now s.now e → Refuses text.now s.now f → e ≡ f }
 {}
@@ -31,7 +31,7 @@ pub fn one_answer(text: &[u8], s: &Skeleton)
 /// said over a table that tells which protocol inherits which. So where a text is refused for a name, it is the first of the refused
 /// names, and where its names resolve, none is refused.
 pub fn refusals_are_the_refused(text: &[u8], s: &Skeleton)
-    ensures all { StandsFor text.now s.now → (inherits : ℕ → ℕ → Bool) → Tells text.now s.now inherits
+    ensures all { StandsFor text.now s.now → (inherits : ℕ → ℕ → Bool) → TellsInheritance text.now s.now inherits
         → (r : Refusal) → Contains (refusals text.now inherits s.now) r ↔ IsRefused text.now s.now r }
     ensures first { StandsFor text.now s.now → (r : Refusal) → RefusesName text.now s.now r → IsFirstRefused text.now s.now r }
     ensures none { StandsFor text.now s.now → HasNames text.now s.now → (r : Refusal) → ¬ (IsRefused text.now s.now r) }
