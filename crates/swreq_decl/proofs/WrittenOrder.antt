@@ -19,7 +19,7 @@ use Rattle.swreq_decl.specs.Terminals.{number, with_terminals}
 use Rattle.swreq_decl.specs.Source as lines
 use Rattle.swreq_decl.specs.Source.{Line, mark, after, before}
 use Rattle.swreq_decl.specs.Skeletons.{struct_of, function_of, skeleton_of}
-use Rattle.swreq_decl.specs.Signatures.{Signature, of_function, with_functions, stands_before, merged, signatures, item_signatures}
+use Rattle.swreq_decl.specs.Signatures.{SignatureDecl, of_function, with_functions, stands_before, merged, signature_decls, item_signatures}
 use Rattle.swreq_decl.proofs.SameTexts.{Tokens}
 
 -- ---- tokens in order
@@ -234,19 +234,19 @@ function_first f (s ∷ ss) fs h = rw (less f.name.start s.name.start h.0) refl
 struct_first : (s : StructDecl) (ss : List StructDecl) (fs : List FunctionDecl) → FunctionsLater s.name.start fs → merged (s ∷ ss) fs ≡ with_functions s ++ merged ss fs
 struct_first s ss fs h = rw (none_before s fs h, all_after s fs h) refl
 
-in_order : (vs : List Item) → InOrder vs → signatures (skeleton_of vs) ≡ flat_map item_signatures vs
+in_order : (vs : List Item) → InOrder vs → signature_decls (skeleton_of vs) ≡ flat_map item_signatures vs
 in_order [] h = refl
 in_order (items.Struct s ∷ vs) h =
     struct_first s (filter_map struct_of vs) (filter_map function_of vs) (functions_later s.name.start vs h.0)
-    ∙ ap (λ (us : List Signature). with_functions s ++ us) (in_order vs h.1)
+    ∙ ap (λ (us : List SignatureDecl). with_functions s ++ us) (in_order vs h.1)
     ∙ sym (flat_map-cons item_signatures (items.Struct s) vs)
 in_order (items.Function f ∷ vs) h =
     function_first f (filter_map struct_of vs) (filter_map function_of vs) (structs_later f.name.start vs h.0)
-    ∙ ap (λ (us : List Signature). of_function f ∷ us) (in_order vs h.1)
+    ∙ ap (λ (us : List SignatureDecl). of_function f ∷ us) (in_order vs h.1)
     ∙ sym (flat_map-cons item_signatures (items.Function f) vs)
 in_order (items.Protocol p ∷ vs) h = in_order vs h.1 ∙ sym (flat_map-cons item_signatures (items.Protocol p) vs)
 in_order (items.Query q ∷ vs) h = in_order vs h.1 ∙ sym (flat_map-cons item_signatures (items.Query q) vs)
 
-pub signatures_in_order : (text : List ℕ) (from : ℕ) (ts : List lexed.Token) → AreSlices text from ts → (parts : List Item) → Matches number lines.source (with_terminals text ts) parts → signatures (skeleton_of parts) ≡ flat_map item_signatures parts
+pub signatures_in_order : (text : List ℕ) (from : ℕ) (ts : List lexed.Token) → AreSlices text from ts → (parts : List Item) → Matches number lines.source (with_terminals text ts) parts → signature_decls (skeleton_of parts) ≡ flat_map item_signatures parts
 unfolding lines.source
 signatures_in_order text from ts s parts m = in_order parts (parts_in_order parts (with_terminals text ts) m.0 (slices_ordered text from ts s).1)

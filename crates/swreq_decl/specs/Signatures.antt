@@ -12,13 +12,13 @@ use Rattle.swreq_decl.specs.Terminals.{number, with_terminals}
 use Rattle.swreq_decl.specs.Source.{source}
 
 -- a signature: that of a struct, of a function of a struct, or of a function at the top
-pub data Signature : Type 0 where
-  of_struct : StructDecl → Signature
-  of_inner : StructDecl → FunctionDecl → Signature
-  of_function : FunctionDecl → Signature
+pub data SignatureDecl : Type 0 where
+  of_struct : StructDecl → SignatureDecl
+  of_inner : StructDecl → FunctionDecl → SignatureDecl
+  of_function : FunctionDecl → SignatureDecl
 
 -- a struct stands before its functions
-abbrev pub with_functions : StructDecl → List Signature
+abbrev pub with_functions : StructDecl → List SignatureDecl
 with_functions s = of_struct s ∷ map (λ f. of_inner s f) s.functions
 
 -- the function stands before the struct: its name does
@@ -27,16 +27,16 @@ stands_before s f = nat_lt f.name.start s.name.start
 
 -- these structs and functions, each list in written order, as one list in written order: before each struct the functions
 -- that stand before it
-abbrev pub merged : List StructDecl → List FunctionDecl → List Signature
+abbrev pub merged : List StructDecl → List FunctionDecl → List SignatureDecl
 merged [] fs = map (λ f. of_function f) fs
 merged (s ∷ ss) fs = map (λ f. of_function f) (filter (stands_before s) fs) ++ (with_functions s ++ merged ss (filter (λ f. not (stands_before s f)) fs))
 
 -- The signatures of a skeleton, whose lists keep structs and functions apart, in written order.
-abbrev pub signatures : Skeleton → List Signature
-signatures skeleton = merged skeleton.structs skeleton.functions
+abbrev pub signature_decls : Skeleton → List SignatureDecl
+signature_decls skeleton = merged skeleton.structs skeleton.functions
 
 -- the signatures of a part of the text
-abbrev pub item_signatures : Item → List Signature
+abbrev pub item_signatures : Item → List SignatureDecl
 item_signatures (items.Struct s) = with_functions s
 item_signatures (items.Function f) = of_function f ∷ []
 item_signatures (items.Protocol p) = []

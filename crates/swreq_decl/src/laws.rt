@@ -10,7 +10,7 @@ ghost use Rattle.swreq_decl.specs.declared.kind.Kind.{Kind};
 ghost use Rattle.swreq_decl.specs.declared.skeleton.Item.{Item};
 ghost use Rattle.swreq_decl.specs.declared.skeleton.Skeleton.{Skeleton};
 ghost use Rattle.swreq_decl.specs.declared.terminal.Terminal.TheVariants.{Query};
-ghost use Rattle.swreq_decl.specs.Signatures.{HasParts, item_signatures, signatures};
+ghost use Rattle.swreq_decl.specs.Signatures.{HasParts, item_signatures, signature_decls};
 ghost use Rattle.swreq_decl.specs.Skeletons.{RefusedFor, StandsFor, skeleton_of};
 ghost use Rattle.swreq_decl.specs.Source as lines;
 ghost use Rattle.swreq_decl.specs.Spellings.{spelling};
@@ -43,7 +43,7 @@ pub fn source_as_written()
 
 /// The signatures that are read off the skeleton of a text are those of its parts, in written order.
 pub fn signatures_in_written_order(text: &[u8])
-    ensures { (parts : List Item) → HasParts text.now parts → signatures (skeleton_of parts) ≡ flat_map item_signatures parts }
+    ensures { (parts : List Item) → HasParts text.now parts → signature_decls (skeleton_of parts) ≡ flat_map item_signatures parts }
 {
     tokens_are_slices(text);
 }

@@ -79,10 +79,10 @@ module _ (s : StructDecl) where
 -- ---- their declarations
 
 module _ (s : Skeleton) where
-  abbrev declarations : List Signature → List (Option declared.Signature)
+  abbrev declarations : List Signature → List (Option declared.SignatureDecl)
   declarations gs = map (declaration_of s) gs
 
-  abbrev all : List declared.Signature → List (Option declared.Signature)
+  abbrev all : List declared.SignatureDecl → List (Option declared.SignatureDecl)
   all ds = map (λ d. Some d) ds
 
   functions_are : (k n : ℕ) (fs : List FunctionDecl) → AreFrom s.functions k fs → n ≤ length fs
@@ -129,12 +129,12 @@ module _ (s : Skeleton) where
       ∙ sym (map-append (λ d. Some d) top (own ++ others) ∙ ap (λ ds. all top ++ ds) (map-append (λ d. Some d) own others))
       ∙ (λ j. all (map (λ f. of_function f) (parts.0 j) ++ (own ++ declared.merged ss (parts.1 j))))
 
-  pub in_order_is : (from : ℕ) → AreRising function_start from s.functions → declarations (in_order s) ≡ all (declared.signatures s)
+  pub in_order_is : (from : ℕ) → AreRising function_start from s.functions → declarations (in_order s) ≡ all (declared.signature_decls s)
   in_order_is from r = merged_are 0 s.structs 0 s.functions from (all_from s.structs) (all_from s.functions) r
 
   -- Each of them is declared.
   pub all_declared : (from : ℕ) → AreRising function_start from s.functions → (k : ℕ) (g : Signature) → slice_get (in_order s) k ≡ Some g → HasSignature s g
   all_declared from r k g e =
-      let (d, at, is) = mapped_from (λ d. Some d) (declared.signatures s) k (declaration_of s g)
+      let (d, at, is) = mapped_from (λ d. Some d) (declared.signature_decls s) k (declaration_of s g)
       (ap (λ ds. slice_get ds k) (sym (in_order_is from r)) ∙ stands_mapped (declaration_of s) (in_order s) k g e) in
       (d, sym is)

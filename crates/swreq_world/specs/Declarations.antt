@@ -9,16 +9,16 @@ use Rattle.swreq_names.specs.declared.signature.Signature.{Signature}
 use Rattle.swreq_names.specs.declared.signature.Signature.TheVariants.{Struct, Function, Nested}
 
 -- the j-th function of a struct
-abbrev pub nested_declaration : Option StructDecl → ℕ → Option declared.Signature
+abbrev pub nested_declaration : Option StructDecl → ℕ → Option declared.SignatureDecl
 nested_declaration None j = None
 nested_declaration (Some s) j = option_map (of_inner s) (slice_get s.functions j)
 
 -- the struct, the function of a struct or the function at the top that a signature is of
-abbrev pub declaration_of : Skeleton → Signature → Option declared.Signature
+abbrev pub declaration_of : Skeleton → Signature → Option declared.SignatureDecl
 declaration_of s (Struct i) = option_map of_struct (slice_get s.structs i)
 declaration_of s (Function k) = option_map of_function (slice_get s.functions k)
 declaration_of s (Nested i j) = nested_declaration (slice_get s.structs i) j
 
 -- The skeleton declares the signature.
 abbrev pub HasSignature : Skeleton → Signature → Type 0
-HasSignature s g = (d : declared.Signature) × (declaration_of s g ≡ Some d)
+HasSignature s g = (d : declared.SignatureDecl) × (declaration_of s g ≡ Some d)

@@ -5,7 +5,7 @@ ghost use Rattle.swreq_decl.specs.declared.skeleton.ProtocolDecl.{ProtocolDecl};
 ghost use Rattle.swreq_decl.specs.declared.skeleton.QueryDecl.{QueryDecl};
 ghost use Rattle.swreq_decl.specs.declared.skeleton.Skeleton.{Skeleton};
 ghost use Rattle.swreq_decl.specs.declared.skeleton.TypeDecl.{TypeDecl};
-ghost use Rattle.swreq_decl.specs.Signatures.{signatures};
+ghost use Rattle.swreq_decl.specs.Signatures.{signature_decls};
 ghost use Rattle.swreq_decl.specs.Skeletons.{StandsFor};
 ghost use Rattle.swreq_names.specs.declared.signature.Signature.{Signature};
 ghost use Rattle.swreq_names.specs.Parts as parts;
@@ -39,7 +39,7 @@ pub fn signatures_have_places()
 
 /// The signatures of a text in their order are those of its declarations, in written order.
 pub fn signatures_in_written_order(text: &[u8])
-    ensures { (s : Skeleton) → StandsFor text.now s → map (declaration_of s) (in_order s) ≡ map (λ d. Some d) (signatures s) }
+    ensures { (s : Skeleton) → StandsFor text.now s → map (declaration_of s) (in_order s) ≡ map (λ d. Some d) (signature_decls s) }
 {
     tokens_are_slices(text);
 }
