@@ -18,7 +18,7 @@ use Rattle.swreq_decl.specs.declared.refusal.ParseErr.{ParseErr}
 use Rattle.swreq_decl.specs.declared.refusal.ParseErr.TheVariants as errors
 use Rattle.swreq_decl.specs.Terminals.{number, with_terminals}
 use Rattle.swreq_decl.specs.Source.{source}
-use Rattle.swreq_decl.specs.Skeletons.{Exactly, AreRefused, IsSource, RefusedFor, StandsFor, Tells, refused_kind, place, error_of, refused, skeleton_of}
+use Rattle.swreq_decl.specs.Skeletons.{Exactly, AreRefused, IsSource, RefusedFor, StandsFor, Tells, refused_kind, start_of, error_of, refused, skeleton_of}
 use Rattle.swreq_decl.proofs.Predictive.{source_is_predictive, source_is_well_labelled}
 
 -- ---- over tokens
@@ -35,7 +35,7 @@ source_not_refused end ts s at kind a r = text_not_refused number source ts a.0 
 pub one_refused_source : (end : ℕ) (ts : List (Token Terminal)) (at place : ℕ) (kind other : Option Kind) → AreRefused end ts at kind → AreRefused end ts place other → (at ≡ place) × (kind ≡ other)
 one_refused_source end ts at there kind other a b =
     let same = one_refusal number source ts a.0 b.0 a.1 b.1 in
-    (a.2 ∙ ap (λ (f : Fault Terminal Kind). place end f.0) same ∙ sym b.2, a.3 ∙ ap (λ (f : Fault Terminal Kind). refused_kind f.1 f.0) same ∙ sym b.3)
+    (a.2 ∙ ap (λ (f : Fault Terminal Kind). start_of end f.0) same ∙ sym b.2, a.3 ∙ ap (λ (f : Fault Terminal Kind). refused_kind f.1 f.0) same ∙ sym b.3)
 
 -- what was read
 pub read_source : (ts : List (Token Terminal)) (parts : List Item) (skeleton : Skeleton) → read_whole number source ts ≡ Ok parts → skeleton ≡ skeleton_of parts → IsSource ts skeleton
@@ -49,7 +49,7 @@ told end ts at (Some kind) r = r
 pub refused_source : (end : ℕ) (ts : List (Token Terminal)) (stop : Stop Terminal Kind) → Fails stop (read_whole number source ts) → Tells end ts (Err (error_of end stop))
 refused_source end ts stops.Memory h = tt
 refused_source end ts (stops.Refused rest label) h =
-    told end ts (place end rest.now) (refused_kind label rest.now)
+    told end ts (start_of end rest.now) (refused_kind label rest.now)
     ((rest.now, label), whole_refusal number source source_is_predictive source_is_well_labelled ts (rest.now, label) h, refl, refl)
 
 -- tokens stand for a skeleton or are refused
@@ -58,7 +58,7 @@ some_verdict end ts = go (read_whole number source ts) refl
   where
     go : (r : Result (List Item) (Fault Terminal Kind)) → read_whole number source ts ≡ r → ((s : Skeleton) × IsSource ts s) ⊎ ((at : ℕ) × (kind : Option Kind) × AreRefused end ts at kind)
     go (Ok parts) e = inl (skeleton_of parts, read_source ts parts (skeleton_of parts) e refl)
-    go (Err fault) e = inr (place end fault.0, refused_kind fault.1 fault.0, (fault, whole_refusal number source source_is_predictive source_is_well_labelled ts fault e, refl, refl))
+    go (Err fault) e = inr (start_of end fault.0, refused_kind fault.1 fault.0, (fault, whole_refusal number source source_is_predictive source_is_well_labelled ts fault e, refl, refl))
 
 -- ---- over texts
 

@@ -56,10 +56,10 @@ StandsFor text skeleton = (found : List lexed.Token) × HasTokens text found × 
 
 -- ---- refusals
 
--- the place of the first token of the rest, or the end of the text
-abbrev pub place : ℕ → List (Token Terminal) → ℕ
-place end [] = end
-place end (t ∷ rest) = t.start
+-- where the first token of the rest starts, or the end of the text
+abbrev pub start_of : ℕ → List (Token Terminal) → ℕ
+start_of end [] = end
+start_of end (t ∷ rest) = t.start
 
 -- the kind of a refusal with this label at the first token of the rest; at the end of the text it is a syntax error
 abbrev pub refused_kind : Option Kind → List (Token Terminal) → Option Kind
@@ -69,7 +69,7 @@ refused_kind None (t ∷ rest) = kind_by_token t.terminal
 
 -- The tokens are refused at this place, for this kind; with no kind it is a syntax error.
 abbrev pub AreRefused : ℕ → List (Token Terminal) → ℕ → Option Kind → Type 0
-AreRefused end ts at kind = (fault : Fault Terminal Kind) × Refuses number source ts fault × (at ≡ place end fault.0) × (kind ≡ refused_kind fault.1 fault.0)
+AreRefused end ts at kind = (fault : Fault Terminal Kind) × Refuses number source ts fault × (at ≡ start_of end fault.0) × (kind ≡ refused_kind fault.1 fault.0)
 
 -- The text has tokens, and they are refused at this place, for this kind.
 abbrev pub RefusedFor : List ℕ → ℕ → Option Kind → Type 0
@@ -82,7 +82,7 @@ refused at (Some kind) = errors.Unsupported at kind
 
 abbrev pub error_of : ℕ → Stop Terminal Kind → ParseErr
 error_of end stops.Memory = errors.Memory
-error_of end (stops.Refused rest label) = refused (place end rest.now) (refused_kind label rest.now)
+error_of end (stops.Refused rest label) = refused (start_of end rest.now) (refused_kind label rest.now)
 
 -- ---- exact answers
 

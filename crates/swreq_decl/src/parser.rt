@@ -8,7 +8,7 @@ ghost use Rattle.swreq_decl.specs.declared.kind.Kind.{Kind};
 ghost use Rattle.swreq_decl.specs.declared.skeleton.Skeleton.{Skeleton};
 ghost use Rattle.swreq_decl.specs.declared.refusal.ParseErr.TheVariants.{Lex, Syntax, Unsupported};
 ghost use Rattle.swreq_decl.specs.Terminals.{with_terminals};
-ghost use Rattle.swreq_decl.specs.Skeletons.{Exactly, RefusedFor, StandsFor, Tells, refused_kind, place, error_of, skeleton_of};
+ghost use Rattle.swreq_decl.specs.Skeletons.{Exactly, RefusedFor, StandsFor, Tells, refused_kind, start_of, error_of, skeleton_of};
 
 use crate::items::all_items;
 use crate::kind::{Kind, kind_of};
@@ -82,8 +82,8 @@ fn skeleton_of(alloc: Global, items: Vec<Item>) -> Result<Skeleton, AllocError>
 }
 
 /// The place of the first of the tokens, or the end of the text.
-fn place(end: u32, rest: &[Token<Terminal>]) -> u32
-    ensures { result ≡ place end rest.now }
+fn start_of(end: u32, rest: &[Token<Terminal>]) -> u32
+    ensures { result ≡ start_of end rest.now }
 {
     match rest {
         [] => end,
@@ -111,7 +111,7 @@ fn refusal(end: u32, stop: Stop<'_, Terminal, Kind>) -> ParseErr
     match stop {
         Stop::Memory => ParseErr::Memory,
         Stop::Refused(rest, label) => {
-            let at = place(end, rest);
+            let at = start_of(end, rest);
             match refused_kind(label, rest) {
                 Some(kind) => ParseErr::Unsupported { at, kind },
                 None => ParseErr::Syntax { at },

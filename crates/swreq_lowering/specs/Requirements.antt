@@ -1,4 +1,4 @@
--- The requirements that are written in protocols and signatures, in the order of their places, with the places of their sides.
+-- The requirements that are written in protocols and signatures, in written order, with the places of their sides.
 --
 --     protocol P: Q             [Self : Q], at the name of P
 --     protocol P: AnyObject     [Self : AnyObject], at the name of P

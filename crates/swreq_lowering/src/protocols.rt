@@ -58,7 +58,7 @@ fn add_members(
     Ok(())
 }
 
-/// The requirements of a protocol, in the order of their places.
+/// The requirements of a protocol, in written order.
 #[tactic(auto, using(swreq_param::proofs::Growing::onward))]
 pub fn of_protocol(
     alloc: Global,

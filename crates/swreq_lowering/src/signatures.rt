@@ -83,7 +83,7 @@ fn add_signature(
     add_clause(table, words, Context::Signature(signature), clause, into)
 }
 
-/// The list of the struct at a place, in the order of the places of its requirements.
+/// The list of the struct at a place, in written order.
 pub fn of_struct(
     alloc: Global,
     table: &mut ParamTable,
@@ -108,7 +108,7 @@ pub fn of_struct(
     Ok(into)
 }
 
-/// The list of the function at a place at the top, in the order of the places of its requirements.
+/// The list of the function at a place at the top, in written order.
 pub fn of_function(
     alloc: Global,
     table: &mut ParamTable,
@@ -133,7 +133,7 @@ pub fn of_function(
     Ok(into)
 }
 
-/// What the function at a place of the struct `outer` requires itself, in the order of the places of the requirements. Its list is
+/// What the function at a place of the struct `outer` requires itself, in written order. Its list is
 /// that of the struct, followed by these.
 pub fn of_nested(
     alloc: Global,

@@ -15,12 +15,12 @@ a = Name 0
 abbrev pub b : Symbol
 b = Name 1
 
-abbrev pub place : ℕ → ℕ → ℕ → Place
-place i j at = record { i = i; j = j; at = at }
+abbrev pub place_with : ℕ → ℕ → ℕ → Place
+place_with i j at = record { i = i; j = j; at = at }
 
 -- By the greater number, then by the first, then by the second, then from the left.
 abbrev pub ordered_places : List Place
-ordered_places = place 1 2 1 ∷ place 2 1 1 ∷ place 1 3 1 ∷ place 3 2 2 ∷ place 3 3 1 ∷ place 3 3 2 ∷ []
+ordered_places = place_with 1 2 1 ∷ place_with 2 1 1 ∷ place_with 1 3 1 ∷ place_with 3 2 2 ∷ place_with 3 3 1 ∷ place_with 3 3 2 ∷ []
 
 -- each place comes before the next one
 abbrev pub AreInOrder : List Place → Type 0

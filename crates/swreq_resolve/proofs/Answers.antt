@@ -20,7 +20,7 @@ use Rattle.swreq_resolve.specs.Refusals.{refusals, refusals_in}
 use Rattle.swreq_names.specs.Inheritance.{direct, inheritance, TellsInheritance, Inherits}
 use Rattle.swreq_resolve.specs.Cycles.{HasNoLoop, IsLoopAt}
 use Rattle.swreq_names.specs.Names.{NamesView, HasDeclared}
-use Rattle.swreq_resolve.specs.Resolving.{HasNames, Resolve, Refuses, RefusesName, RefusesCycle, IsFirstCycle}
+use Rattle.swreq_resolve.specs.Resolving.{HasNames, Resolve, RefusesSkeleton, RefusesName, RefusesCycle, IsFirstCycle}
 use Rattle.swreq_resolve.proofs.Order.{none_refused, least_is_first, one_first}
 
 -- what inherits a protocol is a protocol of the text
@@ -35,7 +35,7 @@ module _ (text : List ℕ) (s : Skeleton) (n : NamesView) (h : HasDeclared text 
   as_refusals : (o : Option Refusal) → least None (refusals_in text n.declared (leads n.inherits) s) ≡ o → least None (refusals text (leads n.inherits) s) ≡ o
   as_refusals o e = subst (λ (d : Spaces). least None (refusals_in text d (leads n.inherits) s) ≡ o) h.declared e
 
-  pub refused_name : (r : Refusal) (e : NameErr) → least None (refusals_in text n.declared (leads n.inherits) s) ≡ Some r → e ≡ error_of r → Refuses text s e
+  pub refused_name : (r : Refusal) (e : NameErr) → least None (refusals_in text n.declared (leads n.inherits) s) ≡ Some r → e ≡ error_of r → RefusesSkeleton text s e
   refused_name r e l is =
       inl (r, record { inherits = leads n.inherits; tells = h.tells; first = least_is_first (refusals text (leads n.inherits) s) r (as_refusals (Some r) l) }, is)
 
@@ -86,11 +86,11 @@ module _ (text : List ℕ) (s : Skeleton) where
       same_protocol : (p q : ProtocolDecl) → Some p ≡ Some q → p ≡ q
       same_protocol p q e = cc
 
-  pub not_refused : (e : NameErr) → Resolve text s → Refuses text s e → ⊥
+  pub not_refused : (e : NameErr) → Resolve text s → RefusesSkeleton text s e → ⊥
   not_refused e h (inl n) = no_refused_name n.0 h.names n.1
   not_refused e h (inr c) = h.no_cycle c.1.place c.1.cycle.itself
 
-  pub one_refusal : (e f : NameErr) → Refuses text s e → Refuses text s f → e ≡ f
+  pub one_refusal : (e f : NameErr) → RefusesSkeleton text s e → RefusesSkeleton text s f → e ≡ f
   one_refusal e f (inl n) (inl m) = n.2 ∙ ap error_of (one_name n.0 m.0 n.1 m.1) ∙ sym m.2
   one_refusal e f (inl n) (inr d) = absurd (no_refused_name n.0 d.1.names n.1)
   one_refusal e f (inr c) (inl m) = absurd (no_refused_name m.0 c.1.names m.1)
@@ -117,7 +117,7 @@ loops t (suc n) = loops_more t n (t n n) refl (loops t n)
 
 module _ (text : List ℕ) (s : Skeleton) (t : ℕ → ℕ → Bool) (tells : TellsInheritance text s t) where
   abbrev Answer : Type 0
-  Answer = Resolve text s ⊎ ((e : NameErr) × Refuses text s e)
+  Answer = Resolve text s ⊎ ((e : NameErr) × RefusesSkeleton text s e)
 
   stands : (i : ℕ) → i < length s.protocols → (p : ProtocolDecl) × (slice_get s.protocols i ≡ Some p)
   stands i l = ⊎_elim (λ c. (c.0, c.2)) (λ c. absurd (let h = c.0 in omega (arith, h))) (slice_get_cases s.protocols i).1

@@ -7,11 +7,11 @@ use Rattle.swreq_orders.proofs.Members.{first_member, later_member, member_cases
 use Rattle.swreq_resolve.specs.declared.refusal.Fault.{Fault}
 use Rattle.swreq_resolve.specs.declared.refusal.Fault.TheVariants.{Duplicate, NotAProtocol, ConcreteType, NoSuchMember, UnknownSignature, WrongArity}
 use Rattle.swreq_resolve.specs.declared.refusal.Refusal.{Refusal}
-use Rattle.swreq_resolve.specs.First.{rank, precedes, earlier, least, IsFirst}
+use Rattle.swreq_resolve.specs.First.{row, precedes, earlier, least, IsFirst}
 
 -- ---- a number for each refusal
 
-rank_below : (f : Fault) → rank f < 6
+rank_below : (f : Fault) → row f < 6
 rank_below Duplicate = omega arith
 rank_below NotAProtocol = omega arith
 rank_below ConcreteType = omega arith
@@ -20,7 +20,7 @@ rank_below UnknownSignature = omega arith
 rank_below WrongArity = omega arith
 
 abbrev key : Refusal → ℕ
-key r = r.at * 6 + rank r.fault
+key r = r.at * 6 + row r.fault
 
 both_lt : (a b x y : ℕ) → (nat_lt a b || (nat_eq a b && nat_lt x y)) ≡ true → x < 6 → a * 6 + x < b * 6 + y
 both_lt a b x y e p = ⊎_elim first second (or_cases (nat_lt a b) (nat_eq a b && nat_lt x y) e)
@@ -47,10 +47,10 @@ from_lt a b x y p q h = ⊎_elim first second (cases_lt a b)
         or_right (nat_lt a b) (nat_eq a b && nat_lt x y) (and_from (nat_eq a b) (nat_lt x y) (eq-eqb a b s) (lt-ltb x y m))
 
 precedes_to : (q r : Refusal) → precedes q r ≡ true → key q < key r
-precedes_to q r e = both_lt q.at r.at (rank q.fault) (rank r.fault) e (rank_below q.fault)
+precedes_to q r e = both_lt q.at r.at (row q.fault) (row r.fault) e (rank_below q.fault)
 
 precedes_from : (q r : Refusal) → key q < key r → precedes q r ≡ true
-precedes_from q r h = from_lt q.at r.at (rank q.fault) (rank r.fault) (rank_below q.fault) (rank_below r.fault) h
+precedes_from q r h = from_lt q.at r.at (row q.fault) (row r.fault) (rank_below q.fault) (rank_below r.fault) h
 
 not_precedes_to : (q r : Refusal) → precedes q r ≡ false → key r ≤ key q
 not_precedes_to q r e = ⊎_elim (λ l. absurd (true≢false (sym (precedes_from q r l) ∙ e))) (λ l. l) (cases_lt (key q) (key r))
@@ -72,7 +72,7 @@ fault_of (suc (suc (suc zero))) = NoSuchMember
 fault_of (suc (suc (suc (suc zero)))) = UnknownSignature
 fault_of (suc (suc (suc (suc (suc n))))) = WrongArity
 
-of_rank : (f : Fault) → fault_of (rank f) ≡ f
+of_rank : (f : Fault) → fault_of (row f) ≡ f
 unfolding fault_of
 of_rank Duplicate = refl
 of_rank NotAProtocol = refl
@@ -86,7 +86,7 @@ same_parts a b x y p q e = (omega arith, omega arith)
 
 same_refusal : (q r : Refusal) → key q ≡ key r → q ≡ r
 same_refusal q r e =
-    let s = same_parts q.at r.at (rank q.fault) (rank r.fault) (rank_below q.fault) (rank_below r.fault) e in
+    let s = same_parts q.at r.at (row q.fault) (row r.fault) (rank_below q.fault) (rank_below r.fault) e in
     let f : q.fault ≡ r.fault = sym (of_rank q.fault) ∙ ap fault_of s.1 ∙ of_rank r.fault in
     λ i. record { fault = f i; at = s.0 i }
 

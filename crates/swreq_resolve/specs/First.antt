@@ -9,17 +9,17 @@ abbrev pub when : Bool → Fault → ℕ → List Refusal
 when is_there fault at = cond is_there (record { fault = fault; at = at } ∷ []) []
 
 -- the order of faults at one offset
-abbrev pub rank : Fault → ℕ
-rank Duplicate = 0
-rank NotAProtocol = 1
-rank ConcreteType = 2
-rank NoSuchMember = 3
-rank UnknownSignature = 4
-rank WrongArity = 5
+abbrev pub row : Fault → ℕ
+row Duplicate = 0
+row NotAProtocol = 1
+row ConcreteType = 2
+row NoSuchMember = 3
+row UnknownSignature = 4
+row WrongArity = 5
 
 -- The one with the lesser offset comes before the other.
 abbrev pub precedes : Refusal → Refusal → Bool
-precedes q r = nat_lt q.at r.at || (nat_eq q.at r.at && nat_lt (rank q.fault) (rank r.fault))
+precedes q r = nat_lt q.at r.at || (nat_eq q.at r.at && nat_lt (row q.fault) (row r.fault))
 
 -- It is one of them, and none of them precedes it.
 pub record IsFirst (rs : List Refusal) (r : Refusal) : Type 0 where

@@ -42,5 +42,5 @@ pub record RefusesCycle (text : List ℕ) (s : Skeleton) (at : ℕ) : Type 0 whe
   pub is : at ≡ protocol.name.start
 
 -- The error says which name is refused first, or, where none is, that a protocol inherits itself.
-abbrev pub Refuses : List ℕ → Skeleton → NameErr → Type 0
-Refuses text s e = ((r : Refusal) × RefusesName text s r × (e ≡ error_of r)) ⊎ ((at : ℕ) × RefusesCycle text s at × (e ≡ Cycle at))
+abbrev pub RefusesSkeleton : List ℕ → Skeleton → NameErr → Type 0
+RefusesSkeleton text s e = ((r : Refusal) × RefusesName text s r × (e ≡ error_of r)) ⊎ ((at : ℕ) × RefusesCycle text s at × (e ≡ Cycle at))

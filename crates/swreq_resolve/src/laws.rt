@@ -13,7 +13,7 @@ ghost use Rattle.swreq_resolve.specs.declared.refusal.Refusal.{Refusal};
 ghost use Rattle.swreq_resolve.specs.Refusals.{refusals};
 ghost use Rattle.swreq_resolve.specs.Refused.{HasType, IsFirstRefused, IsRefused, IsScopeOf};
 ghost use Rattle.swreq_resolve.specs.RefusedTypes.{IsRefusedOn, of_type_on};
-ghost use Rattle.swreq_resolve.specs.Resolving.{HasNames, Refuses, RefusesName, Resolve};
+ghost use Rattle.swreq_resolve.specs.Resolving.{HasNames, RefusesSkeleton, RefusesName, Resolve};
 
 use swreq_decl::Skeleton;
 use swreq_lex::laws::tokens_are_slices;
@@ -21,10 +21,10 @@ use swreq_lex::laws::tokens_are_slices;
 /// A skeleton has names that resolve or one refusal, and not both. That it has one of them is said over a table that tells which
 /// protocol inherits which.
 pub fn one_answer(text: &[u8], s: &Skeleton)
-    ensures never_both { (e : NameErr) → Resolve text.now s.now → ¬ (Refuses text.now s.now e) }
+    ensures never_both { (e : NameErr) → Resolve text.now s.now → ¬ (RefusesSkeleton text.now s.now e) }
     ensures some { (inherits : ℕ → ℕ → Bool) → TellsInheritance text.now s.now inherits
-        → Resolve text.now s.now ⊎ ((e : NameErr) × Refuses text.now s.now e) }
-    ensures one { (e f : NameErr) → Refuses text.now s.now e → Refuses text.now s.now f → e ≡ f }
+        → Resolve text.now s.now ⊎ ((e : NameErr) × RefusesSkeleton text.now s.now e) }
+    ensures one { (e f : NameErr) → RefusesSkeleton text.now s.now e → RefusesSkeleton text.now s.now f → e ≡ f }
 {}
 
 /// The list of the refusals of names, in the order in which the code looks at them, has exactly the refused names of a text. That is

@@ -1,6 +1,6 @@
 // What is refused of names.
 ghost use Rattle.std.specs.Prelude.{◌≡◌};
-ghost use Rattle.swreq_resolve.specs.First.{precedes, rank, least, when};
+ghost use Rattle.swreq_resolve.specs.First.{precedes, row, least, when};
 ghost use Rattle.swreq_resolve.specs.Errors.{error_of};
 ghost use Rattle.swreq_resolve.specs.declared.refusal.NameErr.TheVariants.{Memory};
 
@@ -78,8 +78,8 @@ impl<T: Drop> From<AllocFailed<T>> for NameErr {
 
 impl Fault {
     /// The place of a fault among those of one name.
-    fn rank(self) -> u8
-        ensures { result ≡ rank self }
+    fn row(self) -> u8
+        ensures { result ≡ row self }
     {
         match self {
             Fault::Duplicate => 0,
@@ -97,7 +97,7 @@ impl Refusal {
     pub fn precedes(self, other: Refusal) -> bool
         ensures { result ≡ precedes self other }
     {
-        self.at < other.at || (self.at == other.at && self.fault.rank() < other.fault.rank())
+        self.at < other.at || (self.at == other.at && self.fault.row() < other.fault.row())
     }
 }
 

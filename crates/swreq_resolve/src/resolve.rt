@@ -7,7 +7,7 @@ ghost use Rattle.swreq_resolve.specs.declared.refusal.NameErr.{NameErr};
 ghost use Rattle.swreq_resolve.specs.declared.refusal.NameErr.TheVariants.{Memory};
 ghost use Rattle.swreq_resolve.specs.First.{IsFirst};
 ghost use Rattle.swreq_resolve.specs.RefusedTypes.{of_type_on};
-ghost use Rattle.swreq_resolve.specs.Resolving.{Resolve, Refuses};
+ghost use Rattle.swreq_resolve.specs.Resolving.{Resolve, RefusesSkeleton};
 
 use crate::check::{FirstWords, check_type};
 use crate::cycles::cycle_of;
@@ -20,7 +20,7 @@ use swreq_names::{Declared, Names, Signature};
 /// The refusal of a skeleton with these names, if there is one.
 fn first_error(text: &[u8], s: &Skeleton, names: &Names) -> Option<NameErr>
     requires { HasDeclared text.now s.now names.now }
-    ensures { MatchOption result (Resolve text.now s.now) (Refuses text.now s.now) }
+    ensures { MatchOption result (Resolve text.now s.now) (RefusesSkeleton text.now s.now) }
 {
     let inherits = names.inheritance();
     match first_refusal(text, names.declared(), inherits, s) {
@@ -40,8 +40,8 @@ pub fn resolve_names(alloc: Global, text: &[u8], s: &Skeleton) -> Result<Names, 
     ensures names { IfOk result (HasDeclared text.now s.now) }
     ensures ok { IsOk result → Resolve text.now s.now }
     ensures resolves { Resolve text.now s.now → IsOk result ⊎ (result ≡ Err Memory) }
-    ensures refused { IfErr result (λ e. Refuses text.now s.now e ⊎ (e ≡ Memory)) }
-    ensures refuses { (e : NameErr) → Refuses text.now s.now e → (result ≡ Err e) ⊎ (result ≡ Err Memory) }
+    ensures refused { IfErr result (λ e. RefusesSkeleton text.now s.now e ⊎ (e ≡ Memory)) }
+    ensures refuses { (e : NameErr) → RefusesSkeleton text.now s.now e → (result ≡ Err e) ⊎ (result ≡ Err Memory) }
 {
     let names = Names::of(alloc, text, s)?;
     match first_error(text, s, &names) {

@@ -13,7 +13,7 @@ use Rattle.swreq_lexicon.proofs.RankLaws.{assoc_is, ranked}
 use Rattle.swreq_correspondence.specs.Symbols.{member_at}
 use Rattle.swreq_world.specs.Closed.{AreIds}
 use Rattle.swreq_symbols.specs.Meaning.{associated_at, member_name, rank_in, symbols_of}
-use Rattle.swreq_symbols.specs.Vanishing.{IsDeclared}
+use Rattle.swreq_symbols.specs.Vanishing.{DeclaresType}
 
 -- ---- member symbols
 
@@ -35,13 +35,13 @@ module _ (x : LexiconView) where
 -- ---- associated types
 
 module _ (x : LexiconView) (p : ProtoId) (a : NameId) (d : AssocId) where
-  pub at_rank : IsDeclared x p a d → slice_get x.associated d.rank ≡ Some (pair p a)
+  pub at_rank : DeclaresType x p a d → slice_get x.associated d.rank ≡ Some (pair p a)
   at_rank c = (ranked x.associated (record { proto = p; name = a; assoc = d })).0 c
 
-  pub from_rank : slice_get x.associated d.rank ≡ Some (pair p a) → IsDeclared x p a d
+  pub from_rank : slice_get x.associated d.rank ≡ Some (pair p a) → DeclaresType x p a d
   from_rank e = (ranked x.associated (record { proto = p; name = a; assoc = d })).1 e
 
-  module _ (ids : AreIds x) (c : IsDeclared x p a d) where
+  module _ (ids : AreIds x) (c : DeclaresType x p a d) where
     pub of_text : IsProtocol x p × IsName x a
     of_text = ids.associated (pair p a) (get_contains x.associated d.rank (pair p a) (at_rank c))
 

@@ -14,11 +14,11 @@ use Rattle.swreq_lexicon.specs.Lexicons.{pair}
 use Rattle.swreq_lexicon.specs.Views.{LexiconView}
 use Rattle.swreq_correspondence.specs.Symbols.{Word}
 use Rattle.swreq_map.specs.Properties.{Vanishes}
-use Rattle.swreq_symbols.specs.Vanishing.{HasStep, IsDeclared, IsFirstBehind, IsGivenBehind}
+use Rattle.swreq_symbols.specs.Vanishing.{HasStep, DeclaresType, IsFirstBehind, IsGivenBehind}
 use Rattle.swreq_symbols.proofs.Declared.{at_rank, from_rank}
 
 module _ (x : LexiconView) (rules : List Rule) (w : Word) (a : NameId) where
-  declared_as : (d : AssocId) (e : ProtocolName) → slice_get x.associated d.rank ≡ Some e → (p : ProtoId) → IsDeclared x p a d → pair p a ≡ e
+  declared_as : (d : AssocId) (e : ProtocolName) → slice_get x.associated d.rank ≡ Some e → (p : ProtoId) → DeclaresType x p a d → pair p a ≡ e
   declared_as d e at p c = same_Some (pair p a) e (sym (at_rank x p a d c) ∙ at)
 
   pub given_answer : (d : AssocId) (e : ProtocolName) (r : Bool) → slice_get x.associated d.rank ≡ Some e → e.name.rank ≡ a.rank

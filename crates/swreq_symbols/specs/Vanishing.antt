@@ -24,12 +24,12 @@ abbrev pub IsLeastBy : List Rule → Word → Type 0
 IsLeastBy rules = IsLeast (Links rules)
 
 -- P declares A in the text, as the associated type d.
-abbrev pub IsDeclared : LexiconView → ProtoId → NameId → AssocId → Type 0
-IsDeclared x p a d = Contains (associated_types x.associated) (record { proto = p; name = a; assoc = d })
+abbrev pub DeclaresType : LexiconView → ProtoId → NameId → AssocId → Type 0
+DeclaresType x p a d = Contains (associated_types x.associated) (record { proto = p; name = a; assoc = d })
 
 -- d is an associated type A of a protocol whose symbol vanishes behind the word.
 abbrev pub IsGivenBehind : LexiconView → List Rule → Word → NameId → AssocId → Type 0
-IsGivenBehind x rules w a d = (p : ProtoId) × IsDeclared x p a d × Vanishes rules w (Proto p.rank)
+IsGivenBehind x rules w a d = (p : ProtoId) × DeclaresType x p a d × Vanishes rules w (Proto p.rank)
 
 -- It is the first such associated type.
 pub record IsFirstBehind (x : LexiconView) (rules : List Rule) (w : Word) (a : NameId) (d : AssocId) : Type 0 where

@@ -14,7 +14,7 @@ use Rattle.swreq_decl.proofs.Answering.{not_both, one_skeleton}
 use Rattle.swreq_orders.proofs.Members.{no_member}
 use Rattle.swreq_resolve.specs.declared.refusal.NameErr.{NameErr}
 use Rattle.swreq_resolve.specs.declared.refusal.NameErr.TheVariants as names
-use Rattle.swreq_resolve.specs.Resolving.{Refuses}
+use Rattle.swreq_resolve.specs.Resolving.{RefusesSkeleton}
 use Rattle.swreq_word.specs.declared.symbols.Symbol.{Symbol}
 use Rattle.swreq_rule.specs.declared.rules.Birth.{Birth}
 use Rattle.swreq_rule.specs.declared.rules.Birth.TheVariants.{Given, Pair}
@@ -92,12 +92,12 @@ only_bare s stands = one_skeleton [] (one_list []) s bare_skeleton stands bare_s
 no_token_refused : (at : ℕ) (kind : Option Kind) → RefusedFor [] at kind → ⊥
 no_token_refused at kind refused = not_both [] (one_list []) bare_skeleton at kind bare_stands refused
 
-no_name_of_bare : (e : NameErr) → Refuses [] bare_skeleton e → ⊥
+no_name_of_bare : (e : NameErr) → RefusesSkeleton [] bare_skeleton e → ⊥
 no_name_of_bare e (inl (r, refuses, is)) = no_member r refuses.first.is
 no_name_of_bare e (inr (at, refuses, is)) = none-some refuses.protocol refuses.stands
 
 no_name_refused : (e : NameErr) → RefusesNames [] e → ⊥
-no_name_refused e (within, (s, stands, refuses)) = no_name_of_bare e (subst (λ (t : Skeleton). Refuses [] t e) (only_bare s stands) refuses)
+no_name_refused e (within, (s, stands, refuses)) = no_name_of_bare e (subst (λ (t : Skeleton). RefusesSkeleton [] t e) (only_bare s stands) refuses)
 
 never_without_world : (refusal : RefusalKind) → HasNoWorld [] refusal → ⊥
 never_without_world refusals.TooLarge long = omega (arith, long)

@@ -13,7 +13,7 @@ use Rattle.swreq_decl.specs.declared.refusal.ParseErr.TheVariants as grammar
 use Rattle.swreq_decl.specs.Skeletons.{StandsFor, RefusedFor, Exactly, refused}
 use Rattle.swreq_resolve.specs.declared.refusal.NameErr.{NameErr}
 use Rattle.swreq_resolve.specs.declared.refusal.NameErr.TheVariants as names
-use Rattle.swreq_resolve.specs.Resolving.{Refuses, Resolve}
+use Rattle.swreq_resolve.specs.Resolving.{RefusesSkeleton, Resolve}
 use Rattle.swreq_resolve.proofs.Answers.{not_refused, one_refusal as one_name}
 use Rattle.swreq_print.specs.declared.refusal.RefusalKind.{RefusalKind}
 use Rattle.swreq_print.specs.declared.refusal.RefusalKind.TheVariants as refusals
@@ -161,7 +161,7 @@ module _ (line : CommandLine) (text : List ℕ) where
 
   -- A text with this reading is refused for what was read, for its names, or for its world.
   abbrev IsReadAs : Result Skeleton ParseErr → Outcome → Type 0
-  IsReadAs (Ok s) o = ((e : NameErr) × Refuses text s e × (o ≡ refused_with (name_refusal e))) ⊎ OfWorld s (λ w. IsStoppedAs w o)
+  IsReadAs (Ok s) o = ((e : NameErr) × RefusesSkeleton text s e × (o ≡ refused_with (name_refusal e))) ⊎ OfWorld s (λ w. IsStoppedAs w o)
   IsReadAs (Err e) o = o ≡ refused_with (refusal_of e)
 
   -- A text with this reading is not refused.

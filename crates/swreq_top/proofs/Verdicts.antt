@@ -14,7 +14,7 @@ use Rattle.swreq_resolve.specs.declared.refusal.Fault.{Fault}
 use Rattle.swreq_resolve.specs.declared.refusal.Fault.TheVariants as faults
 use Rattle.swreq_resolve.specs.declared.refusal.NameErr.{NameErr}
 use Rattle.swreq_resolve.specs.declared.refusal.NameErr.TheVariants as names
-use Rattle.swreq_resolve.specs.Resolving.{Refuses}
+use Rattle.swreq_resolve.specs.Resolving.{RefusesSkeleton}
 use Rattle.swreq_print.specs.declared.refusal.RefusalKind.{RefusalKind}
 use Rattle.swreq_print.specs.declared.refusal.RefusalKind.TheVariants as refusals
 use Rattle.swreq_complete.specs.declared.limit.Failed.{Failed}
@@ -58,7 +58,7 @@ pub record IsExact (text : List ℕ) (parsed : Result Skeleton ParseErr) : Type 
 
 -- a refusal of names is one of the text
 pub names_refused : (text : List ℕ) (skeleton : Skeleton) (e : NameErr) → length text ≤ 1048576 → StandsFor text skeleton
-    → Refuses text skeleton e → HasNoWorld text (name_refusal e)
+    → RefusesSkeleton text skeleton e → HasNoWorld text (name_refusal e)
 names_refused text skeleton (names.Duplicate at) within stands refuses = (within, (skeleton, stands, refuses))
 names_refused text skeleton (names.NotAProtocol at) within stands refuses = (within, (skeleton, stands, refuses))
 names_refused text skeleton (names.ConcreteType at) within stands refuses = (within, (skeleton, stands, refuses))
@@ -76,7 +76,7 @@ names_refused text skeleton names.Memory within stands refuses = not_memory refu
     no_fault faults.UnknownSignature at is = (cc)
     no_fault faults.WrongArity at is = (cc)
 
-    not_memory : Refuses text skeleton names.Memory → ⊥
+    not_memory : RefusesSkeleton text skeleton names.Memory → ⊥
     not_memory (inl (r, refuses, is)) = no_fault r.fault r.at is
     not_memory (inr (at, refuses, is)) = (cc)
 
@@ -99,9 +99,9 @@ one_error {A} {E} r e f is same = let both : (let z : Result A E = Err e in z) �
 -- a text whose names are refused is
 pub unresolved_refused : {Names : Type 0} (text : List ℕ) (skeleton : Skeleton) (result : Result Names NameErr) (e : NameErr) → result ≡ Err e
     → e ≢ names.Memory → length text ≤ 1048576 → StandsFor text skeleton
-    → IfErr result (λ f. Refuses text skeleton f ⊎ (f ≡ names.Memory)) → HasNoWorld text (name_refusal e)
+    → IfErr result (λ f. RefusesSkeleton text skeleton f ⊎ (f ≡ names.Memory)) → HasNoWorld text (name_refusal e)
 unresolved_refused text skeleton result e is real within stands some =
-    names_refused text skeleton e within stands (elim (subst (λ r. IfErr r (λ f. Refuses text skeleton f ⊎ (f ≡ names.Memory))) is some) [
+    names_refused text skeleton e within stands (elim (subst (λ r. IfErr r (λ f. RefusesSkeleton text skeleton f ⊎ (f ≡ names.Memory))) is some) [
       | inl h ↦ h
       | inr none ↦ absurd (real none)
     ])

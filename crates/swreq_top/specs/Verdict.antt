@@ -7,7 +7,7 @@ use Rattle.swreq_decl.specs.Skeletons.{StandsFor, RefusedFor}
 use Rattle.swreq_gen.specs.Generated.{generated}
 use Rattle.swreq_resolve.specs.declared.refusal.NameErr.{NameErr}
 use Rattle.swreq_resolve.specs.declared.refusal.NameErr.TheVariants as names
-use Rattle.swreq_resolve.specs.Resolving.{Refuses}
+use Rattle.swreq_resolve.specs.Resolving.{RefusesSkeleton}
 use Rattle.swreq_lexicon.specs.Views.{LexiconView}
 use Rattle.swreq_rule.specs.declared.rules.Rule.{Rule}
 use Rattle.swreq_watch.specs.declared.events.Event.{Event}
@@ -72,7 +72,7 @@ IsStopOf line x failed.Memory o = ⊥
 
 -- The text is not too long, a skeleton stands for it, and its names have this refusal.
 abbrev pub RefusesNames : Text → NameErr → Type 0
-RefusesNames text e = (length text ≤ 1048576) × ((skeleton : Skeleton) × StandsFor text skeleton × Refuses text skeleton e)
+RefusesNames text e = (length text ≤ 1048576) × ((skeleton : Skeleton) × StandsFor text skeleton × RefusesSkeleton text skeleton e)
 
 -- The text has no world: it is too long, is not in the language, or its names do not resolve. At most one refusal is its.
 abbrev pub HasNoWorld : Text → RefusalKind → Type 0

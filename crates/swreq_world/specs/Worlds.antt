@@ -22,13 +22,13 @@ pub record SignatureOver (R : Type 0) : Type 0 where
   -- the depth of its own generic parameters, and how many have depth 0 and depth 1
   pub own_depth : ℕ
   pub params : Params
-  -- in the order of their places; those of a struct stand before those of its function
+  -- in written order; those of a struct stand before those of its function
   pub requirements : List R
 
 pub record WorldOver (R Q : Type 0) : Type 0 where
   -- protocols, names, associated types and member symbols by rank, what names refer to, and which protocol inherits which
   pub lexicon : LexiconView
-  -- the requirements of each protocol, by rank, in the order of their places
+  -- the requirements of each protocol, by rank, in written order
   pub requirements : List (List R)
   -- the signatures in written order
   pub signatures : List (SignatureOver R)

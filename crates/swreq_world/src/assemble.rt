@@ -3,7 +3,7 @@ ghost use Rattle.std.specs.Prelude.{◌≡◌, ◌≤◌, ◌⊎◌, length, IfO
 ghost use Rattle.swreq_param.specs.Tables.{Extends};
 ghost use Rattle.swreq_decl.specs.Skeletons.{StandsFor};
 ghost use Rattle.swreq_names.specs.Names.{HasDeclared};
-ghost use Rattle.swreq_resolve.specs.Resolving.{Resolve, Refuses};
+ghost use Rattle.swreq_resolve.specs.Resolving.{Resolve, RefusesSkeleton};
 ghost use Rattle.swreq_resolve.specs.declared.refusal.NameErr.{NameErr};
 ghost use Rattle.swreq_resolve.specs.declared.refusal.NameErr.TheVariants.{Memory};
 ghost use Rattle.swreq_lexicon.specs.Texts.{IsLexiconOf};
@@ -85,8 +85,8 @@ impl World {
         ensures extends { Extends table.old table.new }
         ensures ok { IsOk result → Resolve text.now s.now }
         ensures resolves { Resolve text.now s.now → IsOk result ⊎ (result ≡ Err Memory) }
-        ensures refused { IfErr result (λ e. Refuses text.now s.now e ⊎ (e ≡ Memory)) }
-        ensures refuses { (e : NameErr) → Refuses text.now s.now e → (result ≡ Err e) ⊎ (result ≡ Err Memory) }
+        ensures refused { IfErr result (λ e. RefusesSkeleton text.now s.now e ⊎ (e ≡ Memory)) }
+        ensures refuses { (e : NameErr) → RefusesSkeleton text.now s.now e → (result ≡ Err e) ⊎ (result ≡ Err Memory) }
     {
         match resolve_names(alloc, text, s) {
             Ok(names) => match with_names(alloc, text, s, names, table) {

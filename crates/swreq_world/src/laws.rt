@@ -38,7 +38,7 @@ pub fn signatures_have_places()
 {}
 
 /// The signatures of a text in their order are those of its declarations, in written order.
-pub fn signatures_in_written_order(text: &[u8])
+pub fn world_signatures_in_written_order(text: &[u8])
     ensures { (s : Skeleton) → StandsFor text.now s → map (declaration_of s) (in_order s) ≡ map (λ d. Some d) (signature_decls s) }
 {
     tokens_are_slices(text);

@@ -158,7 +158,7 @@ impl World {
         self.lexicon.member_at(m)
     }
 
-    /// The requirements of a protocol, in the order of their places.
+    /// The requirements of a protocol, in written order.
     pub fn requirements(&self, p: ProtoId) -> &[Written]
         requires { p.rank < length self.now.lexicon.protocols }
         ensures { result.now ≡ requirements_of self.now p }
@@ -174,7 +174,7 @@ impl World {
         self.requirements.items()[p.rank as usize].bare()
     }
 
-    /// The list of a signature, in the order of the places of its requirements.
+    /// The list of a signature, in written order.
     pub fn signature(&self, alloc: Global, f: FuncId) -> Result<Vec<Written>, AllocError>
         requires { f.place < length self.now.signatures }
         ensures { IfOk result (λ v. v.items ≡ (signature_at self.now f).requirements) }

@@ -2,7 +2,7 @@ use Rattle.std.specs.Str.{chars}
 use Rattle.swreq_lex.specs.Tokens.{first_offset}
 use Rattle.swreq_world.proofs.AsDeclared.{in_order_is}
 use Rattle.swreq_world.proofs.Offsets.{functions_rising}
-use Rattle.swreq_world.proofs.laws.signatures_in_written_order.Goals as goal
+use Rattle.swreq_world.proofs.laws.world_signatures_in_written_order.Goals as goal
 
 pub returns : goal.returns
 returns c = λ s stands.
