@@ -157,3 +157,30 @@ module _ (words other : List ℕ) where
       from : (k ≡ length words) ⊎ (k ≡ length other) → (j : ℕ) → 64 * k ≤ j → (has words j && has other j) ≡ false
       from (inl e) j h = none_left j (subst (λ n. 64 * n ≤ j) e h)
       from (inr e) j h = none_right j (subst (λ n. 64 * n ≤ j) e h)
+
+-- ---- numbers of one set
+
+module _ (words : List ℕ) where
+  alone_bits : (k j : ℕ) → j < 64 → has words (64 * k + j) ≡ nat_eq (bit_at (get_or words k 0) j) 1
+  alone_bits k j l =
+      let at : (64 * k + j) / 64 ≡ k = omega (arith, l) in
+      let bit : (64 * k + j) % 64 ≡ j = omega (arith, l) in
+      (λ i. nat_eq (bit_at (get_or words (at i) 0) (bit i)) 1)
+
+  -- one word more
+  pub count_alone : (k : ℕ) → get_or words k 0 < 2 ^ 64 → count_below (has words) (64 * (k + 1)) ≡ count_below (has words) (64 * k) + ones (get_or words k 0)
+  count_alone k h =
+      let size : 64 * (k + 1) ≡ 64 * k + 64 = omega arith in
+      ap (count_below (has words)) size ∙ count_parts (has words) (64 * k) 64
+      ∙ ap (λ c. count_below (has words) (64 * k) + c)
+      (count_same (λ j. has words (64 * k + j)) (λ j. nat_eq (bit_at (get_or words k 0) j) 1) 64 (alone_bits k) ∙ ones_count 64 (get_or words k 0) h)
+
+  -- the words that are whole below a bound, as far as there are words
+  pub count_whole : (whole bound : ℕ) → whole ≡ min (length words) (bound / 64) → count_below (has words) (64 * whole) ≡ count_below (has words) (bound / 64 * 64)
+  count_whole whole bound e = from (least words words (length words) (bound / 64) whole e)
+    where
+      from : (whole ≡ length words) ⊎ (whole ≡ bound / 64) → count_below (has words) (64 * whole) ≡ count_below (has words) (bound / 64 * 64)
+      from (inl s) =
+          count_ends (has words) (64 * whole) (bound / 64 * 64) (λ j h. none_past words j (subst (λ n. 64 * n ≤ j) s h))
+          (λ j h. none_past words j (omega (arith, e, s, h)))
+      from (inr s) = let size : 64 * whole ≡ bound / 64 * 64 = omega (arith, s) in ap (count_below (has words)) size
