@@ -19,6 +19,7 @@ use Rattle.swreq_rank.specs.Ranks.{Bytes}
 use Rattle.swreq_lexicon.specs.Texts.{IsLexiconOf, protocol_names, declared_by}
 use Rattle.swreq_lexicon.specs.Views.{LexiconView, IsProtocol, place_of, inherits, assoc_cmp, symbol_cmp}
 use Rattle.swreq_lexicon.proofs.Declared.{from_pieces, named_within}
+use Rattle.swreq_lexicon.proofs.Depths.{inherits_more}
 use Rattle.swreq_lexicon.proofs.RankLaws.{one_to_one, assoc_total, by_name, written_at, written_protocol, written_once}
 use Rattle.swreq_rank.proofs.Rising.{rising_from_sorted, one_place}
 use Rattle.swreq_lowering.specs.Signatures.{in_order}
@@ -95,4 +96,6 @@ closed text s w from rising is resolve =
       outer = outers text s w is.signatures;
       queries = subst (All (IsQueryOf w)) (sym is.queries) (queries_are text s w tells are same is.signatures);
       inheritance = inheritance_written text s resolve.names w is;
+      goes_down = λ p q h k l. inherits_more text s w.lexicon is.lexicon p q k ((inheritance_written text s resolve.names w is p q h k).1 l)
+          (λ e. resolve.no_cycle (place_of w.lexicon q) ((is.lexicon.inheritance q q).0 e));
     }

@@ -8,7 +8,7 @@ use Rattle.swreq_param.specs.declared.ids.ProtoId.{ProtoId}
 use Rattle.swreq_param.specs.Terms.{Term, head}
 use Rattle.swreq_lexicon.specs.declared.pair.ProtocolName.{ProtocolName}
 use Rattle.swreq_lexicon.specs.Lexicons.{pair, associated_types}
-use Rattle.swreq_lexicon.specs.Views.{LexiconView, IsProtocol, IsName, HasMember, inherits}
+use Rattle.swreq_lexicon.specs.Views.{LexiconView, IsProtocol, IsName, HasMember, inherits, depth}
 use Rattle.swreq_lowering.specs.declared.ids.FuncId.{FuncId}
 use Rattle.swreq_lowering.specs.Heads.{IsOver, IsOverSelf}
 pub use Rattle.swreq_lowering.specs.OfText.{IsStepOf, IsTermOf, IsRequirementOf}
@@ -77,7 +77,12 @@ abbrev pub IsInheritanceWritten : TextWorld → Type 0
 IsInheritanceWritten w =
     (p q : ProtoId) → IsProtocol w.lexicon p → IsProtocol w.lexicon q → IsTrue (inherits w.lexicon p q) ↔ LeadsOnTo (facts_of w) p q
 
--- All that is written is of the world, and what a protocol inherits is written.
+-- Written inheritance goes down by depth: a protocol inherits more protocols than each one to which its written conformances lead.
+abbrev pub InheritanceGoesDown : TextWorld → Type 0
+InheritanceGoesDown w =
+    (p q : ProtoId) → IsProtocol w.lexicon p → IsProtocol w.lexicon q → LeadsOnTo (facts_of w) p q → depth w.lexicon q < depth w.lexicon p
+
+-- All that is written is of the world; what a protocol inherits is written, and goes down by depth.
 pub record IsClosed (w : TextWorld) : Type 0 where
   pub ids : AreIds w.lexicon
   pub protocols : length w.requirements ≡ length w.lexicon.protocols
@@ -86,3 +91,4 @@ pub record IsClosed (w : TextWorld) : Type 0 where
   pub outer : All (HasOuter w) w.signatures
   pub queries : All (IsQueryOf w) w.queries
   pub inheritance : IsInheritanceWritten w
+  pub goes_down : InheritanceGoesDown w

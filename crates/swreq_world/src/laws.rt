@@ -93,7 +93,8 @@ pub fn ids_say_what_is_written()
         → (a : TermQuery) × (slice_get w.queries k ≡ Some a) × SaysQuery text s w a q }
 {}
 
-/// Where the names of a text resolve, all that is written in its world is of the world, and what a protocol inherits is written.
+/// Where the names of a text resolve, all that is written in its world is of the world. What a protocol inherits is written, and goes
+/// down by depth.
 pub fn worlds_are_closed(text: &[u8])
     ensures closed { (s : Skeleton) (w : TextWorld)
         → StandsFor text.now s → IsWorldOf text.now s w → Resolve text.now s → IsClosed w }
