@@ -1,5 +1,5 @@
 -- For each name the protocols that declare it.
-use Rattle.std.proofs.Common.{◌≡◌, ℕ, ◌+◌, ◌<◌, ◌≤◌, Bool, true, ◌&&◌, nat_eq, ◌⊎◌, inl, inr, ⊎_elim, ◌↔◌, List, [], ◌∷◌, ◌++◌, length, get_or, take, replicate, Contains, refl, sym, ap, subst, ◌∙◌, eqb-true}
+use Rattle.std.proofs.Common.{◌≡◌, ℕ, ◌+◌, ◌<◌, ◌≤◌, Bool, true, false, ◌||◌, ◌&&◌, nat_eq, ◌⊎◌, inl, inr, ⊎_elim, ◌↔◌, List, [], ◌∷◌, ◌++◌, length, get_or, take, replicate, Contains, refl, sym, ap, subst, ◌∙◌, eqb-true}
 use Rattle.std.specs.List.{list_any}
 use Rattle.std.proofs.lemmas.Bool.{eq-eqb, and_from, and_parts}
 use Rattle.std.proofs.lemmas.List.{take_more, take_all}
@@ -15,6 +15,11 @@ use Rattle.swreq_lexicon.specs.Symbols.{AreDeclarers}
 
 same_name : (a : NameId) (d : ProtocolName) → a.rank ≡ d.name.rank → pair d.proto a ≡ d
 same_name a d e = λ k. record { proto = d.proto; name = record { rank = e k } }
+
+-- where nothing passes
+pub none_passes : {A : Type 0} (test : A → Bool) → ((x : A) → test x ≡ false) → (xs : List A) → list_any test xs ≡ false
+none_passes test none [] = refl
+none_passes test none (x ∷ xs) = (λ i. none x i || list_any test xs) ∙ none_passes test none xs
 
 -- ---- what they say of a name
 

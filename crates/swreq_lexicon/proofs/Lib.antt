@@ -16,5 +16,5 @@ pub mod Mapped
 pub mod Keyed
 pub mod PairKeys
 pub mod PairPlaces
-pub mod Known
+pub mod Rows
 pub mod PlaceSets

@@ -13,6 +13,9 @@ use Rattle.swreq_param.specs.declared.ids.ProtoId.{ProtoId}
 use Rattle.swreq_lexicon.specs.declared.pair.ProtocolName.{ProtocolName}
 use Rattle.swreq_lexicon.specs.Associated.{depth, inherits_name, is_root, assoc_cmp, InheritsName, order_cmp, symbol_cmp}
 use Rattle.swreq_lexicon.specs.Lexicons.{pair}
+use Rattle.swreq_lexicon.specs.Symbols.{AreOnce}
+use Rattle.swreq_rank.specs.Ranks.{IsRanking}
+use Rattle.swreq_rank.proofs.Rising.{rising_from_sorted, one_place}
 use Rattle.swreq_lexicon.proofs.RankLaws.{stands_first}
 
 -- of two items of a sorted list the lesser one stands first
@@ -67,11 +70,14 @@ module _ (inherits : ProtoId → ProtoId → Bool) (associated : List ProtocolNa
 -- ---- member symbols
 
 module _ (inherits : ProtoId → ProtoId → Bool) (n : ℕ) where
+  pub order_total : IsTotalOrder (order_cmp inherits n)
+  order_total = then_total (back_total (on_total (depth inherits n) nat_cmp_total)) (on_total (λ (p : ProtoId). p.rank) nat_cmp_total)
+
   pub symbol_total : IsTotalOrder (symbol_cmp inherits n)
-  symbol_total =
-      then_total (on_total (λ (d : ProtocolName). d.name.rank) nat_cmp_total)
-      (on_total (λ (d : ProtocolName). d.proto)
-      (then_total (back_total (on_total (depth inherits n) nat_cmp_total)) (on_total (λ (p : ProtoId). p.rank) nat_cmp_total)))
+  symbol_total = then_total (on_total (λ (d : ProtocolName). d.name.rank) nat_cmp_total) (on_total (λ (d : ProtocolName). d.proto) order_total)
+
+  pub ordered_once : (order : List ProtoId) → IsRanking (order_cmp inherits n) (λ p. p.rank < n) order → AreOnce order
+  ordered_once order is = one_place (order_cmp inherits n) order_total order (rising_from_sorted (order_cmp inherits n) order is.sorted)
 
   module _ (p q : ProtoId) (a : NameId) where
     of_protocols : order_cmp inherits n p q ≡ Less → symbol_cmp inherits n (pair p a) (pair q a) ≡ Less

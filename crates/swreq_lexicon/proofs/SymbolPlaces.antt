@@ -3,11 +3,10 @@ use Rattle.std.proofs.Common.{◌≡◌, ℕ, zero, suc, ◌+◌, ◌*◌, ◌<�
 use Rattle.std.specs.List.{filter}
 use Rattle.std.specs.Option.{option_map}
 use Rattle.std.proofs.lemmas.Bool.{cases_lt}
-use Rattle.std.proofs.lemmas.List.{length-map, get_or_past, get_or_push, get_or_append_left}
+use Rattle.std.proofs.lemmas.List.{length-map, get_or_past}
 use Rattle.std.proofs.lemmas.List.Sums.{sum_by_more, length-filter, count_by-le-length}
 use Rattle.std.proofs.lemmas.Option.{slice_get-map}
 use Rattle.swreq_orders.proofs.Elements.{get_after}
-use Rattle.swreq_orders.proofs.Numbers.{last_or_below}
 use Rattle.swreq_param.specs.declared.ids.NameId.{NameId}
 use Rattle.swreq_param.specs.declared.ids.ProtoId.{ProtoId}
 use Rattle.swreq_lexicon.specs.Associated.{name}
@@ -33,28 +32,11 @@ filter_place p (x ∷ xs) (suc i) d h e = by (p x) (filter_place p xs i d (omega
     by false r = r
 
 module _ (order : List ProtoId) (has : ProtoId → NameId → Bool) where
-  length_of : (a : NameId) → length (symbols_of order has a) ≡ length (having order has a)
+  pub length_of : (a : NameId) → length (symbols_of order has a) ≡ length (having order has a)
   length_of a = length-map (having order has a) (λ p. pair p a)
 
   pub having_le : (a : NameId) → length (having order has a) ≤ length order
   having_le a = subst (λ n. n ≤ length order) (sym (length-filter (λ p. has p a) order)) (count_by-le-length (λ p. has p a) order)
-
-  -- the count of one name more
-  pub counts_more : (n : ℕ) (counts : List ℕ) (count : ℕ) → AreCounts order has n counts → count ≡ length (having order has (name n)) → AreCounts order has (n + 1) (counts ++ count ∷ [])
-  counts_more n counts count are is =
-      let size = are.count in
-      let longer = length-append counts (count ∷ []) in
-      record { count = omega (arith, size, longer); each = λ a h. ⊎_elim (last a) (earlier a) (last_or_below a n h) }
-    where
-      last : (a : ℕ) → a ≡ n → get_or (counts ++ count ∷ []) a 0 ≡ length (symbols_of order has (name a))
-      last a e =
-          let at : length counts ≡ a = are.count ∙ sym e in
-          get_or_push counts count 0 a at ∙ is ∙ (λ i. length (having order has (name (sym e i)))) ∙ sym (length_of (name a))
-
-      earlier : (a : ℕ) → a < n → get_or (counts ++ count ∷ []) a 0 ≡ length (symbols_of order has (name a))
-      earlier a l =
-          let size = are.count in
-          get_or_append_left counts (count ∷ []) 0 a (omega (arith, size, l)) ∙ are.each a l
 
   pub length_more : (n : ℕ) → length (symbols_below order has (suc n)) ≡ length (symbols_below order has n) + length (having order has (name n))
   length_more n = length-append (symbols_below order has n) (symbols_of order has (name n)) ∙ ap (λ k. length (symbols_below order has n) + k) (length_of (name n))

@@ -1,15 +1,12 @@
 -- The rank of a member symbol.
-use Rattle.std.proofs.Common.{◌≡◌, ℕ, ◌+◌, ◌-◌, ◌^◌, ◌<◌, ◌≤◌, Bool, true, false, nat_eq, List, length, get_or, slice_get, take, position, Some, None, Contains, refl, sym, ap, ◌∙◌, arith, true≢false, eqb-true}
-use Rattle.std.proofs.lemmas.Bool.{eq-eqb}
+use Rattle.std.proofs.Common.{◌≡◌, ℕ, ◌+◌, ◌-◌, ◌^◌, ◌<◌, ◌≤◌, Bool, true, false, List, length, get_or, slice_get, take, Some, Contains, sym, ap, ◌∙◌, arith, true≢false}
 use Rattle.std.proofs.lemmas.List.{get_or_default, length-take-le}
-use Rattle.std.proofs.lemmas.List.Quantifiers.{position-Some}
-use Rattle.std.proofs.lemmas.Option.{slice_get_within}
+use Rattle.std.proofs.lemmas.Option.{slice_get_within, get_or_from_slice_get}
 use Rattle.swreq_param.specs.declared.ids.NameId.{NameId}
 use Rattle.swreq_param.specs.declared.ids.ProtoId.{ProtoId}
 use Rattle.swreq_lexicon.specs.Associated.{name}
 use Rattle.swreq_lexicon.specs.Lexicons.{pair}
 use Rattle.swreq_lexicon.specs.Symbols.{having, symbols_below, AreStarts}
-use Rattle.swreq_lexicon.proofs.Positions.{fails_all}
 use Rattle.swreq_lexicon.proofs.SymbolMembers.{symbol_is}
 use Rattle.swreq_lexicon.proofs.SymbolPlaces.{filter_place, having_le, length_below, symbol_at}
 
@@ -21,25 +18,16 @@ module _ (order : List ProtoId) (has : ProtoId → NameId → Bool) (n : ℕ) wh
       get_or_default starts a x 0 (omega (arith, size)) ∙ are.each a h
 
   module _ (p : ProtoId) (a : NameId) where
-    abbrev is : ProtoId → Bool
-    is q = nat_eq p.rank q.rank
-
-    pub rank_found : (place : ℕ) → position is order ≡ Some place → a.rank < n → has p a ≡ true
+    pub rank_found : (place : ℕ) → slice_get order place ≡ Some p → a.rank < n → has p a ≡ true
         → slice_get (symbols_below order has n) (length (symbols_below order has a.rank) + length (having (take place order) has a)) ≡ Some (pair p a)
     rank_found place f h e =
-        let s = position-Some is order place p f in
-        let same : get_or order place p ≡ p = λ i. record { rank = sym (eqb-true p.rank (get_or order place p).rank s.1) i } in
-        let at = filter_place (λ q. has q a) order place p s.0 (ap (λ q. has q a) same ∙ e) ∙ ap Some same in
+        let within = slice_get_within order place p f in
+        let same : get_or order place p ≡ p = get_or_from_slice_get order place p p f in
+        let at = filter_place (λ q. has q a) order place p within (ap (λ q. has q a) same ∙ e) ∙ ap Some same in
         symbol_at order has n a.rank (length (having (take place order) has a)) p h (slice_get_within (having order has a) (length (having (take place order) has a)) p at) at
 
-    not_ordered : position is order ≡ None → Contains order p → ⊥
-    not_ordered f c =
-        let no = fails_all is order f c.0 p c.1 in
-        let yes : is (get_or order c.0 p) ≡ true = ap is c.2 ∙ eq-eqb p.rank p.rank refl in
-        true≢false (sym yes ∙ no)
-
-    pub rank_nowhere : position is order ≡ None → Contains (symbols_below order has n) (pair p a) → ⊥
-    rank_nowhere f c = not_ordered f (symbol_is order has n (pair p a) c).ordered
+    pub rank_nowhere : (Contains order p → ⊥) → Contains (symbols_below order has n) (pair p a) → ⊥
+    rank_nowhere none c = none (symbol_is order has n (pair p a) c).ordered
 
     pub rank_not_had : has p a ≡ false → Contains (symbols_below order has n) (pair p a) → ⊥
     rank_not_had e c = true≢false (sym (symbol_is order has n (pair p a) c).member ∙ e)
@@ -53,11 +41,10 @@ module _ (order : List ProtoId) (has : ProtoId → NameId → Bool) (n : ℕ) wh
         let l = length-take-le place order h in
         omega (arith, k, l, h)
 
-    pub rank_fits : (place start before : ℕ) → position is order ≡ Some place → a.rank < n → n ≤ 1048576 → length order ≤ 1048576
+    pub rank_fits : (place start before : ℕ) → slice_get order place ≡ Some p → a.rank < n → n ≤ 1048576 → length order ≤ 1048576
         → start ≡ length (symbols_below order has a.rank) → before ≡ length (having (take place order) has a) → start + before < 2 ^ 64
     rank_fits place start before f h small few e g =
-        let s = position-Some is order place p f in
-        let within : place < length order = s.0 in
+        let within = slice_get_within order place p f in
         let k = length_below order has a.rank few in
         let l = part_le place (omega arith) in
         omega (arith, k, l, e, g, h, small, few)

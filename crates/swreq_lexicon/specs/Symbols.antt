@@ -1,6 +1,7 @@
 -- Member symbols by rank, where the protocols stand in their order within each name.
-use Rattle.std.specs.Prelude.{◌≡◌, ◌↔◌, ◌<◌, ◌≤◌, ◌+◌, ◌&&◌, ◌||◌, ℕ, zero, suc, Bool, nat_eq, List, [], ◌++◌, Option, Some, length, map, filter, slice_get, slice_index, slice_index_or, Contains}
+use Rattle.std.specs.Prelude.{◌≡◌, ◌↔◌, ◌<◌, ◌≤◌, ◌+◌, ◌&&◌, ◌||◌, ℕ, zero, suc, Bool, false, nat_eq, List, [], ◌++◌, Some, length, map, filter, slice_get, slice_index, slice_index_or, Contains}
 use Rattle.std.specs.List.{list_any}
+use Rattle.swreq_closure.specs.Bits as sets
 use Rattle.swreq_param.specs.declared.ids.NameId.{NameId}
 use Rattle.swreq_param.specs.declared.ids.ProtoId.{ProtoId}
 use Rattle.swreq_lexicon.specs.declared.pair.ProtocolName.{ProtocolName}
@@ -38,21 +39,39 @@ module _ (order : List ProtoId) (has : ProtoId → NameId → Bool) where
 abbrev pub AreDeclarers : List ProtocolName → List (List ProtoId) → Type 0
 AreDeclarers associated lists = (p : ProtoId) (a : NameId) → Contains (slice_index_or lists a.rank []) p ↔ Contains associated (pair p a)
 
--- what rows by name say of a protocol and a name, if they say it
-abbrev pub known : List (List Bool) → ProtoId → NameId → Option Bool
-known rows p a = slice_get (slice_index_or rows a.rank []) p.rank
+-- ---- places in an order
 
-module _ (has : ProtoId → NameId → Bool) where
-  -- What the row says of the name is right.
-  abbrev pub IsRow : NameId → List Bool → Type 0
-  IsRow a row = (p : ProtoId) (b : Bool) → slice_get row p.rank ≡ Some b → has p a ≡ b
+-- P stands at the place k, and at no other.
+abbrev pub StandsAt : List ProtoId → ProtoId → ℕ → Type 0
+StandsAt order p k = (slice_get order k ≡ Some p) × ((j : ℕ) → slice_get order j ≡ Some p → j ≡ k)
 
-  -- What the rows say is right.
-  abbrev pub AreKnown : List (List Bool) → Type 0
-  AreKnown rows = (p : ProtoId) (a : NameId) (b : Bool) → known rows p a ≡ Some b → has p a ≡ b
+-- No protocol stands twice.
+abbrev pub AreOnce : List ProtoId → Type 0
+AreOnce order = (i j : ℕ) (p : ProtoId) → slice_get order i ≡ Some p → slice_get order j ≡ Some p → i ≡ j
 
--- The protocols in their order, where the member symbols of each name begin, and what is kept of who has which name.
+-- By rank, the place of each protocol.
+abbrev pub ArePlaces : List ProtoId → List ℕ → Type 0
+ArePlaces order places = (k : ℕ) (p : ProtoId) → slice_get order k ≡ Some p → slice_get places p.rank ≡ Some k
+
+-- the places of a name, of which there are none where it has no row
+abbrev pub row_of : List (List ℕ) → NameId → List ℕ
+row_of rows a = slice_index_or rows a.rank []
+
+-- Each row has the places in order of the protocols that have the name.
+abbrev pub AreRows : List ProtoId → (ProtoId → NameId → Bool) → List (List ℕ) → Type 0
+AreRows order has rows = (k : ℕ) (p : ProtoId) (a : NameId) → slice_get order k ≡ Some p → sets.has (row_of rows a) k ≡ has p a
+
+module _ (inherits : ProtoId → ProtoId → Bool) (order : List ProtoId) where
+  -- The set has the places in order of Q and of the protocols that inherit it.
+  abbrev pub AreHeirs : ProtoId → List ℕ → Type 0
+  AreHeirs q set = (k : ℕ) (p : ProtoId) → slice_get order k ≡ Some p → sets.has set k ≡ (nat_eq p.rank q.rank || inherits p q)
+
+  -- From this place on no protocol inherits another.
+  abbrev pub AreNoHeirs : ℕ → Type 0
+  AreNoHeirs from = (k : ℕ) (p q : ProtoId) → from ≤ k → slice_get order k ≡ Some p → inherits p q ≡ false
+
+-- The protocols in their order, where the member symbols of each name begin, and for each name the places of those that have it.
 pub record SymbolsView : Type 0 where
   pub order : List ProtoId
   pub starts : List ℕ
-  pub known : List (List Bool)
+  pub rows : List (List ℕ)

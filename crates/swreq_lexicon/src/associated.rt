@@ -16,9 +16,6 @@ use std::marker::Model;
 use swreq_param::{AssocId, NameId, ProtoId};
 use swreq_rank::{Lists, Ranked};
 
-/// Of a name that no more protocols than this declare, going through them takes less time than keeping who has it.
-const FEW: usize = 8;
-
 /// By what associated types are ranked: their name, whether their protocol inherits one that declares it, and their protocol.
 #[derive(Clone, Copy, PartialEq, Eq, PartialOrd, Ord)]
 pub struct AssocKey {
@@ -39,15 +36,16 @@ impl AssocKey {
     }
 }
 
-/// At most 1,048,576 associated types by rank, and for each name the protocols that declare it.
+/// At most 1,048,576 associated types by rank and in written order, and for each name the protocols that declare it.
 #[derive(Drop)]
 pub struct Associated {
     ranked: Ranked<AssocKey>,
+    written: Vec<ProtocolName>,
     declarers: Lists<ProtoId>,
 }
 
 impl Model for Associated {
-    ghost use Rattle.std.specs.Prelude.{List, map, length, ◌≤◌};
+    ghost use Rattle.std.specs.Prelude.{List, map, length, ◌≤◌, ◌↔◌, Contains};
     ghost use Rattle.swreq_lexicon.specs.declared.pair.ProtocolName.{ProtocolName};
     ghost use Rattle.swreq_lexicon.specs.Keys.{pair_of};
     ghost use Rattle.swreq_lexicon.specs.Symbols.{AreDeclarers};
@@ -56,7 +54,8 @@ impl Model for Associated {
 
     ghost view = { λ a. map pair_of a.ranked };
 
-    ghost invariant = { λ a. AreDeclarers (map pair_of a.ranked) a.declarers × (length a.ranked ≤ 1048576) };
+    ghost invariant = { λ a. AreDeclarers (map pair_of a.ranked) a.declarers × (length a.ranked ≤ 1048576)
+        × ((d : ProtocolName) → Contains a.written.items d ↔ Contains (map pair_of a.ranked) d) };
 }
 
 impl Associated {
@@ -69,13 +68,18 @@ impl Associated {
     ) -> Result<Associated, AllocError>
         requires few { length pairs.items ≤ 1048576 }
         requires within { (d : ProtocolName) → Contains pairs.items d → d.name.rank < names }
+        ensures within { IfOk result (λ x. (d : ProtocolName) → Contains x d → d.name.rank < names) }
         ensures same { IfOk result (λ x. (d : ProtocolName) → Contains x d ↔ Contains pairs.items d) }
         ensures sorted { IfOk result (λ x. IsStrictlySortedBy (assoc_cmp (inherits_by protocols.now.places protocols.now.resolved.inherits) x) x) }
     {
         let declarers = declarers_of(alloc, names, &pairs)?;
         let ranked = Ranked::of(keys(alloc, protocols, &declarers, &pairs)?);
         let _sorted = ranked.items();
-        Ok(Associated { ranked, declarers })
+        Ok(Associated {
+            ranked,
+            written: pairs,
+            declarers,
+        })
     }
 
     /// How many there are.
@@ -112,9 +116,11 @@ impl Associated {
         }
     }
 
-    /// Whether few protocols declare the name. Only the time that is taken rests on it.
-    pub fn is_declared_by_few(&self, a: NameId) -> bool {
-        self.declarers.at(a.rank as usize).len() <= FEW
+    /// The protocols and the names of the associated types, in written order, those that are written twice twice.
+    pub fn written(&self) -> &[ProtocolName]
+        ensures { (d : ProtocolName) → Contains result.now d ↔ Contains self.now d }
+    {
+        &self.written
     }
 
     /// Whether the protocol, or one that it inherits, declares the name.
@@ -145,10 +151,11 @@ fn declarers_of(
 fn inherits_name(protocols: &Protocols, lists: &Lists<ProtoId>, p: ProtoId, a: NameId) -> bool
     ensures { result ≡ list_any (inherits_by protocols.now.places protocols.now.resolved.inherits p) (slice_index_or lists.now a.rank []) }
 {
-    lists
-        .at(a.rank as usize)
-        .iter()
-        .any(|q| protocols.inherits(p, *q))
+    protocols.may_inherit(p)
+        && lists
+            .at(a.rank as usize)
+            .iter()
+            .any(|q| protocols.inherits(p, *q))
 }
 
 /// Whether the protocol, or one that it inherits, is among those that declare the name.

@@ -35,7 +35,7 @@ pub struct Lexicon {
 
 impl Model for Lexicon {
     ghost use Rattle.std.specs.Prelude.{length, ◌≤◌};
-    ghost use Rattle.swreq_lexicon.specs.Symbols.{has_member, symbols_below, AreKnown, AreStarts};
+    ghost use Rattle.swreq_lexicon.specs.Symbols.{has_member, symbols_below, AreRows, AreStarts};
     ghost use Rattle.swreq_lexicon.specs.Views.{LexiconView, inherits_by};
 
     ghost Value = { LexiconView };
@@ -52,7 +52,7 @@ impl Model for Lexicon {
 
     ghost invariant = { λ x. (length x.names ≤ 1048576) × (length x.symbols.order ≤ 1048576)
         × AreStarts x.symbols.order (has_member (inherits_by x.protocols.places x.protocols.resolved.inherits) x.associated) (length x.names) x.symbols.starts
-        × AreKnown (has_member (inherits_by x.protocols.places x.protocols.resolved.inherits) x.associated) x.symbols.known };
+        × AreRows x.symbols.order (has_member (inherits_by x.protocols.places x.protocols.resolved.inherits) x.associated) x.symbols.rows };
 }
 
 impl Lexicon {

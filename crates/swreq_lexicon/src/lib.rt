@@ -5,6 +5,7 @@ mod associated;
 pub mod laws;
 mod lexicon;
 mod members;
+mod ordered;
 mod pair;
 mod protocols;
 mod symbols;

@@ -1,118 +1,220 @@
-// Which protocol has which member name, as far as it is kept.
-ghost use Rattle.std.specs.Prelude.{◌≡◌, ◌≤◌, Some, IfOk, slice_get, slice_index_or, []};
-ghost use Rattle.swreq_lexicon.specs.Symbols.{has_member, known, AreKnown, IsRow};
+// Which protocol has which member name.
+ghost use Rattle.std.specs.Prelude.{◌≡◌, ◌<◌, ◌≤◌, ◌||◌, ◌&&◌, ℕ, false, nat_eq, [], length, slice_get, Some, MatchOption, IfOk, OnOk, Contains};
+ghost use Rattle.swreq_closure.specs.Bits.{count_below, has, room};
+ghost use Rattle.swreq_lexicon.specs.Symbols.{has_member, row_of, AreHeirs, AreNoHeirs, AreRows};
 ghost use Rattle.swreq_lexicon.specs.Views.{inherits_by};
+ghost use Rattle.swreq_lexicon.specs.declared.pair.ProtocolName.{ProtocolName};
 
 use crate::associated::Associated;
+use crate::ordered::Ordered;
+use crate::pair::ProtocolName;
 use crate::protocols::Protocols;
 use std::alloc::{AllocError, Global};
 use std::marker::Model;
+use swreq_closure::Bits;
 use swreq_param::{NameId, ProtoId};
-use swreq_text::Seq;
 
-/// For names by rank and protocols by rank, whether the protocol has the name.
-///
-/// It is kept of names that many protocols declare. Where few do, going through them takes little time, and names may be many.
+/// For each name, by rank, the set of the places in order of the protocols that have it.
 #[derive(Drop)]
 pub struct Members {
-    rows: Vec<Seq<bool>>,
+    rows: Vec<Bits>,
 }
 
 impl Model for Members {
-    ghost use Rattle.std.specs.Prelude.{Bool, List};
+    ghost use Rattle.std.specs.Prelude.{ℕ, List};
 
-    ghost Value = { List (List Bool) };
+    ghost Value = { List (List ℕ) };
 
     ghost view = { λ m. m.rows.items };
 }
 
 impl Members {
-    /// What is kept of the first `names` names.
+    /// The members of the first `names` names, which have all associated types.
     pub fn of(
         alloc: Global,
         protocols: &Protocols,
+        ordered: &Ordered,
         associated: &Associated,
         names: usize,
     ) -> Result<Members, AllocError>
-        requires { names ≤ 1048576 }
-        ensures { IfOk result (AreKnown (has_member (inherits_by protocols.now.places protocols.now.resolved.inherits) associated.now)) }
+        requires { (d : ProtocolName) → Contains associated.now d → d.name.rank < names }
+        ensures { IfOk result (AreRows ordered.now (has_member (inherits_by protocols.now.places protocols.now.resolved.inherits) associated.now)) }
     {
-        let rows = rows(alloc, protocols, associated, names)?;
+        let rows = rows(alloc, protocols, ordered, associated.written(), names)?;
         Ok(Members { rows })
     }
 
+    /// Whether the protocol at the place has the name.
+    pub fn at(&self, place: usize, a: NameId) -> bool
+        ensures { result ≡ has (row_of self.now a) place }
+    {
+        match row_at(&self.rows, a) {
+            Some(row) => row.contains(place),
+            None => false,
+        }
+    }
+
     /// Whether the protocol, or one that it inherits, declares the name.
-    pub fn has(&self, protocols: &Protocols, associated: &Associated, p: ProtoId, a: NameId) -> bool
-        requires { AreKnown (has_member (inherits_by protocols.now.places protocols.now.resolved.inherits) associated.now) self.now }
+    pub fn has(
+        &self,
+        protocols: &Protocols,
+        ordered: &Ordered,
+        associated: &Associated,
+        p: ProtoId,
+        a: NameId,
+    ) -> bool
+        requires { AreRows ordered.now (has_member (inherits_by protocols.now.places protocols.now.resolved.inherits) associated.now) self.now }
         ensures { result ≡ has_member (inherits_by protocols.now.places protocols.now.resolved.inherits) associated.now p a }
     {
-        match known(&self.rows, p, a) {
-            Some(has) => has,
+        match ordered.place_of(p) {
+            Some(place) => self.at(place, a),
             None => associated.has_member(protocols, p, a),
+        }
+    }
+
+    /// At how many places before this one protocols have the name.
+    pub fn count_before(&self, place: usize, a: NameId) -> usize
+        ensures { result ≡ count_below (has (row_of self.now a)) place }
+    {
+        match row_at(&self.rows, a) {
+            Some(row) => row.count_to(place),
+            None => 0,
         }
     }
 }
 
-/// The row of a name, which is empty where none is kept.
-fn row_at(rows: &[Seq<bool>], a: NameId) -> &[bool]
-    ensures { result.now ≡ slice_index_or rows.now a.rank [] }
+/// The row of a name, or None where it has no place.
+fn row_at(rows: &[Bits], a: NameId) -> Option<&Bits>
+    ensures { MatchOption result (row_of rows.now a ≡ []) (λ row. row.now ≡ row_of rows.now a) }
 {
-    match rows.get(a.rank as usize) {
-        Some(row) => row.items(),
-        None => &[],
-    }
+    rows.get(a.rank as usize)
 }
 
-/// What these rows say of a protocol and a name, if it is kept.
-fn known(rows: &[Seq<bool>], p: ProtoId, a: NameId) -> Option<bool>
-    ensures { result ≡ known rows.now p a }
+/// The places from here on have protocols that inherit none.
+fn heirs_end(protocols: &Protocols, order: &[ProtoId]) -> usize
+    ensures within { result ≤ length order.now }
+    ensures rest { AreNoHeirs (inherits_by protocols.now.places protocols.now.resolved.inherits) order.now result }
 {
-    match row_at(rows, a).get(p.rank as usize) {
-        Some(has) => Some(*has),
-        None => None,
+    let count = order.len();
+    for gone in 0..count {
+        if protocols.may_inherit(order[count - 1 - gone]) {
+            return count - gone;
+        }
+    }
+    0
+}
+
+/// The set of the place of a protocol, with room for those of all.
+fn itself(alloc: Global, ordered: &Ordered, q: ProtoId) -> Result<Bits, AllocError>
+    ensures room { IfOk result (λ s. length ordered.now < room s) }
+    ensures itself { IfOk result (λ s. (k : ℕ) (p : ProtoId) → slice_get ordered.now k ≡ Some p → has s k ≡ nat_eq p.rank q.rank) }
+{
+    let mut set = Bits::with_room(alloc, ordered.protos().len())?;
+    match ordered.place_of(q) {
+        Some(place) => set.insert(place),
+        None => {}
+    }
+    Ok(set)
+}
+
+/// Adds the places below the end whose protocols inherit this one.
+fn add_heirs(protocols: &Protocols, order: &[ProtoId], end: usize, q: ProtoId, set: &mut Bits)
+    requires end { end ≤ length order.now }
+    requires room { length order.now < room set.old }
+    ensures below { (k : ℕ) (p : ProtoId) → k < end → slice_get order.now k ≡ Some p
+        → has set.new k ≡ (has set.old k || inherits_by protocols.now.places protocols.now.resolved.inherits p q) }
+    ensures rest { (k : ℕ) → end ≤ k → has set.new k ≡ has set.old k }
+{
+    for k in 0..end {
+        if protocols.inherits(order[k], q) {
+            set.insert(k);
+        }
     }
 }
 
-/// Of how many protocols it is kept whether they have the name. Only the time and the room that are taken rest on it.
-fn row_length(protocols: &Protocols, associated: &Associated, a: NameId) -> u32 {
-    if associated.is_declared_by_few(a) {
-        0
-    } else {
-        protocols.len()
-    }
-}
-
-/// Whether the protocols have the name, or nothing where few declare it.
-fn row(
+/// The places of the protocols that are this one or inherit it. Those from the end on inherit none.
+fn heirs(
     alloc: Global,
     protocols: &Protocols,
-    associated: &Associated,
-    a: NameId,
-) -> Result<Vec<bool>, AllocError>
-    ensures { IfOk result (λ row. IsRow (has_member (inherits_by protocols.now.places protocols.now.resolved.inherits) associated.now) a row.items) }
+    ordered: &Ordered,
+    end: usize,
+    q: ProtoId,
+) -> Result<Bits, AllocError>
+    requires end { end ≤ length ordered.now }
+    requires none { AreNoHeirs (inherits_by protocols.now.places protocols.now.resolved.inherits) ordered.now end }
+    ensures { IfOk result (AreHeirs (inherits_by protocols.now.places protocols.now.resolved.inherits) ordered.now q) }
 {
-    let mut row = Vec::new(alloc);
-    for rank in 0..row_length(protocols, associated, a) {
-        let has = associated.has_member(protocols, ProtoId { rank }, a);
-        row.push(has)?;
-    }
-    Ok(row)
+    let mut set = itself(alloc, ordered, q)?;
+    add_heirs(protocols, ordered.protos(), end, q, &mut set);
+    let short = set.trimmed(alloc)?;
+    Ok(short)
 }
 
-/// The rows of the first `names` names.
+/// So many rows without a place.
+fn no_rows(alloc: Global, names: usize) -> Result<Vec<Bits>, AllocError>
+    ensures len { IfOk result (λ rows. length rows.items ≡ names) }
+    ensures none { IfOk result (λ rows. (a : NameId) (k : ℕ) → has (row_of rows.items a) k ≡ false) }
+{
+    let mut rows = Vec::new(alloc);
+    for _ in 0..names {
+        rows.push(Bits::new(alloc))?;
+    }
+    Ok(rows)
+}
+
+/// Adds places to the row of a name.
+fn add(alloc: Global, heirs: &Bits, a: NameId, rows: &mut Vec<Bits>) -> Result<(), AllocError>
+    requires within { a.rank < length rows.old.items }
+    ensures len { OnOk result (length rows.new.items ≡ length rows.old.items) }
+    ensures rows { OnOk result ((b : NameId) (k : ℕ)
+        → has (row_of rows.new.items b) k ≡ (has (row_of rows.old.items b) k || (nat_eq b.rank a.rank && has heirs.now k))) }
+{
+    let row = rows[a.rank as usize].union(alloc, heirs)?;
+    rows[a.rank as usize] = row;
+    Ok(())
+}
+
+/// The same of the protocol that comes next, which is found anew only where that is another one.
+fn next_heirs(
+    alloc: Global,
+    protocols: &Protocols,
+    ordered: &Ordered,
+    end: usize,
+    last: ProtoId,
+    found: Bits,
+    q: ProtoId,
+) -> Result<Bits, AllocError>
+    requires end { end ≤ length ordered.now }
+    requires none { AreNoHeirs (inherits_by protocols.now.places protocols.now.resolved.inherits) ordered.now end }
+    requires found { AreHeirs (inherits_by protocols.now.places protocols.now.resolved.inherits) ordered.now last found }
+    ensures { IfOk result (AreHeirs (inherits_by protocols.now.places protocols.now.resolved.inherits) ordered.now q) }
+{
+    if q == last {
+        Ok(found)
+    } else {
+        heirs(alloc, protocols, ordered, end, q)
+    }
+}
+
+/// The rows of the first `names` names. The heirs of a protocol are found once for all pairs of it that stand together.
 fn rows(
     alloc: Global,
     protocols: &Protocols,
-    associated: &Associated,
+    ordered: &Ordered,
+    pairs: &[ProtocolName],
     names: usize,
-) -> Result<Vec<Seq<bool>>, AllocError>
-    requires { names ≤ 1048576 }
-    ensures { IfOk result (λ rows. AreKnown (has_member (inherits_by protocols.now.places protocols.now.resolved.inherits) associated.now) rows.items) }
+) -> Result<Vec<Bits>, AllocError>
+    requires { (d : ProtocolName) → Contains pairs.now d → d.name.rank < names }
+    ensures { IfOk result (λ rows. AreRows ordered.now (has_member (inherits_by protocols.now.places protocols.now.resolved.inherits) pairs.now) rows.items) }
 {
-    let mut rows = Vec::new(alloc);
-    for rank in 0..names {
-        let row = row(alloc, protocols, associated, NameId { rank: rank as u32 })?;
-        rows.push(Seq::new(row))?;
+    let end = heirs_end(protocols, ordered.protos());
+    let mut last = ProtoId { rank: 0 };
+    let mut found = heirs(alloc, protocols, ordered, end, last)?;
+    let mut rows = no_rows(alloc, names)?;
+    for d in pairs {
+        found = next_heirs(alloc, protocols, ordered, end, last, found, d.proto)?;
+        last = d.proto;
+        add(alloc, &found, d.name, &mut rows)?;
     }
     Ok(rows)
 }

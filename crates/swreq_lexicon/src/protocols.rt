@@ -1,5 +1,5 @@
 // The protocols of a text by rank.
-ghost use Rattle.std.specs.Prelude.{◌≡◌, ◌<◌, ◌≤◌, ◌+◌, ◌*◌, ◌/◌, ◌++◌, ◌∷◌, [], ◌↔◌, ℕ, List, length, map, cond, slice_get, slice_index, slice_index_or, unwrap_or, Some, MatchOption, IfOk, Contains};
+ghost use Rattle.std.specs.Prelude.{◌≡◌, ◌<◌, ◌≤◌, ◌+◌, ◌*◌, ◌/◌, ◌++◌, ◌∷◌, [], ◌↔◌, ℕ, false, List, length, map, cond, slice_get, slice_index, slice_index_or, unwrap_or, Some, MatchOption, IfOk, Contains};
 ghost use Rattle.std.specs.List.{position_from};
 ghost use Rattle.std.specs.Str.{bytes_eq};
 ghost use Rattle.swreq_closure.specs.Bits.{room};
@@ -138,6 +138,13 @@ impl Protocols {
         ensures { result ≡ inherits_by self.now.places self.now.resolved.inherits p q }
     {
         self.resolved.inherits(self.place(p), self.place(q))
+    }
+
+    /// Whether it may inherit any. It is false only where it inherits none.
+    pub fn may_inherit(&self, p: ProtoId) -> bool
+        ensures { result ≡ false → (q : ProtoId) → inherits_by self.now.places self.now.resolved.inherits p q ≡ false }
+    {
+        self.resolved.inheritance().may_lead(self.place(p))
     }
 
     /// How many protocols it inherits.

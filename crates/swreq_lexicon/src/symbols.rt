@@ -1,15 +1,18 @@
 // Member symbols by rank.
-ghost use Rattle.std.specs.Prelude.{◌≡◌, ◌↔◌, ◌<◌, ◌≤◌, ◌+◌, ◌*◌, ℕ, cond, List, length, map, take, filter, position, sum, nat_eq, slice_get, slice_index, Some, MatchOption, Contains, IfOk};
+ghost use Rattle.std.specs.Prelude.{◌≡◌, ◌↔◌, ◌<◌, ◌≤◌, ◌+◌, ◌*◌, ℕ, List, length, map, take, sum, slice_get, slice_index, Some, MatchOption, Contains, IfOk};
+ghost use Rattle.swreq_closure.specs.Bits.{count_below, has};
 ghost use Rattle.swreq_param.specs.declared.ids.ProtoId.{ProtoId};
 ghost use Rattle.swreq_lexicon.specs.Associated.{name, order_cmp};
 ghost use Rattle.swreq_lexicon.specs.Keys.{order_keys};
 ghost use Rattle.swreq_lexicon.specs.Lexicons.{pair};
 ghost use Rattle.swreq_rank.specs.Ranks.{IsRanking};
-ghost use Rattle.swreq_lexicon.specs.Symbols.{has_member, having, symbols_below, AreCounts, AreKnown, AreStarts};
+ghost use Rattle.swreq_lexicon.specs.Symbols.{has_member, having, row_of, symbols_below, AreRows, AreStarts};
 ghost use Rattle.swreq_lexicon.specs.Views.{inherits_by};
+ghost use Rattle.swreq_lexicon.specs.declared.pair.ProtocolName.{ProtocolName};
 
 use crate::associated::Associated;
 use crate::members::Members;
+use crate::ordered::Ordered;
 use crate::pair::ProtocolName;
 use crate::protocols::Protocols;
 use std::alloc::{AllocError, Global};
@@ -30,7 +33,7 @@ pub struct OrderKey {
 /// The member symbols themselves are not kept: a chain of 20,000 protocols that each declare a name has 200 million of them.
 #[derive(Drop)]
 pub struct Symbols {
-    order: Vec<ProtoId>,
+    ordered: Ordered,
     starts: Vec<u64>,
     members: Members,
 }
@@ -40,7 +43,7 @@ impl Model for Symbols {
 
     ghost Value = { SymbolsView };
 
-    ghost view = { λ s. record { order = s.order.items; starts = s.starts.items; known = s.members } };
+    ghost view = { λ s. record { order = s.ordered; starts = s.starts.items; rows = s.members } };
 }
 
 impl Symbols {
@@ -51,19 +54,21 @@ impl Symbols {
         associated: &Associated,
         names: usize,
     ) -> Result<Symbols, AllocError>
-        requires { names ≤ 1048576 }
+        requires names { names ≤ 1048576 }
+        requires within { (d : ProtocolName) → Contains associated.now d → d.name.rank < names }
         ensures order { IfOk result (λ s. IsRanking (order_cmp (inherits_by protocols.now.places protocols.now.resolved.inherits) (length protocols.now.protocols))
             (λ p. p.rank < length protocols.now.protocols) s.order) }
         ensures few { IfOk result (λ s. length s.order ≤ 1048576) }
         ensures starts { IfOk result (λ s. AreStarts s.order (has_member (inherits_by protocols.now.places protocols.now.resolved.inherits) associated.now) names s.starts) }
-        ensures known { IfOk result (λ s. AreKnown (has_member (inherits_by protocols.now.places protocols.now.resolved.inherits) associated.now) s.known) }
+        ensures rows { IfOk result (λ s. AreRows s.order (has_member (inherits_by protocols.now.places protocols.now.resolved.inherits) associated.now) s.rows) }
     {
-        let order = order(alloc, protocols)?;
-        let members = Members::of(alloc, protocols, associated, names)?;
-        let counts = counts(alloc, protocols, associated, &members, &order, names)?;
+        let protos = order(alloc, protocols)?;
+        let ordered = Ordered::of(alloc, protos, protocols.len())?;
+        let members = Members::of(alloc, protocols, &ordered, associated, names)?;
+        let counts = counts(alloc, &members, ordered.protos().len(), names)?;
         let starts = starts(alloc, &counts)?;
         Ok(Symbols {
-            order,
+            ordered,
             starts,
             members,
         })
@@ -85,10 +90,10 @@ impl Symbols {
         p: ProtoId,
         a: NameId,
     ) -> bool
-        requires { AreKnown (has_member (inherits_by protocols.now.places protocols.now.resolved.inherits) associated.now) self.now.known }
+        requires { AreRows self.now.order (has_member (inherits_by protocols.now.places protocols.now.resolved.inherits) associated.now) self.now.rows }
         ensures { result ≡ has_member (inherits_by protocols.now.places protocols.now.resolved.inherits) associated.now p a }
     {
-        self.members.has(protocols, associated, p, a)
+        self.members.has(protocols, &self.ordered, associated, p, a)
     }
 
     /// The rank of the member symbol of a protocol and a name.
@@ -103,22 +108,17 @@ impl Symbols {
         requires names { names ≤ 1048576 }
         requires few { length self.now.order ≤ 1048576 }
         requires starts { AreStarts self.now.order (has_member (inherits_by protocols.now.places protocols.now.resolved.inherits) associated.now) names self.now.starts }
-        requires known { AreKnown (has_member (inherits_by protocols.now.places protocols.now.resolved.inherits) associated.now) self.now.known }
+        requires rows { AreRows self.now.order (has_member (inherits_by protocols.now.places protocols.now.resolved.inherits) associated.now) self.now.rows }
         ensures { MatchOption result
             (Contains (symbols_below self.now.order (has_member (inherits_by protocols.now.places protocols.now.resolved.inherits) associated.now) names) (pair p a) → ⊥)
             (λ m. slice_get (symbols_below self.now.order (has_member (inherits_by protocols.now.places protocols.now.resolved.inherits) associated.now) names) m ≡ Some (pair p a)) }
     {
-        if (a.rank as usize) < names && self.members.has(protocols, associated, p, a) {
-            match place_of(&self.order, p) {
+        if (a.rank as usize) < names
+            && self.members.has(protocols, &self.ordered, associated, p, a)
+        {
+            match self.ordered.place_of(p) {
                 Some(place) => {
-                    let before = count_before(
-                        protocols,
-                        associated,
-                        &self.members,
-                        &self.order,
-                        place,
-                        a,
-                    );
+                    let before = self.members.count_before(place, a);
                     Some(self.starts[a.rank as usize] + before as u64)
                 }
                 None => None,
@@ -138,7 +138,7 @@ impl Symbols {
     ) -> ProtocolName
         requires names { names ≤ 1048576 }
         requires starts { AreStarts self.now.order (has_member (inherits_by protocols.now.places protocols.now.resolved.inherits) associated.now) names self.now.starts }
-        requires known { AreKnown (has_member (inherits_by protocols.now.places protocols.now.resolved.inherits) associated.now) self.now.known }
+        requires rows { AreRows self.now.order (has_member (inherits_by protocols.now.places protocols.now.resolved.inherits) associated.now) self.now.rows }
         requires within { m < length (symbols_below self.now.order (has_member (inherits_by protocols.now.places protocols.now.resolved.inherits) associated.now) names) }
         ensures { slice_get (symbols_below self.now.order (has_member (inherits_by protocols.now.places protocols.now.resolved.inherits) associated.now) names) m ≡ Some result }
     {
@@ -148,7 +148,7 @@ impl Symbols {
             protocols,
             associated,
             &self.members,
-            &self.order,
+            &self.ordered,
             name,
             m - self.starts[rank],
         );
@@ -189,23 +189,21 @@ fn order(alloc: Global, protocols: &Protocols) -> Result<Vec<ProtoId>, AllocErro
     Ok(order)
 }
 
-/// How many member symbols each of the first `names` names has.
+/// How many member symbols each of the first `names` names has, where there are so many protocols.
 fn counts(
     alloc: Global,
-    protocols: &Protocols,
-    associated: &Associated,
     members: &Members,
-    order: &[ProtoId],
+    protocols: usize,
     names: usize,
 ) -> Result<Vec<u64>, AllocError>
-    requires known { AreKnown (has_member (inherits_by protocols.now.places protocols.now.resolved.inherits) associated.now) members.now }
-    requires names { names ≤ 1048576 }
-    ensures { IfOk result (λ counts. AreCounts order.now (has_member (inherits_by protocols.now.places protocols.now.resolved.inherits) associated.now) names counts.items) }
+    requires { names ≤ 1048576 }
+    ensures len { IfOk result (λ counts. length counts.items ≡ names) }
+    ensures each { IfOk result (λ counts. (a : ℕ) → a < names → slice_index counts.items a ≡ count_below (has (row_of members.now (name a))) protocols) }
 {
     let mut counts = Vec::new(alloc);
     for rank in 0..names {
         let a = NameId { rank: rank as u32 };
-        let count = count_before(protocols, associated, members, order, order.len(), a);
+        let count = members.count_before(protocols, a);
         counts.push(count as u64)?;
     }
     Ok(counts)
@@ -226,36 +224,6 @@ fn starts(alloc: Global, counts: &[u64]) -> Result<Vec<u64>, AllocError>
         starts.push(start)?;
     }
     Ok(starts)
-}
-
-/// The place of a protocol.
-fn place_of(order: &[ProtoId], p: ProtoId) -> Option<usize>
-    ensures { result ≡ position (λ q. nat_eq p.rank q.rank) order.now }
-{
-    order.iter().position(|q| p == *q)
-}
-
-/// How many of the protocols before a place have the member name.
-fn count_before(
-    protocols: &Protocols,
-    associated: &Associated,
-    members: &Members,
-    order: &[ProtoId],
-    place: usize,
-    a: NameId,
-) -> usize
-    requires known { AreKnown (has_member (inherits_by protocols.now.places protocols.now.resolved.inherits) associated.now) members.now }
-    requires within { place ≤ length order.now }
-    ensures { result ≡ length (filter (λ q. has_member (inherits_by protocols.now.places protocols.now.resolved.inherits) associated.now q a) (take place order.now)) }
-{
-    let mut count = 0;
-    for k in 0..place {
-        let here = members.has(protocols, associated, order[k], a);
-        if here {
-            count += 1;
-        }
-    }
-    count
 }
 
 /// The last of the first `names` places that begins at `m` or before.
@@ -285,17 +253,17 @@ fn nth(
     protocols: &Protocols,
     associated: &Associated,
     members: &Members,
-    order: &[ProtoId],
+    ordered: &Ordered,
     a: NameId,
     place: u64,
 ) -> ProtoId
-    requires known { AreKnown (has_member (inherits_by protocols.now.places protocols.now.resolved.inherits) associated.now) members.now }
-    requires within { place < length (having order.now (has_member (inherits_by protocols.now.places protocols.now.resolved.inherits) associated.now) a) }
-    ensures { slice_get (having order.now (has_member (inherits_by protocols.now.places protocols.now.resolved.inherits) associated.now) a) place ≡ Some result }
+    requires rows { AreRows ordered.now (has_member (inherits_by protocols.now.places protocols.now.resolved.inherits) associated.now) members.now }
+    requires within { place < length (having ordered.now (has_member (inherits_by protocols.now.places protocols.now.resolved.inherits) associated.now) a) }
+    ensures { slice_get (having ordered.now (has_member (inherits_by protocols.now.places protocols.now.resolved.inherits) associated.now) a) place ≡ Some result }
 {
     let mut left = place;
-    for q in order {
-        let here = members.has(protocols, associated, *q, a);
+    for q in ordered.protos() {
+        let here = members.has(protocols, ordered, associated, *q, a);
         if here && left == 0 {
             return *q;
         }

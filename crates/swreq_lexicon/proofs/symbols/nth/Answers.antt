@@ -1,4 +1,4 @@
-use Rattle.std.proofs.Common.{◌≡◌, ◌∙◌, ◌+◌, ℕ, length, take, slice_get, ap, sym, arith}
+use Rattle.std.proofs.Common.{◌≡◌, ◌∙◌, ◌+◌, ℕ, List, length, get_or, take, slice_get, Some, ap, sym, subst, arith}
 use Rattle.swreq_param.specs.declared.ids.ProtoId.{ProtoId}
 use Rattle.swreq_lexicon.specs.Symbols.{has_member, having}
 use Rattle.swreq_lexicon.specs.Views.{inherits_by}
@@ -12,7 +12,9 @@ pub returns-then-left-eq0 : goal.returns-then-left-eq0
 returns-then-left-eq0 c =
     let has = has_member (inherits_by c.args.protocols.now.places c.args.protocols.now.resolved.inherits) c.args.associated.now in
     let first : ProtoId = record { rank = 0 } in
-    let order = c.args.order.now in
+    let order = c.args.ordered.now in
+    let protos = c.protos-q-items.result.now in
     let i = c.loop-q.q-index in
     ap (slice_get (having order has c.args.a)) (reached c.loop-q.left (length (having (take i order) has c.args.a)) c.args.place c.loop-q.invariant c.if-left-eq0.true)
-    ∙ filter_place (λ q. has q c.args.a) order i first c.loop-q-test.true (sym c.has-here.ensures ∙ c.if-here.true)
+    ∙ subst (λ (ps : List ProtoId). slice_get (having ps has c.args.a) (length (having (take i ps) has c.args.a)) ≡ Some (get_or protos i first)) c.protos-q-items.ensures
+    (filter_place (λ q. has q c.args.a) protos i first c.loop-q-test.true (sym c.has-here.ensures ∙ c.if-here.true))

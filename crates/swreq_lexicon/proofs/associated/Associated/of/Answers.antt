@@ -32,6 +32,13 @@ keys-requires c =
     subst (λ (xs : List ProtocolName). AreDeclarers xs c.in_ok-declarers.declarers) (c.deref.ensures.value ∙ sym c.deref-2.ensures.value)
     c.in_ok-declarers.ensures
 
+pub returns-clause-within : goal.returns-clause-within
+returns-clause-within c d h =
+    let inherits = inherits_by c.args.protocols.now.places c.args.protocols.now.resolved.inherits in
+    let same = ranked_pairs inherits c.args.pairs.items c.of-ranked.result
+    (same_keys inherits c.args.pairs.items c.deref-2.result.now c.in_ok-keys.field-0.items c.of-ranked.result c.deref-2.ensures.value c.in_ok-keys.ensures c.of-ranked.ensures.same) in
+    c.requires.within d ((same d).0 h)
+
 pub returns-clause-same : goal.returns-clause-same
 returns-clause-same c =
     let inherits = inherits_by c.args.protocols.now.places c.args.protocols.now.resolved.inherits in
@@ -53,4 +60,8 @@ invariant_of-result c =
           (same_keys inherits c.args.pairs.items c.deref-2.result.now c.in_ok-keys.field-0.items c.of-ranked.result c.deref-2.ensures.value c.in_ok-keys.ensures c.of-ranked.ensures.same))
           (subst (λ (xs : List ProtocolName). AreDeclarers xs c.in_ok-declarers.declarers) c.deref.ensures.value c.in_ok-declarers.ensures),
       few_keys inherits c.args.pairs.items c.deref-2.result.now c.in_ok-keys.field-0.items c.of-ranked.result c.deref-2.ensures.value c.in_ok-keys.ensures c.of-ranked.ensures.count c.requires.few,
+      λ d.
+          let same = ranked_pairs inherits c.args.pairs.items c.of-ranked.result
+          (same_keys inherits c.args.pairs.items c.deref-2.result.now c.in_ok-keys.field-0.items c.of-ranked.result c.deref-2.ensures.value c.in_ok-keys.ensures c.of-ranked.ensures.same) d in
+          (same.1, same.0),
     )

@@ -1,4 +1,4 @@
-use Rattle.std.proofs.Common.{◌≡◌, ◌∙◌, List, map, slice_get, Some, Contains, sym, ap, subst}
+use Rattle.std.proofs.Common.{◌≡◌, ◌∙◌, ◌<◌, List, map, slice_get, Some, Contains, sym, ap, subst}
 use Rattle.std.specs.List.{position_from}
 use Rattle.std.specs.Str.{bytes_eq}
 use Rattle.swreq_decl.specs.declared.skeleton.ProtocolDecl.{ProtocolDecl}
@@ -13,13 +13,16 @@ use Rattle.swreq_lexicon.specs.Views.{place_by, inherits_by}
 use Rattle.swreq_lexicon.proofs.Whole.{lexicon_is}
 use Rattle.swreq_lexicon.proofs.lexicon.Lexicon.of.Goals as goal
 
+pub of-requires-3-clause-within : goal.of-requires-3-clause-within
+of-requires-3-clause-within c d h = subst (λ n. d.name.rank < n) (c.len.ensures.len ∙ sym c.len-2.ensures.len) (c.in_ok-associated.ensures.within d h)
+
 pub invariant_of-result : goal.invariant_of-result
 invariant_of-result c = (
   c.requires.small.names c.in_ok-names.names c.in_ok-names.ensures,
   c.in_ok-symbols.ensures.few,
   subst (λ n. AreStarts c.in_ok-symbols.symbols.order (has_member (inherits_by c.in_ok-protocols.protocols.places c.in_ok-protocols.protocols.resolved.inherits) c.in_ok-associated.associated) n c.in_ok-symbols.symbols.starts)
       c.len-2.ensures.len c.in_ok-symbols.ensures.starts,
-  c.in_ok-symbols.ensures.known,
+  c.in_ok-symbols.ensures.rows,
 )
 
 pub returns : goal.returns

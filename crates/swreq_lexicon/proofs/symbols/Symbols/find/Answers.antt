@@ -1,7 +1,10 @@
-use Rattle.std.proofs.Common.{◌≡◌, ◌∙◌, ◌+◌, nat_eq, List, length, get_or, take, position, slice_get, Some, ap, sym, subst, arith}
-use Rattle.swreq_param.specs.declared.ids.ProtoId.{ProtoId}
-use Rattle.swreq_lexicon.specs.Symbols.{has_member, having, symbols_below, AreKnown, SymbolsView}
+use Rattle.std.proofs.Common.{◌≡◌, ◌∙◌, ◌+◌, length, get_or, take, slice_get, Some, Contains, ap, sym, subst, arith}
+use Rattle.std.proofs.lemmas.Option.{slice_get_within}
+use Rattle.swreq_closure.specs.Bits as sets
+use Rattle.swreq_closure.specs.Bits.{count_below}
+use Rattle.swreq_lexicon.specs.Symbols.{has_member, having, row_of, symbols_below, AreRows, SymbolsView}
 use Rattle.swreq_lexicon.specs.Views.{inherits_by}
+use Rattle.swreq_lexicon.proofs.Rows.{counted}
 use Rattle.swreq_lexicon.proofs.SymbolRanks.{start_is, rank_found, rank_nowhere, rank_not_had, rank_past, rank_fits}
 use Rattle.swreq_lexicon.proofs.symbols.Symbols.find.Goals as goal
 use Rattle.swreq_lexicon.proofs.symbols.Symbols.find.Goals.{else-a-names-via-then-a-names+else-has, else-a-names-via-else-a-names}
@@ -9,12 +12,7 @@ use Rattle.swreq_lexicon.proofs.symbols.Symbols.find.Goals.{else-a-names-via-the
 pub has-requires : goal.has-requires
 has-requires c =
     let has = has_member (inherits_by c.args.protocols.now.places c.args.protocols.now.resolved.inherits) c.args.associated.now in
-    subst (AreKnown has) (sym (ap (λ (v : SymbolsView). v.known) c.self.view_is)) c.requires.known
-
-pub count_before-before-requires-clause-known : goal.count_before-before-requires-clause-known
-count_before-before-requires-clause-known c =
-    let has = has_member (inherits_by c.args.protocols.now.places c.args.protocols.now.resolved.inherits) c.args.associated.now in
-    subst (AreKnown has) (sym (ap (λ (v : SymbolsView). v.known) c.self.view_is)) c.requires.known
+    subst (λ (v : SymbolsView). AreRows v.order has v.rows) (sym c.self.view_is) c.requires.rows
 
 pub overflow_add-result : goal.overflow_add-result
 overflow_add-result c =
@@ -24,11 +22,13 @@ overflow_add-result c =
     let start : c.index.result.now ≡ length (symbols_below order has c.args.a.rank) =
     c.index.ensures ∙ ap (λ (v : SymbolsView). get_or v.starts c.args.a.rank c.index.result.now) c.self.view_is
     ∙ start_is order has c.args.names c.args.self.now.starts c.requires.starts c.args.a.rank c.index.result.now (omega (arith, below)) in
-    let placed : position (λ q. nat_eq c.args.p.rank q.rank) order ≡ Some c.in-Some.place =
-    ap (λ (ps : List ProtoId). position (λ q. nat_eq c.args.p.rank q.rank) ps) (sym (c.deref.ensures.value ∙ ap (λ (v : SymbolsView). v.order) c.self.view_is)) ∙ sym c.in-Some.ensures in
+    let placed : slice_get order c.in-Some.place ≡ Some c.args.p =
+    ap (λ (v : SymbolsView). slice_get v.order c.in-Some.place) (sym c.self.view_is) ∙ c.in-Some.ensures.0 in
+    let within = slice_get_within order c.in-Some.place c.args.p placed in
     let before : c.count_before-before.result ≡ length (having (take c.in-Some.place order) has c.args.a) =
     c.count_before-before.ensures
-    ∙ ap (λ (ps : List ProtoId). length (having (take c.in-Some.place ps) has c.args.a)) (c.deref-in-Some.ensures.value ∙ ap (λ (v : SymbolsView). v.order) c.self.view_is) in
+    ∙ ap (λ (v : SymbolsView). count_below (sets.has (row_of v.rows c.args.a)) c.in-Some.place) c.self.view_is
+    ∙ counted order has c.args.self.now.rows c.requires.rows c.args.a c.in-Some.place (omega (arith, within)) in
     let fits = rank_fits order has c.args.names c.args.p c.args.a c.in-Some.place c.index.result.now c.count_before-before.result placed below c.requires.names c.requires.few start before in
     omega (arith, fits)
 
@@ -40,11 +40,13 @@ returns-in-Some c =
     let start : c.index.result.now ≡ length (symbols_below order has c.args.a.rank) =
     c.index.ensures ∙ ap (λ (v : SymbolsView). get_or v.starts c.args.a.rank c.index.result.now) c.self.view_is
     ∙ start_is order has c.args.names c.args.self.now.starts c.requires.starts c.args.a.rank c.index.result.now (omega (arith, below)) in
-    let placed : position (λ q. nat_eq c.args.p.rank q.rank) order ≡ Some c.in-Some.place =
-    ap (λ (ps : List ProtoId). position (λ q. nat_eq c.args.p.rank q.rank) ps) (sym (c.deref.ensures.value ∙ ap (λ (v : SymbolsView). v.order) c.self.view_is)) ∙ sym c.in-Some.ensures in
+    let placed : slice_get order c.in-Some.place ≡ Some c.args.p =
+    ap (λ (v : SymbolsView). slice_get v.order c.in-Some.place) (sym c.self.view_is) ∙ c.in-Some.ensures.0 in
+    let within = slice_get_within order c.in-Some.place c.args.p placed in
     let before : c.count_before-before.result ≡ length (having (take c.in-Some.place order) has c.args.a) =
     c.count_before-before.ensures
-    ∙ ap (λ (ps : List ProtoId). length (having (take c.in-Some.place ps) has c.args.a)) (c.deref-in-Some.ensures.value ∙ ap (λ (v : SymbolsView). v.order) c.self.view_is) in
+    ∙ ap (λ (v : SymbolsView). count_below (sets.has (row_of v.rows c.args.a)) c.in-Some.place) c.self.view_is
+    ∙ counted order has c.args.self.now.rows c.requires.rows c.args.a c.in-Some.place (omega (arith, within)) in
     (λ i. slice_get (symbols_below order has c.args.names) (start i + before i))
     ∙ rank_found order has c.args.names c.args.p c.args.a c.in-Some.place placed below (sym c.has.ensures ∙ c.if-has.true)
 
@@ -52,7 +54,7 @@ pub returns-in-None : goal.returns-in-None
 returns-in-None c =
     let has = has_member (inherits_by c.args.protocols.now.places c.args.protocols.now.resolved.inherits) c.args.associated.now in
     rank_nowhere c.args.self.now.order has c.args.names c.args.p c.args.a
-    (ap (λ (ps : List ProtoId). position (λ q. nat_eq c.args.p.rank q.rank) ps) (sym (c.deref.ensures.value ∙ ap (λ (v : SymbolsView). v.order) c.self.view_is)) ∙ sym c.in-None.ensures)
+    (subst (λ (v : SymbolsView). Contains v.order c.args.p → ⊥) c.self.view_is c.in-None.ensures)
 
 pub returns-else-a-names : goal.returns-else-a-names
 returns-else-a-names c s =
