@@ -3,9 +3,9 @@
 use std::alloc::Global;
 use std::process::Abort;
 use std::test::Fail;
-use swreq_decl::Skeleton;
-use swreq_names::{Names, Signature, member_names};
-use swreq_resolve::resolve_names;
+use swreq_decl::{Ask, QueryDecl, Skeleton};
+use swreq_names::{Declared, Names, Signature, member_names};
+use swreq_resolve::{resolve_names, resolve_type};
 use swreq_samples::skeleton_of;
 
 /// The refusal of a skeleton as one line, or `ok`.
@@ -16,10 +16,23 @@ fn refusal(alloc: Global, text: &[u8], skeleton: &Skeleton) -> Result<String, Fa
     }
 }
 
+/// The skeleton of a text that is not too long.
+fn read(rt: &impl Abort, alloc: Global, text: &[u8]) -> Result<Skeleton, Fail> {
+    assert!(rt; text.len() <= 1_048_576);
+    skeleton_of(alloc, text)
+}
+
+/// The names of a text in which they resolve.
+fn names_of(alloc: Global, text: &[u8], skeleton: &Skeleton) -> Result<Names, Fail> {
+    match resolve_names(alloc, text, skeleton) {
+        Ok(names) => Ok(names),
+        Err(_) => Err("a refusal of names".into()),
+    }
+}
+
 /// The refusal of the names of a text as one line, or `ok`.
 fn verdict(rt: &impl Abort, alloc: Global, text: &[u8]) -> Result<String, Fail> {
-    assert!(rt; text.len() <= 1_048_576);
-    let skeleton = skeleton_of(alloc, text)?;
+    let skeleton = read(rt, alloc, text)?;
     refusal(alloc, text, &skeleton)
 }
 
@@ -276,18 +289,63 @@ fn add_lines(names: &Names, out: &mut String) -> Result<(), Fail> {
 /// What is found in the names of a skeleton.
 fn found(alloc: Global, text: &[u8], skeleton: &Skeleton) -> Result<String, Fail> {
     let mut out = ranks(alloc, text, skeleton)?;
-    match resolve_names(alloc, text, skeleton) {
-        Ok(names) => add_lines(&names, &mut out)?,
-        Err(_) => return Err("a refusal of names".into()),
-    }
+    let names = names_of(alloc, text, skeleton)?;
+    add_lines(&names, &mut out)?;
     Ok(out)
 }
 
 #[test]
 fn names_are_found_by_their_bytes(rt: HostRuntime) -> Result<(), Fail> {
-    assert!(rt; NAMED.len() <= 1_048_576);
-    let skeleton = skeleton_of(rt.alloc(), NAMED)?;
+    let skeleton = read(&rt, rt.alloc(), NAMED)?;
     let lines = found(rt.alloc(), NAMED, &skeleton)?;
     assert_eq!(rt; lines.as_str(), FOUND);
+    Ok(())
+}
+
+/// Queries of another text.
+const ASKED: &[u8] = b"query f(T) query f(U.B.Z) query f(V.[P]B) query f(V.[Q]B) query f(V.[R]A)";
+
+/// For the type of each of these queries, what is refused on the function of S and on g.
+const REFUSED: &str = "\
+Ok(()) Err(Refusal { fault: ConcreteType, at: 8 })
+Ok(()) Err(Refusal { fault: ConcreteType, at: 19 })
+Err(Refusal { fault: ConcreteType, at: 34 }) Ok(())
+Err(Refusal { fault: ConcreteType, at: 50 }) Err(Refusal { fault: NoSuchMember, at: 55 })
+Err(Refusal { fault: ConcreteType, at: 66 }) Err(Refusal { fault: NotAProtocol, at: 69 })
+";
+
+/// Appends what is refused of the type of a query.
+fn add_refused(d: &Declared, query: &QueryDecl, out: &mut String) -> Result<(), Fail> {
+    match &query.ask {
+        Ask::Reduced { t } => {
+            let nested = resolve_type(d, NESTED, ASKED, t);
+            let function = resolve_type(d, Signature::Function(0), ASKED, t);
+            Ok(write!(out, "{nested:?} {function:?}\n")?)
+        }
+        _ => Err("a query without a type".into()),
+    }
+}
+
+/// What is refused of the types of queries, on signatures of a text.
+fn refused(
+    alloc: Global,
+    text: &[u8],
+    skeleton: &Skeleton,
+    asked: &Skeleton,
+) -> Result<String, Fail> {
+    let mut out = String::new(alloc);
+    let names = names_of(alloc, text, skeleton)?;
+    for query in asked.queries.items() {
+        add_refused(names.declared(), query, &mut out)?;
+    }
+    Ok(out)
+}
+
+#[test]
+fn types_of_another_text_resolve_or_are_refused(rt: HostRuntime) -> Result<(), Fail> {
+    let skeleton = read(&rt, rt.alloc(), NAMED)?;
+    let asked = read(&rt, rt.alloc(), ASKED)?;
+    let lines = refused(rt.alloc(), NAMED, &skeleton, &asked)?;
+    assert_eq!(rt; lines.as_str(), REFUSED);
     Ok(())
 }
