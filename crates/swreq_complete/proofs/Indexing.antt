@@ -1,5 +1,5 @@
 -- The trie's search is the list's.
-use Rattle.std.proofs.Common.{◌≡◌, ℕ, suc, ◌+◌, ◌<◌, ◌≤◌, ◌⊎◌, inl, inr, refl, sym, ◌∙◌, ap, subst, arith, List, [], ◌∷◌, ◌++◌, length, length-append, length-take, get_or, take, drop, take-append-drop, Option, Some, None, MatchOption}
+use Rattle.std.proofs.Common.{◌≡◌, ℕ, suc, ◌+◌, ◌-◌, ◌<◌, ◌≤◌, ◌⊎◌, inl, inr, refl, sym, ◌∙◌, ap, subst, arith, List, [], ◌∷◌, ◌++◌, length, length-append, length-take, get_or, take, drop, take-append-drop, Option, Some, None, MatchOption}
 use Rattle.std.specs.List.{slice_get}
 use Rattle.std.proofs.lemmas.Bool.{cases_lt}
 use Rattle.std.proofs.lemmas.Option.{slice_get_within, slice_get_read}
@@ -9,23 +9,24 @@ use Rattle.swreq_word.proofs.Cuts.{cut_rest}
 use Rattle.swreq_word.proofs.Comparing.{greater_some}
 use Rattle.swreq_orders.proofs.Elements.{get_last, get_left, get_cases, there_is}
 use Rattle.swreq_rule.specs.declared.rules.Rule.{Rule}
-use Rattle.swreq_rule.specs.Steps.{Step}
+use Rattle.swreq_rule.specs.Steps.{RuleAt, Step}
+use Rattle.swreq_rule.proofs.Numbers.{number_some}
 use Rattle.swreq_rule.specs.Reduction.{NoneBegins, Chosen, NoneEarlier, FirstRedex}
 use Rattle.swreq_rule.specs.Search.{NoneLonger}
 use Rattle.swreq_trie.specs.declared.trie.Entry.{Entry}
 use Rattle.swreq_trie.specs.Stored as sides
-use Rattle.swreq_complete.specs.Index.{IsIndexOf}
+use Rattle.swreq_complete.specs.Index.{IsIndexAfter, IsIndexOf}
 
-pub index_of_none : IsIndexOf [] []
-index_of_none = record { as_many = refl; each = λ k rule e. cc }
+pub index_of_none : (before : ℕ) → IsIndexAfter before [] []
+index_of_none before = record { as_many = refl; each = λ k rule e. cc }
 
-pub index_of_more : (stored more : List Entry) (rules : List Rule) (rule : Rule) → IsIndexOf stored rules
-    → more ≡ stored ++ (record { left = rule.left; number = suc (length rules) }) ∷ [] → IsIndexOf more (rules ++ rule ∷ [])
-index_of_more stored more rules rule index e = subst (λ x. IsIndexOf x (rules ++ rule ∷ [])) (sym e) (record {
+pub index_of_more : (before : ℕ) (stored more : List Entry) (rules : List Rule) (rule : Rule) → IsIndexAfter before stored rules
+    → more ≡ stored ++ (record { left = rule.left; number = suc (before + length rules) }) ∷ [] → IsIndexAfter before more (rules ++ rule ∷ [])
+index_of_more before stored more rules rule index e = subst (λ x. IsIndexAfter before x (rules ++ rule ∷ [])) (sym e) (record {
   as_many = simp length-append (let n = index.as_many in omega (arith, n));
   each = λ k r g. elim (get_cases rules rule k r g) [
     | inl h ↦ get_left stored _ k _ (index.each k r h)
-    | inr h ↦ rw (h.1, h.0, ← index.as_many) (get_last stored (record { left = rule.left; number = suc (length stored) }))
+    | inr h ↦ rw (h.1, h.0, ← index.as_many) (get_last stored (record { left = rule.left; number = suc (before + length stored) }))
   ];
 })
 
@@ -63,32 +64,36 @@ module _ (stored : List Entry) (rules : List Rule) (index : IsIndexOf stored rul
               elim h [ inl x ↦ inl x | inr x ↦ inr (x.0, (let y = x.1 in let f = e.1 in omega (arith, y, f, number))) ];
         }
 
-  module _ (w : List Symbol) (at : ℕ) (earlier : NoneEarlier rules w at) where
-    -- the first redex, where one begins there
-    pub redex_there : (n : ℕ) → at ≤ length w → sides.Shortest stored (drop at w) n → FirstRedex rules w at n
-    redex_there n within p = record {
-      before = take at w;
-      rest = drop at w;
-      cut = sym (take-append-drop at w);
-      at_is = rw length-take (omega (arith, within));
-      earliest = earlier;
-      chosen = chosen_same (drop at w) n p;
-    }
+module _ (rules : List Rule) (w : List Symbol) (at : ℕ) (earlier : NoneEarlier rules w at) where
+  -- the first redex, where one begins there
+  pub redex_there : (n : ℕ) → at ≤ length w → Chosen rules (drop at w) n → FirstRedex rules w at n
+  redex_there n within p = record {
+    before = take at w;
+    rest = drop at w;
+    cut = sym (take-append-drop at w);
+    at_is = rw length-take (omega (arith, within));
+    earliest = earlier;
+    chosen = p;
+  }
 
-    -- and where none does
-    pub none_later : sides.NoneBegins stored (drop at w) → NoneEarlier rules w (at + 1)
-    none_later none before rest e l = elim (cases_lt (length before) at) [
-      | inl m ↦ earlier before rest e m
-      | inr m ↦ (let n : length before ≡ at = omega (arith, l, m) in
-          subst (NoneBegins rules) (cut_rest w before rest e) (subst (λ k. NoneBegins rules (drop k w)) (sym n) (none_same (drop at w) none)))
-    ]
+  -- and where none does
+  pub none_later : NoneBegins rules (drop at w) → NoneEarlier rules w (at + 1)
+  none_later none before rest e l = elim (cases_lt (length before) at) [
+    | inl m ↦ earlier before rest e m
+    | inr m ↦ (let n : length before ≡ at = omega (arith, l, m) in
+        subst (NoneBegins rules) (cut_rest w before rest e) (subst (λ k. NoneBegins rules (drop k w)) (sym n) none))
+  ]
 
-    -- no left side begins where the word ends
-    pub none_in_word : length w ≤ at → IsIrreducible (Step rules) w
-    none_in_word le v s =
-        let some = greater_some s.rule.right s.rule.left s.rule.down in
-        let size = simp length-append at (ap length s.at.source) in
-        earlier s.at.before (s.rule.left ++ s.at.after) s.at.source (omega (arith, some, size, le)) s.is_rule.0 s.rule s.is_rule.2 (s.at.after, refl)
+  -- no left side begins where the word ends
+  pub none_in_word : length w ≤ at → IsIrreducible (Step rules) w
+  none_in_word le v s =
+      let some = greater_some s.rule.right s.rule.left s.rule.down in
+      let size = simp length-append at (ap length s.at.source) in
+      earlier s.at.before (s.rule.left ++ s.at.after) s.at.source (omega (arith, some, size, le)) s.is_rule.0 s.rule s.is_rule.2 (s.at.after, refl)
+
+-- the rule of a first redex, as it is read
+pub rule_of_redex : (rules : List Rule) (w : List Symbol) (at n : ℕ) (r : Rule) → FirstRedex rules w at n → slice_get rules (n - 1) ≡ Some r → RuleAt rules n r
+rule_of_redex rules w at n r p e = let some = number_some rules n p.chosen.rule p.chosen.is_rule in (n - 1, omega (arith, some), e)
 
 -- the rule that was put last, as it is read
 pub read_last : (old new all : List Rule) (rule r : Rule) (count : ℕ) → new ≡ old ++ rule ∷ [] → all ≡ new → count ≡ length old → r ≡ get_or all count r → r ≡ rule

@@ -13,6 +13,7 @@ pub mod Outcome
 pub mod Telling
 pub mod Listing
 pub mod Indexing
+pub mod Layers
 pub mod AllPlaces
 pub mod Sorting
 pub mod ReducedSystem

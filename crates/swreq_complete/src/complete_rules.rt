@@ -1,14 +1,14 @@
 //! Complete lists of rules, and the completion that makes them.
 
-ghost use Rattle.std.specs.Prelude.{◌≡◌, ◌⊎◌, ◌≤◌, [], IfOk, vec_len, vec_capacity};
+ghost use Rattle.std.specs.Prelude.{◌≡◌, ◌⊎◌, ◌<◌, ◌≤◌, [], length, slice_get, Some, IfOk, vec_len, vec_capacity};
 ghost use Rattle.swreq_word.specs.Relations.{Linked};
 ghost use Rattle.swreq_rule.specs.Reduction.{NoneEarlier};
+ghost use Rattle.swreq_rule.specs.Search.{NoneLonger};
 ghost use Rattle.swreq_rule.specs.Steps.{Step};
 ghost use Rattle.swreq_complete.specs.declared.limit.Failed.TheVariants.{Limit, Memory};
 ghost use Rattle.swreq_complete.specs.Answers.{IsAnswer, IsOnlyAnswer};
 ghost use Rattle.swreq_complete.specs.Complete.{IsComplete};
 ghost use Rattle.swreq_complete.specs.Events.{TellsEvents};
-ghost use Rattle.swreq_complete.specs.Index.{IsIndexOf};
 ghost use Rattle.swreq_complete.specs.Limits.{AreInRange};
 ghost use Rattle.swreq_word.specs.Least.{IsLeast};
 ghost use Rattle.swreq_complete.specs.Reduced.{HasBirths, IsReducedSystem};
@@ -20,19 +20,19 @@ use crate::reduced::find;
 use crate::task::Task;
 use std::alloc::{AllocError, Global};
 use std::marker::Model;
-use swreq_rule::{Rule, RuleList};
+use swreq_rule::Rule;
 use swreq_text::Seq;
-use swreq_trie::Trie;
 use swreq_watch::{Event, Watch};
 use swreq_word::{Symbol, Word};
 
-/// A list of rules that is complete: reduction leads congruent words to one word. It is empty, or what a completion ended with.
+/// A list of rules that is complete: reduction leads congruent words to one word. It is empty, or what a completion ended with. Its first
+/// rules may be borrowed from another such list.
 #[derive(Drop)]
-pub struct CompleteRules {
-    list: Indexed,
+pub struct CompleteRules<'b> {
+    list: Indexed<'b>,
 }
 
-impl Model for CompleteRules {
+impl<'b> Model for CompleteRules<'b> {
     ghost use Rattle.std.specs.Prelude.{List};
     ghost use Rattle.swreq_rule.specs.declared.rules.Rule.{Rule};
     ghost use Rattle.swreq_complete.specs.Complete.{IsComplete};
@@ -44,9 +44,9 @@ impl Model for CompleteRules {
     ghost invariant = { λ c. IsComplete c.list };
 }
 
-impl CompleteRules {
+impl<'b> CompleteRules<'b> {
     /// No rules, which takes no memory.
-    pub fn empty(alloc: Global) -> CompleteRules
+    pub fn empty(alloc: Global) -> CompleteRules<'b>
         ensures { result ≡ [] }
     {
         CompleteRules {
@@ -54,19 +54,33 @@ impl CompleteRules {
         }
     }
 
-    /// The rules in the order of their births.
-    pub fn rules(&self) -> &[Rule]
-        ensures same { result.now ≡ self.now }
+    /// How many rules there are. They are complete.
+    pub fn count(&self) -> usize
+        ensures count { result ≡ length self.now }
         ensures complete { IsComplete self.now }
     {
-        self.list.rules()
+        self.list.count()
     }
 
-    /// The trie of the left sides of the rules, each with the number of its rule.
-    pub fn index(&self) -> &Trie
-        ensures { IsIndexOf result.now self.now }
+    /// A rule by its place in the order of their births.
+    pub fn rule(&self, k: usize) -> &Rule
+        requires { k < length self.now }
+        ensures { slice_get self.now k ≡ Some result.now }
     {
-        self.list.index()
+        self.list.rule(k)
+    }
+
+    /// A length that no left side passes.
+    pub fn longest(&self) -> usize
+        ensures { NoneLonger self.now result }
+    {
+        self.list.longest()
+    }
+
+    pub(crate) fn indexed(&self) -> &Indexed<'b>
+        ensures { result.now ≡ self.now }
+    {
+        &self.list
     }
 
     /// Reduces the word, which leaves the least of all words congruent to it. The word never grows, and keeps its capacity.
@@ -91,11 +105,11 @@ impl CompleteRules {
         self.list.reduce_from(w, from);
     }
 
-    /// The same rules once more.
-    pub fn copy(&self, alloc: Global) -> Result<CompleteRules, AllocError>
+    /// The same rules once more. They are borrowed; where some of these are borrowed themselves, the others are copied.
+    pub fn over<'a>(&'a self, alloc: Global) -> Result<CompleteRules<'a>, AllocError>
         ensures { IfOk result (λ c. c ≡ self.now) }
     {
-        let list = self.list.copy(alloc)?;
+        let list = self.list.over(alloc)?;
         Ok(CompleteRules { list })
     }
 
@@ -109,24 +123,22 @@ impl CompleteRules {
     }
 }
 
-// The rules of the list, in order.
-fn into_seq(alloc: Global, list: RuleList) -> Result<Seq<Rule>, AllocError>
-    ensures { IfOk result (λ s. s ≡ list) }
+// The rules in order, once more.
+fn written_out(alloc: Global, rules: &Indexed<'_>) -> Result<Seq<Rule>, AllocError>
+    ensures { IfOk result (λ s. s ≡ rules.now) }
 {
-    let mut list = list;
-    let mut rules: Vec<Rule> = Vec::with_capacity(alloc, list.rules().len())?;
-    while let Some(rule) = list.pop() {
-        rules.push(rule)?;
+    let mut copies: Vec<Rule> = Vec::with_capacity(alloc, rules.count())?;
+    for k in 0..rules.count() {
+        copies.push(rules.rule(k).clone()?)?;
     }
-    rules.reverse();
-    Ok(Seq::new(rules))
+    Ok(Seq::new(copies))
 }
 
 // The answer that the completion passed the limit with these rules.
-fn passed_limit(alloc: Global, which: Which, list: Indexed) -> Failed
-    ensures { (result ≡ Limit which list) ⊎ (result ≡ Memory) }
+fn passed_limit(alloc: Global, which: Which, list: Indexed<'_>) -> Failed
+    ensures { (result ≡ Limit which list.entry) ⊎ (result ≡ Memory) }
 {
-    match into_seq(alloc, list.into_list()) {
+    match written_out(alloc, &list) {
         Ok(trace) => Failed::Limit { which, trace },
         Err(_) => Failed::Memory,
     }
@@ -140,20 +152,20 @@ fn passed_limit(alloc: Global, which: Which, list: Indexed) -> Failed
 ///
 /// The answer is the ended trace. It is `Failed::Limit` exactly where a rule born passes a limit, with that rule as the last of the
 /// trace, and `Failed::Memory` for want of memory. The watcher is told the start and each rule born, the last one of a limit too.
-pub fn extend<W: Watch>(
+pub fn extend<'b, W: Watch>(
     alloc: Global,
-    base: CompleteRules,
+    base: CompleteRules<'b>,
     given: &[(Word, Word)],
     limits: Limits,
     watch: &mut W,
-) -> Result<CompleteRules, Failed>
+) -> Result<CompleteRules<'b>, Failed>
     requires { AreInRange limits }
-    ensures answer { IsAnswer limits base given.now result }
-    ensures only { IsOnlyAnswer limits base given.now result }
-    ensures told { TellsEvents limits base given.now (W.told watch.old) (W.told watch.new) result }
+    ensures answer { IsAnswer limits base.entry given.now result }
+    ensures only { IsOnlyAnswer limits base.entry given.now result }
+    ensures told { TellsEvents limits base.entry given.now (W.told watch.old) (W.told watch.new) result }
 {
     let mut list = base.list;
-    let count = list.rules().len();
+    let count = list.count();
     let start = Event::Start { base: count as u32 };
     watch.tell(&start)?;
     let task = Task {

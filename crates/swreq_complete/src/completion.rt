@@ -12,14 +12,14 @@ use crate::limit::{Limits, Stop};
 use crate::settling::{settle_given, settle_sides};
 use crate::task::{Sides, Task};
 use std::alloc::Global;
-use swreq_pair::write_sides;
+use swreq_pair::write_sides_of;
 use swreq_rule::{Birth, Place};
 use swreq_trie::Found;
 use swreq_watch::Watch;
 
 // Settles the pair of two rules at the place.
 fn settle_place<W: Watch>(
-    rules: &mut Indexed,
+    rules: &mut Indexed<'_>,
     limits: Limits,
     watch: &mut W,
     place: Place,
@@ -31,21 +31,20 @@ fn settle_place<W: Watch>(
         (λ _. DoneWithin limits (λ t. SettlesPlace rules.old t place) rules.old rules.new (W.told watch.old) (W.told watch.new))
         (λ s. StoppedAt limits (λ t. SettlesPlace rules.old t place) rules.old rules.new (W.told watch.old) (W.told watch.new) s) }
 {
-    write_sides(rules.rules(), place, &mut sides.left, &mut sides.right)?;
+    let first = rules.rule(place.i as usize - 1);
+    let second = rules.rule(place.j as usize - 1);
+    write_sides_of(first, second, place.at, &mut sides.left, &mut sides.right)?;
     let birth = Birth::Pair(place.i, place.j, place.at);
     settle_sides(rules, limits, watch, birth, sides)
 }
 
 // Finds all places of pairs with this greater number, in order.
-fn find_places(rules: &Indexed, greater: u32, found: &mut Found) -> Result<(), Stop>
+fn find_places(rules: &Indexed<'_>, greater: u32, found: &mut Found) -> Result<(), Stop>
     requires { IsNumberOf rules.now greater }
     ensures { MatchResult result (λ _. AreAllPlaces rules.now greater found.new) (λ s. s ≡ Memory) }
 {
-    let all = rules.rules();
-    let rule = &all[greater as usize - 1];
-    rules
-        .index()
-        .find_overlaps(rule.left.symbols(), greater, found)?;
+    let rule = rules.rule(greater as usize - 1);
+    rules.find_overlaps(rule.left.symbols(), greater, found)?;
     Ok(())
 }
 
@@ -60,7 +59,7 @@ fn place_at(places: &[Place], n: usize) -> Place
 // Settles the pairs at these places, which are all with this greater number, in order.
 fn settle_places<W: Watch>(
     task: &Task,
-    rules: &mut Indexed,
+    rules: &mut Indexed<'_>,
     watch: &mut W,
     sides: &mut Sides,
     greater: u32,
@@ -84,7 +83,7 @@ fn settle_places<W: Watch>(
 // Settles the pairs with this greater number in order.
 fn settle_greater<W: Watch>(
     task: &Task,
-    rules: &mut Indexed,
+    rules: &mut Indexed<'_>,
     watch: &mut W,
     found: &mut Found,
     sides: &mut Sides,
@@ -105,7 +104,7 @@ fn settle_greater<W: Watch>(
 pub(crate) fn complete<W: Watch>(
     alloc: Global,
     task: &Task,
-    rules: &mut Indexed,
+    rules: &mut Indexed<'_>,
     watch: &mut W,
 ) -> Result<(), Stop>
     requires base_is { task.now.base ≡ length rules.old }
@@ -119,7 +118,7 @@ pub(crate) fn complete<W: Watch>(
     let mut found = Found::new(alloc);
     settle_given(task, rules, watch, &mut sides)?;
     let mut greater: u32 = task.base as u32 + 1;
-    'greater: while greater as usize <= rules.rules().len() {
+    'greater: while greater as usize <= rules.count() {
         settle_greater(task, rules, watch, &mut found, &mut sides, greater)?;
         greater += 1;
     }

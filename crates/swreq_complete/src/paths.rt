@@ -7,34 +7,26 @@ ghost use Rattle.swreq_word.specs.Relations.{Linked};
 ghost use Rattle.swreq_rule.specs.Steps.{Step};
 ghost use Rattle.swreq_path.specs.Paths.{HasTarget};
 ghost use Rattle.swreq_path.specs.Reductions.{IsReductionPath};
-ghost use Rattle.swreq_complete.specs.Index.{IsIndexOf};
 
 use crate::CompleteRules;
-use crate::indexed::first_redex;
+use crate::indexed::{Indexed, first_redex};
 use std::alloc::{AllocError, Global};
-use swreq_path::{Path, take_redex};
-use swreq_rule::Rule;
+use swreq_path::{Path, take_redex_of};
 use swreq_text::Seq;
-use swreq_trie::Trie;
 use swreq_word::{Symbol, Word};
 
 // The path of the reduction of the word. Each step has a copy of what stands on both sides of it, so the search for the next redex may
 // begin with the word anew.
-fn reduction_path(
-    alloc: Global,
-    rules: &[Rule],
-    trie: &Trie,
-    w: &[Symbol],
-) -> Result<Path, AllocError>
+fn reduction_path(alloc: Global, rules: &Indexed<'_>, w: &[Symbol]) -> Result<Path, AllocError>
     requires few { length rules.now < 2 ^ 32 - 1 }
-    requires index { IsIndexOf trie.now rules.now }
     ensures { IfOk result (λ path. (v : List Symbol) × IsReductionPath rules.now path w.now v) }
 {
     let start = Word::new(Vec::from_slice(alloc, w)?);
     let mut word = Vec::from_slice(alloc, w)?;
     let mut steps = Vec::new(alloc);
-    'steps: while let Some(redex) = first_redex(rules, trie, &word, 0) {
-        take_redex(alloc, rules, &mut word, redex, &mut steps)?;
+    'steps: while let Some(redex) = first_redex(rules, &word, 0) {
+        let rule = rules.rule(redex.number - 1);
+        take_redex_of(alloc, rule, &mut word, redex, &mut steps)?;
     }
     Ok(Path {
         start,
@@ -42,12 +34,13 @@ fn reduction_path(
     })
 }
 
-impl CompleteRules {
+impl CompleteRules<'_> {
     /// The path of the reduction of the word, from the word to the least of all words congruent to it.
     pub fn path(&self, alloc: Global, w: &[Symbol]) -> Result<Path, AllocError>
         ensures reduction { IfOk result (λ path. (v : List Symbol) × IsReductionPath self.now path w.now v) }
         ensures least { IfOk result (λ path. (v : List Symbol) × HasTarget self.now path v × IsLeast (Linked (Step self.now)) v) }
     {
-        reduction_path(alloc, self.rules(), self.index(), w)
+        let _complete = self.count();
+        reduction_path(alloc, self.indexed(), w)
     }
 }

@@ -18,7 +18,7 @@ use swreq_word::{Symbol, Word, are_same};
 type Key<'a> = (&'a Word, usize);
 
 // Whether no rule's left side stands in a proper factor of the word.
-fn is_minimal(rules: &Indexed, w: &[Symbol]) -> bool
+fn is_minimal(rules: &Indexed<'_>, w: &[Symbol]) -> bool
     requires { 0 < length w.now }
     ensures { Decides result (EachFactor w.now (IsIrreducible (Step rules.now))) }
 {
@@ -37,12 +37,12 @@ fn push<'a>(keys: &mut Vec<Key<'a>>, key: Key<'a>) -> Result<(), AllocError>
 }
 
 // Adds the left side of one rule more, if none of its proper factors can be reduced.
-fn add_key<'a>(rules: &'a Indexed, k: usize, keys: &mut Vec<Key<'a>>) -> Result<(), AllocError>
+fn add_key<'a>(rules: &'a Indexed<'_>, k: usize, keys: &mut Vec<Key<'a>>) -> Result<(), AllocError>
     requires in_range { k < length rules.now }
     requires so_far { AreKeysBelow rules.now k keys.old.items }
     ensures { OnOk result (AreKeysBelow rules.now (k + 1) keys.new.items) }
 {
-    let rule = rule_at(rules, k);
+    let rule = rules.rule(k);
     if !is_minimal(rules, rule.left.symbols()) {
         return Ok(());
     }
@@ -54,7 +54,7 @@ fn keys_of<'a>(alloc: Global, rules: &'a Indexed) -> Result<Vec<Key<'a>>, AllocE
     ensures { IfOk result (λ v. AreKeysBelow rules.now (length rules.now) v.items) }
 {
     let mut keys: Vec<Key<'a>> = Vec::new(alloc);
-    for k in 0..rules.rules().len() {
+    for k in 0..rules.count() {
         add_key(rules, k, &mut keys)?;
     }
     Ok(keys)
@@ -87,17 +87,8 @@ fn is_new(keys: &[Key], n: usize) -> bool
     !is_same(key_at(keys, n - 1), key_at(keys, n))
 }
 
-// The rule that stands there.
-fn rule_at(rules: &Indexed, k: usize) -> &Rule
-    requires { k < length rules.now }
-    ensures { slice_get rules.now k ≡ Some result.now }
-{
-    let all = rules.rules();
-    &all[k]
-}
-
 // The rule with its right side reduced.
-fn reduced(alloc: Global, rules: &Indexed, rule: &Rule) -> Result<Rule, AllocError>
+fn reduced(alloc: Global, rules: &Indexed<'_>, rule: &Rule) -> Result<Rule, AllocError>
     ensures left { IfOk result (λ r. r.left ≡ rule.now.left) }
     ensures right { IfOk result (λ r. Reduces rules.now rule.now.right r.right) }
     ensures birth { IfOk result (λ r. r.birth ≡ rule.now.birth) }
@@ -119,7 +110,7 @@ fn put(found: &mut Vec<Rule>, rule: Rule) -> Result<(), AllocError>
 // Adds the rule of one key more, if its left side differs from the one before it.
 fn add(
     alloc: Global,
-    rules: &Indexed,
+    rules: &Indexed<'_>,
     keys: &[Key],
     n: usize,
     found: &mut Vec<Rule>,
@@ -134,13 +125,13 @@ fn add(
         return Ok(());
     }
     let key = key_at(keys, n);
-    let rule = rule_at(rules, key.1);
+    let rule = rules.rule(key.1);
     let new = reduced(alloc, rules, rule)?;
     put(found, new)
 }
 
 // The rules of sorted keys, each left side once.
-fn rules_of(alloc: Global, rules: &Indexed, keys: &[Key]) -> Result<Vec<Rule>, AllocError>
+fn rules_of(alloc: Global, rules: &Indexed<'_>, keys: &[Key]) -> Result<Vec<Rule>, AllocError>
     requires keys { AreKeys rules.now keys.now }
     requires sorted { IsSorted key_cmp keys.now }
     ensures { IfOk result (λ v. Found rules.now v.items) }

@@ -44,7 +44,7 @@ pub(crate) fn tell<W: Watch>(watch: &mut W, event: &Event) -> Result<(), Stop>
 }
 
 // Puts the rule of the event last.
-fn keep(rules: &mut Indexed, event: Event) -> Result<(), Stop>
+fn keep(rules: &mut Indexed<'_>, event: Event) -> Result<(), Stop>
     requires { length rules.old < 2 ^ 32 - 1 }
     ensures { MatchResult result
         (λ _. (rule : Rule) → event ≡ Born rule → rules.new ≡ rules.old ++ rule ∷ [])
@@ -61,7 +61,7 @@ fn keep(rules: &mut Indexed, event: Event) -> Result<(), Stop>
 
 // Tells the rule and puts it last, and stops where it passes a limit.
 fn bear<W: Watch>(
-    rules: &mut Indexed,
+    rules: &mut Indexed<'_>,
     limits: Limits,
     watch: &mut W,
     rule: Rule,
@@ -75,7 +75,7 @@ fn bear<W: Watch>(
     let event = Event::Born { rule };
     tell(watch, &event)?;
     keep(rules, event)?;
-    match passed(rules.rules().len(), long, limits) {
+    match passed(rules.count(), long, limits) {
         None => Ok(()),
         Some(which) => Err(Stop::Limit(which)),
     }
@@ -83,7 +83,7 @@ fn bear<W: Watch>(
 
 // Reduces both sides by the rules so far, and where they differ bears a rule.
 pub(crate) fn settle_sides<W: Watch>(
-    rules: &mut Indexed,
+    rules: &mut Indexed<'_>,
     limits: Limits,
     watch: &mut W,
     birth: Birth,
@@ -104,7 +104,7 @@ pub(crate) fn settle_sides<W: Watch>(
 
 // Settles the equation with this number, counted from 1.
 fn settle_equation<W: Watch>(
-    rules: &mut Indexed,
+    rules: &mut Indexed<'_>,
     limits: Limits,
     watch: &mut W,
     number: usize,
@@ -123,7 +123,7 @@ fn settle_equation<W: Watch>(
 // Settles the equations in order.
 pub(crate) fn settle_given<W: Watch>(
     task: &Task,
-    rules: &mut Indexed,
+    rules: &mut Indexed<'_>,
     watch: &mut W,
     sides: &mut Sides,
 ) -> Result<(), Stop>

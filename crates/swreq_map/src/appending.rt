@@ -18,7 +18,7 @@ pub(crate) fn put(word: &mut Vec<Symbol>, x: Symbol)
 
 /// Puts a symbol behind the least word of a class, and reduces the longer word to the least one of its own class. No memory is taken:
 /// there is room for one symbol more.
-pub fn append(rules: &CompleteRules, word: &mut Vec<Symbol>, x: Symbol)
+pub fn append(rules: &CompleteRules<'_>, word: &mut Vec<Symbol>, x: Symbol)
     requires least { IsLeast (Linked (Step rules.now)) word.old.items }
     requires fits { vec_len word.old + 1 ≤ vec_capacity word.old }
     ensures congruent { Linked (Step rules.now) (word.old.items ++ x ∷ []) word.new.items }
@@ -26,8 +26,8 @@ pub fn append(rules: &CompleteRules, word: &mut Vec<Symbol>, x: Symbol)
     ensures no_longer { vec_len word.new ≤ vec_len word.old + 1 }
     ensures room { vec_capacity word.old ≤ vec_capacity word.new }
 {
-    let _complete = rules.rules();
-    let longest = rules.index().longest();
+    let _complete = rules.count();
+    let longest = rules.longest();
     put(word, x);
     let from = word.len().saturating_sub(longest);
     rules.reduce_from(word, from);

@@ -65,7 +65,7 @@ impl PropertyMap {
     /// The map of the rules, where the protocols are those below a number.
     pub fn build(
         alloc: Global,
-        rules: &CompleteRules,
+        rules: &CompleteRules<'_>,
         protocols: u32,
     ) -> Result<PropertyMap, AllocError>
         ensures protocols { IfOk result (λ m. m.protocols ≡ protocols) }
@@ -73,9 +73,8 @@ impl PropertyMap {
     {
         let mut table = WordTable::new(alloc);
         let mut lists: Vec<Vec<Symbol>> = Vec::new(alloc);
-        let all = rules.rules();
-        for k in 0..all.len() {
-            let rule = &all[k];
+        for k in 0..rules.count() {
+            let rule = rules.rule(k);
             add_end(
                 alloc,
                 &mut table,
@@ -106,7 +105,7 @@ impl PropertyMap {
     /// symbol more than the word.
     pub fn has(
         &self,
-        rules: &CompleteRules,
+        rules: &CompleteRules<'_>,
         u: &[Symbol],
         x: Symbol,
         room: &mut Vec<Symbol>,
@@ -118,7 +117,7 @@ impl PropertyMap {
         ensures answer { Decides result (Vanishes rules.now u.now x) }
         ensures room { vec_capacity room.old ≤ vec_capacity room.new }
     {
-        let _rules = rules.rules();
+        let _complete = rules.count();
         if self.is_candidate(u, x) {
             vanishes(rules, u, x, room)
         } else {
@@ -130,14 +129,14 @@ impl PropertyMap {
     pub fn properties(
         &self,
         alloc: Global,
-        rules: &CompleteRules,
+        rules: &CompleteRules<'_>,
         u: &[Symbol],
     ) -> Result<Properties, AllocError>
         requires map { IsMapOf rules.now self.now }
         requires least { IsLeast (Linked (Step rules.now)) u.now }
         ensures { IfOk result (ArePropertiesOf rules.now self.now.protocols u.now) }
     {
-        let _rules = rules.rules();
+        let _complete = rules.count();
         let candidates = candidates(alloc, &self.table, &self.lists, u)?;
         let mut room = Vec::with_capacity(alloc, u.len() + 1)?;
         let mut protocols = conforming(alloc, rules, u, self.protocols, &candidates, &mut room)?;
@@ -166,7 +165,7 @@ fn symbol_at(symbols: &[Symbol], k: usize) -> Symbol
 
 /// The protocol of the symbol, if it is one below this number that vanishes behind the least word of a class.
 fn conforms(
-    rules: &CompleteRules,
+    rules: &CompleteRules<'_>,
     u: &[Symbol],
     protocols: u32,
     x: Symbol,
@@ -193,7 +192,7 @@ fn conforms(
 
 /// Adds the protocol of the next symbol, if it is one below this number that vanishes behind the least word of a class.
 fn add_conforming(
-    rules: &CompleteRules,
+    rules: &CompleteRules<'_>,
     u: &[Symbol],
     protocols: u32,
     symbols: &[Symbol],
@@ -220,7 +219,7 @@ fn add_conforming(
 /// The protocols among these symbols that vanish behind the least word of a class.
 fn conforming(
     alloc: Global,
-    rules: &CompleteRules,
+    rules: &CompleteRules<'_>,
     u: &[Symbol],
     protocols: u32,
     symbols: &[Symbol],

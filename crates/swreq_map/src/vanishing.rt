@@ -29,13 +29,13 @@ fn put_all(room: &mut Vec<Symbol>, u: &[Symbol])
 }
 
 /// Whether the symbol vanishes behind the least word of a class. The room is for one symbol more than the word.
-pub fn vanishes(rules: &CompleteRules, u: &[Symbol], x: Symbol, room: &mut Vec<Symbol>) -> bool
+pub fn vanishes(rules: &CompleteRules<'_>, u: &[Symbol], x: Symbol, room: &mut Vec<Symbol>) -> bool
     requires least { IsLeast (Linked (Step rules.now)) u.now }
     requires fits { length u.now + 1 ≤ vec_capacity room.old }
     ensures answer { Decides result (Vanishes rules.now u.now x) }
     ensures room { vec_capacity room.old ≤ vec_capacity room.new }
 {
-    let _rules = rules.rules();
+    let _complete = rules.count();
     write(room, u);
     append(rules, room, x);
     are_same(room, u)

@@ -1,9 +1,11 @@
 //! The two sides of the pair of two rules at a place.
 
-ghost use Rattle.std.specs.Prelude.{◌≡◌, ◌++◌, IfOk, OnOk};
+ghost use Rattle.std.specs.Prelude.{◌≡◌, ◌++◌, List, IfOk, OnOk};
 ghost use Rattle.std.specs.Bool.{Decides};
 ghost use Rattle.swreq_word.specs.Overlap.{Containment, Overlap};
-ghost use Rattle.swreq_pair.specs.Pairs.{AreSides, ContainmentPair, HasPair, IsNumberOf, IsPair, LeftLength, OverlapPair};
+ghost use Rattle.swreq_pair.specs.Pairs.{AreSides, ContainmentPair, HasPair, HavePairAt, IsNumberOf, IsOfRules, IsPair, LeftLength, OverlapPair};
+ghost use Rattle.swreq_rule.specs.declared.rules.Place.{Place};
+ghost use Rattle.swreq_rule.specs.declared.rules.Rule.{Rule};
 
 use std::alloc::{AllocError, Global};
 use swreq_rule::{Place, Rule, contains, overlaps};
@@ -69,6 +71,25 @@ fn write_containment(
     write_three(right, &l[..at], second.right.symbols(), &l[at + m.len()..])
 }
 
+/// Writes the two sides of the pair of these two rules at the place in the first, as `write_sides` does.
+pub fn write_sides_of(
+    first: &Rule,
+    second: &Rule,
+    at: usize,
+    left: &mut Vec<Symbol>,
+    right: &mut Vec<Symbol>,
+) -> Result<(), AllocError>
+    requires { HavePairAt first.now second.now at }
+    ensures { OnOk result ((rules : List Rule) (place : Place) → IsOfRules rules place first.now second.now at → HasPair rules place
+        → IsPair rules place left.new.items right.new.items) }
+{
+    if second.left.symbols().len() <= first.left.symbols().len() - at {
+        write_containment(first, second, at, left, right)
+    } else {
+        write_overlap(first, second, at, left, right)
+    }
+}
+
 /// Writes the two sides of the pair of two rules at the place into the two buffers, in place of what was there. The caller knows that
 /// they have a pair there, so what overlaps is not compared again.
 pub fn write_sides(
@@ -82,11 +103,7 @@ pub fn write_sides(
 {
     let first = &rules[place.i as usize - 1];
     let second = &rules[place.j as usize - 1];
-    if second.left.symbols().len() <= first.left.symbols().len() - place.at {
-        write_containment(first, second, place.at, left, right)
-    } else {
-        write_overlap(first, second, place.at, left, right)
-    }
+    write_sides_of(first, second, place.at, left, right)
 }
 
 /// Whether the two rules have a pair at the place.

@@ -3,6 +3,7 @@ use Rattle.std.proofs.Common.{◌≡◌, ℕ, ◌+◌, ◌<◌, refl, sym, ◌�
 use Rattle.std.proofs.lemmas.List.{append_cancel_left}
 use Rattle.std.proofs.Math.Seq.{drop-append_seam, take-append_seam}
 use Rattle.swreq_word.specs.declared.symbols.Symbol.{Symbol}
+use Rattle.swreq_word.specs.Overlap.{Containment}
 use Rattle.swreq_word.specs.Relations.{Chain}
 use Rattle.swreq_word.specs.Relations.Chain.{done, more}
 use Rattle.swreq_word.proofs.Cuts.{same_cut}
@@ -16,23 +17,21 @@ use Rattle.swreq_path.specs.declared.paths.Path.{Path}
 use Rattle.swreq_path.specs.Paths.{replaced_side, StepLeads, StepsLead, HasTarget}
 use Rattle.swreq_path.specs.Reductions.{IsRedex, StepsAt, IsReductionStep, StepsReduce, IsReductionPath, AddsReductionStep}
 
--- the step that the code makes at a redex
-pub step_is : (rules : List Rule) (w before after : List Symbol) (at number len : ℕ) (r : Rule) (redex : IsRedex rules w at number)
+-- the step that the code makes where the left side of a rule stands
+pub step_is : (rules : List Rule) (w before after : List Symbol) (at number len : ℕ) (r : Rule) (o : Containment w r.left at)
     → RuleAt rules number r → len ≡ length r.left → before ≡ take at w → after ≡ drop (at + len) w
     → (v : List Symbol) × StepsAt rules (record { before = before; rule = number; forward = true; after = after }) at number w v
-step_is rules w before after at number len r redex is l b a =
-    let o = redex.2 in
-    let same : r ≡ redex.0 = one_rule rules number r redex.0 is redex.1 in
-    let whole : w ≡ (o.before ++ redex.0.left) ++ o.after = o.first_is ∙ sym (append_assoc o.before redex.0.left o.after) in
-    let front : before ≡ o.before = b ∙ rw (← o.at_is, o.first_is) (take-append_seam o.before (redex.0.left ++ o.after)) in
-    let size : at + len ≡ length (o.before ++ redex.0.left) = (let h = o.at_is in let k = ap (λ (x : Rule). length x.left) same in rw length-append (omega (arith, h, k, l))) in
-    let back : after ≡ o.after = a ∙ rw (size, whole) (drop-append_seam (o.before ++ redex.0.left) o.after) in (
+step_is rules w before after at number len r o is l b a =
+    let whole : w ≡ (o.before ++ r.left) ++ o.after = o.first_is ∙ sym (append_assoc o.before r.left o.after) in
+    let front : before ≡ o.before = b ∙ rw (← o.at_is, o.first_is) (take-append_seam o.before (r.left ++ o.after)) in
+    let size : at + len ≡ length (o.before ++ r.left) = (let h = o.at_is in rw length-append (omega (arith, h, l))) in
+    let back : after ≡ o.after = a ∙ rw (size, whole) (drop-append_seam (o.before ++ r.left) o.after) in (
       before ++ (r.right ++ after),
       record {
         leads = record {
           rule = r;
           is_rule = is;
-          source = o.first_is ∙ rw (front, back, same) refl;
+          source = o.first_is ∙ rw (front, back) refl;
           target = refl;
         };
         by_rule = refl;
@@ -48,6 +47,10 @@ first_is_redex rules w at number p = (
   p.chosen.is_rule,
   record { before = p.before; after = p.chosen.begins.0; first_is = p.cut ∙ ap (λ x. p.before ++ x) p.chosen.begins.1; at_is = p.at_is },
 )
+
+-- a redex is a place at which the left side of its rule stands
+pub redex_there : (rules : List Rule) (w : List Symbol) (at number : ℕ) (r : Rule) → IsRedex rules w at number → RuleAt rules number r → Containment w r.left at
+redex_there rules w at number r redex is = subst (λ (x : Rule). Containment w x.left at) (one_rule rules number redex.0 r redex.1 is) redex.2
 
 -- a step forward at the first redex leads where the step of reduction does
 reduction_target : (rules : List Rule) (step : RewriteStep) (u v : List Symbol) → StepLeads rules step u v → step.forward ≡ true

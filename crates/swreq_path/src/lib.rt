@@ -7,5 +7,5 @@ mod reduction;
 mod steps;
 
 pub use paths::{Loop, Path, append_copies, compose, invert};
-pub use reduction::{path_of, step_at, take_redex};
+pub use reduction::{path_of, step_at, step_of, take_redex, take_redex_of};
 pub use steps::RewriteStep;

@@ -26,3 +26,7 @@ number_some rules n r a = let e = a.1 in omega (arith, e)
 
 pub number_within : (rules : List Rule) (n : ℕ) (r : Rule) → RuleAt rules n r → n ≤ length rules
 number_within rules n r a = let e = a.1 in let l = slice_get_within rules a.0 r a.2 in omega (arith, e, l)
+
+-- what is read at the number of a rule is that rule
+pub rule_there : (rules : List Rule) (n : ℕ) (q r : Rule) → RuleAt rules n q → r ≡ get_or rules (n - 1) r → RuleAt rules n r
+rule_there rules n q r is = rule_read rules n r (number_some rules n q is) (number_within rules n q is)

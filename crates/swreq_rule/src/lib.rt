@@ -11,5 +11,5 @@ mod rules;
 pub use equation::oriented;
 pub use list::RuleList;
 pub use overlap::{contains, overlaps};
-pub use reduction::{Redex, first_redex, take_step};
+pub use reduction::{Redex, first_redex, take_step, take_step_of};
 pub use rules::{Birth, Place, Rule};

@@ -109,10 +109,10 @@ module _ (stored : List Entry) (left : List Symbol) (number : ℕ)
   own_key : (key : ℕ × ℕ × ℕ) (at : ℕ) → IsOwn left number at (place_of key) → IsOwnKey left number at key
   own_key key at o = (o.overlap, ap key_of o.place_is)
 
-  pub all_gained : (a b c d : List (ℕ × ℕ × ℕ)) → Gains Begins [] a → Gains Insides a b → Gains From b c → Gains Own c d
-      → Gains (λ key. IsPlace stored left number (place_of key)) [] d
-  all_gained a b c d f g h i =
-      gains_on Onto (λ key. From key ⊎ Own key) (λ key. IsPlace stored left number (place_of key)) [] b d
+  pub all_gained : (o a b c d : List (ℕ × ℕ × ℕ)) → Gains Begins o a → Gains Insides a b → Gains From b c → Gains Own c d
+      → Gains (λ key. IsPlace stored left number (place_of key)) o d
+  all_gained old a b c d f g h i =
+      gains_on Onto (λ key. From key ⊎ Own key) (λ key. IsPlace stored left number (place_of key)) old b d
       (λ key o. inl o)
       (λ key w. elim w [
         | inl o ↦ inr (inl (o.2.0, o.0, o.2.1))
@@ -125,5 +125,5 @@ module _ (stored : List Entry) (left : List Symbol) (number : ℕ)
           | inr o ↦ inr (o.0, own_within o.0 key (own_key key o.0 o.1), own_key key o.0 o.1)
         ])
       ])
-      (gains_on Begins Insides Onto [] a b (λ key o. (o.0, 0, o.1)) (λ key o. (o.0, o.1, o.3)) (λ key o. begins_or_insides key o.0 o.1 o.2) f g)
+      (gains_on Begins Insides Onto old a b (λ key o. (o.0, 0, o.1)) (λ key o. (o.0, o.1, o.3)) (λ key o. begins_or_insides key o.0 o.1 o.2) f g)
       (gains_on From Own (λ key. From key ⊎ Own key) b c d (λ key o. inl o) (λ key o. inr o) (λ key w. w) h i)

@@ -4,6 +4,7 @@ pub mod Paths
 pub mod Ways
 pub mod Index
 pub mod Collecting
+pub mod Both
 pub mod Listed
 pub mod Forgetting
 pub mod InOrder

@@ -295,8 +295,24 @@ impl Trie {
         Ok(())
     }
 
-    // Puts the keys of all places of the pairs of the new side with the stored ones that have a number below its own, and with itself,
-    // in place of those that were there.
+    // Adds the keys of all places of the pairs of the new side with the stored ones that have a number below its own, and with itself.
+    pub(crate) fn add_all(
+        &self,
+        left: &[Symbol],
+        number: u32,
+        nodes: &mut Vec<Met>,
+        keys: &mut Vec<Key>,
+    ) -> Result<(), AllocError>
+        requires { 0 < length left.now }
+        ensures { OnOk result (Gains (λ key. IsPlace self.now left.now number (place_of key)) keys.old.items keys.new.items) }
+    {
+        self.add_onto_begins(left, number, keys)?;
+        self.add_onto_insides(left, number, keys)?;
+        self.add_all_from(left, number, nodes, keys)?;
+        add_all_own(left, number, keys)
+    }
+
+    // Puts these keys in place of those that were there.
     pub(crate) fn collect(
         &self,
         left: &[Symbol],
@@ -308,9 +324,6 @@ impl Trie {
         ensures { OnOk result (Gains (λ key. IsPlace self.now left.now number (place_of key)) [] keys.new.items) }
     {
         keys.clear();
-        self.add_onto_begins(left, number, keys)?;
-        self.add_onto_insides(left, number, keys)?;
-        self.add_all_from(left, number, nodes, keys)?;
-        add_all_own(left, number, keys)
+        self.add_all(left, number, nodes, keys)
     }
 }

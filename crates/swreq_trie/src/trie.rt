@@ -202,6 +202,24 @@ impl Trie {
         )
     }
 
+    /// Finds the places of the pairs with the sides that another trie stores and then with those of this one, and with itself, in the same
+    /// room.
+    pub fn find_overlaps_over(
+        &self,
+        below: &Trie,
+        left: &[Symbol],
+        number: u32,
+        found: &mut Found,
+    ) -> Result<(), AllocError>
+        requires { 0 < length left.now }
+        ensures { OnOk result (ArePlaces (below.now ++ self.now) left.now number found.new) }
+    {
+        below.collect(left, number, &mut found.nodes, &mut found.keys)?;
+        self.add_all(left, number, &mut found.nodes, &mut found.keys)?;
+        found.keys.sort_unstable();
+        write_places(&found.keys, &mut found.places)
+    }
+
     // Puts the places in order, in place of those that were there. Nodes and keys are put where the others were, too.
     fn write_overlaps(
         &self,

@@ -23,14 +23,14 @@ greater-init g c =
 pub overflow_add-greater-in-greater : goal.overflow_add-greater-in-greater
 overflow_add-greater-in-greater g c =
     let k = kept_length c.args.task.now.limits c.args.task.now.base c.greater.rules c.greater.invariant.goes.kept in
-    let t = c.greater-test.true in let e = ap length c.rules.ensures in let b = c.requires.base_fits in let m = c.requires.limits.1 in
+    let t = c.greater-test.true in let e = c.count.ensures in let b = c.requires.base_fits in let m = c.requires.limits.1 in
     omega (arith, k, t, e, b, m)
 
 pub greater-preserved : goal.greater-preserved
 greater-preserved g c =
     let a = c.args in let l = c.greater in let told = g.W.Watch.told in
     let k = kept_length a.task.now.limits a.task.now.base l.rules l.invariant.goes.kept in
-    let t = c.greater-test.true in let e = ap length c.rules.ensures in
+    let t = c.greater-test.true in let e = c.count.ensures in
     let n = l.invariant.new in
     record {
       goes = goes_later a.task.now.limits a.task.now.base a.task.now.given.now (UpTo (l.greater + 1)) a.rules.now l.rules c.settle_greater.new.rules (told a.watch.now)
@@ -57,7 +57,7 @@ returns-in_err-settle_greater g c =
 pub returns : goal.returns
 returns g c =
     let a = c.args in let l = c.greater in
-    let f = ap length c.rules.ensures in let t = c.greater-test.false in (
+    let f = c.count.ensures in let t = c.greater-test.false in (
       record { ended = all_done a.task.now.base a.task.now.given.now l.rules l.greater (omega (arith, f, t)) l.invariant.goes.progress; kept = l.invariant.goes.kept },
       l.invariant.goes.grown,
     )

@@ -1,17 +1,16 @@
 use Rattle.std.proofs.Common.{arith, subst}
 use Rattle.swreq_word.specs.Relations.{Linked}
 use Rattle.swreq_rule.specs.Steps.{Step}
-use Rattle.swreq_complete.proofs.Indexing.{none_longer}
 use Rattle.swreq_map.proofs.Ending.{none_before}
 use Rattle.swreq_map.proofs.appending.append.Goals as goal
 
 pub reduce_from-requires : goal.reduce_from-requires
 reduce_from-requires c =
     let rules = c.args.rules.now in
-    none_before rules c.rules-complete.ensures.complete c.args.word.now.items c.requires.least c.args.x c.put.new.word.items
+    none_before rules c.count-complete.ensures.complete c.args.word.now.items c.requires.least c.args.x c.put.new.word.items
     c.longest-longest.result c.saturating_sub-from.result c.put.ensures.items
     (omega (arith, c.saturating_sub-from.ensures, c.len.ensures))
-    (none_longer c.index.result.now rules c.index.ensures c.longest-longest.result c.longest-longest.ensures)
+    c.longest-longest.ensures
 
 pub returns-clause-congruent : goal.returns-clause-congruent
 returns-clause-congruent c =

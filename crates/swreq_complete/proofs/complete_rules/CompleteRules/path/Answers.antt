@@ -11,7 +11,7 @@ returns-clause-least c =
     let w = c.args.w.now in
     IfOk-weaker c.reduction_path.result _ _
     (λ path r.
-    let p = subst (λ rs. IsReductionPath rs path w r.0) c.rules.ensures.same r.1 in
+    let p = subst (λ rs. IsReductionPath rs path w r.0) c.indexed.ensures r.1 in
     let reduces = path_reduces rules path w r.0 p in
-    (r.0, reduces.0, (reduces_least rules c.rules.ensures.complete w r.0 reduces.1).1))
+    (r.0, reduces.0, (reduces_least rules c.count-complete.ensures.complete w r.0 reduces.1).1))
     c.reduction_path.ensures

@@ -5,7 +5,7 @@ use Rattle.swreq_map.proofs.map.PropertyMap.has.Goals as goal
 pub returns-else-is_candidate-clause-answer : goal.returns-else-is_candidate-clause-answer
 returns-else-is_candidate-clause-answer c = (
   λ t. absurd (false≢true t),
-  λ v. (let f = vanishing_follows c.args.rules.now c.rules-rules.ensures.complete c.args.self.now c.requires.map c.args.u.now c.requires.least c.args.x
+  λ v. (let f = vanishing_follows c.args.rules.now c.count-complete.ensures.complete c.args.self.now c.requires.map c.args.u.now c.requires.least c.args.x
       c.requires.property v in
       c.if-is_candidate.ensures f.0 f.1 f.2),
 )

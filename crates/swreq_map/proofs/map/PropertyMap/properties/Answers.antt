@@ -23,7 +23,7 @@ returns c =
     subst (λ (n : MapView). ArePropertiesOf rules n.protocols u (record { protocols = c.new.result; layout = c.has-layout.result })) c.self.view_is
     (subst (λ ps. ArePropertiesOf rules m.protocols u (record { protocols = ps; layout = c.has-layout.result })) (sym c.new.ensures)
     (subst (λ ps. ArePropertiesOf rules m.protocols u (record { protocols = ps; layout = c.has-layout.result })) (sym once) (record {
-      protocols_are = all_conforming rules c.rules-rules.ensures.complete m (subst (IsMapOf rules) (sym c.self.view_is) c.requires.map) u c.requires.least
+      protocols_are = all_conforming rules c.count-complete.ensures.complete m (subst (IsMapOf rules) (sym c.self.view_is) c.requires.map) u c.requires.least
           symbols (dedup ◌==◌ sorted) followers are;
       ascending = IsStrictlyIncreasing-dedup sorted c.sort_unstable.ensures.sorted;
       layout_is = c.has-layout.ensures.answer;
