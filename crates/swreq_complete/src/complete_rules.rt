@@ -105,6 +105,13 @@ impl<'b> CompleteRules<'b> {
         self.list.reduce_from(w, from);
     }
 
+    /// Copies of the rules, in order.
+    pub fn written_out(&self, alloc: Global) -> Result<Vec<Rule>, AllocError>
+        ensures { IfOk result (λ copies. copies.items ≡ self.now) }
+    {
+        self.list.written_out(alloc)
+    }
+
     /// The same rules once more. They are borrowed; where some of these are borrowed themselves, the others are copied.
     pub fn over<'a>(&'a self, alloc: Global) -> Result<CompleteRules<'a>, AllocError>
         ensures { IfOk result (λ c. c ≡ self.now) }
@@ -123,23 +130,15 @@ impl<'b> CompleteRules<'b> {
     }
 }
 
-// The rules in order, once more.
-fn written_out(alloc: Global, rules: &Indexed<'_>) -> Result<Seq<Rule>, AllocError>
-    ensures { IfOk result (λ s. s ≡ rules.now) }
-{
-    let mut copies: Vec<Rule> = Vec::with_capacity(alloc, rules.count())?;
-    for k in 0..rules.count() {
-        copies.push(rules.rule(k).clone()?)?;
-    }
-    Ok(Seq::new(copies))
-}
-
 // The answer that the completion passed the limit with these rules.
 fn passed_limit(alloc: Global, which: Which, list: Indexed<'_>) -> Failed
     ensures { (result ≡ Limit which list.entry) ⊎ (result ≡ Memory) }
 {
-    match written_out(alloc, &list) {
-        Ok(trace) => Failed::Limit { which, trace },
+    match list.written_out(alloc) {
+        Ok(rules) => Failed::Limit {
+            which,
+            trace: Seq::new(rules),
+        },
         Err(_) => Failed::Memory,
     }
 }

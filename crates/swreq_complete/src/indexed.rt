@@ -277,6 +277,18 @@ impl<'b> Indexed<'b> {
         }
     }
 
+    /// Copies of the rules, in order.
+    pub fn written_out(&self, alloc: Global) -> Result<Vec<Rule>, AllocError>
+        ensures { IfOk result (λ copies. copies.items ≡ self.now) }
+    {
+        let count = self.count();
+        let mut copies: Vec<Rule> = Vec::with_capacity(alloc, count)?;
+        for k in 0..count {
+            copies.push(self.rule(k).clone()?)?;
+        }
+        Ok(copies)
+    }
+
     /// Puts the rule last. For want of memory all is as before.
     pub fn push(&mut self, rule: Rule) -> Result<(), AllocError>
         requires { length self.old < 2 ^ 32 - 1 }

@@ -24,14 +24,14 @@ const LIMITS: Limits = Limits {
 };
 
 /// The machine of a signature.
-fn machine_of(
+fn machine_of<'b>(
     alloc: Global,
     world: &World,
     table: &ParamTable,
-    protocols: &Protocols,
+    protocols: &'b Protocols,
     f: FuncId,
     limits: Limits,
-) -> Result<Machine, Refused>
+) -> Result<Machine<'b>, Refused>
     requires text { IsTextOver table.now world.now }
     requires protocols { AreRulesOf (world_by table.now world.now) (last_rules protocols.now.rounds) }
     requires f { f.place < length world.now.signatures }

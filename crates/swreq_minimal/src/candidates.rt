@@ -86,7 +86,7 @@ fn put_sorted(
 fn add(
     alloc: Global,
     world: &World,
-    rules: &CompleteRules,
+    rules: &CompleteRules<'_>,
     params: Params,
     table: &mut ParamTable,
     rule: &Rule,
@@ -117,7 +117,7 @@ fn add(
 fn collect(
     alloc: Global,
     world: &World,
-    rules: &CompleteRules,
+    rules: &CompleteRules<'_>,
     params: Params,
     table: &mut ParamTable,
     system: &[Rule],

@@ -93,18 +93,6 @@ fn add_rule(
     }
 }
 
-/// Copies of these rules.
-fn copies(alloc: Global, rules: &[Rule]) -> Result<Vec<Rule>, AllocError>
-    ensures { IfOk result (λ v. v.items ≡ rules.now) }
-{
-    let mut copies = Vec::new(alloc);
-    for k in 0..rules.len() {
-        let copy = rules[k].clone()?;
-        copies.push(copy)?;
-    }
-    Ok(copies)
-}
-
 /// The rules of the protocols, and then those of the equations of a list.
 fn rules_of(
     alloc: Global,
@@ -119,7 +107,7 @@ fn rules_of(
     ensures { IfOk result (λ v. AreRulesOfRest (symbols_of world.now.lexicon) (facts_of (world_by table.now world.now)) []
         (listed table.now list.now) v.items) }
 {
-    let mut rules = copies(alloc, protocols.rules().rules())?;
+    let mut rules = protocols.rules().written_out(alloc)?;
     for k in 0..list.len() {
         let r = list[k];
         add_rule(alloc, world, table, r, &mut rules)?;
@@ -326,6 +314,6 @@ pub(crate) fn is_evident(
     let found = rule_of(alloc, world, table, r)?;
     match found {
         None => Ok(false),
-        Some(rule) => is_shown(alloc, rules, protocols.rules().rules().len(), rule),
+        Some(rule) => is_shown(alloc, rules, protocols.rules().count(), rule),
     }
 }

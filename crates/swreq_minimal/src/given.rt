@@ -15,7 +15,7 @@ use swreq_world::World;
 /// The bound member for which the member symbol of this rank stands behind the word, or None where it stands for none.
 fn member_at(
     world: &World,
-    rules: &CompleteRules,
+    rules: &CompleteRules<'_>,
     word: &[Symbol],
     rank: u64,
     test: &mut Vec<Symbol>,
@@ -40,7 +40,7 @@ fn member_at(
 /// The bound member for which the symbol stands behind the word, or None where it stands for none.
 pub(crate) fn member_behind(
     world: &World,
-    rules: &CompleteRules,
+    rules: &CompleteRules<'_>,
     word: &[Symbol],
     x: Symbol,
     test: &mut Vec<Symbol>,

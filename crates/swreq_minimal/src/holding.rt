@@ -41,7 +41,7 @@ fn has_valid_sides(
 }
 
 /// The least word that the rules link to a word.
-fn least(alloc: Global, rules: &CompleteRules, word: &Word) -> Result<Vec<Symbol>, AllocError>
+fn least(alloc: Global, rules: &CompleteRules<'_>, word: &Word) -> Result<Vec<Symbol>, AllocError>
     ensures linked { IfOk result (λ v. Links rules.now word.now v.items) }
     ensures least { IfOk result (λ v. IsLeastBy rules.now v.items) }
 {
@@ -51,7 +51,7 @@ fn least(alloc: Global, rules: &CompleteRules, word: &Word) -> Result<Vec<Symbol
 }
 
 /// Whether the rules link two words.
-fn are_linked(alloc: Global, rules: &CompleteRules, u: &Word, v: &Word) -> Result<bool, AllocError>
+fn are_linked(alloc: Global, rules: &CompleteRules<'_>, u: &Word, v: &Word) -> Result<bool, AllocError>
     ensures { IfOk result (λ b. IsTrue b ↔ Links rules.now u.now v.now) }
 {
     let left = least(alloc, rules, u)?;

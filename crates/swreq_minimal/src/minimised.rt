@@ -74,8 +74,8 @@ pub fn minimise<W: Watch>(
     ensures world { world_by table.new world.now ≡ world_by table.old world.now }
     ensures text { IsTextOver table.new world.now }
 {
-    let _of_protocols = protocols.rules().rules();
-    let _of_list = machine.rules().rules();
+    let _of_protocols = protocols.rules().count();
+    let _of_list = machine.rules().count();
     match candidates(alloc, world, table, machine) {
         Err(_) => Err(Failed::Memory),
         Ok(found) => sift(

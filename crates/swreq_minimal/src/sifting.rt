@@ -111,26 +111,26 @@ fn put(list: &mut Vec<Requirement>, r: Requirement) -> Result<(), Failed>
 }
 
 /// The machine of a list: the one that is there, or else one that is built.
-fn machine_for<W: Watch>(
+fn machine_for<'b, W: Watch>(
     alloc: Global,
     world: &World,
     table: &ParamTable,
-    protocols: &Protocols,
+    protocols: &'b Protocols,
     params: Params,
     list: &[Requirement],
-    built: Option<Machine>,
+    built: Option<Machine<'b>>,
     limits: Limits,
     watch: &mut W,
-) -> Result<Machine, Failed>
+) -> Result<Machine<'b>, Failed>
     requires text { IsTextOver table.now world.now }
     requires protocols { AreRulesOf (world_by table.now world.now) (last_rules protocols.now.rounds) }
     requires list { AreKnown table.now world.now.lexicon list.now }
     requires built { IfSome built (IsBuiltFor (world_by table.now world.now) params (listed table.now list.now)) }
     requires limits { AreInRange limits }
     ensures machine { IfOk result (IsBuiltFor (world_by table.now world.now) params (listed table.now list.now)) }
-    ensures told { IfOk result (λ _. TellsParts limits (list_of (world_by table.now world.now) (last_rules protocols.now.rounds) params)
+    ensures told { IfOk result (λ _. TellsParts limits (list_of (world_by table.now world.now) (last_rules protocols.entry.rounds) params)
         (λ l. l ≡ listed table.now list.now) (W.told watch.old) (W.told watch.new)) }
-    ensures failed { IfErr result (TellsFailure limits (list_of (world_by table.now world.now) (last_rules protocols.now.rounds) params)
+    ensures failed { IfErr result (TellsFailure limits (list_of (world_by table.now world.now) (last_rules protocols.entry.rounds) params)
         (λ l. l ≡ listed table.now list.now) (W.told watch.old) (W.told watch.new)) }
 {
     match built {
@@ -144,18 +144,18 @@ fn machine_for<W: Watch>(
 
 /// Takes a candidate, unless it is derivable from those that were taken before. The machine of these is given where it is there, and is
 /// handed back while it is still theirs.
-fn take<W: Watch>(
+fn take<'b, W: Watch>(
     alloc: Global,
     world: &World,
     table: &ParamTable,
-    protocols: &Protocols,
+    protocols: &'b Protocols,
     params: Params,
     taken: &mut Vec<Requirement>,
-    built: Option<Machine>,
+    built: Option<Machine<'b>>,
     candidate: Requirement,
     limits: Limits,
     watch: &mut W,
-) -> Result<Option<Machine>, Failed>
+) -> Result<Option<Machine<'b>>, Failed>
     requires text { IsTextOver table.now world.now }
     requires protocols { AreRulesOf (world_by table.now world.now) (last_rules protocols.now.rounds) }
     requires taken { AreKnown table.now world.now.lexicon taken.old.items }
@@ -168,9 +168,9 @@ fn take<W: Watch>(
         (listed table.now taken.new.items)) }
     ensures known { OnOk result (AreKnown table.now world.now.lexicon taken.new.items) }
     ensures built { IfOk result (λ built. IfSome built (IsBuiltFor (world_by table.now world.now) params (listed table.now taken.new.items))) }
-    ensures told { OnOk result (TellsParts limits (list_of (world_by table.now world.now) (last_rules protocols.now.rounds) params)
+    ensures told { OnOk result (TellsParts limits (list_of (world_by table.now world.now) (last_rules protocols.entry.rounds) params)
         (λ l. l ≡ listed table.now taken.old.items) (W.told watch.old) (W.told watch.new)) }
-    ensures failed { IfErr result (TellsFailure limits (list_of (world_by table.now world.now) (last_rules protocols.now.rounds) params)
+    ensures failed { IfErr result (TellsFailure limits (list_of (world_by table.now world.now) (last_rules protocols.entry.rounds) params)
         (λ l. l ≡ listed table.now taken.old.items) (W.told watch.old) (W.told watch.new)) }
 {
     let machine = match machine_for(
@@ -218,7 +218,7 @@ fn generators<W: Watch>(
         (W.told watch.old) (W.told watch.new)) }
 {
     let mut taken: Vec<Requirement> = Vec::new(alloc);
-    let mut built: Option<Machine> = None;
+    let mut built: Option<Machine<'_>> = None;
     for k in 0..candidates.len() {
         match take(
             alloc,

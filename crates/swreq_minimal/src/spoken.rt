@@ -43,7 +43,7 @@ fn name_of(world: &World, symbol: Symbol) -> Option<NameId>
 /// The first associated type that is given behind the word, of the name for which the symbol stands.
 fn first_named(
     world: &World,
-    rules: &CompleteRules,
+    rules: &CompleteRules<'_>,
     front: &[Symbol],
     symbol: Symbol,
     test: &mut Vec<Symbol>,
@@ -65,7 +65,7 @@ fn first_named(
 fn last_member(
     alloc: Global,
     world: &World,
-    rules: &CompleteRules,
+    rules: &CompleteRules<'_>,
     table: &mut ParamTable,
     t: TermId,
     front: &[Symbol],
@@ -92,7 +92,7 @@ fn last_member(
 fn spoken_behind(
     alloc: Global,
     world: &World,
-    rules: &CompleteRules,
+    rules: &CompleteRules<'_>,
     params: Params,
     table: &mut ParamTable,
     front: &[Symbol],
@@ -114,7 +114,7 @@ fn spoken_behind(
 fn spoken(
     alloc: Global,
     world: &World,
-    rules: &CompleteRules,
+    rules: &CompleteRules<'_>,
     params: Params,
     table: &mut ParamTable,
     left: &[Symbol],
@@ -220,7 +220,7 @@ fn same_type(table: &ParamTable, t: TermId, v: TermId) -> Option<Requirement>
 fn same_said(
     alloc: Global,
     world: &World,
-    rules: &CompleteRules,
+    rules: &CompleteRules<'_>,
     params: Params,
     table: &mut ParamTable,
     left: &[Symbol],
@@ -245,7 +245,7 @@ fn same_said(
 fn said_of(
     alloc: Global,
     world: &World,
-    rules: &CompleteRules,
+    rules: &CompleteRules<'_>,
     params: Params,
     table: &mut ParamTable,
     left: &[Symbol],
@@ -268,7 +268,7 @@ fn said_of(
 pub(crate) fn said(
     alloc: Global,
     world: &World,
-    rules: &CompleteRules,
+    rules: &CompleteRules<'_>,
     params: Params,
     table: &mut ParamTable,
     left: &[Symbol],

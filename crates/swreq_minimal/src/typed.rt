@@ -80,7 +80,7 @@ pub(crate) fn bound(
 /// The bound member of t for which the symbol stands behind a word of the type t, or None where it stands for none.
 fn step(
     world: &World,
-    rules: &CompleteRules,
+    rules: &CompleteRules<'_>,
     table: &mut ParamTable,
     t: TermId,
     front: &[Symbol],
@@ -106,7 +106,7 @@ fn step(
 /// The type of a word with this symbol behind it, where that of the word is known.
 fn go_on(
     world: &World,
-    rules: &CompleteRules,
+    rules: &CompleteRules<'_>,
     table: &mut ParamTable,
     at: Option<TermId>,
     front: &[Symbol],
@@ -132,7 +132,7 @@ fn go_on(
 pub(crate) fn type_of(
     alloc: Global,
     world: &World,
-    rules: &CompleteRules,
+    rules: &CompleteRules<'_>,
     params: Params,
     table: &mut ParamTable,
     word: &[Symbol],

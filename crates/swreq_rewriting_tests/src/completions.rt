@@ -19,12 +19,12 @@ const AMPLE: Limits = Limits {
 };
 
 /// The completion of the base by the equations, which is to end.
-pub(crate) fn ended<W: Watch>(
+pub(crate) fn ended<'b, W: Watch>(
     alloc: Global,
-    base: CompleteRules,
+    base: CompleteRules<'b>,
     text: &str,
     watch: &mut W,
-) -> Result<CompleteRules, Fail> {
+) -> Result<CompleteRules<'b>, Fail> {
     let given = equations(alloc, text)?;
     match extend(alloc, base, &given, AMPLE, watch) {
         Ok(rules) => Ok(rules),
@@ -53,7 +53,7 @@ fn put_events(out: &mut String, events: &[Event]) -> Result<(), Fail> {
 /// How many rules the answer has, and the limit that was passed.
 fn put_answer(out: &mut String, answer: &Result<CompleteRules, Failed>) -> Result<(), Fail> {
     match answer {
-        Ok(rules) => write!(out, ": {} rules", rules.rules().len())?,
+        Ok(rules) => write!(out, ": {} rules", rules.count())?,
         Err(Failed::Limit { which, trace }) => {
             let limit = match which {
                 Which::Rules => "rules",
@@ -127,7 +127,7 @@ const TOLD: &[(&str, &str, (u32, u32), &str)] = &[
 /// What is told of the completion of the base by the equations, and the answer.
 fn put_told(
     alloc: Global,
-    base: CompleteRules,
+    base: CompleteRules<'_>,
     given: &[(Word, Word)],
     limits: Limits,
     out: &mut String,
@@ -140,7 +140,7 @@ fn put_told(
     put_answer(out, &answer)
 }
 
-/// The same of the equations and the base that are written so.
+/// The same of the equations and the base that are written so, once where the base is borrowed and once where it is not.
 fn put_told_of(
     rt: &impl Abort,
     alloc: Global,
@@ -158,7 +158,15 @@ fn put_told_of(
     };
     let given = equations(alloc, text)?;
     let base = ended(alloc, CompleteRules::empty(alloc), base, &mut Quiet)?;
+    put_told(alloc, base.over(alloc)?, &given, limits, out)?;
+    out.push_str("; ")?;
     put_told(alloc, base, &given, limits, out)
+}
+
+fn twice(alloc: Global, text: &str) -> Result<String, Fail> {
+    let mut out = String::new(alloc);
+    write!(out, "{text}; {text}")?;
+    Ok(out)
 }
 
 #[test]
@@ -166,7 +174,7 @@ fn a_completion_tells_the_rules_born_up_to_its_limits(rt: HostRuntime) -> Result
     for (base, text, limits, wanted) in TOLD {
         let mut out = String::new(rt.alloc());
         put_told_of(&rt, rt.alloc(), base, text, *limits, &mut out)?;
-        assert_same(&rt, &out, wanted);
+        assert_same(&rt, &out, &twice(rt.alloc(), wanted)?);
     }
     Ok(())
 }
@@ -185,12 +193,12 @@ fn a_completion_without_end_passes_the_limit_of_length(rt: HostRuntime) -> Resul
 /// How many rules are born, which, and the reduced ones.
 fn put_reduced(
     alloc: Global,
-    rules: &CompleteRules,
+    rules: &CompleteRules<'_>,
     born: u64,
     out: &mut String,
 ) -> Result<(), Fail> {
     write!(out, "{born} born")?;
-    put_rules(out, rules.rules())?;
+    put_rules(out, &rules.written_out(alloc)?)?;
     out.push_str("; reduced")?;
     put_rules(out, &rules.canonical(alloc)?)
 }
@@ -224,23 +232,23 @@ const WAYS: &[(&str, &str, &str, &str)] = &[
 /// The path of the word, and the word that the rules leave.
 fn put_ways(
     alloc: Global,
-    rules: &CompleteRules,
+    rules: &CompleteRules<'_>,
     letters: &str,
     out: &mut String,
 ) -> Result<(), Fail> {
     let mut w = word(alloc, letters)?;
-    put_way(alloc, rules.rules(), &rules.path(alloc, &w)?, out)?;
+    put_way(
+        alloc,
+        &rules.written_out(alloc)?,
+        &rules.path(alloc, &w)?,
+        out,
+    )?;
     rules.reduce(&mut w);
     put_word(out, &w)?;
     Ok(())
 }
 
-fn ended_over(alloc: Global, base: &str, text: &str) -> Result<CompleteRules, Fail> {
-    let base = ended(alloc, CompleteRules::empty(alloc), base, &mut Quiet)?;
-    ended(alloc, base, text, &mut Quiet)
-}
-
-/// The same by a copy of the rules that complete the base by the equations.
+/// The same by the rules that complete the base by the equations, over the base, and over a base that is itself over another.
 fn put_ways_of(
     alloc: Global,
     base: &str,
@@ -248,16 +256,19 @@ fn put_ways_of(
     letters: &str,
     out: &mut String,
 ) -> Result<(), Fail> {
-    let rules = ended_over(alloc, base, text)?;
-    put_ways(alloc, &rules.copy(alloc)?, letters, out)
+    let base = ended(alloc, CompleteRules::empty(alloc), base, &mut Quiet)?;
+    let rules = ended(alloc, base.over(alloc)?, text, &mut Quiet)?;
+    put_ways(alloc, &rules, letters, out)?;
+    out.push_str("; ")?;
+    put_ways(alloc, &rules.over(alloc)?, letters, out)
 }
 
 #[test]
-fn a_copy_of_complete_rules_reduces_to_the_least_word(rt: HostRuntime) -> Result<(), Fail> {
+fn rules_over_others_reduce_to_the_least_word(rt: HostRuntime) -> Result<(), Fail> {
     for (base, text, letters, wanted) in WAYS {
         let mut out = String::new(rt.alloc());
         put_ways_of(rt.alloc(), base, text, letters, &mut out)?;
-        assert_same(&rt, &out, wanted);
+        assert_same(&rt, &out, &twice(rt.alloc(), wanted)?);
     }
     Ok(())
 }

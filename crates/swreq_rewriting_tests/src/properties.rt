@@ -37,7 +37,7 @@ fn put_properties(out: &mut String, found: &Properties) -> Result<(), Fail> {
 /// The word to which the word reduces, and its properties.
 fn put_properties_of(
     alloc: Global,
-    rules: &CompleteRules,
+    rules: &CompleteRules<'_>,
     map: &PropertyMap,
     letters: &str,
     out: &mut String,
@@ -54,7 +54,7 @@ fn put_properties_of(
 /// The same by a map of the rules.
 fn put_by_map(
     alloc: Global,
-    rules: &CompleteRules,
+    rules: &CompleteRules<'_>,
     letters: &str,
     out: &mut String,
 ) -> Result<(), Fail> {

@@ -12,7 +12,7 @@ use swreq_world::World;
 /// Whether it is an associated type with this name, and its protocol vanishes behind the word.
 fn is_given(
     world: &World,
-    rules: &CompleteRules,
+    rules: &CompleteRules<'_>,
     word: &[Symbol],
     a: NameId,
     d: AssocId,
@@ -42,7 +42,7 @@ fn associated(world: &World) -> u32
 /// The first associated type with this name whose protocol vanishes behind the word, or None where there is none.
 pub fn first_behind(
     world: &World,
-    rules: &CompleteRules,
+    rules: &CompleteRules<'_>,
     word: &[Symbol],
     a: NameId,
     test: &mut Vec<Symbol>,

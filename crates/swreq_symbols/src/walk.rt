@@ -36,7 +36,7 @@ fn put(v: &mut Vec<Symbol>, x: Symbol)
 /// Whether some associated type has this name, and its protocol vanishes behind the word.
 fn has_name(
     world: &World,
-    rules: &CompleteRules,
+    rules: &CompleteRules<'_>,
     word: &[Symbol],
     a: NameId,
     test: &mut Vec<Symbol>,
@@ -55,7 +55,7 @@ fn has_name(
 /// Whether the protocol of the associated type vanishes behind the word.
 fn has_assoc(
     world: &World,
-    rules: &CompleteRules,
+    rules: &CompleteRules<'_>,
     word: &[Symbol],
     d: AssocId,
     test: &mut Vec<Symbol>,
@@ -74,7 +74,7 @@ fn has_assoc(
 /// Whether the step can follow the word.
 fn has_step(
     world: &World,
-    rules: &CompleteRules,
+    rules: &CompleteRules<'_>,
     word: &[Symbol],
     step: Step,
     test: &mut Vec<Symbol>,
@@ -93,7 +93,7 @@ fn has_step(
 }
 
 /// Whether a generic parameter is valid. The word becomes its least word.
-fn begins(rules: &CompleteRules, over: Over, g: ParamId, word: &mut Vec<Symbol>) -> bool
+fn begins(rules: &CompleteRules<'_>, over: Over, g: ParamId, word: &mut Vec<Symbol>) -> bool
     requires fits { 1 ≤ vec_capacity word.old }
     ensures answer { IsTrue result ↔ HasParam (source_over over) g }
     ensures least { IsLeastBy rules.now word.new.items }
@@ -129,7 +129,7 @@ fn without(table: &ParamTable, t: TermId, count: usize) -> TermId
 fn add_member(
     world: &World,
     table: &ParamTable,
-    rules: &CompleteRules,
+    rules: &CompleteRules<'_>,
     over: Over,
     t: TermId,
     word: &mut Vec<Symbol>,
@@ -171,7 +171,7 @@ fn add_member(
 pub fn least_word(
     world: &World,
     table: &ParamTable,
-    rules: &CompleteRules,
+    rules: &CompleteRules<'_>,
     over: Over,
     t: TermId,
     word: &mut Vec<Symbol>,

@@ -36,14 +36,14 @@ fn lost(_refused: &Refused) -> AllocError
 }
 
 /// The machine of a signature that has passed the check, built anew, which is told to nobody.
-fn machine_of(
+fn machine_of<'b>(
     alloc: Global,
     world: &World,
     table: &ParamTable,
-    protocols: &Protocols,
+    protocols: &'b Protocols,
     f: FuncId,
     limits: Limits,
-) -> Result<Machine, AllocError>
+) -> Result<Machine<'b>, AllocError>
     requires text { IsTextOver table.now world.now }
     requires passed { HavePassed limits (world_by table.now world.now) (last_rules protocols.now.rounds) }
     requires f { f.place < length world.now.signatures }

@@ -1,5 +1,6 @@
 -- The rounds that a machine keeps.
-use Rattle.std.specs.Prelude.{◌≡◌, Bool, List, [], ◌∷◌, ◌++◌, Result, Ok, Err}
+use Rattle.std.specs.Prelude.{◌≡◌, Bool, List, [], ◌∷◌, ◌++◌, Option, Some, None, Result, Ok, Err}
+use Rattle.std.specs.Borrow.{Bor}
 use Rattle.swreq_rule.specs.declared.rules.Rule.{Rule}
 use Rattle.swreq_complete.specs.declared.limit.Limits.{Limits}
 use Rattle.swreq_complete.specs.declared.limit.Failed.{Failed}
@@ -22,6 +23,11 @@ pub data LeadTo (limits : Limits) (plan : Plan) : List RoundView → List Item �
       → LeavesUsable plan round.rules usable
       → all ≡ before ++ round ∷ []
       → LeadTo limits plan all usable
+
+-- the rules from which each round starts, where those below it are borrowed
+abbrev pub first_rules : Option (Bor (List Rule)) → List Rule
+first_rules None = []
+first_rules (Some rules) = rules.now
 
 -- the rules of the last round
 abbrev pub last_rules : List RoundView → List Rule

@@ -19,7 +19,7 @@ use swreq_symbols::{Over, least_word};
 use swreq_word::Symbol;
 use swreq_world::World;
 
-impl Machine {
+impl Machine<'_> {
     /// Whether the rules show that t is valid. Where they do, `word` becomes its least word. Both lists of symbols keep their room.
     pub(crate) fn walk(
         &self,

@@ -48,7 +48,7 @@ fn with_usable(
     alloc: Global,
     world: &World,
     table: &ParamTable,
-    rounds: Rounds,
+    rounds: Rounds<'static>,
 ) -> Result<Protocols, AllocError>
     requires { IsTextOver table.now world.now }
     ensures same { IfOk result (λ p. p.rounds ≡ rounds) }
@@ -64,7 +64,7 @@ fn judge_protocols(
     alloc: Global,
     world: &World,
     table: &ParamTable,
-    rounds: Rounds,
+    rounds: Rounds<'static>,
 ) -> Result<Protocols, Refused>
     requires { IsTextOver table.now world.now }
     ensures judged { Judges (IsShownIn (world_by table.now world.now) (last_rules rounds)) (protocol_sides (world_by table.now world.now))
@@ -84,19 +84,19 @@ fn judge_protocols(
 }
 
 /// The machine, if its rules show each side valid.
-fn judge_machine(
+fn judge_machine<'b>(
     alloc: Global,
     world: &World,
     table: &ParamTable,
-    machine: Machine,
+    machine: Machine<'b>,
     written: &[Written],
-) -> Result<Machine, Refused>
+) -> Result<Machine<'b>, Refused>
     requires text { IsTextOver table.now world.now }
     requires written { AreWritten table.now world.now.lexicon written.now }
-    ensures judged { (rs : List TermRequirement) → Judges (IsShownIn (world_by table.now world.now) (last_rules machine.rounds))
-        (sides (WrittenList (generic_params machine.params) rs) (placed table.now written.now)) (last_rules machine.rounds)
+    ensures judged { (rs : List TermRequirement) → Judges (IsShownIn (world_by table.now world.now) (last_rules machine.entry.rounds))
+        (sides (WrittenList (generic_params machine.entry.params) rs) (placed table.now written.now)) (last_rules machine.entry.rounds)
         (built_rules result) }
-    ensures same { IfOk result (λ m. m ≡ machine) }
+    ensures same { IfOk result (λ m. m ≡ machine.entry) }
 {
     let over = Over::Signature(machine.params());
     let found = first_invalid(alloc, world, table, machine.rules(), over, written)?;
@@ -167,7 +167,7 @@ impl Protocols {
     }
 }
 
-impl Machine {
+impl<'b> Machine<'b> {
     /// The machine of a written list, over the rules of the protocols.
     ///
     /// It is `Refused::Limit` exactly where a round of the list passes a limit, with that limit and the trace of that round, and
@@ -177,23 +177,23 @@ impl Machine {
         alloc: Global,
         world: &World,
         table: &ParamTable,
-        protocols: &Protocols,
+        protocols: &'b Protocols,
         params: Params,
         written: &[Written],
         limits: Limits,
         watch: &mut W,
-    ) -> Result<Machine, Refused>
+    ) -> Result<Machine<'b>, Refused>
         requires text { IsTextOver table.now world.now }
         requires protocols { AreRulesOf (world_by table.now world.now) (last_rules protocols.now.rounds) }
         requires written { AreWritten table.now world.now.lexicon written.now }
         requires limits { AreInRange limits }
-        ensures answer { Builds limits (machine_plan table.now world.now (last_rules protocols.now.rounds) params (bare written.now))
+        ensures answer { Builds limits (machine_plan table.now world.now (last_rules protocols.entry.rounds) params (bare written.now))
             (facts_of (world_by table.now world.now))
             (list_sides table.now params written.now) (W.told watch.old) (W.told watch.new) (built_rules result) }
-        ensures only { IsOnlyBuilt limits (machine_plan table.now world.now (last_rules protocols.now.rounds) params
+        ensures only { IsOnlyBuilt limits (machine_plan table.now world.now (last_rules protocols.entry.rounds) params
             (bare written.now)) (facts_of (world_by table.now world.now))
             (list_sides table.now params written.now) (built_rules result) }
-        ensures rounds { IfOk result (λ m. AreRounds limits (machine_plan table.now world.now (last_rules protocols.now.rounds) params
+        ensures rounds { IfOk result (λ m. AreRounds limits (machine_plan table.now world.now (last_rules protocols.entry.rounds) params
             (bare written.now)) m.rounds) }
         ensures machine { IfOk result (IsMachineOf (world_by table.now world.now) (listed table.now (bare written.now))) }
         ensures params { IfOk result (λ m. m.params ≡ params) }

@@ -40,7 +40,7 @@ impl Property {
     }
 }
 
-impl Machine {
+impl Machine<'_> {
     /// Whether a property's symbol vanishes behind the word of t, by the map of the rules; None exactly where t is not valid.
     fn vanishing(
         &self,

@@ -94,7 +94,7 @@ fn run_kept<W: Watch>(
     keep: &Kept,
     limits: Limits,
     watch: &mut W,
-) -> Result<Rounds, Failed>
+) -> Result<Rounds<'static>, Failed>
     requires text { IsTextOver table.now world.now }
     requires keep { AreFlags world.now keep.now.lists }
     requires limits { AreInRange limits }
@@ -108,8 +108,7 @@ fn run_kept<W: Watch>(
     let basic = basic(alloc, world)?;
     let all = kept_requirements(alloc, world, keep)?;
     let start = Start { basic, all, limits };
-    let none = CompleteRules::empty(alloc);
-    run(alloc, world, table, &none, &start, watch)
+    run(alloc, world, table, None, &start, watch)
 }
 
 /// Runs the rounds of the protocols with the kept requirements.
@@ -120,7 +119,7 @@ pub(crate) fn complete_kept<W: Watch>(
     keep: &Kept,
     limits: Limits,
     watch: &mut W,
-) -> Result<Rounds, Failed>
+) -> Result<Rounds<'static>, Failed>
     requires text { IsTextOver table.now world.now }
     requires keep { AreFlags world.now keep.now.lists }
     requires limits { AreInRange limits }
@@ -142,7 +141,7 @@ fn usable_of(
     alloc: Global,
     world: &World,
     table: &ParamTable,
-    rules: &CompleteRules,
+    rules: &CompleteRules<'_>,
     p: ProtoId,
 ) -> Result<Vec<bool>, AllocError>
     requires text { IsTextOver table.now world.now }
@@ -165,7 +164,7 @@ pub(crate) fn usable_lists(
     alloc: Global,
     world: &World,
     table: &ParamTable,
-    rules: &CompleteRules,
+    rules: &CompleteRules<'_>,
 ) -> Result<Vec<Seq<bool>>, AllocError>
     requires { IsTextOver table.now world.now }
     ensures { IfOk result (λ v. TellEach (world_by table.now world.now) rules.now v.items (length world.now.lexicon.protocols)) }

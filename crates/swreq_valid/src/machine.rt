@@ -21,14 +21,14 @@ use swreq_symbols::Over;
 use swreq_watch::Watch;
 use swreq_world::World;
 
-/// The machine of a list: its generic parameters, and the rounds that found its rules.
+/// The machine of a list: its generic parameters, and the rounds that found its rules. It borrows the rules of the protocols.
 #[derive(Drop)]
-pub struct Machine {
+pub struct Machine<'b> {
     params: Params,
-    rounds: Rounds,
+    rounds: Rounds<'b>,
 }
 
-impl Model for Machine {
+impl<'b> Model for Machine<'b> {
     ghost use Rattle.swreq_valid.specs.Machines.{MachineView};
 
     ghost Value = { MachineView };
@@ -36,9 +36,9 @@ impl Model for Machine {
     ghost view = { λ m. record { params = m.params; rounds = m.rounds } };
 }
 
-impl Machine {
+impl<'b> Machine<'b> {
     /// The machine with these generic parameters and these rounds.
-    pub(crate) fn new(params: Params, rounds: Rounds) -> Machine
+    pub(crate) fn new(params: Params, rounds: Rounds<'b>) -> Machine<'b>
         ensures { result ≡ record { params = params; rounds = rounds } }
     {
         Machine { params, rounds }
@@ -52,14 +52,14 @@ impl Machine {
     }
 
     /// The rounds that found its rules.
-    pub fn rounds(&self) -> &[Round]
+    pub fn rounds(&self) -> &[Round<'b>]
         ensures { result.now ≡ self.now.rounds }
     {
         self.rounds.items()
     }
 
     /// The rules of its last round.
-    pub fn rules(&self) -> &CompleteRules
+    pub fn rules(&self) -> &CompleteRules<'b>
         ensures { result.now ≡ last_rules self.now.rounds }
     {
         self.rounds.last()
@@ -88,32 +88,32 @@ fn in_signature(
 /// The machine of the usable part of a list, over the rules of the protocols.
 ///
 /// `Failed::Limit` comes exactly where a round of the list passes a limit, with that limit and the trace of that round.
-pub fn core<W: Watch>(
+pub fn core<'b, W: Watch>(
     alloc: Global,
     world: &World,
     table: &ParamTable,
-    protocols: &Protocols,
+    protocols: &'b Protocols,
     params: Params,
     list: &[Requirement],
     limits: Limits,
     watch: &mut W,
-) -> Result<Machine, Failed>
+) -> Result<Machine<'b>, Failed>
     requires text { IsTextOver table.now world.now }
     requires protocols { AreRulesOf (world_by table.now world.now) (last_rules protocols.now.rounds) }
     requires list { AreKnown table.now world.now.lexicon list.now }
     requires limits { AreInRange limits }
-    ensures answer { Answers limits (machine_plan table.now world.now (last_rules protocols.now.rounds) params list.now)
+    ensures answer { Answers limits (machine_plan table.now world.now (last_rules protocols.entry.rounds) params list.now)
         (W.told watch.old) (W.told watch.new) (machine_rules result) }
-    ensures only { IsOnlyOutcome limits (machine_plan table.now world.now (last_rules protocols.now.rounds) params list.now)
+    ensures only { IsOnlyOutcome limits (machine_plan table.now world.now (last_rules protocols.entry.rounds) params list.now)
         (machine_rules result) }
     ensures rounds { IfOk result (λ m. AreRounds limits (machine_plan table.now world.now
-        (last_rules protocols.now.rounds) params list.now) m.rounds) }
+        (last_rules protocols.entry.rounds) params list.now) m.rounds) }
     ensures machine { IfOk result (IsMachineOf (world_by table.now world.now) (listed table.now list.now)) }
     ensures params { IfOk result (λ m. m.params ≡ params) }
 {
     let all = in_signature(alloc, params, list)?;
     let basic = Vec::new(alloc);
     let start = Start { basic, all, limits };
-    let rounds = run(alloc, world, table, protocols.rules(), &start, watch)?;
+    let rounds = run(alloc, world, table, Some(protocols.rules()), &start, watch)?;
     Ok(Machine::new(params, rounds))
 }

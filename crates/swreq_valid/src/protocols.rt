@@ -24,7 +24,7 @@ use swreq_world::World;
 /// The rules of the protocols of a text, and the rounds that found them.
 #[derive(Drop)]
 pub struct Protocols {
-    rounds: Rounds,
+    rounds: Rounds<'static>,
     usable: Seq<Seq<bool>>,
 }
 
@@ -38,7 +38,7 @@ impl Model for Protocols {
 
 impl Protocols {
     /// The rules that these rounds found, with a flag for each requirement of each protocol, by rank.
-    pub(crate) fn new(rounds: Rounds, usable: Vec<Seq<bool>>) -> Protocols
+    pub(crate) fn new(rounds: Rounds<'static>, usable: Vec<Seq<bool>>) -> Protocols
         ensures { result ≡ record { rounds = rounds; usable = usable.items } }
     {
         Protocols {
@@ -48,7 +48,7 @@ impl Protocols {
     }
 
     /// The rounds that found the rules.
-    pub fn rounds(&self) -> &[Round]
+    pub fn rounds(&self) -> &[Round<'static>]
         ensures { result.now ≡ self.now.rounds }
     {
         self.rounds.items()
@@ -66,7 +66,7 @@ impl Protocols {
     }
 
     /// The rules of the last round.
-    pub fn rules(&self) -> &CompleteRules
+    pub fn rules(&self) -> &CompleteRules<'static>
         ensures { result.now ≡ last_rules self.now.rounds }
     {
         self.rounds.last()
@@ -90,7 +90,7 @@ fn run_protocols<W: Watch>(
     table: &ParamTable,
     limits: Limits,
     watch: &mut W,
-) -> Result<Rounds, Failed>
+) -> Result<Rounds<'static>, Failed>
     requires text { IsTextOver table.now world.now }
     requires limits { AreInRange limits }
     ensures answer { Answers limits (protocols_of (world_by table.now world.now)) (W.told watch.old) (W.told watch.new) (rules_of result) }
@@ -101,8 +101,7 @@ fn run_protocols<W: Watch>(
     let basic = basic(alloc, world)?;
     let all = requirements(alloc, world)?;
     let start = Start { basic, all, limits };
-    let none = CompleteRules::empty(alloc);
-    run(alloc, world, table, &none, &start, watch)
+    run(alloc, world, table, None, &start, watch)
 }
 
 /// Runs the rounds of the protocols.
@@ -112,7 +111,7 @@ pub(crate) fn complete_protocols<W: Watch>(
     table: &ParamTable,
     limits: Limits,
     watch: &mut W,
-) -> Result<Rounds, Failed>
+) -> Result<Rounds<'static>, Failed>
     requires text { IsTextOver table.now world.now }
     requires limits { AreInRange limits }
     ensures answer { Answers limits (protocols_of (world_by table.now world.now)) (W.told watch.old) (W.told watch.new) (rules_of result) }

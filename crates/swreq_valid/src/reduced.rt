@@ -50,7 +50,7 @@ fn put_step(steps: &mut Vec<Step>, step: Step)
 /// Adds the step of the type of the word before a member symbol with it: the first associated type with its name.
 fn add_step(
     world: &World,
-    rules: &CompleteRules,
+    rules: &CompleteRules<'_>,
     before: &[Symbol],
     x: Symbol,
     steps: &mut Vec<Step>,
@@ -75,7 +75,7 @@ fn add_step(
 /// Adds the step of the first associated type with this name whose protocol vanishes behind the word, if there is one.
 fn add_first(
     world: &World,
-    rules: &CompleteRules,
+    rules: &CompleteRules<'_>,
     before: &[Symbol],
     name: NameId,
     steps: &mut Vec<Step>,
@@ -99,7 +99,7 @@ fn add_first(
 /// Makes the list that of the steps of the type of a least word.
 fn read_steps(
     world: &World,
-    rules: &CompleteRules,
+    rules: &CompleteRules<'_>,
     word: &[Symbol],
     steps: &mut Vec<Step>,
     test: &mut Vec<Symbol>,
@@ -131,7 +131,7 @@ fn head_of(word: &[Symbol]) -> ParamId
     }
 }
 
-impl Machine {
+impl Machine<'_> {
     /// Leaves the reduced type of a valid t, and the least word congruent to its word, in the scratch.
     pub fn reduced(&self, world: &World, table: &ParamTable, t: TermId, s: &mut Scratch)
         requires text { IsTextOver table.now world.now }
@@ -146,7 +146,7 @@ impl Machine {
         ensures room { s.new.room ≡ s.old.room }
     {
         let rules = self.rules();
-        let _complete = rules.rules().len();
+        let _complete = rules.count();
         if self.walk(world, table, t, &mut s.word, &mut s.test) {
             s.head = head_of(&s.word);
             read_steps(world, rules, &s.word, &mut s.steps, &mut s.test);

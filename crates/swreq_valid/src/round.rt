@@ -6,14 +6,15 @@ use std::marker::Model;
 use swreq_complete::CompleteRules;
 use swreq_text::Seq;
 
-/// A round: which requirements its equations are of, by a flag for each, and the rules with which it ended.
+/// A round: which requirements its equations are of, by a flag for each, and the rules with which it ended, of which the first may be
+/// borrowed.
 #[derive(Drop)]
-pub struct Round {
+pub struct Round<'b> {
     used: Seq<bool>,
-    rules: CompleteRules,
+    rules: CompleteRules<'b>,
 }
 
-impl Model for Round {
+impl<'b> Model for Round<'b> {
     ghost use Rattle.swreq_valid.specs.Rounds.{RoundView};
 
     ghost Value = { RoundView };
@@ -21,9 +22,9 @@ impl Model for Round {
     ghost view = { λ r. record { used = r.used; rules = r.rules } };
 }
 
-impl Round {
+impl<'b> Round<'b> {
     /// The round that used these requirements and ended with these rules.
-    pub(crate) fn new(used: Vec<bool>, rules: CompleteRules) -> Round
+    pub(crate) fn new(used: Vec<bool>, rules: CompleteRules<'b>) -> Round<'b>
         ensures { result ≡ record { used = used.items; rules = rules } }
     {
         Round {
@@ -40,7 +41,7 @@ impl Round {
     }
 
     /// The rules with which it ended.
-    pub fn rules(&self) -> &CompleteRules
+    pub fn rules(&self) -> &CompleteRules<'b>
         ensures { result.now ≡ self.now.rules }
     {
         &self.rules
@@ -49,11 +50,11 @@ impl Round {
 
 /// The rounds of a machine in order. There is one at least.
 #[derive(Drop)]
-pub struct Rounds {
-    items: Seq<Round>,
+pub struct Rounds<'b> {
+    items: Seq<Round<'b>>,
 }
 
-impl Model for Rounds {
+impl<'b> Model for Rounds<'b> {
     ghost use Rattle.std.specs.Prelude.{List, ◌<◌, length};
     ghost use Rattle.swreq_valid.specs.Rounds.{RoundView};
 
@@ -64,8 +65,8 @@ impl Model for Rounds {
     ghost invariant = { λ r. 0 < length r.items };
 }
 
-impl Rounds {
-    pub(crate) fn new(items: Vec<Round>) -> Rounds
+impl<'b> Rounds<'b> {
+    pub(crate) fn new(items: Vec<Round<'b>>) -> Rounds<'b>
         requires { 0 < length items.items }
         ensures { result ≡ items.items }
     {
@@ -75,14 +76,14 @@ impl Rounds {
     }
 
     /// The rounds, from the first to the last.
-    pub fn items(&self) -> &[Round]
+    pub fn items(&self) -> &[Round<'b>]
         ensures { result.now ≡ self.now }
     {
         self.items.items()
     }
 
     /// The rules of the last round.
-    pub fn last(&self) -> &CompleteRules
+    pub fn last(&self) -> &CompleteRules<'b>
         ensures { result.now ≡ last_rules self.now }
     {
         let rounds = self.items.items();

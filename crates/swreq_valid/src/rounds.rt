@@ -13,7 +13,7 @@ ghost use Rattle.swreq_symbols.specs.Meaning.{symbols_of};
 ghost use Rattle.swreq_valid.specs.Answers.{Answers, IsOnlyOutcome};
 ghost use Rattle.swreq_valid.specs.Flags.{Tells, chosen};
 ghost use Rattle.swreq_valid.specs.Plans.{AreWanted, item_of, items_of, plan_of};
-ghost use Rattle.swreq_valid.specs.Rounds.{AreRounds, rules_of};
+ghost use Rattle.swreq_valid.specs.Rounds.{AreRounds, first_rules, rules_of};
 
 use crate::round::{Round, Rounds};
 use crate::usable::usable;
@@ -82,29 +82,42 @@ fn given_by(
     Ok(v)
 }
 
+/// The rules from which each round starts: those that are borrowed, or none.
+fn first_rules<'b>(
+    alloc: Global,
+    below: Option<&'b CompleteRules<'b>>,
+) -> Result<CompleteRules<'b>, AllocError>
+    ensures { IfOk result (λ rules. rules ≡ first_rules below.entry) }
+{
+    match below {
+        None => Ok(CompleteRules::empty(alloc)),
+        Some(rules) => rules.over(alloc),
+    }
+}
+
 /// Completes the equations of the round that uses the requirements whose flags are set.
-fn complete<W: Watch>(
+fn complete<'b, W: Watch>(
     alloc: Global,
     world: &World,
     table: &ParamTable,
-    base: &CompleteRules,
+    below: Option<&'b CompleteRules<'b>>,
     start: &Start,
     used: &[bool],
     watch: &mut W,
-) -> Result<CompleteRules, Failed>
+) -> Result<CompleteRules<'b>, Failed>
     requires text { IsTextOver table.now world.now }
     requires limits { AreInRange start.now.limits }
     requires wanted { AreWanted table.now world.now.lexicon start.now.all.items }
     requires flags { length used.now ≡ vec_len start.now.all }
-    ensures answer { IsAnswer start.now.limits base.now (given (plan_of world.now table.now base.now start.now) (chosen
-        (items_of table.now start.now.all.items) used.now)) result }
-    ensures told { TellsEvents start.now.limits base.now (given (plan_of world.now table.now base.now start.now) (chosen
-        (items_of table.now start.now.all.items) used.now))
+    ensures answer { IsAnswer start.now.limits (first_rules below.entry) (given (plan_of world.now table.now (first_rules below.entry) start.now)
+        (chosen (items_of table.now start.now.all.items) used.now)) result }
+    ensures told { TellsEvents start.now.limits (first_rules below.entry) (given (plan_of world.now table.now (first_rules below.entry) start.now)
+        (chosen (items_of table.now start.now.all.items) used.now))
         (W.told watch.old) (W.told watch.new) result }
 {
     let equations = given_by(alloc, world, table, start, used)?;
-    let copy = base.copy(alloc)?;
-    extend(alloc, copy, &equations, start.limits, watch)
+    let first = first_rules(alloc, below)?;
+    extend(alloc, first, &equations, start.limits, watch)
 }
 
 /// `count` flags, none of them set.
@@ -138,7 +151,7 @@ fn next_used(
     table: &ParamTable,
     start: &Start,
     used: &[bool],
-    rules: &CompleteRules,
+    rules: &CompleteRules<'_>,
 ) -> Result<Option<Vec<bool>>, AllocError>
     requires text { IsTextOver table.now world.now }
     requires wanted { AreWanted table.now world.now.lexicon start.now.all.items }
@@ -161,27 +174,27 @@ fn next_used(
     }
 }
 
-/// Runs the rounds, up to the last one or to the one that passes a limit.
-pub(crate) fn run<W: Watch>(
+/// Runs the rounds over the rules that are borrowed, or over none, up to the last one or to the one that passes a limit.
+pub(crate) fn run<'b, W: Watch>(
     alloc: Global,
     world: &World,
     table: &ParamTable,
-    base: &CompleteRules,
+    below: Option<&'b CompleteRules<'b>>,
     start: &Start,
     watch: &mut W,
-) -> Result<Rounds, Failed>
+) -> Result<Rounds<'b>, Failed>
     requires text { IsTextOver table.now world.now }
     requires limits { AreInRange start.now.limits }
     requires wanted { AreWanted table.now world.now.lexicon start.now.all.items }
-    ensures answer { Answers start.now.limits (plan_of world.now table.now base.now start.now) (W.told watch.old) (W.told watch.new)
+    ensures answer { Answers start.now.limits (plan_of world.now table.now (first_rules below.entry) start.now) (W.told watch.old) (W.told watch.new)
         (rules_of result) }
-    ensures only { IsOnlyOutcome start.now.limits (plan_of world.now table.now base.now start.now) (rules_of result) }
-    ensures rounds { IfOk result (AreRounds start.now.limits (plan_of world.now table.now base.now start.now)) }
+    ensures only { IsOnlyOutcome start.now.limits (plan_of world.now table.now (first_rules below.entry) start.now) (rules_of result) }
+    ensures rounds { IfOk result (AreRounds start.now.limits (plan_of world.now table.now (first_rules below.entry) start.now)) }
 {
-    let mut rounds: Vec<Round> = Vec::new(alloc);
+    let mut rounds: Vec<Round<'b>> = Vec::new(alloc);
     let mut used = none_used(alloc, start.all.len())?;
     'each: loop {
-        let rules = complete(alloc, world, table, base, start, &used, watch)?;
+        let rules = complete(alloc, world, table, below, start, &used, watch)?;
         let next = next_used(alloc, world, table, start, &used, &rules)?;
         match rounds.push(Round::new(used, rules)) {
             Ok(()) => {}

@@ -22,7 +22,7 @@ fn fails_at(
     alloc: Global,
     world: &World,
     table: &ParamTable,
-    rules: &CompleteRules,
+    rules: &CompleteRules<'_>,
     over: Over,
     t: TermId,
     at: u32,
@@ -43,7 +43,7 @@ fn first_of(
     alloc: Global,
     world: &World,
     table: &ParamTable,
-    rules: &CompleteRules,
+    rules: &CompleteRules<'_>,
     over: Over,
     r: &Written,
 ) -> Result<Option<u32>, AllocError>
@@ -74,7 +74,7 @@ pub(crate) fn first_invalid(
     alloc: Global,
     world: &World,
     table: &ParamTable,
-    rules: &CompleteRules,
+    rules: &CompleteRules<'_>,
     over: Over,
     list: &[Written],
 ) -> Result<Option<u32>, AllocError>
@@ -100,7 +100,7 @@ pub(crate) fn first_in_protocols(
     alloc: Global,
     world: &World,
     table: &ParamTable,
-    rules: &CompleteRules,
+    rules: &CompleteRules<'_>,
 ) -> Result<Option<u32>, AllocError>
     requires text { IsTextOver table.now world.now }
     ensures { IfOk result (λ first. MatchOption first

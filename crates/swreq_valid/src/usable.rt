@@ -27,7 +27,7 @@ pub(crate) fn is_shown(
     alloc: Global,
     world: &World,
     table: &ParamTable,
-    rules: &CompleteRules,
+    rules: &CompleteRules<'_>,
     over: Over,
     t: TermId,
 ) -> Result<bool, AllocError>
@@ -47,7 +47,7 @@ pub fn is_usable(
     alloc: Global,
     world: &World,
     table: &ParamTable,
-    rules: &CompleteRules,
+    rules: &CompleteRules<'_>,
     over: Over,
     r: Requirement,
 ) -> Result<bool, AllocError>
@@ -75,7 +75,7 @@ pub(crate) fn usable(
     world: &World,
     table: &ParamTable,
     start: &Start,
-    rules: &CompleteRules,
+    rules: &CompleteRules<'_>,
 ) -> Result<Vec<bool>, AllocError>
     requires text { IsTextOver table.now world.now }
     requires wanted { AreWanted table.now world.now.lexicon start.now.all.items }
