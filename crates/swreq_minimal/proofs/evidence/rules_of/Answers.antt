@@ -19,7 +19,7 @@ loop-k-init c =
     let m = symbols_of c.args.world.now.lexicon in
     let f = facts_of (world_by c.args.table.now c.args.world.now) in
     let list = listed c.args.table.now c.args.list.now in
-    subst (AreRulesOfRest m f [] list) (sym (c.in_ok-rules.ensures ∙ (c.rules-2.ensures.same ∙ c.rules.ensures)))
+    subst (AreRulesOfRest m f [] list) (sym (c.in_ok-rules.ensures ∙ c.rules.ensures))
     (of_protocols m f list (last_rules c.args.protocols.now.rounds) c.requires.protocols)
 
 pub loop-k-preserved : goal.loop-k-preserved

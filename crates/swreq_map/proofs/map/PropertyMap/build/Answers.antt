@@ -1,16 +1,15 @@
-use Rattle.std.proofs.Common.{◌≡◌, ◌∙◌, inl, inr, ap, subst, sym, arith, length, refl, Some, slice_get}
+use Rattle.std.proofs.Common.{◌≡◌, ◌∙◌, inl, inr, ap, subst, arith, Some, slice_get}
 use Rattle.std.proofs.lemmas.Bool.{cases_eq}
-use Rattle.std.proofs.lemmas.Option.{slice_get_read, slice_get_within, slice_get-get_or}
+use Rattle.std.proofs.lemmas.Option.{slice_get_within, slice_get-get_or}
 use Rattle.swreq_rule.specs.declared.rules.Rule.{Rule}
 use Rattle.swreq_map.proofs.map.PropertyMap.build.Goals as goal
 
 pub loop-k-preserved : goal.loop-k-preserved
 loop-k-preserved c = record {
   kept = λ n rule v x l e f p. elim (cases_eq n c.loop-k.k) [
-    | inl i ↦ (let all = c.rules-all.result.now in
-        let here = slice_get_read all (length all) c.loop-k.k c.index-all-k.result refl c.loop-k-test.true c.index-all-k.is in
-        let g = subst (λ m. slice_get all m ≡ Some rule) i e in
-        let same : c.index-all-k.result ≡ rule = cc in
+    | inl i ↦ (let here = c.rule-rule.ensures in
+        let there = subst (λ m. slice_get c.args.rules.now m ≡ Some rule) i e in
+        let same : c.rule-rule.result.now ≡ rule = cc in
         c.in_ok-add_end.ensures.added v x (c.symbols.ensures ∙ ap (λ (r : Rule). r.left) same ∙ f) p)
     | inr i ↦ c.add_end.ensures.kept v x (c.loop-k.invariant.kept n rule v x (omega (arith, l, i)) e f p)
   ];
@@ -19,6 +18,6 @@ loop-k-preserved c = record {
 
 pub returns-clause-map : goal.returns-clause-map
 returns-clause-map c rule v x (k, within, is) f p =
-    let same = c.rules-all.ensures.same in
-    let e = subst (λ rules. slice_get rules k ≡ Some rule) (sym same) (slice_get-get_or c.args.rules.now k rule within ∙ ap Some is) in
-    c.loop-k.invariant.kept k rule v x (omega (arith, c.loop-k-test.false, slice_get_within c.rules-all.result.now k rule e)) e f p
+    let e = slice_get-get_or c.args.rules.now k rule within ∙ ap Some is in
+    c.loop-k.invariant.kept k rule v x
+    (omega (arith, c.loop-k-test.false, c.count-k-end.ensures.count, slice_get_within c.args.rules.now k rule e)) e f p

@@ -8,7 +8,7 @@ use Rattle.swreq_map.proofs.map.PropertyMap.build.Given as goal
 
 abbrev pub invariant-loop-k : goal.invariant-loop-k
 invariant-loop-k l = record {
-  kept : (n : ℕ) (rule : Rule) (v : List Symbol) (x : Symbol) → n < l.k → slice_get l.all n ≡ Some rule → rule.left ≡ v ++ x ∷ []
+  kept : (n : ℕ) (rule : Rule) (v : List Symbol) (x : Symbol) → n < l.k → slice_get l.rules n ≡ Some rule → rule.left ≡ v ++ x ∷ []
       → IsProperty l.protocols x → Follows l.table l.lists.items v x;
   distinct : AreDistinct l.table;
 }
