@@ -1,5 +1,5 @@
 -- One candidate more that is taken or skipped, and one generator more that is dropped or kept.
-use Rattle.std.proofs.Common.{◌≡◌, ◌∙◌, inl, inr, sym, ap, ap₂, subst, ◌<◌, ◌≤◌, ◌+◌, ◌-◌, arith, ℕ, suc, List, [], ◌∷◌, ◌++◌, take, drop, get_or, length, Contains, append-nil, append_assoc, drop-cons, length-append, length-take-le}
+use Rattle.std.proofs.Common.{◌≡◌, ◌∙◌, ◌⊎◌, inl, inr, refl, sym, ap, ap₂, subst, subst₂, ◌<◌, ◌≤◌, ◌+◌, ◌-◌, arith, ℕ, suc, List, [], ◌∷◌, ◌++◌, take, drop, get_or, length, Contains, append-nil, append_assoc, drop-cons, length-append, length-take-le}
 use Rattle.std.specs.Prelude.{insert, remove}
 use Rattle.std.proofs.Math.Seq.{drop-append_seam, take-append_seam}
 use Rattle.std.proofs.lemmas.List.{drop_all, length-map, map-append, map_more, take-append-drop, take_all, take_more}
@@ -20,7 +20,7 @@ use Rattle.swreq_canonical.specs.Generators.Takes.{ended, skipped, taken}
 use Rattle.swreq_canonical.specs.Minimised.{Leaves}
 use Rattle.swreq_canonical.specs.Minimised.Leaves.{dropped, kept, nothing}
 use Rattle.swreq_valid.specs.Plans.{listed}
-use Rattle.swreq_minimal.specs.Passed.{IsLeftWithout, IsTakenBefore}
+use Rattle.swreq_minimal.specs.Passed.{IsLastNeeded, IsLeftWithout, IsTakenBefore}
 
 module _ (f : TermFacts) (ps : List ParamId) where
   -- ---- taking
@@ -36,6 +36,25 @@ module _ (f : TermFacts) (ps : List ParamId) where
   take_last r ended h = taken h ended
   take_last r (skipped d t) h = skipped d (take_last r t h)
   take_last r (taken n t) h = taken n (take_last r t h)
+
+  same_last : (before front : List TermRequirement) (q r : TermRequirement) → before ++ q ∷ [] ≡ front ++ r ∷ []
+      → (Derivable f (Written ps before) (Requires q) → ⊥) → Derivable f (Written ps front) (Requires r) → ⊥
+  same_last before front q r e n =
+      let cut = same_cut before (q ∷ []) front (r ∷ []) e (let l = ap length e in omega (arith, l, length-append before (q ∷ []), length-append front (r ∷ []))) in
+      subst₂ (λ list one. Derivable f (Written ps list) (Requires one) → ⊥) cut.0 (same_heads cut.1) n
+
+  -- the last one that was taken does not follow from those that were taken before it
+  needed : {before cs out : List TermRequirement} (front : List TermRequirement) (r : TermRequirement) → Takes f ps before cs out → out ≡ front ++ r ∷ []
+      → (before ≡ out) ⊎ (Derivable f (Written ps front) (Requires r) → ⊥)
+  needed front r ended e = inl refl
+  needed front r (skipped d t) e = needed front r t e
+  needed front r (taken n t) e = inr (elim (needed front r t e) [ inl i ↦ same_last _ front _ r (i ∙ e) n | inr h ↦ h ])
+
+  pub last_needed : {cs out : List TermRequirement} → Takes f ps [] cs out → IsLastNeeded f ps out
+  last_needed t front r e h = elim (needed front r t e) [
+    | inl i ↦ (let l = ap length (i ∙ e) in absurd (omega (arith, l, length-append front (r ∷ []))))
+    | inr n ↦ n h
+  ]
 
   module _ (terms : List Term) (cs : List Requirement) (k : ℕ) (d : Requirement) (l : k < length cs) where
     -- one candidate more
@@ -98,6 +117,18 @@ module _ (f : TermFacts) (ps : List ParamId) where
       leaves = leaves_behind;
       list_is = e;
     }
+
+  -- the last one was gone through, and is needed
+  pub last_stays : (n : ℕ) (all : List TermRequirement) (d : TermRequirement) → n ≡ length all - 1 → IsLastNeeded f ps all → IsLeftFrom n all all
+  last_stays n [] d e needed = all_there n [] (omega (arith, e))
+  last_stays n (x ∷ xs) d e needed =
+      let all = x ∷ xs in
+      let l : n < length all = omega (arith, e) in
+      let there = all_there (n + 1) all (omega (arith, e)) in
+      let is = now_is all all n d l there in
+      next_left all all n d l there all (get_or all n d ∷ []) is
+      (kept (leaves_behind all all n d l there) (λ h. needed (take n all) (get_or all n d) is
+      (subst (λ z. Derivable f (Written ps z) (Requires (get_or all n d))) (append-nil (take n all)) h)))
 
 -- ---- one of a list is removed, and put back
 

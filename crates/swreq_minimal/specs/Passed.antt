@@ -1,8 +1,9 @@
 -- The lists that minimising may complete.
 use Rattle.std.specs.Prelude.{◌≡◌, ◌⊎◌, List, [], ◌∷◌, ◌++◌}
 use Rattle.swreq_param.specs.declared.ids.ParamId.{ParamId}
-use Rattle.swreq_derive.specs.Derivation.{TermFacts, TermRequirement}
+use Rattle.swreq_derive.specs.Derivation.{Derivable, TermFacts, TermRequirement}
 use Rattle.swreq_derive.specs.Derivation.Source.{Written}
+use Rattle.swreq_derive.specs.Derivation.TermStatement.{Requires}
 use Rattle.swreq_canonical.specs.Generators.{Takes}
 use Rattle.swreq_canonical.specs.Minimised.{Leaves}
 use Rattle.swreq_candidates.specs.Candidates.{IsCandidateList}
@@ -25,6 +26,11 @@ pub record IsLeftWithout (f : TermFacts) (params : List ParamId) (generators lis
   pub split : generators ≡ front ++ generator ∷ behind
   pub leaves : Leaves f params (front ++ generator ∷ []) behind left
   pub list_is : list ≡ front ++ left
+
+-- The last of the list is not derivable from those before it.
+abbrev pub IsLastNeeded : TermFacts → List ParamId → List TermRequirement → Type 0
+IsLastNeeded f params list =
+    (front : List TermRequirement) (r : TermRequirement) → list ≡ front ++ r ∷ [] → Derivable f (Written params front) (Requires r) → ⊥
 
 -- one of these, for the candidates and the generators among them
 abbrev pub IsPassed : TermFacts → List ParamId → List TermRequirement → List TermRequirement → Type 0

@@ -15,7 +15,7 @@ ghost use Rattle.swreq_valid.specs.Machines.{AreRulesOf, list_of};
 ghost use Rattle.swreq_valid.specs.Plans.{AreKnown, listed};
 ghost use Rattle.swreq_valid.specs.Rounds.{last_rules};
 ghost use Rattle.swreq_minimal.specs.Built.{IsBuiltFor};
-ghost use Rattle.swreq_minimal.specs.Passed.{IsLeftWithout, IsPassed, IsSifted, IsTakenBefore};
+ghost use Rattle.swreq_minimal.specs.Passed.{IsLastNeeded, IsLeftWithout, IsPassed, IsSifted, IsTakenBefore};
 ghost use Rattle.swreq_minimal.specs.Told.{TellsFailure, TellsParts};
 
 use crate::evidence::is_evident;
@@ -292,7 +292,8 @@ fn drop_at<W: Watch>(
     put_at(left, place, one)
 }
 
-/// Goes through the requirements from the last to the first, and drops each that is derivable from the others that are then left.
+/// Goes through the requirements from the last to the first, and drops each that is derivable from the others that are then left. The last is known
+/// not to be.
 fn drop_derivable<W: Watch>(
     alloc: Global,
     world: &World,
@@ -306,6 +307,7 @@ fn drop_derivable<W: Watch>(
     requires text { IsTextOver table.now world.now }
     requires protocols { AreRulesOf (world_by table.now world.now) (last_rules protocols.now.rounds) }
     requires left { AreKnown table.now world.now.lexicon left.old.items }
+    requires last { IsLastNeeded (facts_of (world_by table.now world.now)) (generic_params params) (listed table.now left.old.items) }
     requires limits { AreInRange limits }
     ensures leaves { OnOk result (Leaves (facts_of (world_by table.now world.now)) (generic_params params) []
         (listed table.now left.old.items) (listed table.now left.new.items)) }
@@ -317,7 +319,7 @@ fn drop_derivable<W: Watch>(
         (IsLeftWithout (facts_of (world_by table.now world.now)) (generic_params params) (listed table.now left.old.items))
         (W.told watch.old) (W.told watch.new)) }
 {
-    let mut count = left.len();
+    let mut count = left.len().saturating_sub(1);
     while count > 0 {
         count -= 1;
         match drop_at(

@@ -9,7 +9,7 @@ use Rattle.swreq_valid.specs.Plans.{listed}
 use Rattle.swreq_valid.specs.Rounds.{last_rules}
 use Rattle.swreq_minimal.specs.Passed.{IsLeftWithout}
 use Rattle.swreq_minimal.proofs.Inserting.{any}
-use Rattle.swreq_minimal.proofs.Passing.{IsLeftFrom, all_passed, all_there, is_without, passed_on, within_now}
+use Rattle.swreq_minimal.proofs.Passing.{IsLeftFrom, all_passed, is_without, last_stays, passed_on, within_now}
 use Rattle.swreq_minimal.proofs.Telling.{fails_next, tells_next, tells_none}
 use Rattle.swreq_minimal.proofs.sifting.drop_derivable.Goals as goal
 
@@ -17,10 +17,11 @@ pub loop-count-init : goal.loop-count-init
 loop-count-init g c =
     let all = listed c.args.table.now c.args.left.now.items in
     let n : length all ≡ length c.args.left.now.items = length-map c.args.left.now.items (requirement_of c.args.table.now) in
-    let e = c.len-count.ensures in
+    let e : c.saturating_sub.result ≡ length all - 1 = omega (arith, c.saturating_sub.ensures, c.len.ensures, n) in
     record {
-      within = omega (arith, e, n);
-      left = all_there (facts_of (world_by c.args.table.now c.args.world.now)) (generic_params c.args.params) c.len-count.result all (omega (arith, e, n));
+      within = omega (arith, e);
+      left = last_stays (facts_of (world_by c.args.table.now c.args.world.now)) (generic_params c.args.params) c.saturating_sub.result all
+          (requirement_of c.args.table.now any) e c.requires.last;
       known = c.requires.left;
       told = tells_none c.args.limits (list_of (world_by c.args.table.now c.args.world.now) (last_rules c.args.protocols.now.rounds) c.args.params)
           (IsLeftWithout (facts_of (world_by c.args.table.now c.args.world.now)) (generic_params c.args.params) all) (g.W.Watch.told c.args.watch.now);

@@ -6,6 +6,7 @@ use Rattle.swreq_valid.specs.Machines.{list_of}
 use Rattle.swreq_valid.specs.Plans.{listed}
 use Rattle.swreq_valid.specs.Rounds.{last_rules}
 use Rattle.swreq_minimal.specs.Passed.{IsLeftWithout, IsPassed, IsTakenBefore}
+use Rattle.swreq_minimal.proofs.Passing.{last_needed}
 use Rattle.swreq_minimal.proofs.Telling.{failure_of, fails_after, tells_of, tells_on}
 use Rattle.swreq_minimal.proofs.sifting.sift.Goals as goal
 
@@ -17,6 +18,10 @@ returns-in-Err-clause-failed g c =
     let cs = listed terms c.args.candidates.now in
     failure_of c.args.limits (list_of (world_by terms c.args.world.now) (last_rules c.args.protocols.now.rounds) c.args.params) (IsTakenBefore f ps cs) (IsPassed f ps cs) (λ l h. inl h)
     (g.W.Watch.told c.args.watch.now) (g.W.Watch.told c.generators.new.watch) c.in-Err.failed c.in-Err.ensures.failed
+
+pub drop_derivable-requires-clause-last : goal.drop_derivable-requires-clause-last
+drop_derivable-requires-clause-last g c =
+    last_needed (facts_of (world_by c.args.table.now c.args.world.now)) (generic_params c.args.params) c.in-Ok.ensures.takes
 
 pub returns-in-Err-drop_derivable-clause-failed : goal.returns-in-Err-drop_derivable-clause-failed
 returns-in-Err-drop_derivable-clause-failed g c =
