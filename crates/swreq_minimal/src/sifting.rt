@@ -128,9 +128,9 @@ fn machine_for<'b, W: Watch>(
     requires built { IfSome built (IsBuiltFor (world_by table.now world.now) params (listed table.now list.now)) }
     requires limits { AreInRange limits }
     ensures machine { IfOk result (IsBuiltFor (world_by table.now world.now) params (listed table.now list.now)) }
-    ensures told { IfOk result (λ _. TellsParts limits (list_of (world_by table.now world.now) (last_rules protocols.entry.rounds) params)
+    ensures told { IfOk result (λ _. TellsParts limits (list_of (world_by table.now world.now) (last_rules protocols.entry.now.rounds) params)
         (λ l. l ≡ listed table.now list.now) (W.told watch.old) (W.told watch.new)) }
-    ensures failed { IfErr result (TellsFailure limits (list_of (world_by table.now world.now) (last_rules protocols.entry.rounds) params)
+    ensures failed { IfErr result (TellsFailure limits (list_of (world_by table.now world.now) (last_rules protocols.entry.now.rounds) params)
         (λ l. l ≡ listed table.now list.now) (W.told watch.old) (W.told watch.new)) }
 {
     match built {
@@ -168,9 +168,9 @@ fn take<'b, W: Watch>(
         (listed table.now taken.new.items)) }
     ensures known { OnOk result (AreKnown table.now world.now.lexicon taken.new.items) }
     ensures built { IfOk result (λ built. IfSome built (IsBuiltFor (world_by table.now world.now) params (listed table.now taken.new.items))) }
-    ensures told { OnOk result (TellsParts limits (list_of (world_by table.now world.now) (last_rules protocols.entry.rounds) params)
+    ensures told { OnOk result (TellsParts limits (list_of (world_by table.now world.now) (last_rules protocols.entry.now.rounds) params)
         (λ l. l ≡ listed table.now taken.old.items) (W.told watch.old) (W.told watch.new)) }
-    ensures failed { IfErr result (TellsFailure limits (list_of (world_by table.now world.now) (last_rules protocols.entry.rounds) params)
+    ensures failed { IfErr result (TellsFailure limits (list_of (world_by table.now world.now) (last_rules protocols.entry.now.rounds) params)
         (λ l. l ≡ listed table.now taken.old.items) (W.told watch.old) (W.told watch.new)) }
 {
     let machine = match machine_for(

@@ -51,8 +51,8 @@ fn with_usable(
     rounds: Rounds<'static>,
 ) -> Result<Protocols, AllocError>
     requires { IsTextOver table.now world.now }
-    ensures same { IfOk result (λ p. p.rounds ≡ rounds) }
-    ensures usable { IfOk result (λ p. TellEach (world_by table.now world.now) (last_rules rounds) p.usable
+    ensures same { IfOk result (λ p. p.rounds ≡ rounds.entry) }
+    ensures usable { IfOk result (λ p. TellEach (world_by table.now world.now) (last_rules rounds.entry) p.usable
         (length world.now.lexicon.protocols)) }
 {
     let usable = usable_lists(alloc, world, table, rounds.last())?;
@@ -67,10 +67,10 @@ fn judge_protocols(
     rounds: Rounds<'static>,
 ) -> Result<Protocols, Refused>
     requires { IsTextOver table.now world.now }
-    ensures judged { Judges (IsShownIn (world_by table.now world.now) (last_rules rounds)) (protocol_sides (world_by table.now world.now))
-        (last_rules rounds) (protocol_rules result) }
-    ensures same { IfOk result (λ p. p.rounds ≡ rounds) }
-    ensures usable { IfOk result (λ p. TellEach (world_by table.now world.now) (last_rules rounds) p.usable
+    ensures judged { Judges (IsShownIn (world_by table.now world.now) (last_rules rounds.entry)) (protocol_sides (world_by table.now world.now))
+        (last_rules rounds.entry) (protocol_rules result) }
+    ensures same { IfOk result (λ p. p.rounds ≡ rounds.entry) }
+    ensures usable { IfOk result (λ p. TellEach (world_by table.now world.now) (last_rules rounds.entry) p.usable
         (length world.now.lexicon.protocols)) }
 {
     let found = first_in_protocols(alloc, world, table, rounds.last())?;
@@ -187,13 +187,13 @@ impl<'b> Machine<'b> {
         requires protocols { AreRulesOf (world_by table.now world.now) (last_rules protocols.now.rounds) }
         requires written { AreWritten table.now world.now.lexicon written.now }
         requires limits { AreInRange limits }
-        ensures answer { Builds limits (machine_plan table.now world.now (last_rules protocols.entry.rounds) params (bare written.now))
+        ensures answer { Builds limits (machine_plan table.now world.now (last_rules protocols.entry.now.rounds) params (bare written.now))
             (facts_of (world_by table.now world.now))
             (list_sides table.now params written.now) (W.told watch.old) (W.told watch.new) (built_rules result) }
-        ensures only { IsOnlyBuilt limits (machine_plan table.now world.now (last_rules protocols.entry.rounds) params
+        ensures only { IsOnlyBuilt limits (machine_plan table.now world.now (last_rules protocols.entry.now.rounds) params
             (bare written.now)) (facts_of (world_by table.now world.now))
             (list_sides table.now params written.now) (built_rules result) }
-        ensures rounds { IfOk result (λ m. AreRounds limits (machine_plan table.now world.now (last_rules protocols.entry.rounds) params
+        ensures rounds { IfOk result (λ m. AreRounds limits (machine_plan table.now world.now (last_rules protocols.entry.now.rounds) params
             (bare written.now)) m.rounds) }
         ensures machine { IfOk result (IsMachineOf (world_by table.now world.now) (listed table.now (bare written.now))) }
         ensures params { IfOk result (λ m. m.params ≡ params) }

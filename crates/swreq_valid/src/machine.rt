@@ -39,7 +39,7 @@ impl<'b> Model for Machine<'b> {
 impl<'b> Machine<'b> {
     /// The machine with these generic parameters and these rounds.
     pub(crate) fn new(params: Params, rounds: Rounds<'b>) -> Machine<'b>
-        ensures { result ≡ record { params = params; rounds = rounds } }
+        ensures { result ≡ record { params = params; rounds = rounds.entry } }
     {
         Machine { params, rounds }
     }
@@ -102,12 +102,12 @@ pub fn core<'b, W: Watch>(
     requires protocols { AreRulesOf (world_by table.now world.now) (last_rules protocols.now.rounds) }
     requires list { AreKnown table.now world.now.lexicon list.now }
     requires limits { AreInRange limits }
-    ensures answer { Answers limits (machine_plan table.now world.now (last_rules protocols.entry.rounds) params list.now)
+    ensures answer { Answers limits (machine_plan table.now world.now (last_rules protocols.entry.now.rounds) params list.now)
         (W.told watch.old) (W.told watch.new) (machine_rules result) }
-    ensures only { IsOnlyOutcome limits (machine_plan table.now world.now (last_rules protocols.entry.rounds) params list.now)
+    ensures only { IsOnlyOutcome limits (machine_plan table.now world.now (last_rules protocols.entry.now.rounds) params list.now)
         (machine_rules result) }
     ensures rounds { IfOk result (λ m. AreRounds limits (machine_plan table.now world.now
-        (last_rules protocols.entry.rounds) params list.now) m.rounds) }
+        (last_rules protocols.entry.now.rounds) params list.now) m.rounds) }
     ensures machine { IfOk result (IsMachineOf (world_by table.now world.now) (listed table.now list.now)) }
     ensures params { IfOk result (λ m. m.params ≡ params) }
 {

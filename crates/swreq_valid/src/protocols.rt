@@ -39,7 +39,7 @@ impl Model for Protocols {
 impl Protocols {
     /// The rules that these rounds found, with a flag for each requirement of each protocol, by rank.
     pub(crate) fn new(rounds: Rounds<'static>, usable: Vec<Seq<bool>>) -> Protocols
-        ensures { result ≡ record { rounds = rounds; usable = usable.items } }
+        ensures { result ≡ record { rounds = rounds.entry; usable = usable.items } }
     {
         Protocols {
             rounds,

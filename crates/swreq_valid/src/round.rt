@@ -25,7 +25,7 @@ impl<'b> Model for Round<'b> {
 impl<'b> Round<'b> {
     /// The round that used these requirements and ended with these rules.
     pub(crate) fn new(used: Vec<bool>, rules: CompleteRules<'b>) -> Round<'b>
-        ensures { result ≡ record { used = used.items; rules = rules } }
+        ensures { result ≡ record { used = used.items; rules = rules.entry } }
     {
         Round {
             used: Seq::new(used),
@@ -68,7 +68,7 @@ impl<'b> Model for Rounds<'b> {
 impl<'b> Rounds<'b> {
     pub(crate) fn new(items: Vec<Round<'b>>) -> Rounds<'b>
         requires { 0 < length items.items }
-        ensures { result ≡ items.items }
+        ensures { result ≡ items.entry.items }
     {
         Rounds {
             items: Seq::new(items),
