@@ -51,7 +51,12 @@ fn least(alloc: Global, rules: &CompleteRules<'_>, word: &Word) -> Result<Vec<Sy
 }
 
 /// Whether the rules link two words.
-fn are_linked(alloc: Global, rules: &CompleteRules<'_>, u: &Word, v: &Word) -> Result<bool, AllocError>
+fn are_linked(
+    alloc: Global,
+    rules: &CompleteRules<'_>,
+    u: &Word,
+    v: &Word,
+) -> Result<bool, AllocError>
     ensures { IfOk result (λ b. IsTrue b ↔ Links rules.now u.now v.now) }
 {
     let left = least(alloc, rules, u)?;

@@ -7,8 +7,8 @@ use Rattle.swreq_lowering.specs.ByTable.{placed}
 use Rattle.swreq_valid.specs.Sides.{HoldsOfEach, IsShownSide, sides}
 use Rattle.swreq_valid.proofs.build.judge_machine.Goals as goal
 
-pub returns-in-None-clause-judged : goal.returns-in-None-clause-judged
-returns-in-None-clause-judged c rs = (
+pub returns-clause-judged : goal.returns-clause-judged
+returns-clause-judged c rs = (
   refl,
   subst₂ (λ r p. HoldsOfEach (IsShownSide (symbols_of c.args.world.now.lexicon) (facts_of (world_by c.args.table.now c.args.world.now)) r)
       (sides (Written (generic_params p) rs) (placed c.args.table.now c.args.written.now)))

@@ -16,7 +16,7 @@ returns-then-walk-clause-reduced c list is v =
     let rules = last_rules c.args.self.now.rounds in
     let u = c.walk.new.word.items in
     reduced_is (world_by c.args.table.now c.args.world.now) c.requires.text.closed c.args.self.now list is (term_at c.args.table.now c.args.t) u
-    c.if-walk.ensures.least.0 c.if-walk.ensures.least.1 v (subst IsComplete c.rules-rules.ensures c.rules-complete.ensures.complete)
+    c.if-walk.ensures.least.0 c.if-walk.ensures.least.1 v (subst IsComplete c.rules-rules.ensures c.count-complete.ensures.complete)
     (with_steps (Generic c.head_of-s-inside.result) c.read_steps.new.steps.items)
     (λ q b.
     let same : c.head_of-s-inside.result ≡ head q =
