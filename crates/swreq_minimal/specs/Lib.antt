@@ -4,3 +4,4 @@ pub mod Sorted
 pub mod Passed
 pub mod Told
 pub mod Evident
+pub mod Settings

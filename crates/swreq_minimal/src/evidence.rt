@@ -3,7 +3,7 @@ ghost use Rattle.std.specs.Prelude.{◌≡◌, ◌⊎◌, ◌<◌, ◌^◌, ◌-
 ghost use Rattle.swreq_derive.specs.Derivation.{Derivable};
 ghost use Rattle.swreq_derive.specs.Derivation.Source.{Written};
 ghost use Rattle.swreq_derive.specs.Derivation.TermStatement.{Requires};
-ghost use Rattle.swreq_derive.specs.Facts.{generic_params, requirement_of};
+ghost use Rattle.swreq_derive.specs.Facts.{requirement_of};
 ghost use Rattle.swreq_word.specs.Relations.{Linked};
 ghost use Rattle.swreq_rule.specs.declared.rules.Rule.{Rule};
 ghost use Rattle.swreq_rule.specs.Steps.{Step};
@@ -17,11 +17,13 @@ ghost use Rattle.swreq_valid.specs.Machines.{AreRulesOf};
 ghost use Rattle.swreq_valid.specs.Plans.{AreKnown, listed};
 ghost use Rattle.swreq_valid.specs.Rounds.{last_rules};
 ghost use Rattle.swreq_minimal.specs.Evident.{HasSides, IsOfEquation, LinkLast};
+ghost use Rattle.swreq_minimal.specs.Settings.{IsSetting, facts_in, params_in};
 
 use crate::plain::{are_plain, has_plain_types};
+use crate::setting::Setting;
 use std::alloc::{AllocError, Global};
 use std::cmp::Ordering;
-use swreq_derive::{Params, Requirement};
+use swreq_derive::Requirement;
 use swreq_homotopy::laws::evidence_links;
 use swreq_homotopy::{loop_of_pair, redundant};
 use swreq_pair::{Pair, pairs_up_to};
@@ -290,30 +292,29 @@ fn is_shown(alloc: Global, rules: Vec<Rule>, from: usize, rule: Rule) -> Result<
 /// the requirement is derivable from it.
 pub(crate) fn is_evident(
     alloc: Global,
-    world: &World,
-    table: &ParamTable,
-    protocols: &Protocols,
-    params: Params,
+    setting: &Setting<'_>,
     list: &[Requirement],
     r: Requirement,
 ) -> Result<bool, AllocError>
-    requires text { IsTextOver table.now world.now }
-    requires protocols { AreRulesOf (world_by table.now world.now) (last_rules protocols.now.rounds) }
-    requires list { AreKnown table.now world.now.lexicon list.now }
-    requires r { IsRequirementIn table.now world.now.lexicon r }
-    ensures { IfOk result (λ b. IsTrue b → Derivable (facts_of (world_by table.now world.now))
-        (Written (generic_params params) (listed table.now list.now)) (Requires (requirement_of table.now r))) }
+    requires setting { IsSetting setting.now }
+    requires list { AreKnown setting.now.table.now setting.now.world.now.lexicon list.now }
+    requires r { IsRequirementIn setting.now.table.now setting.now.world.now.lexicon r }
+    ensures { IfOk result (λ b. IsTrue b → Derivable (facts_in setting.now)
+        (Written (params_in setting.now) (listed setting.now.table.now list.now)) (Requires (requirement_of setting.now.table.now r))) }
 {
-    if !are_plain(world, table, params, list) {
+    if !are_plain(setting.world, setting.table, setting.params, list) {
         return Ok(false);
     }
-    if !has_plain_types(world, table, params, list, r) {
+    if !has_plain_types(setting.world, setting.table, setting.params, list, r) {
         return Ok(false);
     }
-    let rules = rules_of(alloc, world, table, protocols, list)?;
-    let found = rule_of(alloc, world, table, r)?;
+    let rules = rules_of(alloc, setting.world, setting.table, setting.protocols, list)?;
+    let found = rule_of(alloc, setting.world, setting.table, r)?;
     match found {
         None => Ok(false),
-        Some(rule) => is_shown(alloc, rules, protocols.rules().count(), rule),
+        Some(rule) => {
+            let from = setting.protocols.rules().count();
+            is_shown(alloc, rules, from, rule)
+        }
     }
 }

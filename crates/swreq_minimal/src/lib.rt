@@ -8,6 +8,7 @@ mod holding;
 mod minimised;
 mod order;
 mod plain;
+mod setting;
 mod sifting;
 mod spoken;
 mod typed;

@@ -19,6 +19,7 @@ ghost use Rattle.swreq_minimal.specs.Passed.{IsPassedOf};
 ghost use Rattle.swreq_minimal.specs.Told.{TellsFailure, TellsParts};
 
 use crate::candidates::candidates;
+use crate::setting::Setting;
 use crate::sifting::sift;
 use std::alloc::Global;
 use swreq_complete::{Failed, Limits};
@@ -78,15 +79,15 @@ pub fn minimise<W: Watch>(
     let _of_list = machine.rules().count();
     match candidates(alloc, world, table, machine) {
         Err(_) => Err(Failed::Memory),
-        Ok(found) => sift(
-            alloc,
-            world,
-            table,
-            protocols,
-            machine.params(),
-            &found,
-            limits,
-            watch,
-        ),
+        Ok(found) => {
+            let setting = Setting {
+                world,
+                table,
+                protocols,
+                params: machine.params(),
+                limits,
+            };
+            sift(alloc, &setting, &found, watch)
+        }
     }
 }

@@ -3,59 +3,57 @@ ghost use Rattle.std.specs.Prelude.{◌≡◌, ◌↔◌, ◌<◌, ◌≤◌, []
 ghost use Rattle.swreq_derive.specs.Derivation.{Derivable, TermRequirement};
 ghost use Rattle.swreq_derive.specs.Derivation.Source.{Written};
 ghost use Rattle.swreq_derive.specs.Derivation.TermStatement.{Requires};
-ghost use Rattle.swreq_derive.specs.Facts.{generic_params, requirement_of};
-ghost use Rattle.swreq_complete.specs.Limits.{AreInRange};
+ghost use Rattle.swreq_derive.specs.Facts.{requirement_of};
 ghost use Rattle.swreq_complete.specs.declared.limit.Failed.TheVariants.{Memory};
 ghost use Rattle.swreq_canonical.specs.Generators.{Takes};
 ghost use Rattle.swreq_canonical.specs.Minimised.{Leaves};
-ghost use Rattle.swreq_symbols.specs.Known.{IsRequirementIn, IsTextOver};
-ghost use Rattle.swreq_symbols.specs.Meaning.{facts_of};
-ghost use Rattle.swreq_world.specs.ByTable.{world_by};
-ghost use Rattle.swreq_valid.specs.Machines.{AreRulesOf, list_of};
+ghost use Rattle.swreq_symbols.specs.Known.{IsRequirementIn};
 ghost use Rattle.swreq_valid.specs.Plans.{AreKnown, listed};
-ghost use Rattle.swreq_valid.specs.Rounds.{last_rules};
 ghost use Rattle.swreq_minimal.specs.Built.{IsBuiltFor};
 ghost use Rattle.swreq_minimal.specs.Passed.{IsLastNeeded, IsLeftWithout, IsPassed, IsSifted, IsTakenBefore};
+ghost use Rattle.swreq_minimal.specs.Settings.{IsSetting, facts_in, params_in, plan_in, text_in};
 ghost use Rattle.swreq_minimal.specs.Told.{TellsFailure, TellsParts};
 
 use crate::evidence::is_evident;
 use crate::holding::holds;
+use crate::setting::Setting;
 use std::alloc::Global;
-use swreq_complete::{Failed, Limits};
-use swreq_derive::{Params, Requirement};
-use swreq_param::ParamTable;
-use swreq_valid::{Machine, Protocols, core};
+use swreq_complete::Failed;
+use swreq_derive::Requirement;
+use swreq_valid::{Machine, core};
 use swreq_watch::Watch;
-use swreq_world::World;
 
 /// Whether a requirement is derivable from a list, as the machine of the list tells.
 fn is_derivable<W: Watch>(
     alloc: Global,
-    world: &World,
-    table: &ParamTable,
-    protocols: &Protocols,
-    params: Params,
+    setting: &Setting<'_>,
     list: &[Requirement],
     r: Requirement,
-    limits: Limits,
     watch: &mut W,
 ) -> Result<bool, Failed>
-    requires text { IsTextOver table.now world.now }
-    requires protocols { AreRulesOf (world_by table.now world.now) (last_rules protocols.now.rounds) }
-    requires list { AreKnown table.now world.now.lexicon list.now }
-    requires r { IsRequirementIn table.now world.now.lexicon r }
-    requires limits { AreInRange limits }
+    requires setting { IsSetting setting.now }
+    requires list { AreKnown setting.now.table.now setting.now.world.now.lexicon list.now }
+    requires r { IsRequirementIn setting.now.table.now setting.now.world.now.lexicon r }
     ensures answer { IfOk result (λ b. IsTrue b
-        ↔ Derivable (facts_of (world_by table.now world.now)) (Written (generic_params params) (listed table.now list.now))
-        (Requires (requirement_of table.now r))) }
-    ensures told { IfOk result (λ _. TellsParts limits (list_of (world_by table.now world.now) (last_rules protocols.now.rounds) params)
-        (λ l. l ≡ listed table.now list.now) (W.told watch.old) (W.told watch.new)) }
-    ensures failed { IfErr result (TellsFailure limits (list_of (world_by table.now world.now) (last_rules protocols.now.rounds) params)
-        (λ l. l ≡ listed table.now list.now) (W.told watch.old) (W.told watch.new)) }
+        ↔ Derivable (facts_in setting.now) (Written (params_in setting.now) (listed setting.now.table.now list.now))
+        (Requires (requirement_of setting.now.table.now r))) }
+    ensures told { IfOk result (λ _. TellsParts setting.now.limits (plan_in setting.now)
+        (λ l. l ≡ listed setting.now.table.now list.now) (W.told watch.old) (W.told watch.new)) }
+    ensures failed { IfErr result (TellsFailure setting.now.limits (plan_in setting.now)
+        (λ l. l ≡ listed setting.now.table.now list.now) (W.told watch.old) (W.told watch.new)) }
 {
-    match core(alloc, world, table, protocols, params, list, limits, watch) {
+    match core(
+        alloc,
+        setting.world,
+        setting.table,
+        setting.protocols,
+        setting.params,
+        list,
+        setting.limits,
+        watch,
+    ) {
         Err(failed) => Err(failed),
-        Ok(machine) => match holds(alloc, world, table, &machine, r) {
+        Ok(machine) => match holds(alloc, setting.world, setting.table, &machine, r) {
             Ok(derivable) => Ok(derivable),
             Err(_) => Err(Failed::Memory),
         },
@@ -65,38 +63,30 @@ fn is_derivable<W: Watch>(
 /// Whether a requirement is derivable from a list: by evidence, or else as the machine of the list tells.
 fn follows<W: Watch>(
     alloc: Global,
-    world: &World,
-    table: &ParamTable,
-    protocols: &Protocols,
-    params: Params,
+    setting: &Setting<'_>,
     list: &[Requirement],
     r: Requirement,
-    limits: Limits,
     watch: &mut W,
 ) -> Result<bool, Failed>
-    requires text { IsTextOver table.now world.now }
-    requires protocols { AreRulesOf (world_by table.now world.now) (last_rules protocols.now.rounds) }
-    requires list { AreKnown table.now world.now.lexicon list.now }
-    requires r { IsRequirementIn table.now world.now.lexicon r }
-    requires limits { AreInRange limits }
+    requires setting { IsSetting setting.now }
+    requires list { AreKnown setting.now.table.now setting.now.world.now.lexicon list.now }
+    requires r { IsRequirementIn setting.now.table.now setting.now.world.now.lexicon r }
     ensures answer { IfOk result (λ b. IsTrue b
-        ↔ Derivable (facts_of (world_by table.now world.now)) (Written (generic_params params) (listed table.now list.now))
-        (Requires (requirement_of table.now r))) }
-    ensures told { IfOk result (λ _. TellsParts limits (list_of (world_by table.now world.now) (last_rules protocols.now.rounds) params)
-        (λ l. l ≡ listed table.now list.now) (W.told watch.old) (W.told watch.new)) }
-    ensures failed { IfErr result (TellsFailure limits (list_of (world_by table.now world.now) (last_rules protocols.now.rounds) params)
-        (λ l. l ≡ listed table.now list.now) (W.told watch.old) (W.told watch.new)) }
+        ↔ Derivable (facts_in setting.now) (Written (params_in setting.now) (listed setting.now.table.now list.now))
+        (Requires (requirement_of setting.now.table.now r))) }
+    ensures told { IfOk result (λ _. TellsParts setting.now.limits (plan_in setting.now)
+        (λ l. l ≡ listed setting.now.table.now list.now) (W.told watch.old) (W.told watch.new)) }
+    ensures failed { IfErr result (TellsFailure setting.now.limits (plan_in setting.now)
+        (λ l. l ≡ listed setting.now.table.now list.now) (W.told watch.old) (W.told watch.new)) }
 {
-    let evident = match is_evident(alloc, world, table, protocols, params, list, r) {
+    let evident = match is_evident(alloc, setting, list, r) {
         Ok(evident) => evident,
         Err(_) => return Err(Failed::Memory),
     };
     if evident {
         return Ok(true);
     }
-    is_derivable(
-        alloc, world, table, protocols, params, list, r, limits, watch,
-    )
+    is_derivable(alloc, setting, list, r, watch)
 }
 
 /// Puts a requirement last.
@@ -113,29 +103,32 @@ fn put(list: &mut Vec<Requirement>, r: Requirement) -> Result<(), Failed>
 /// The machine of a list: the one that is there, or else one that is built.
 fn machine_for<'b, W: Watch>(
     alloc: Global,
-    world: &World,
-    table: &ParamTable,
-    protocols: &'b Protocols,
-    params: Params,
+    setting: &Setting<'b>,
     list: &[Requirement],
     built: Option<Machine<'b>>,
-    limits: Limits,
     watch: &mut W,
 ) -> Result<Machine<'b>, Failed>
-    requires text { IsTextOver table.now world.now }
-    requires protocols { AreRulesOf (world_by table.now world.now) (last_rules protocols.now.rounds) }
-    requires list { AreKnown table.now world.now.lexicon list.now }
-    requires built { IfSome built (IsBuiltFor (world_by table.now world.now) params (listed table.now list.now)) }
-    requires limits { AreInRange limits }
-    ensures machine { IfOk result (IsBuiltFor (world_by table.now world.now) params (listed table.now list.now)) }
-    ensures told { IfOk result (λ _. TellsParts limits (list_of (world_by table.now world.now) (last_rules protocols.entry.now.rounds) params)
-        (λ l. l ≡ listed table.now list.now) (W.told watch.old) (W.told watch.new)) }
-    ensures failed { IfErr result (TellsFailure limits (list_of (world_by table.now world.now) (last_rules protocols.entry.now.rounds) params)
-        (λ l. l ≡ listed table.now list.now) (W.told watch.old) (W.told watch.new)) }
+    requires setting { IsSetting setting.now }
+    requires list { AreKnown setting.now.table.now setting.now.world.now.lexicon list.now }
+    requires built { IfSome built (IsBuiltFor (text_in setting.now) setting.now.params (listed setting.now.table.now list.now)) }
+    ensures machine { IfOk result (IsBuiltFor (text_in setting.entry.now) setting.entry.now.params (listed setting.entry.now.table.now list.now)) }
+    ensures told { IfOk result (λ _. TellsParts setting.entry.now.limits (plan_in setting.entry.now)
+        (λ l. l ≡ listed setting.entry.now.table.now list.now) (W.told watch.old) (W.told watch.new)) }
+    ensures failed { IfErr result (TellsFailure setting.entry.now.limits (plan_in setting.entry.now)
+        (λ l. l ≡ listed setting.entry.now.table.now list.now) (W.told watch.old) (W.told watch.new)) }
 {
     match built {
         Some(machine) => Ok(machine),
-        None => match core(alloc, world, table, protocols, params, list, limits, watch) {
+        None => match core(
+            alloc,
+            setting.world,
+            setting.table,
+            setting.protocols,
+            setting.params,
+            list,
+            setting.limits,
+            watch,
+        ) {
             Ok(machine) => Ok(machine),
             Err(failed) => Err(failed),
         },
@@ -146,40 +139,32 @@ fn machine_for<'b, W: Watch>(
 /// handed back while it is still theirs.
 fn take<'b, W: Watch>(
     alloc: Global,
-    world: &World,
-    table: &ParamTable,
-    protocols: &'b Protocols,
-    params: Params,
+    setting: &Setting<'b>,
     taken: &mut Vec<Requirement>,
     built: Option<Machine<'b>>,
     candidate: Requirement,
-    limits: Limits,
     watch: &mut W,
 ) -> Result<Option<Machine<'b>>, Failed>
-    requires text { IsTextOver table.now world.now }
-    requires protocols { AreRulesOf (world_by table.now world.now) (last_rules protocols.now.rounds) }
-    requires taken { AreKnown table.now world.now.lexicon taken.old.items }
-    requires built { IfSome built (IsBuiltFor (world_by table.now world.now) params (listed table.now taken.old.items)) }
-    requires candidate { IsRequirementIn table.now world.now.lexicon candidate }
-    requires limits { AreInRange limits }
+    requires setting { IsSetting setting.now }
+    requires taken { AreKnown setting.now.table.now setting.now.world.now.lexicon taken.old.items }
+    requires built { IfSome built (IsBuiltFor (text_in setting.now) setting.now.params (listed setting.now.table.now taken.old.items)) }
+    requires candidate { IsRequirementIn setting.now.table.now setting.now.world.now.lexicon candidate }
     ensures takes { OnOk result ((before : List TermRequirement)
-        → Takes (facts_of (world_by table.now world.now)) (generic_params params) [] before (listed table.now taken.old.items)
-        → Takes (facts_of (world_by table.now world.now)) (generic_params params) [] (before ++ requirement_of table.now candidate ∷ [])
-        (listed table.now taken.new.items)) }
-    ensures known { OnOk result (AreKnown table.now world.now.lexicon taken.new.items) }
-    ensures built { IfOk result (λ built. IfSome built (IsBuiltFor (world_by table.now world.now) params (listed table.now taken.new.items))) }
-    ensures told { OnOk result (TellsParts limits (list_of (world_by table.now world.now) (last_rules protocols.entry.now.rounds) params)
-        (λ l. l ≡ listed table.now taken.old.items) (W.told watch.old) (W.told watch.new)) }
-    ensures failed { IfErr result (TellsFailure limits (list_of (world_by table.now world.now) (last_rules protocols.entry.now.rounds) params)
-        (λ l. l ≡ listed table.now taken.old.items) (W.told watch.old) (W.told watch.new)) }
+        → Takes (facts_in setting.entry.now) (params_in setting.entry.now) [] before (listed setting.entry.now.table.now taken.old.items)
+        → Takes (facts_in setting.entry.now) (params_in setting.entry.now) [] (before ++ requirement_of setting.entry.now.table.now candidate ∷ [])
+        (listed setting.entry.now.table.now taken.new.items)) }
+    ensures known { OnOk result (AreKnown setting.entry.now.table.now setting.entry.now.world.now.lexicon taken.new.items) }
+    ensures built { IfOk result (λ built. IfSome built (IsBuiltFor (text_in setting.entry.now) setting.entry.now.params (listed setting.entry.now.table.now taken.new.items))) }
+    ensures told { OnOk result (TellsParts setting.entry.now.limits (plan_in setting.entry.now)
+        (λ l. l ≡ listed setting.entry.now.table.now taken.old.items) (W.told watch.old) (W.told watch.new)) }
+    ensures failed { IfErr result (TellsFailure setting.entry.now.limits (plan_in setting.entry.now)
+        (λ l. l ≡ listed setting.entry.now.table.now taken.old.items) (W.told watch.old) (W.told watch.new)) }
 {
-    let machine = match machine_for(
-        alloc, world, table, protocols, params, taken, built, limits, watch,
-    ) {
+    let machine = match machine_for(alloc, setting, taken, built, watch) {
         Ok(machine) => machine,
         Err(failed) => return Err(failed),
     };
-    let derivable = match holds(alloc, world, table, &machine, candidate) {
+    let derivable = match holds(alloc, setting.world, setting.table, &machine, candidate) {
         Ok(derivable) => derivable,
         Err(_) => return Err(Failed::Memory),
     };
@@ -195,43 +180,26 @@ fn take<'b, W: Watch>(
 /// Those of the candidates, in order, that are not derivable from those that were taken before them.
 fn generators<W: Watch>(
     alloc: Global,
-    world: &World,
-    table: &ParamTable,
-    protocols: &Protocols,
-    params: Params,
+    setting: &Setting<'_>,
     candidates: &[Requirement],
-    limits: Limits,
     watch: &mut W,
 ) -> Result<Vec<Requirement>, Failed>
-    requires text { IsTextOver table.now world.now }
-    requires protocols { AreRulesOf (world_by table.now world.now) (last_rules protocols.now.rounds) }
-    requires candidates { AreKnown table.now world.now.lexicon candidates.now }
-    requires limits { AreInRange limits }
-    ensures takes { IfOk result (λ v. Takes (facts_of (world_by table.now world.now)) (generic_params params) []
-        (listed table.now candidates.now) (listed table.now v.items)) }
-    ensures known { IfOk result (λ v. AreKnown table.now world.now.lexicon v.items) }
-    ensures told { IfOk result (λ _. TellsParts limits (list_of (world_by table.now world.now) (last_rules protocols.now.rounds) params)
-        (IsTakenBefore (facts_of (world_by table.now world.now)) (generic_params params) (listed table.now candidates.now))
+    requires setting { IsSetting setting.now }
+    requires candidates { AreKnown setting.now.table.now setting.now.world.now.lexicon candidates.now }
+    ensures takes { IfOk result (λ v. Takes (facts_in setting.now) (params_in setting.now) []
+        (listed setting.now.table.now candidates.now) (listed setting.now.table.now v.items)) }
+    ensures known { IfOk result (λ v. AreKnown setting.now.table.now setting.now.world.now.lexicon v.items) }
+    ensures told { IfOk result (λ _. TellsParts setting.now.limits (plan_in setting.now)
+        (IsTakenBefore (facts_in setting.now) (params_in setting.now) (listed setting.now.table.now candidates.now))
         (W.told watch.old) (W.told watch.new)) }
-    ensures failed { IfErr result (TellsFailure limits (list_of (world_by table.now world.now) (last_rules protocols.now.rounds) params)
-        (IsTakenBefore (facts_of (world_by table.now world.now)) (generic_params params) (listed table.now candidates.now))
+    ensures failed { IfErr result (TellsFailure setting.now.limits (plan_in setting.now)
+        (IsTakenBefore (facts_in setting.now) (params_in setting.now) (listed setting.now.table.now candidates.now))
         (W.told watch.old) (W.told watch.new)) }
 {
     let mut taken: Vec<Requirement> = Vec::new(alloc);
     let mut built: Option<Machine<'_>> = None;
     for k in 0..candidates.len() {
-        match take(
-            alloc,
-            world,
-            table,
-            protocols,
-            params,
-            &mut taken,
-            built,
-            candidates[k],
-            limits,
-            watch,
-        ) {
+        match take(alloc, setting, &mut taken, built, candidates[k], watch) {
             Ok(left) => built = left,
             Err(failed) => return Err(failed),
         }
@@ -254,35 +222,27 @@ fn put_at(list: &mut Vec<Requirement>, place: usize, r: Requirement) -> Result<(
 /// Drops the requirement at a place, if it is derivable from the others.
 fn drop_at<W: Watch>(
     alloc: Global,
-    world: &World,
-    table: &ParamTable,
-    protocols: &Protocols,
-    params: Params,
+    setting: &Setting<'_>,
     left: &mut Vec<Requirement>,
     place: usize,
-    limits: Limits,
     watch: &mut W,
 ) -> Result<(), Failed>
-    requires text { IsTextOver table.now world.now }
-    requires protocols { AreRulesOf (world_by table.now world.now) (last_rules protocols.now.rounds) }
-    requires left { AreKnown table.now world.now.lexicon left.old.items }
+    requires setting { IsSetting setting.now }
+    requires left { AreKnown setting.now.table.now setting.now.world.now.lexicon left.old.items }
     requires place { place < length left.old.items }
-    requires limits { AreInRange limits }
     ensures leaves { OnOk result ((front behind out : List TermRequirement) (r : TermRequirement)
-        → listed table.now left.old.items ≡ front ++ r ∷ out → length front ≡ place
-        → Leaves (facts_of (world_by table.now world.now)) (generic_params params) (front ++ r ∷ []) behind out
-        → (more : List TermRequirement) × (listed table.now left.new.items ≡ front ++ more)
-        × Leaves (facts_of (world_by table.now world.now)) (generic_params params) front (r ∷ behind) more) }
-    ensures known { OnOk result (AreKnown table.now world.now.lexicon left.new.items) }
-    ensures told { OnOk result (TellsParts limits (list_of (world_by table.now world.now) (last_rules protocols.now.rounds) params)
-        (λ l. l ≡ listed table.now (remove left.old.items place)) (W.told watch.old) (W.told watch.new)) }
-    ensures failed { IfErr result (TellsFailure limits (list_of (world_by table.now world.now) (last_rules protocols.now.rounds) params)
-        (λ l. l ≡ listed table.now (remove left.old.items place)) (W.told watch.old) (W.told watch.new)) }
+        → listed setting.now.table.now left.old.items ≡ front ++ r ∷ out → length front ≡ place
+        → Leaves (facts_in setting.now) (params_in setting.now) (front ++ r ∷ []) behind out
+        → (more : List TermRequirement) × (listed setting.now.table.now left.new.items ≡ front ++ more)
+        × Leaves (facts_in setting.now) (params_in setting.now) front (r ∷ behind) more) }
+    ensures known { OnOk result (AreKnown setting.now.table.now setting.now.world.now.lexicon left.new.items) }
+    ensures told { OnOk result (TellsParts setting.now.limits (plan_in setting.now)
+        (λ l. l ≡ listed setting.now.table.now (remove left.old.items place)) (W.told watch.old) (W.told watch.new)) }
+    ensures failed { IfErr result (TellsFailure setting.now.limits (plan_in setting.now)
+        (λ l. l ≡ listed setting.now.table.now (remove left.old.items place)) (W.told watch.old) (W.told watch.new)) }
 {
     let one = left.remove(place);
-    let derivable = match follows(
-        alloc, world, table, protocols, params, left, one, limits, watch,
-    ) {
+    let derivable = match follows(alloc, setting, left, one, watch) {
         Ok(derivable) => derivable,
         Err(failed) => return Err(failed),
     };
@@ -296,35 +256,27 @@ fn drop_at<W: Watch>(
 /// not to be.
 fn drop_derivable<W: Watch>(
     alloc: Global,
-    world: &World,
-    table: &ParamTable,
-    protocols: &Protocols,
-    params: Params,
+    setting: &Setting<'_>,
     left: &mut Vec<Requirement>,
-    limits: Limits,
     watch: &mut W,
 ) -> Result<(), Failed>
-    requires text { IsTextOver table.now world.now }
-    requires protocols { AreRulesOf (world_by table.now world.now) (last_rules protocols.now.rounds) }
-    requires left { AreKnown table.now world.now.lexicon left.old.items }
-    requires last { IsLastNeeded (facts_of (world_by table.now world.now)) (generic_params params) (listed table.now left.old.items) }
-    requires limits { AreInRange limits }
-    ensures leaves { OnOk result (Leaves (facts_of (world_by table.now world.now)) (generic_params params) []
-        (listed table.now left.old.items) (listed table.now left.new.items)) }
-    ensures known { OnOk result (AreKnown table.now world.now.lexicon left.new.items) }
-    ensures told { OnOk result (TellsParts limits (list_of (world_by table.now world.now) (last_rules protocols.now.rounds) params)
-        (IsLeftWithout (facts_of (world_by table.now world.now)) (generic_params params) (listed table.now left.old.items))
+    requires setting { IsSetting setting.now }
+    requires left { AreKnown setting.now.table.now setting.now.world.now.lexicon left.old.items }
+    requires last { IsLastNeeded (facts_in setting.now) (params_in setting.now) (listed setting.now.table.now left.old.items) }
+    ensures leaves { OnOk result (Leaves (facts_in setting.now) (params_in setting.now) []
+        (listed setting.now.table.now left.old.items) (listed setting.now.table.now left.new.items)) }
+    ensures known { OnOk result (AreKnown setting.now.table.now setting.now.world.now.lexicon left.new.items) }
+    ensures told { OnOk result (TellsParts setting.now.limits (plan_in setting.now)
+        (IsLeftWithout (facts_in setting.now) (params_in setting.now) (listed setting.now.table.now left.old.items))
         (W.told watch.old) (W.told watch.new)) }
-    ensures failed { IfErr result (TellsFailure limits (list_of (world_by table.now world.now) (last_rules protocols.now.rounds) params)
-        (IsLeftWithout (facts_of (world_by table.now world.now)) (generic_params params) (listed table.now left.old.items))
+    ensures failed { IfErr result (TellsFailure setting.now.limits (plan_in setting.now)
+        (IsLeftWithout (facts_in setting.now) (params_in setting.now) (listed setting.now.table.now left.old.items))
         (W.told watch.old) (W.told watch.new)) }
 {
     let mut count = left.len().saturating_sub(1);
     while count > 0 {
         count -= 1;
-        match drop_at(
-            alloc, world, table, protocols, params, left, count, limits, watch,
-        ) {
+        match drop_at(alloc, setting, left, count, watch) {
             Ok(()) => {}
             Err(failed) => return Err(failed),
         }
@@ -335,37 +287,27 @@ fn drop_derivable<W: Watch>(
 /// What is left of the candidates.
 pub(crate) fn sift<W: Watch>(
     alloc: Global,
-    world: &World,
-    table: &ParamTable,
-    protocols: &Protocols,
-    params: Params,
+    setting: &Setting<'_>,
     candidates: &[Requirement],
-    limits: Limits,
     watch: &mut W,
 ) -> Result<Vec<Requirement>, Failed>
-    requires text { IsTextOver table.now world.now }
-    requires protocols { AreRulesOf (world_by table.now world.now) (last_rules protocols.now.rounds) }
-    requires candidates { AreKnown table.now world.now.lexicon candidates.now }
-    requires limits { AreInRange limits }
-    ensures sifted { IfOk result (λ v. IsSifted (facts_of (world_by table.now world.now)) (generic_params params)
-        (listed table.now candidates.now) (listed table.now v.items)) }
-    ensures known { IfOk result (λ v. AreKnown table.now world.now.lexicon v.items) }
-    ensures told { IfOk result (λ _. TellsParts limits (list_of (world_by table.now world.now) (last_rules protocols.now.rounds) params)
-        (IsPassed (facts_of (world_by table.now world.now)) (generic_params params) (listed table.now candidates.now))
+    requires setting { IsSetting setting.now }
+    requires candidates { AreKnown setting.now.table.now setting.now.world.now.lexicon candidates.now }
+    ensures sifted { IfOk result (λ v. IsSifted (facts_in setting.now) (params_in setting.now)
+        (listed setting.now.table.now candidates.now) (listed setting.now.table.now v.items)) }
+    ensures known { IfOk result (λ v. AreKnown setting.now.table.now setting.now.world.now.lexicon v.items) }
+    ensures told { IfOk result (λ _. TellsParts setting.now.limits (plan_in setting.now)
+        (IsPassed (facts_in setting.now) (params_in setting.now) (listed setting.now.table.now candidates.now))
         (W.told watch.old) (W.told watch.new)) }
-    ensures failed { IfErr result (TellsFailure limits (list_of (world_by table.now world.now) (last_rules protocols.now.rounds) params)
-        (IsPassed (facts_of (world_by table.now world.now)) (generic_params params) (listed table.now candidates.now))
+    ensures failed { IfErr result (TellsFailure setting.now.limits (plan_in setting.now)
+        (IsPassed (facts_in setting.now) (params_in setting.now) (listed setting.now.table.now candidates.now))
         (W.told watch.old) (W.told watch.new)) }
 {
-    match generators(
-        alloc, world, table, protocols, params, candidates, limits, watch,
-    ) {
+    match generators(alloc, setting, candidates, watch) {
         Err(failed) => Err(failed),
         Ok(taken) => {
             let mut left = taken;
-            match drop_derivable(
-                alloc, world, table, protocols, params, &mut left, limits, watch,
-            ) {
+            match drop_derivable(alloc, setting, &mut left, watch) {
                 Err(failed) => Err(failed),
                 Ok(()) => Ok(left),
             }

@@ -13,12 +13,12 @@ use Rattle.swreq_minimal.proofs.evidence.is_evident.Goals as goal
 
 pub returns-in-Some : goal.returns-in-Some
 returns-in-Some c =
-    let terms = c.args.table.now in
+    let terms = c.args.setting.now.table.now in
     let list = listed terms c.args.list.now in
-    let of_rule = subst (λ (z : Option Rule). MatchOption z ⊤ (IsOfEquation (symbols_of c.args.world.now.lexicon) (requirement_of terms c.args.r)))
+    let of_rule = subst (λ (z : Option Rule). MatchOption z ⊤ (IsOfEquation (symbols_of c.args.setting.now.world.now.lexicon) (requirement_of terms c.args.r)))
     c.in-Some.is c.in_ok-found.ensures in
     IfOk-weaker c.is_shown.result _ _ (λ b law h.
-    evident (world_by terms c.args.world.now) c.requires.text.closed (generic_params c.args.params) list
-    (list_in_text terms c.args.world.now.lexicon c.requires.text.closed.ids c.args.params c.args.list.now c.requires.list)
+    evident (world_by terms c.args.setting.now.world.now) c.requires.setting.text.closed (generic_params c.args.setting.now.params) list
+    (list_in_text terms c.args.setting.now.world.now.lexicon c.requires.setting.text.closed.ids c.args.setting.now.params c.args.list.now c.requires.list)
     (requirement_of terms c.args.r) (c.are_plain.ensures c.if-not-are_plain.false) (c.has_plain_types.ensures c.if-not-has_plain_types.false)
     c.in_ok-rules.rules.items c.in-Some.rule c.in_ok-rules.ensures of_rule (law h)) c.is_shown.ensures

@@ -19,13 +19,13 @@ returns-in-Err-clause-failed g c list is =
     wants_at_once c.args.limits (list_of (world_by c.args.table.now c.args.world.now) (last_rules c.args.protocols.now.rounds) c.args.machine.now.params)
     (IsPassedOf (symbols_of c.args.world.now.lexicon) (facts_of (world_by c.args.table.now c.args.world.now)) (generic_params c.args.machine.now.params) list) (g.W.Watch.told c.args.watch.now)
 
-pub sift-requires-clause-text : goal.sift-requires-clause-text
-sift-requires-clause-text g c = text_stays c.args.table.now c.candidates.new.table c.candidates.ensures.extends c.args.world.now c.requires.text
-
-pub sift-requires-clause-protocols : goal.sift-requires-clause-protocols
-sift-requires-clause-protocols g c =
-    subst (λ (z : TextWorld). AreRulesOf z (last_rules c.args.protocols.now.rounds))
-    (sym (world_stays c.args.table.now c.candidates.new.table c.candidates.ensures.extends c.args.world.now c.requires.text.table)) c.requires.protocols
+pub sift-requires-clause-setting : goal.sift-requires-clause-setting
+sift-requires-clause-setting g c = record {
+  text = text_stays c.args.table.now c.candidates.new.table c.candidates.ensures.extends c.args.world.now c.requires.text;
+  protocols = subst (λ (z : TextWorld). AreRulesOf z (last_rules c.args.protocols.now.rounds))
+      (sym (world_stays c.args.table.now c.candidates.new.table c.candidates.ensures.extends c.args.world.now c.requires.text.table)) c.requires.protocols;
+  limits = c.requires.limits;
+}
 
 pub sift-requires-clause-candidates : goal.sift-requires-clause-candidates
 sift-requires-clause-candidates g c = subst (AreKnown c.candidates.new.table c.args.world.now.lexicon) (sym c.deref.ensures.value) c.in-Ok.ensures.known
@@ -41,9 +41,9 @@ returns-in-Ok g c =
     let read : (list : List TermRequirement) → IsMachineOf (world_by old w) list machine → IsReadOffMachine old new w protocols machine list found = λ list is. record {
       text = c.requires.text;
       more = c.candidates.ensures.extends;
-      complete = rw c.rules.ensures at c.rules-of_protocols.ensures.complete;
+      complete = rw c.rules.ensures at c.count-of_protocols.ensures.complete;
       rules = c.requires.protocols;
-      complete_too = rw c.rules-2.ensures at c.rules-of_list.ensures.complete;
+      complete_too = rw c.rules-2.ensures at c.count-of_list.ensures.complete;
       is = is;
       candidates = c.in-Ok.ensures.candidates list is;
     } in

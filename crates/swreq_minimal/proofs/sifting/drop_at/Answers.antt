@@ -20,26 +20,26 @@ use Rattle.swreq_minimal.proofs.sifting.drop_at.Goals as goal
 
 pub follows-requires-clause-list : goal.follows-requires-clause-list
 follows-requires-clause-list g c =
-    subst (AreKnown c.args.table.now c.args.world.now.lexicon) (sym (c.deref.ensures.value ∙ c.remove-one.ensures.items))
-    (λ r h. c.requires.left r (there_before c.args.table.now c.args.left.now.items c.args.place c.remove-one.result c.requires.place r h))
+    subst (AreKnown c.args.setting.now.table.now c.args.setting.now.world.now.lexicon) (sym (c.deref.ensures.value ∙ c.remove-one.ensures.items))
+    (λ r h. c.requires.left r (there_before c.args.setting.now.table.now c.args.left.now.items c.args.place c.remove-one.result c.requires.place r h))
 
 pub follows-requires-clause-r : goal.follows-requires-clause-r
 follows-requires-clause-r g c =
-    subst (IsRequirementIn c.args.table.now c.args.world.now.lexicon) (sym c.remove-one.ensures.value)
+    subst (IsRequirementIn c.args.setting.now.table.now c.args.setting.now.world.now.lexicon) (sym c.remove-one.ensures.value)
     (c.requires.left (get_or c.args.left.now.items c.args.place c.remove-one.result) (Contains-get_or c.args.left.now.items c.args.place c.remove-one.result c.requires.place))
 
 pub returns-in-Err-clause-failed : goal.returns-in-Err-clause-failed
 returns-in-Err-clause-failed g c =
-    failure_of c.args.limits (list_of (world_by c.args.table.now c.args.world.now) (last_rules c.args.protocols.now.rounds) c.args.params)
-    (λ l. l ≡ listed c.args.table.now c.deref.result.now) (λ l. l ≡ listed c.args.table.now (remove c.args.left.now.items c.args.place))
-    (λ l e. e ∙ ap (listed c.args.table.now) (c.deref.ensures.value ∙ c.remove-one.ensures.items))
+    failure_of c.args.setting.now.limits (list_of (world_by c.args.setting.now.table.now c.args.setting.now.world.now) (last_rules c.args.setting.now.protocols.now.rounds) c.args.setting.now.params)
+    (λ l. l ≡ listed c.args.setting.now.table.now c.deref.result.now) (λ l. l ≡ listed c.args.setting.now.table.now (remove c.args.left.now.items c.args.place))
+    (λ l e. e ∙ ap (listed c.args.setting.now.table.now) (c.deref.ensures.value ∙ c.remove-one.ensures.items))
     (g.W.Watch.told c.args.watch.now) (g.W.Watch.told c.follows.new.watch) c.in-Err.failed c.in-Err.ensures.failed
 
 pub returns-then-derivable-clause-leaves : goal.returns-then-derivable-clause-leaves
 returns-then-derivable-clause-leaves g c =
-    let terms = c.args.table.now in
-    let f = facts_of (world_by terms c.args.world.now) in
-    let ps = generic_params c.args.params in
+    let terms = c.args.setting.now.table.now in
+    let f = facts_of (world_by terms c.args.setting.now.world.now) in
+    let ps = generic_params c.args.setting.now.params in
     let now = c.args.left.now.items in
     subst (LeavesNow f ps terms now c.args.place c.remove-one.result c.requires.place) (sym {A = List Requirement} c.remove-one.ensures.items)
     (one_dropped f ps terms now c.args.place c.remove-one.result c.requires.place
@@ -49,21 +49,21 @@ returns-then-derivable-clause-leaves g c =
 
 pub returns-then-derivable-clause-known : goal.returns-then-derivable-clause-known
 returns-then-derivable-clause-known g c =
-    subst (AreKnown c.args.table.now c.args.world.now.lexicon) (sym c.remove-one.ensures.items)
-    (λ r h. c.requires.left r (there_before c.args.table.now c.args.left.now.items c.args.place c.remove-one.result c.requires.place r h))
+    subst (AreKnown c.args.setting.now.table.now c.args.setting.now.world.now.lexicon) (sym c.remove-one.ensures.items)
+    (λ r h. c.requires.left r (there_before c.args.setting.now.table.now c.args.left.now.items c.args.place c.remove-one.result c.requires.place r h))
 
 pub returns-then-derivable-clause-told : goal.returns-then-derivable-clause-told
 returns-then-derivable-clause-told g c =
-    tells_of c.args.limits (list_of (world_by c.args.table.now c.args.world.now) (last_rules c.args.protocols.now.rounds) c.args.params)
-    (λ l. l ≡ listed c.args.table.now c.deref.result.now) (λ l. l ≡ listed c.args.table.now (remove c.args.left.now.items c.args.place))
-    (λ l e. e ∙ ap (listed c.args.table.now) (c.deref.ensures.value ∙ c.remove-one.ensures.items))
+    tells_of c.args.setting.now.limits (list_of (world_by c.args.setting.now.table.now c.args.setting.now.world.now) (last_rules c.args.setting.now.protocols.now.rounds) c.args.setting.now.params)
+    (λ l. l ≡ listed c.args.setting.now.table.now c.deref.result.now) (λ l. l ≡ listed c.args.setting.now.table.now (remove c.args.left.now.items c.args.place))
+    (λ l e. e ∙ ap (listed c.args.setting.now.table.now) (c.deref.ensures.value ∙ c.remove-one.ensures.items))
     (g.W.Watch.told c.args.watch.now) (g.W.Watch.told c.follows.new.watch) c.in-Ok.ensures.told
 
 pub returns-clause-leaves : goal.returns-clause-leaves
 returns-clause-leaves g c =
-    let terms = c.args.table.now in
-    let f = facts_of (world_by terms c.args.world.now) in
-    let ps = generic_params c.args.params in
+    let terms = c.args.setting.now.table.now in
+    let f = facts_of (world_by terms c.args.setting.now.world.now) in
+    let ps = generic_params c.args.setting.now.params in
     let now = c.args.left.now.items in
     let k = c.args.place in
     let one = c.remove-one.result in
@@ -82,26 +82,26 @@ returns-clause-known g c =
     let now = c.args.left.now.items in
     let k = c.args.place in
     let one = c.remove-one.result in
-    on_ok_weaker c.put_at.result (λ e. subst (AreKnown c.args.table.now c.args.world.now.lexicon)
-    (sym (e ∙ (ap (λ z. insert z k one) c.remove-one.ensures.items ∙ (ap (λ z. insert (remove now k) k z) c.remove-one.ensures.value ∙ put_back c.args.table.now now k one c.requires.place))))
+    on_ok_weaker c.put_at.result (λ e. subst (AreKnown c.args.setting.now.table.now c.args.setting.now.world.now.lexicon)
+    (sym (e ∙ (ap (λ z. insert z k one) c.remove-one.ensures.items ∙ (ap (λ z. insert (remove now k) k z) c.remove-one.ensures.value ∙ put_back c.args.setting.now.table.now now k one c.requires.place))))
     c.requires.left) c.put_at.ensures.put
 
 pub returns-clause-told : goal.returns-clause-told
 returns-clause-told g c =
     on_ok_weaker c.put_at.result (λ e.
-    tells_of c.args.limits (list_of (world_by c.args.table.now c.args.world.now) (last_rules c.args.protocols.now.rounds) c.args.params)
-    (λ l. l ≡ listed c.args.table.now c.deref.result.now) (λ l. l ≡ listed c.args.table.now (remove c.args.left.now.items c.args.place))
-    (λ l h. h ∙ ap (listed c.args.table.now) (c.deref.ensures.value ∙ c.remove-one.ensures.items))
+    tells_of c.args.setting.now.limits (list_of (world_by c.args.setting.now.table.now c.args.setting.now.world.now) (last_rules c.args.setting.now.protocols.now.rounds) c.args.setting.now.params)
+    (λ l. l ≡ listed c.args.setting.now.table.now c.deref.result.now) (λ l. l ≡ listed c.args.setting.now.table.now (remove c.args.left.now.items c.args.place))
+    (λ l h. h ∙ ap (listed c.args.setting.now.table.now) (c.deref.ensures.value ∙ c.remove-one.ensures.items))
     (g.W.Watch.told c.args.watch.now) (g.W.Watch.told c.follows.new.watch) c.in-Ok.ensures.told) c.put_at.ensures.put
 
 pub returns-clause-failed : goal.returns-clause-failed
 returns-clause-failed g c =
-    let plan = list_of (world_by c.args.table.now c.args.world.now) (last_rules c.args.protocols.now.rounds) c.args.params in
-    let told = tells_of c.args.limits plan
-    (λ l. l ≡ listed c.args.table.now c.deref.result.now) (λ l. l ≡ listed c.args.table.now (remove c.args.left.now.items c.args.place))
-    (λ l h. h ∙ ap (listed c.args.table.now) (c.deref.ensures.value ∙ c.remove-one.ensures.items))
+    let plan = list_of (world_by c.args.setting.now.table.now c.args.setting.now.world.now) (last_rules c.args.setting.now.protocols.now.rounds) c.args.setting.now.params in
+    let told = tells_of c.args.setting.now.limits plan
+    (λ l. l ≡ listed c.args.setting.now.table.now c.deref.result.now) (λ l. l ≡ listed c.args.setting.now.table.now (remove c.args.left.now.items c.args.place))
+    (λ l h. h ∙ ap (listed c.args.setting.now.table.now) (c.deref.ensures.value ∙ c.remove-one.ensures.items))
     (g.W.Watch.told c.args.watch.now) (g.W.Watch.told c.follows.new.watch) c.in-Ok.ensures.told in
     IfErr-weaker c.put_at.result _ _ (λ failed e.
-    subst (TellsFailure c.args.limits plan (λ l. l ≡ listed c.args.table.now (remove c.args.left.now.items c.args.place)) (g.W.Watch.told c.args.watch.now) (g.W.Watch.told c.follows.new.watch)) (sym e)
-    (wants_memory c.args.limits plan (λ l. l ≡ listed c.args.table.now (remove c.args.left.now.items c.args.place)) (g.W.Watch.told c.args.watch.now) (g.W.Watch.told c.follows.new.watch) told))
+    subst (TellsFailure c.args.setting.now.limits plan (λ l. l ≡ listed c.args.setting.now.table.now (remove c.args.left.now.items c.args.place)) (g.W.Watch.told c.args.watch.now) (g.W.Watch.told c.follows.new.watch)) (sym e)
+    (wants_memory c.args.setting.now.limits plan (λ l. l ≡ listed c.args.setting.now.table.now (remove c.args.left.now.items c.args.place)) (g.W.Watch.told c.args.watch.now) (g.W.Watch.told c.follows.new.watch) told))
     c.put_at.ensures.memory

@@ -12,11 +12,11 @@ use Rattle.swreq_minimal.proofs.sifting.drop_derivable.Given as goal
 
 abbrev pub invariant-loop-count : goal.invariant-loop-count
 invariant-loop-count g l = record {
-  within : l.count ≤ length (listed l.table l.initial.left.items);
-  left : IsLeftFrom (facts_of (world_by l.table l.world)) (generic_params l.params) l.count (listed l.table l.initial.left.items) (listed l.table l.left.items);
-  known : AreKnown l.table l.world.lexicon l.left.items;
-  told : TellsParts l.limits (list_of (world_by l.table l.world) (last_rules l.protocols.rounds) l.params)
-      (IsLeftWithout (facts_of (world_by l.table l.world)) (generic_params l.params) (listed l.table l.initial.left.items)) (g.W.Watch.told l.initial.watch) (g.W.Watch.told l.watch);
+  within : l.count ≤ length (listed l.setting.table.now l.initial.left.items);
+  left : IsLeftFrom (facts_of (world_by l.setting.table.now l.setting.world.now)) (generic_params l.setting.params) l.count (listed l.setting.table.now l.initial.left.items) (listed l.setting.table.now l.left.items);
+  known : AreKnown l.setting.table.now l.setting.world.now.lexicon l.left.items;
+  told : TellsParts l.setting.limits (list_of (world_by l.setting.table.now l.setting.world.now) (last_rules l.setting.protocols.now.rounds) l.setting.params)
+      (IsLeftWithout (facts_of (world_by l.setting.table.now l.setting.world.now)) (generic_params l.setting.params) (listed l.setting.table.now l.initial.left.items)) (g.W.Watch.told l.initial.watch) (g.W.Watch.told l.watch);
 }
 
 abbrev pub decreases-loop-count : goal.decreases-loop-count

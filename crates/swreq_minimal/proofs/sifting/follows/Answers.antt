@@ -8,13 +8,13 @@ use Rattle.swreq_minimal.proofs.sifting.follows.Goals as goal
 
 pub returns-in-Err-clause-failed : goal.returns-in-Err-clause-failed
 returns-in-Err-clause-failed g c =
-    wants_at_once c.args.limits (list_of (world_by c.args.table.now c.args.world.now) (last_rules c.args.protocols.now.rounds) c.args.params)
-    (λ l. l ≡ listed c.args.table.now c.args.list.now) (g.W.Watch.told c.args.watch.now)
+    wants_at_once c.args.setting.now.limits (list_of (world_by c.args.setting.now.table.now c.args.setting.now.world.now) (last_rules c.args.setting.now.protocols.now.rounds) c.args.setting.now.params)
+    (λ l. l ≡ listed c.args.setting.now.table.now c.args.list.now) (g.W.Watch.told c.args.watch.now)
 
 pub returns-then-evident-clause-answer : goal.returns-then-evident-clause-answer
 returns-then-evident-clause-answer g c = ((λ h. c.in-Ok.ensures c.if-evident.true), λ h. refl)
 
 pub returns-then-evident-clause-told : goal.returns-then-evident-clause-told
 returns-then-evident-clause-told g c =
-    tells_none c.args.limits (list_of (world_by c.args.table.now c.args.world.now) (last_rules c.args.protocols.now.rounds) c.args.params)
-    (λ l. l ≡ listed c.args.table.now c.args.list.now) (g.W.Watch.told c.args.watch.now)
+    tells_none c.args.setting.now.limits (list_of (world_by c.args.setting.now.table.now c.args.setting.now.world.now) (last_rules c.args.setting.now.protocols.now.rounds) c.args.setting.now.params)
+    (λ l. l ≡ listed c.args.setting.now.table.now c.args.list.now) (g.W.Watch.told c.args.watch.now)

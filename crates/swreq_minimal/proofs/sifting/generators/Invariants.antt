@@ -13,9 +13,9 @@ use Rattle.swreq_minimal.proofs.sifting.generators.Given as goal
 
 abbrev pub invariant-loop-k : goal.invariant-loop-k
 invariant-loop-k g l = record {
-  takes : Takes (facts_of (world_by l.table l.world)) (generic_params l.params) [] (listed l.table (take l.k l.candidates)) (listed l.table l.taken.items);
-  known : AreKnown l.table l.world.lexicon l.taken.items;
-  built : IfSome l.built (IsBuiltFor (world_by l.table l.world) l.params (listed l.table l.taken.items));
-  told : TellsParts l.limits (list_of (world_by l.table l.world) (last_rules l.protocols.rounds) l.params)
-      (IsTakenBefore (facts_of (world_by l.table l.world)) (generic_params l.params) (listed l.table l.candidates)) (g.W.Watch.told l.initial.watch) (g.W.Watch.told l.watch);
+  takes : Takes (facts_of (world_by l.setting.table.now l.setting.world.now)) (generic_params l.setting.params) [] (listed l.setting.table.now (take l.k l.candidates)) (listed l.setting.table.now l.taken.items);
+  known : AreKnown l.setting.table.now l.setting.world.now.lexicon l.taken.items;
+  built : IfSome l.built (IsBuiltFor (world_by l.setting.table.now l.setting.world.now) l.setting.params (listed l.setting.table.now l.taken.items));
+  told : TellsParts l.setting.limits (list_of (world_by l.setting.table.now l.setting.world.now) (last_rules l.setting.protocols.now.rounds) l.setting.params)
+      (IsTakenBefore (facts_of (world_by l.setting.table.now l.setting.world.now)) (generic_params l.setting.params) (listed l.setting.table.now l.candidates)) (g.W.Watch.told l.initial.watch) (g.W.Watch.told l.watch);
 }
