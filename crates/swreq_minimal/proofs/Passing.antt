@@ -120,14 +120,15 @@ module _ (f : TermFacts) (ps : List ParamId) where
 
   -- the last one was gone through, and is needed
   pub last_stays : (n : ℕ) (all : List TermRequirement) (d : TermRequirement) → n ≡ length all - 1 → IsLastNeeded f ps all → IsLeftFrom n all all
-  last_stays n [] d e needed = all_there n [] (omega (arith, e))
-  last_stays n (x ∷ xs) d e needed =
+  unfolding all_there
+  last_stays n [] d e is_needed = all_there n [] (omega (arith, e))
+  last_stays n (x ∷ xs) d e is_needed =
       let all = x ∷ xs in
       let l : n < length all = omega (arith, e) in
       let there = all_there (n + 1) all (omega (arith, e)) in
       let is = now_is all all n d l there in
       next_left all all n d l there all (get_or all n d ∷ []) is
-      (kept (leaves_behind all all n d l there) (λ h. needed (take n all) (get_or all n d) is
+      (kept (leaves_behind all all n d l there) (λ h. is_needed (take n all) (get_or all n d) is
       (subst (λ z. Derivable f (Written ps z) (Requires (get_or all n d))) (append-nil (take n all)) h)))
 
 -- ---- one of a list is removed, and put back

@@ -1,13 +1,13 @@
 use Rattle.std.proofs.Common.{subst, Option, MatchOption}
 use Rattle.std.specs.Prelude.{⊤}
 use Rattle.std.proofs.lemmas.Result.{IfOk-weaker}
-use Rattle.swreq_derive.specs.Facts.{generic_params, requirement_of}
+use Rattle.swreq_derive.specs.Facts.{requirement_of}
 use Rattle.swreq_rule.specs.declared.rules.Rule.{Rule}
 use Rattle.swreq_symbols.specs.Meaning.{symbols_of}
 use Rattle.swreq_valid.specs.Plans.{listed}
 use Rattle.swreq_valid.proofs.Listing.{list_in_text}
-use Rattle.swreq_world.specs.ByTable.{world_by}
 use Rattle.swreq_minimal.specs.Evident.{IsOfEquation}
+use Rattle.swreq_minimal.specs.Settings.{params_in, text_in}
 use Rattle.swreq_minimal.proofs.Showing.{evident}
 use Rattle.swreq_minimal.proofs.evidence.is_evident.Goals as goal
 
@@ -18,7 +18,7 @@ returns-in-Some c =
     let of_rule = subst (λ (z : Option Rule). MatchOption z ⊤ (IsOfEquation (symbols_of c.args.setting.now.world.now.lexicon) (requirement_of terms c.args.r)))
     c.in-Some.is c.in_ok-found.ensures in
     IfOk-weaker c.is_shown.result _ _ (λ b law h.
-    evident (world_by terms c.args.setting.now.world.now) c.requires.setting.text.closed (generic_params c.args.setting.now.params) list
+    evident (text_in c.args.setting.now) c.requires.setting.text.closed (params_in c.args.setting.now) list
     (list_in_text terms c.args.setting.now.world.now.lexicon c.requires.setting.text.closed.ids c.args.setting.now.params c.args.list.now c.requires.list)
     (requirement_of terms c.args.r) (c.are_plain.ensures c.if-not-are_plain.false) (c.has_plain_types.ensures c.if-not-has_plain_types.false)
     c.in_ok-rules.rules.items c.in-Some.rule c.in_ok-rules.ensures of_rule (law h)) c.is_shown.ensures

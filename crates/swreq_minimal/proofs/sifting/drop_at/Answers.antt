@@ -6,13 +6,10 @@ use Rattle.swreq_derive.specs.Derivation.{Derivable}
 use Rattle.swreq_derive.specs.Derivation.Source.{Written}
 use Rattle.swreq_derive.specs.Derivation.TermStatement.{Requires}
 use Rattle.swreq_derive.specs.declared.requirements.Requirement.{Requirement}
-use Rattle.swreq_derive.specs.Facts.{generic_params, requirement_of}
+use Rattle.swreq_derive.specs.Facts.{requirement_of}
 use Rattle.swreq_symbols.specs.Known.{IsRequirementIn}
-use Rattle.swreq_symbols.specs.Meaning.{facts_of}
-use Rattle.swreq_world.specs.ByTable.{world_by}
-use Rattle.swreq_valid.specs.Machines.{list_of}
 use Rattle.swreq_valid.specs.Plans.{AreKnown, listed}
-use Rattle.swreq_valid.specs.Rounds.{last_rules}
+use Rattle.swreq_minimal.specs.Settings.{facts_in, params_in, plan_in}
 use Rattle.swreq_minimal.specs.Told.{TellsFailure}
 use Rattle.swreq_minimal.proofs.Passing.{LeavesNow, one_dropped, one_kept, put_back, there_before}
 use Rattle.swreq_minimal.proofs.Telling.{failure_of, tells_of, wants_memory}
@@ -30,7 +27,7 @@ follows-requires-clause-r g c =
 
 pub returns-in-Err-clause-failed : goal.returns-in-Err-clause-failed
 returns-in-Err-clause-failed g c =
-    failure_of c.args.setting.now.limits (list_of (world_by c.args.setting.now.table.now c.args.setting.now.world.now) (last_rules c.args.setting.now.protocols.now.rounds) c.args.setting.now.params)
+    failure_of c.args.setting.now.limits (plan_in c.args.setting.now)
     (λ l. l ≡ listed c.args.setting.now.table.now c.deref.result.now) (λ l. l ≡ listed c.args.setting.now.table.now (remove c.args.left.now.items c.args.place))
     (λ l e. e ∙ ap (listed c.args.setting.now.table.now) (c.deref.ensures.value ∙ c.remove-one.ensures.items))
     (g.W.Watch.told c.args.watch.now) (g.W.Watch.told c.follows.new.watch) c.in-Err.failed c.in-Err.ensures.failed
@@ -38,8 +35,8 @@ returns-in-Err-clause-failed g c =
 pub returns-then-derivable-clause-leaves : goal.returns-then-derivable-clause-leaves
 returns-then-derivable-clause-leaves g c =
     let terms = c.args.setting.now.table.now in
-    let f = facts_of (world_by terms c.args.setting.now.world.now) in
-    let ps = generic_params c.args.setting.now.params in
+    let f = facts_in c.args.setting.now in
+    let ps = params_in c.args.setting.now in
     let now = c.args.left.now.items in
     subst (LeavesNow f ps terms now c.args.place c.remove-one.result c.requires.place) (sym {A = List Requirement} c.remove-one.ensures.items)
     (one_dropped f ps terms now c.args.place c.remove-one.result c.requires.place
@@ -54,7 +51,7 @@ returns-then-derivable-clause-known g c =
 
 pub returns-then-derivable-clause-told : goal.returns-then-derivable-clause-told
 returns-then-derivable-clause-told g c =
-    tells_of c.args.setting.now.limits (list_of (world_by c.args.setting.now.table.now c.args.setting.now.world.now) (last_rules c.args.setting.now.protocols.now.rounds) c.args.setting.now.params)
+    tells_of c.args.setting.now.limits (plan_in c.args.setting.now)
     (λ l. l ≡ listed c.args.setting.now.table.now c.deref.result.now) (λ l. l ≡ listed c.args.setting.now.table.now (remove c.args.left.now.items c.args.place))
     (λ l e. e ∙ ap (listed c.args.setting.now.table.now) (c.deref.ensures.value ∙ c.remove-one.ensures.items))
     (g.W.Watch.told c.args.watch.now) (g.W.Watch.told c.follows.new.watch) c.in-Ok.ensures.told
@@ -62,8 +59,8 @@ returns-then-derivable-clause-told g c =
 pub returns-clause-leaves : goal.returns-clause-leaves
 returns-clause-leaves g c =
     let terms = c.args.setting.now.table.now in
-    let f = facts_of (world_by terms c.args.setting.now.world.now) in
-    let ps = generic_params c.args.setting.now.params in
+    let f = facts_in c.args.setting.now in
+    let ps = params_in c.args.setting.now in
     let now = c.args.left.now.items in
     let k = c.args.place in
     let one = c.remove-one.result in
@@ -89,14 +86,14 @@ returns-clause-known g c =
 pub returns-clause-told : goal.returns-clause-told
 returns-clause-told g c =
     on_ok_weaker c.put_at.result (λ e.
-    tells_of c.args.setting.now.limits (list_of (world_by c.args.setting.now.table.now c.args.setting.now.world.now) (last_rules c.args.setting.now.protocols.now.rounds) c.args.setting.now.params)
+    tells_of c.args.setting.now.limits (plan_in c.args.setting.now)
     (λ l. l ≡ listed c.args.setting.now.table.now c.deref.result.now) (λ l. l ≡ listed c.args.setting.now.table.now (remove c.args.left.now.items c.args.place))
     (λ l h. h ∙ ap (listed c.args.setting.now.table.now) (c.deref.ensures.value ∙ c.remove-one.ensures.items))
     (g.W.Watch.told c.args.watch.now) (g.W.Watch.told c.follows.new.watch) c.in-Ok.ensures.told) c.put_at.ensures.put
 
 pub returns-clause-failed : goal.returns-clause-failed
 returns-clause-failed g c =
-    let plan = list_of (world_by c.args.setting.now.table.now c.args.setting.now.world.now) (last_rules c.args.setting.now.protocols.now.rounds) c.args.setting.now.params in
+    let plan = plan_in c.args.setting.now in
     let told = tells_of c.args.setting.now.limits plan
     (λ l. l ≡ listed c.args.setting.now.table.now c.deref.result.now) (λ l. l ≡ listed c.args.setting.now.table.now (remove c.args.left.now.items c.args.place))
     (λ l h. h ∙ ap (listed c.args.setting.now.table.now) (c.deref.ensures.value ∙ c.remove-one.ensures.items))

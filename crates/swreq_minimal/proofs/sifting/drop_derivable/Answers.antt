@@ -1,13 +1,10 @@
 use Rattle.std.proofs.Common.{◌≡◌, ◌-◌, subst, length, arith}
 use Rattle.std.specs.Prelude.{remove}
 use Rattle.std.proofs.lemmas.List.{length-map}
-use Rattle.swreq_derive.specs.Facts.{generic_params, requirement_of}
-use Rattle.swreq_symbols.specs.Meaning.{facts_of}
-use Rattle.swreq_world.specs.ByTable.{world_by}
-use Rattle.swreq_valid.specs.Machines.{list_of}
+use Rattle.swreq_derive.specs.Facts.{requirement_of}
 use Rattle.swreq_valid.specs.Plans.{listed}
-use Rattle.swreq_valid.specs.Rounds.{last_rules}
 use Rattle.swreq_minimal.specs.Passed.{IsLeftWithout}
+use Rattle.swreq_minimal.specs.Settings.{facts_in, params_in, plan_in}
 use Rattle.swreq_minimal.proofs.Inserting.{any}
 use Rattle.swreq_minimal.proofs.Passing.{IsLeftFrom, all_passed, is_without, last_stays, passed_on, within_now}
 use Rattle.swreq_minimal.proofs.Telling.{fails_next, tells_next, tells_none}
@@ -17,29 +14,29 @@ pub loop-count-init : goal.loop-count-init
 loop-count-init g c =
     let all = listed c.args.setting.now.table.now c.args.left.now.items in
     let n : length all ≡ length c.args.left.now.items = length-map c.args.left.now.items (requirement_of c.args.setting.now.table.now) in
-    let e : c.saturating_sub.result ≡ length all - 1 = omega (arith, c.saturating_sub.ensures, c.len.ensures, n) in
+    let e : c.saturating_sub-count.result ≡ length all - 1 = omega (arith, c.saturating_sub-count.ensures, c.len.ensures, n) in
     record {
       within = omega (arith, e);
-      left = last_stays (facts_of (world_by c.args.setting.now.table.now c.args.setting.now.world.now)) (generic_params c.args.setting.now.params) c.saturating_sub.result all
+      left = last_stays (facts_in c.args.setting.now) (params_in c.args.setting.now) c.saturating_sub-count.result all
           (requirement_of c.args.setting.now.table.now any) e c.requires.last;
       known = c.requires.left;
-      told = tells_none c.args.setting.now.limits (list_of (world_by c.args.setting.now.table.now c.args.setting.now.world.now) (last_rules c.args.setting.now.protocols.now.rounds) c.args.setting.now.params)
-          (IsLeftWithout (facts_of (world_by c.args.setting.now.table.now c.args.setting.now.world.now)) (generic_params c.args.setting.now.params) all) (g.W.Watch.told c.args.watch.now);
+      told = tells_none c.args.setting.now.limits (plan_in c.args.setting.now)
+          (IsLeftWithout (facts_in c.args.setting.now) (params_in c.args.setting.now) all) (g.W.Watch.told c.args.watch.now);
     }
 
 pub drop_at-requires-clause-place : goal.drop_at-requires-clause-place
 drop_at-requires-clause-place g c =
     let terms = c.args.setting.now.table.now in
-    within_now (facts_of (world_by terms c.args.setting.now.world.now)) (generic_params c.args.setting.now.params) terms (listed terms c.args.left.now.items) c.loop-count.left.items c.loop-count.count any
+    within_now (facts_in c.args.setting.now) (params_in c.args.setting.now) terms (listed terms c.args.left.now.items) c.loop-count.left.items c.loop-count.count any
     c.loop-count-test.true c.loop-count.invariant.within c.loop-count.invariant.left
 
 pub returns-in-Err-clause-failed : goal.returns-in-Err-clause-failed
 returns-in-Err-clause-failed g c =
     let terms = c.args.setting.now.table.now in
-    let f = facts_of (world_by terms c.args.setting.now.world.now) in
-    let ps = generic_params c.args.setting.now.params in
+    let f = facts_in c.args.setting.now in
+    let ps = params_in c.args.setting.now in
     let all = listed terms c.args.left.now.items in
-    fails_next c.args.setting.now.limits (list_of (world_by terms c.args.setting.now.world.now) (last_rules c.args.setting.now.protocols.now.rounds) c.args.setting.now.params) (IsLeftWithout f ps all)
+    fails_next c.args.setting.now.limits (plan_in c.args.setting.now) (IsLeftWithout f ps all)
     (listed terms (remove c.loop-count.left.items (c.loop-count.count - 1)))
     (is_without f ps terms all c.loop-count.left.items c.loop-count.count any c.loop-count-test.true c.loop-count.invariant.within c.loop-count.invariant.left)
     (g.W.Watch.told c.args.watch.now) (g.W.Watch.told c.loop-count.watch) (g.W.Watch.told c.drop_at.new.watch) c.loop-count.invariant.told c.in-Err.failed c.in-Err.ensures.failed
@@ -47,8 +44,8 @@ returns-in-Err-clause-failed g c =
 pub loop-count-preserved : goal.loop-count-preserved
 loop-count-preserved g c =
     let terms = c.args.setting.now.table.now in
-    let f = facts_of (world_by terms c.args.setting.now.world.now) in
-    let ps = generic_params c.args.setting.now.params in
+    let f = facts_in c.args.setting.now in
+    let ps = params_in c.args.setting.now in
     let all = listed terms c.args.left.now.items in
     let some = c.loop-count-test.true in
     let now = c.loop-count.invariant in
@@ -56,7 +53,7 @@ loop-count-preserved g c =
       within = let w = now.within in omega (arith, w);
       left = passed_on f ps terms all c.loop-count.left.items c.loop-count.count any some now.within now.left c.drop_at.new.left.items c.in-Ok.ensures.leaves;
       known = c.in-Ok.ensures.known;
-      told = tells_next c.args.setting.now.limits (list_of (world_by terms c.args.setting.now.world.now) (last_rules c.args.setting.now.protocols.now.rounds) c.args.setting.now.params) (IsLeftWithout f ps all)
+      told = tells_next c.args.setting.now.limits (plan_in c.args.setting.now) (IsLeftWithout f ps all)
           (listed terms (remove c.loop-count.left.items (c.loop-count.count - 1)))
           (is_without f ps terms all c.loop-count.left.items c.loop-count.count any some now.within now.left)
           (g.W.Watch.told c.args.watch.now) (g.W.Watch.told c.loop-count.watch) (g.W.Watch.told c.drop_at.new.watch) now.told c.in-Ok.ensures.told;
@@ -65,8 +62,8 @@ loop-count-preserved g c =
 pub returns-clause-leaves : goal.returns-clause-leaves
 returns-clause-leaves g c =
     let terms = c.args.setting.now.table.now in
-    let f = facts_of (world_by terms c.args.setting.now.world.now) in
-    let ps = generic_params c.args.setting.now.params in
+    let f = facts_in c.args.setting.now in
+    let ps = params_in c.args.setting.now in
     let all = listed terms c.args.left.now.items in
     let t = c.loop-count-test.false in
     let e : c.loop-count.count ≡ 0 = omega (arith, t) in

@@ -1,14 +1,12 @@
 use Rattle.std.proofs.Common.{◌≡◌, refl}
-use Rattle.swreq_valid.specs.Machines.{list_of}
 use Rattle.swreq_valid.specs.Plans.{listed}
-use Rattle.swreq_valid.specs.Rounds.{last_rules}
-use Rattle.swreq_world.specs.ByTable.{world_by}
+use Rattle.swreq_minimal.specs.Settings.{plan_in}
 use Rattle.swreq_minimal.proofs.Telling.{tells_none, wants_at_once}
 use Rattle.swreq_minimal.proofs.sifting.follows.Goals as goal
 
 pub returns-in-Err-clause-failed : goal.returns-in-Err-clause-failed
 returns-in-Err-clause-failed g c =
-    wants_at_once c.args.setting.now.limits (list_of (world_by c.args.setting.now.table.now c.args.setting.now.world.now) (last_rules c.args.setting.now.protocols.now.rounds) c.args.setting.now.params)
+    wants_at_once c.args.setting.now.limits (plan_in c.args.setting.now)
     (λ l. l ≡ listed c.args.setting.now.table.now c.args.list.now) (g.W.Watch.told c.args.watch.now)
 
 pub returns-then-evident-clause-answer : goal.returns-then-evident-clause-answer
@@ -16,5 +14,5 @@ returns-then-evident-clause-answer g c = ((λ h. c.in-Ok.ensures c.if-evident.tr
 
 pub returns-then-evident-clause-told : goal.returns-then-evident-clause-told
 returns-then-evident-clause-told g c =
-    tells_none c.args.setting.now.limits (list_of (world_by c.args.setting.now.table.now c.args.setting.now.world.now) (last_rules c.args.setting.now.protocols.now.rounds) c.args.setting.now.params)
+    tells_none c.args.setting.now.limits (plan_in c.args.setting.now)
     (λ l. l ≡ listed c.args.setting.now.table.now c.args.list.now) (g.W.Watch.told c.args.watch.now)

@@ -1,16 +1,12 @@
 use Rattle.std.proofs.Common.{[], sym, subst, take, get_or, Contains}
 use Rattle.std.proofs.lemmas.List.{take_all}
 use Rattle.std.proofs.lemmas.List.Elements.{Contains-get_or}
-use Rattle.swreq_derive.specs.Facts.{generic_params}
 use Rattle.swreq_orders.proofs.Members.{no_member}
 use Rattle.swreq_canonical.specs.Generators.{Takes}
 use Rattle.swreq_canonical.specs.Generators.Takes.{ended}
-use Rattle.swreq_symbols.specs.Meaning.{facts_of}
-use Rattle.swreq_world.specs.ByTable.{world_by}
-use Rattle.swreq_valid.specs.Machines.{list_of}
 use Rattle.swreq_valid.specs.Plans.{listed}
-use Rattle.swreq_valid.specs.Rounds.{last_rules}
 use Rattle.swreq_minimal.specs.Passed.{IsTakenBefore}
+use Rattle.swreq_minimal.specs.Settings.{facts_in, params_in, plan_in}
 use Rattle.swreq_minimal.proofs.Inserting.{any}
 use Rattle.swreq_minimal.proofs.Passing.{next_taken, taken_before}
 use Rattle.swreq_minimal.proofs.Telling.{fails_next, tells_next, tells_none}
@@ -18,11 +14,11 @@ use Rattle.swreq_minimal.proofs.sifting.generators.Goals as goal
 
 pub loop-k-init : goal.loop-k-init
 loop-k-init g c = record {
-  takes = subst (λ z. Takes (facts_of (world_by c.args.setting.now.table.now c.args.setting.now.world.now)) (generic_params c.args.setting.now.params) [] [] (listed c.args.setting.now.table.now z)) (sym c.new-taken.ensures.items) ended;
+  takes = subst (λ z. Takes (facts_in c.args.setting.now) (params_in c.args.setting.now) [] [] (listed c.args.setting.now.table.now z)) (sym c.new-taken.ensures.items) ended;
   built = tt;
   known = λ r h. no_member r (subst (λ z. Contains z r) c.new-taken.ensures.items h);
-  told = tells_none c.args.setting.now.limits (list_of (world_by c.args.setting.now.table.now c.args.setting.now.world.now) (last_rules c.args.setting.now.protocols.now.rounds) c.args.setting.now.params)
-      (IsTakenBefore (facts_of (world_by c.args.setting.now.table.now c.args.setting.now.world.now)) (generic_params c.args.setting.now.params) (listed c.args.setting.now.table.now c.args.candidates.now)) (g.W.Watch.told c.args.watch.now);
+  told = tells_none c.args.setting.now.limits (plan_in c.args.setting.now)
+      (IsTakenBefore (facts_in c.args.setting.now) (params_in c.args.setting.now) (listed c.args.setting.now.table.now c.args.candidates.now)) (g.W.Watch.told c.args.watch.now);
 }
 
 pub take-requires-clause-candidate : goal.take-requires-clause-candidate
@@ -32,10 +28,10 @@ take-requires-clause-candidate g c =
 pub returns-in-Err-clause-failed : goal.returns-in-Err-clause-failed
 returns-in-Err-clause-failed g c =
     let terms = c.args.setting.now.table.now in
-    let f = facts_of (world_by terms c.args.setting.now.world.now) in
-    let ps = generic_params c.args.setting.now.params in
+    let f = facts_in c.args.setting.now in
+    let ps = params_in c.args.setting.now in
     let out = listed terms c.loop-k.taken.items in
-    fails_next c.args.setting.now.limits (list_of (world_by terms c.args.setting.now.world.now) (last_rules c.args.setting.now.protocols.now.rounds) c.args.setting.now.params)
+    fails_next c.args.setting.now.limits (plan_in c.args.setting.now)
     (IsTakenBefore f ps (listed terms c.args.candidates.now)) out
     (taken_before f ps terms c.args.candidates.now c.loop-k.k any c.loop-k-test.true out c.loop-k.invariant.takes)
     (g.W.Watch.told c.args.watch.now) (g.W.Watch.told c.loop-k.watch) (g.W.Watch.told c.take.new.watch) c.loop-k.invariant.told c.in-Err.failed c.in-Err.ensures.failed
@@ -43,15 +39,15 @@ returns-in-Err-clause-failed g c =
 pub loop-k-preserved : goal.loop-k-preserved
 loop-k-preserved g c =
     let terms = c.args.setting.now.table.now in
-    let f = facts_of (world_by terms c.args.setting.now.world.now) in
-    let ps = generic_params c.args.setting.now.params in
+    let f = facts_in c.args.setting.now in
+    let ps = params_in c.args.setting.now in
     let out = listed terms c.loop-k.taken.items in
     record {
       takes = next_taken f ps terms c.args.candidates.now c.loop-k.k any c.loop-k-test.true (listed terms c.take.new.taken.items)
           (c.in-Ok.ensures.takes (listed terms (take c.loop-k.k c.args.candidates.now)) c.loop-k.invariant.takes);
       known = c.in-Ok.ensures.known;
       built = c.in-Ok.ensures.built;
-      told = tells_next c.args.setting.now.limits (list_of (world_by terms c.args.setting.now.world.now) (last_rules c.args.setting.now.protocols.now.rounds) c.args.setting.now.params)
+      told = tells_next c.args.setting.now.limits (plan_in c.args.setting.now)
           (IsTakenBefore f ps (listed terms c.args.candidates.now)) out
           (taken_before f ps terms c.args.candidates.now c.loop-k.k any c.loop-k-test.true out c.loop-k.invariant.takes)
           (g.W.Watch.told c.args.watch.now) (g.W.Watch.told c.loop-k.watch) (g.W.Watch.told c.take.new.watch) c.loop-k.invariant.told c.in-Ok.ensures.told;
@@ -59,5 +55,5 @@ loop-k-preserved g c =
 
 pub returns-clause-takes : goal.returns-clause-takes
 returns-clause-takes g c =
-    subst (λ z. Takes (facts_of (world_by c.args.setting.now.table.now c.args.setting.now.world.now)) (generic_params c.args.setting.now.params) [] (listed c.args.setting.now.table.now z) (listed c.args.setting.now.table.now c.loop-k.taken.items))
+    subst (λ z. Takes (facts_in c.args.setting.now) (params_in c.args.setting.now) [] (listed c.args.setting.now.table.now z) (listed c.args.setting.now.table.now c.loop-k.taken.items))
     (take_all c.loop-k.k c.args.candidates.now c.loop-k-test.false) c.loop-k.invariant.takes
