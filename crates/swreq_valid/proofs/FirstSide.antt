@@ -29,7 +29,7 @@ module _ (P : Side → Type 0) where
   two_hold : (s t : Side) → P s → P t → HoldsOfEach P (s ∷ t ∷ [])
   two_hold s t h k u m = elim (member_cases s u (t ∷ []) m) [ inl e ↦ subst P (sym e) h | inr j ↦ one_holds t k u j ]
 
-  head_fails : (s : Side) (rest : List Side) (a : ℕ) → (P s → ⊥) → a ≡ s.at → FailsFirst P (s ∷ rest) a
+  pub head_fails : (s : Side) (rest : List Side) (a : ℕ) → (P s → ⊥) → a ≡ s.at → FailsFirst P (s ∷ rest) a
   head_fails s rest a n e = record { before = []; side = s; after = rest; split = refl; earlier = none_fails; fails = n; at_is = sym e }
 
   second_fails : (s t : Side) (a : ℕ) → P s → (P t → ⊥) → a ≡ t.at → FailsFirst P (s ∷ t ∷ []) a

@@ -23,6 +23,21 @@ module _ {A : Type 0} where
   tells_selects (x ∷ xs) (true ∷ bs) t = takes (t.0.0 refl) (tells_selects xs bs t.1)
   tells_selects (x ∷ xs) (false ∷ bs) t = leaves (λ h. true≢false (sym (t.0.1 h))) (tells_selects xs bs t.1)
 
+  one_decision : (P : A → Type 0) (x : A) (b c : Bool) → Decides b (P x) → Decides c (P x) → b ≡ c
+  one_decision P x true true h k = refl
+  one_decision P x true false h k = sym (k.1 (h.0 refl))
+  one_decision P x false true h k = h.1 (k.0 refl)
+  one_decision P x false false h k = refl
+
+  -- flags that tell of P are one list
+  pub one_telling : (P : A → Type 0) (xs : List A) (bs cs : List Bool) → Tells P xs bs → Tells P xs cs → bs ≡ cs
+  one_telling P [] [] [] t u = refl
+  one_telling P [] [] (c ∷ cs) t u = absurd u
+  one_telling P [] (b ∷ bs) cs t u = absurd t
+  one_telling P (x ∷ xs) [] cs t u = absurd t
+  one_telling P (x ∷ xs) (b ∷ bs) [] t u = absurd u
+  one_telling P (x ∷ xs) (b ∷ bs) (c ∷ cs) t u = ap₂ ◌∷◌ (one_decision P x b c t.0 u.0) (one_telling P xs bs cs t.1 u.1)
+
   pub tells_length : (P : A → Type 0) (xs : List A) (bs : List Bool) → Tells P xs bs → length bs ≡ length xs
   tells_length P [] [] t = refl
   tells_length P [] (b ∷ bs) t = absurd t

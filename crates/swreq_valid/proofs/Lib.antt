@@ -19,3 +19,4 @@ pub mod OfKept
 pub mod Telling
 pub mod Early
 pub mod Naming
+pub mod OneList

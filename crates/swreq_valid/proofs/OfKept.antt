@@ -150,7 +150,8 @@ module _ (m : Symbols) (g : TermFacts) (fit : AreSymbolsOf m g) (ranges : AreOfT
 pub tell_usable : (w : TextWorld) → IsClosed w → (g : TermFacts) → (facts_of w).associated_types ≡ g.associated_types → AreSymbolsOf (symbols_of w.lexicon) g
     → AreOfText (symbols_of w.lexicon) g → (rules : List Rule) → AreProtocolRules (symbols_of w.lexicon) g rules → (flags : List (List Bool))
     → TellEach w rules flags (length w.lexicon.protocols) → TellUsable w g flags
-tell_usable w closed g same fit ranges rules are flags each p n r e =
+tell_usable w closed g same fit ranges rules are flags each p zero r e = absurd e
+tell_usable w closed g same fit ranges rules are flags each p (suc n) r e =
     let m = symbols_of w.lexicon in
     let of : IsOfText m p = (text_law w closed).owners p r (n, slice_get_within ((facts_of w).of_protocol p) n r e, get_or_from_slice_get ((facts_of w).of_protocol p) n r r e) in
     let told = tells_at (IsUsableBy w rules p) ((facts_of w).of_protocol p) (get_or flags p.rank []) n r (each p.rank ((closed.ids.written_order p).0 of)) e in (

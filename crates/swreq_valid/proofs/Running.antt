@@ -1,6 +1,6 @@
 -- From what the code knows of a round to the answer of the rounds.
-use Rattle.std.proofs.Common.{◌≡◌, inl, inr, refl, sym, ap, subst, subst₂, ◌∙◌, suc, ◌-◌, ◌<◌, arith, get_or, Bool, List, [], ◌∷◌, ◌++◌, length, Contains, Option, Result, Ok, Err}
-use Rattle.std.proofs.lemmas.List.{append-nil}
+use Rattle.std.proofs.Common.{◌≡◌, inl, inr, refl, sym, ap, subst, subst₂, ◌∙◌, suc, ◌-◌, ◌<◌, arith, get_or, Bool, List, [], ◌∷◌, ◌++◌, length, replicate, false, append_assoc, Contains, Option, Result, Ok, Err}
+use Rattle.std.proofs.lemmas.List.{append-nil, length-replicate}
 use Rattle.swreq_rule.specs.declared.rules.Rule.{Rule}
 use Rattle.swreq_watch.specs.declared.events.Event.{Event}
 use Rattle.swreq_watch.specs.Told.{GrewBy}
@@ -19,9 +19,9 @@ use Rattle.swreq_rounds.proofs.OneOutcome.{outcomes_are_one}
 use Rattle.swreq_rounds.proofs.Growing.{round_shows}
 use Rattle.swreq_valid.specs.Answers.{Answers, IsOnlyOutcome}
 use Rattle.swreq_valid.specs.Flags.{chosen, Tells, unset}
-use Rattle.swreq_valid.specs.Rounds.{AreRounds, LeadTo, RoundView, last_rules}
-use Rattle.swreq_valid.specs.Rounds.LeadTo.{no_round, a_round}
-use Rattle.swreq_valid.proofs.Flagged.{tells_selects, tells_length, fewer_unset, others_chosen}
+use Rattle.swreq_valid.specs.Rounds.{AreRounds, AreRoundsFrom, RoundView, last_rules}
+use Rattle.swreq_valid.specs.Rounds.AreRoundsFrom.{before_others, the_last}
+use Rattle.swreq_valid.proofs.Flagged.{chosen_unset, tells_selects, tells_length, fewer_unset, others_chosen}
 
 pub same_answer : (limits : Limits) (base other : List Rule) (eqs more : List (Word × Word)) (r : Result (List Rule) Failed) → other ≡ base → eqs ≡ more
     → IsAnswer limits other eqs r → IsAnswer limits base more r
@@ -105,22 +105,23 @@ last_is (r ∷ s ∷ rounds) d l =
     let n : length (r ∷ s ∷ rounds) - 1 ≡ suc (length (s ∷ rounds) - 1) = omega arith in
     ap (λ k. (get_or (r ∷ s ∷ rounds) k d).rules) n ∙ last_is (s ∷ rounds) d (omega arith)
 
--- The next round uses the requirements whose flags are set; the rounds so far lead to it, and the watcher was told theirs.
+-- The next round uses the requirements whose flags are set; the rounds so far and those from it on are all, and the watcher was told those
+-- so far.
 pub record IsBefore (limits : Limits) (plan : Plan) (old : Option (List Event)) (used : List Bool) (rounds : List RoundView) (mid : Option (List Event)) : Type 0 where
   pub flags : length used ≡ length plan.all
   pub before : List Event
   pub round : IsRound limits plan (chosen plan.all used) before
   pub grew : GrewBy old mid before
-  pub lead : LeadTo limits plan rounds (chosen plan.all used)
+  pub lead : (others : List RoundView) → AreRoundsFrom limits plan used others → AreRounds limits plan (rounds ++ others)
 
 module _ (limits : Limits) (plan : Plan) (old : Option (List Event)) where
-  pub is_first : (used : List Bool) → length used ≡ length plan.all → chosen plan.all used ≡ [] → IsBefore limits plan old used [] old
-  is_first used e n = record {
-    flags = e;
+  pub is_first : (used : List Bool) → used ≡ replicate (length plan.all) false → IsBefore limits plan old used [] old
+  is_first used e = record {
+    flags = ap length e ∙ length-replicate (length plan.all) false;
     before = [];
-    round = subst (λ z. IsRound limits plan z []) (sym n) first;
+    round = subst (λ z. IsRound limits plan z []) (sym (ap (chosen plan.all) e ∙ chosen_unset plan.all (length plan.all))) first;
     grew = grew_none old;
-    lead = subst (LeadTo limits plan []) (sym n) no_round;
+    lead = λ others h. subst (λ z. AreRoundsFrom limits plan z others) e h;
   }
 
   module _ (used : List Bool) (rounds : List RoundView) (mid new : Option (List Event)) (is : IsBefore limits plan old used rounds mid) where
@@ -146,14 +147,7 @@ module _ (limits : Limits) (plan : Plan) (old : Option (List Event)) where
           is_last = ends_last limits plan (chosen plan.all used) is.before old mid new is.round is.grew rules ends told (tells_selects plan.all used t)
 
           pub all_rounds : AreRounds limits plan (rounds ++ ended ∷ [])
-          all_rounds = record {
-            used = chosen plan.all used;
-            lead = a_round ended is.lead ends (tells_selects plan.all used t) refl;
-            before = rounds;
-            last = ended;
-            last_is = refl;
-            repeats = refl;
-          }
+          all_rounds = is.lead (ended ∷ []) (the_last ends t)
 
         -- another one follows
         module _ (flags : List Bool) (t : Tells (AreShown plan rules) plan.all flags) (n : flags ≡ used → ⊥) where
@@ -166,7 +160,8 @@ module _ (limits : Limits) (plan : Plan) (old : Option (List Event)) where
                 before = later;
                 round = r;
                 grew = g;
-                lead = a_round ended is.lead ends (tells_selects plan.all flags t) refl;
+                lead = λ others h. subst (AreRounds limits plan) (sym (append_assoc rounds (ended ∷ []) others))
+                    (is.lead (ended ∷ others) (before_others ends t n h));
               }
 
           pub fewer_left : unset flags < unset used

@@ -1,5 +1,5 @@
 -- Rounds look at the associated types alone of the facts.
-use Rattle.std.proofs.Common.{◌≡◌, sym, subst, List, Contains, Option, Result, Ok, Err, IfOk}
+use Rattle.std.proofs.Common.{◌≡◌, sym, subst, Bool, List, Contains, Option, Result, Ok, Err, IfOk}
 use Rattle.swreq_param.specs.declared.ids.Step.TheVariants.{Bound, Name}
 use Rattle.swreq_param.specs.Terms.{Term}
 use Rattle.swreq_param.specs.Terms.Term.{Generic, Member}
@@ -19,8 +19,10 @@ use Rattle.swreq_rounds.specs.Rounds.{ComesTo, IsLastRound, IsOutcome, IsRound, 
 use Rattle.swreq_rounds.specs.Rounds.IsRound.{first, next}
 use Rattle.swreq_rounds.specs.Rounds.Selects.{none, takes, leaves}
 use Rattle.swreq_valid.specs.Answers.{Answers, IsOnlyOutcome}
-use Rattle.swreq_valid.specs.Rounds.{AreRounds, LeadTo, RoundView}
-use Rattle.swreq_valid.specs.Rounds.LeadTo.{no_round, a_round}
+use Rattle.swreq_valid.specs.Flags.{Tells}
+use Rattle.swreq_valid.specs.Rounds.{AreRounds, AreRoundsFrom, RoundView}
+use Rattle.swreq_valid.specs.Rounds.AreRoundsFrom.{before_others, the_last}
+use Rattle.swreq_valid.proofs.Flagged.{tells_to}
 
 module _ (m : Symbols) (f g : TermFacts) (same : f.associated_types ≡ g.associated_types) (s : Source) (C : Word → Word → Type 0) where
   pub valid_over : (t : Term) → ShowsValid m f s C t → ShowsValid m g s C t
@@ -75,12 +77,15 @@ module _ (limits : Limits) (plan : Plan) (g : TermFacts) (same : plan.facts.asso
   answers_over old new (Err (Limit which trace)) a = (a.0, outcome_over (Err (Limit which trace)) a.0 a.1, a.2)
   answers_over old new (Err Memory) a = (a.0, comes_over a.0 a.1, a.2)
 
-  lead_over : {rounds : List RoundView} {us : List Item} → LeadTo limits plan rounds us → LeadTo limits other rounds us
-  lead_over no_round = no_round
-  lead_over (a_round {usable = us} r l e s k) = a_round r (lead_over l) e (usable_left r.rules us s) k
+  told_over : (rules : List Rule) (flags : List Bool) → Tells (AreShown plan rules) plan.all flags → Tells (AreShown other rules) plan.all flags
+  told_over rules flags t = tells_to (AreShown plan rules) (AreShown other rules) (shown_over rules) (shown_back rules) plan.all flags t
+
+  rounds_from : {used : List Bool} {rounds : List RoundView} → AreRoundsFrom limits plan used rounds → AreRoundsFrom limits other used rounds
+  rounds_from {used = used} (the_last {rules = rules} e t) = the_last e (told_over rules used t)
+  rounds_from (before_others {usable = usable} {rules = rules} e t n h) = before_others e (told_over rules usable t) n (rounds_from h)
 
   pub rounds_over : (rounds : List RoundView) → AreRounds limits plan rounds → AreRounds limits other rounds
-  rounds_over rounds h = record { used = h.used; lead = lead_over h.lead; before = h.before; last = h.last; last_is = h.last_is; repeats = h.repeats }
+  rounds_over rounds h = rounds_from h
 
 pub only_over : (limits : Limits) (plan : Plan) (g : TermFacts) → plan.facts.associated_types ≡ g.associated_types → (answer : Result (List Rule) Failed)
     → IsOnlyOutcome limits plan answer → IsOnlyOutcome limits (with_facts plan g) answer

@@ -1,5 +1,5 @@
 -- The rules of the protocols by a part of their requirements.
-use Rattle.std.specs.Prelude.{◌≡◌, ◌↔◌, ◌<◌, ℕ, Bool, List, [], ◌∷◌, ◌++◌, IsTrue, Some, false, length, map, slice_get, slice_index_or, Result, Ok, Err}
+use Rattle.std.specs.Prelude.{◌≡◌, ◌↔◌, ◌<◌, ℕ, zero, suc, Bool, List, [], ◌∷◌, ◌++◌, IsTrue, Some, false, length, map, slice_get, slice_index_or, Result, Ok, Err}
 use Rattle.std.specs.Bool.{if◌then◌else◌, nat_eq}
 use Rattle.swreq_param.specs.declared.ids.ProtoId.{ProtoId}
 use Rattle.swreq_derive.specs.Derivation.{TermFacts, TermRequirement}
@@ -50,13 +50,23 @@ kept_in w (p ∷ ps) (flags ∷ keep) = map (in_protocol p) (chosen (bare (requi
 
 -- ---- usable requirements
 
--- the flag of the n-th requirement of P, from 0, in lists by the ranks of protocols
+-- the flag with this number, where they are numbered from 1, or false where there is none
+abbrev pub flag_with : List Bool → ℕ → Bool
+flag_with flags zero = false
+flag_with flags (suc n) = slice_index_or flags n false
+
+-- the flag of the requirement of P with this number, in lists by the ranks of protocols
 abbrev pub flag_at : List (List Bool) → ProtoId → ℕ → Bool
-flag_at flags p n = slice_index_or (slice_index_or flags p.rank []) n false
+flag_at flags p n = flag_with (slice_index_or flags p.rank []) n
+
+-- It is the requirement of P with this number, from 1.
+abbrev pub HasNumber : TextWorld → ProtoId → ℕ → TermRequirement → Type 0
+HasNumber w p zero r = ⊥
+HasNumber w p (suc n) r = slice_get ((facts_of w).of_protocol p) n ≡ Some r
 
 -- The flags tell of each requirement of the world whether its type parameters are derivable from these facts.
 abbrev pub TellUsable : TextWorld → TermFacts → List (List Bool) → Type 0
-TellUsable w f flags = (p : ProtoId) (n : ℕ) (r : TermRequirement) → slice_get ((facts_of w).of_protocol p) n ≡ Some r
+TellUsable w f flags = (p : ProtoId) (n : ℕ) (r : TermRequirement) → HasNumber w p n r
     → IsTrue (flag_at flags p n) ↔ HasValidSides f (SelfOf p) r
 
 -- The rules show a requirement of P usable.

@@ -6,6 +6,7 @@ mod basic;
 mod build;
 mod having;
 mod kept;
+pub mod laws;
 mod machine;
 mod protocols;
 mod reduced;

@@ -1,10 +1,14 @@
 //! The rules of the protocols of a text.
-ghost use Rattle.std.specs.Prelude.{◌≡◌, IfOk, false, slice_index_or};
+ghost use Rattle.std.specs.Prelude.{◌≡◌, ◌↔◌, IfOk, IsTrue, false, slice_index_or};
+ghost use Rattle.swreq_derive.specs.Derivation.{TermFacts, TermRequirement};
+ghost use Rattle.swreq_derive.specs.Derivation.Source.{SelfOf};
+ghost use Rattle.swreq_derive.specs.WellFormed.{HasValidSides};
 ghost use Rattle.swreq_complete.specs.Limits.{AreInRange};
 ghost use Rattle.swreq_symbols.specs.Known.{IsTextOver};
 ghost use Rattle.swreq_world.specs.ByTable.{world_by};
+ghost use Rattle.swreq_world.specs.Worlds.{TextWorld};
 ghost use Rattle.swreq_valid.specs.Answers.{Answers, IsOnlyOutcome};
-ghost use Rattle.swreq_valid.specs.Keeping.{flag_at};
+ghost use Rattle.swreq_valid.specs.Keeping.{HasNumber, TellUsable, flag_at, flag_with};
 ghost use Rattle.swreq_valid.specs.Machines.{AreRulesOf, protocols_of};
 ghost use Rattle.swreq_valid.specs.Rounds.{AreRounds, last_rules, rules_of};
 
@@ -54,13 +58,15 @@ impl Protocols {
         self.rounds.items()
     }
 
-    /// Whether the n-th requirement of the protocol, from 0, is usable: whether its type parameters are derivable by the requirements of
-    /// which the rules were made. It is false where there is no such requirement.
+    /// Whether the requirement of the protocol with this number, from 1, is usable: whether its type parameters are derivable by the
+    /// requirements of which the rules were made. It is false where there is no such requirement.
     pub fn usable(&self, p: ProtoId, n: u32) -> bool
-        ensures { result ≡ flag_at self.now.usable p n }
+        ensures flag { result ≡ flag_at self.now.usable p n }
+        ensures usable { (w : TextWorld) (f : TermFacts) (r : TermRequirement) → TellUsable w f self.now.usable → HasNumber w p n r
+            → IsTrue result ↔ HasValidSides f (SelfOf p) r }
     {
         match self.usable.items().get(p.rank as usize) {
-            Some(flags) => flag_in(flags.items(), n),
+            Some(flags) => flag_with(flags.items(), n),
             None => false,
         }
     }
@@ -73,11 +79,21 @@ impl Protocols {
     }
 }
 
-/// The flag at a place, or false where there is none.
-fn flag_in(flags: &[bool], n: u32) -> bool
-    ensures { result ≡ slice_index_or flags.now n false }
+/// The flag with this number, from 1, or false where there is none.
+fn flag_with(flags: &[bool], n: u32) -> bool
+    ensures { result ≡ flag_with flags.now n }
 {
-    match flags.get(n as usize) {
+    match n.checked_sub(1) {
+        Some(place) => flag_at_place(flags, place as usize),
+        None => false,
+    }
+}
+
+/// The flag at a place, or false where there is none.
+fn flag_at_place(flags: &[bool], place: usize) -> bool
+    ensures { result ≡ slice_index_or flags.now place false }
+{
+    match flags.get(place) {
         Some(flag) => *flag,
         None => false,
     }

@@ -1,5 +1,5 @@
 //! The run of the rounds of a machine.
-ghost use Rattle.std.specs.Prelude.{◌≡◌, ◌↔◌, ◌≤◌, List, [], ◌∷◌, ◌++◌, length, Contains, IfOk, OnOk, IsTrue, MatchOption, vec_len};
+ghost use Rattle.std.specs.Prelude.{◌≡◌, ◌↔◌, ◌≤◌, List, [], ◌∷◌, ◌++◌, length, Contains, false, replicate, IfOk, OnOk, IsTrue, MatchOption, vec_len};
 ghost use Rattle.std.specs.Bool.{if◌then◌else◌};
 ghost use Rattle.std.specs.List.{list_all};
 ghost use Rattle.swreq_derive.specs.Derivation.{TermRequirement};
@@ -122,8 +122,7 @@ fn complete<'b, W: Watch>(
 
 /// `count` flags, none of them set.
 fn none_used(alloc: Global, count: usize) -> Result<Vec<bool>, AllocError>
-    ensures len { IfOk result (λ v. vec_len v ≡ count) }
-    ensures none { (xs : List Item) → IfOk result (λ v. chosen xs v.items ≡ []) }
+    ensures { IfOk result (λ flags. flags.items ≡ replicate count false) }
 {
     let flags = vec![in alloc; false; count]?;
     Ok(flags)

@@ -1,4 +1,4 @@
-use Rattle.std.proofs.Common.{◌∙◌, sym, ap, subst, arith, Bool, List, [], ◌∷◌, ◌++◌, Contains, Ok, Err}
+use Rattle.std.proofs.Common.{◌≡◌, ◌∙◌, sym, ap, subst, arith, Bool, false, List, [], ◌∷◌, ◌++◌, length, replicate, Contains, Ok, Err}
 use Rattle.std.proofs.lemmas.Result.{err_from_is_err_and}
 use Rattle.swreq_rule.specs.declared.rules.Rule.{Rule}
 use Rattle.swreq_complete.specs.Answers.{IsAnswer}
@@ -21,11 +21,13 @@ returns-in_err-used-clause-answer g c =
 pub each-init : goal.each-init
 each-init g c =
     let plan = plan_of c.args.world.now c.args.table.now (first_rules c.args.below) c.args.start.now in
-    subst (λ z. IsBefore c.args.start.now.limits plan (g.W.Watch.told c.args.watch.now) c.in_ok-used.used.items z (g.W.Watch.told c.args.watch.now)) (sym c.new-rounds.ensures.items)
+    let all = c.args.start.now.all in
+    let count : c.len.result ≡ length plan.all =
+    let b = c.len.ensures in let o = all.ok in let q = items_length c.args.table.now all.items in omega (arith, b, o, q) in
+    subst (λ z. IsBefore c.args.start.now.limits plan (g.W.Watch.told c.args.watch.now) c.in_ok-used.used.items z (g.W.Watch.told c.args.watch.now))
+    (sym c.new-rounds.ensures.items)
     (is_first c.args.start.now.limits plan (g.W.Watch.told c.args.watch.now) c.in_ok-used.used.items
-    (let a = c.in_ok-used.ensures.len in let b = c.len.ensures in let o = c.args.start.now.all.ok in let p = c.in_ok-used.used.ok in
-    let q = items_length c.args.table.now c.args.start.now.all.items in omega (arith, a, b, o, p, q))
-    (c.in_ok-used.ensures.none (items_of c.args.table.now c.args.start.now.all.items)))
+    (subst (λ n. c.in_ok-used.used.items ≡ replicate n false) count c.in_ok-used.ensures))
 
 pub returns-in_err-rules-clause-answer : goal.returns-in_err-rules-clause-answer
 returns-in_err-rules-clause-answer g c =

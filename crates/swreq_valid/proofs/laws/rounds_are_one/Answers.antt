@@ -1,0 +1,5 @@
+use Rattle.swreq_valid.proofs.OneList.{rounds_from_are_one}
+use Rattle.swreq_valid.proofs.laws.rounds_are_one.Goals as goal
+
+pub returns : goal.returns
+returns c limits plan rounds others h k = rounds_from_are_one limits plan h k
