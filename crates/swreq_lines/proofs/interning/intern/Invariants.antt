@@ -1,0 +1,12 @@
+use Rattle.std.proofs.Common.{◌≡◌, take}
+use Rattle.swreq_param.specs.Tables.{Extends, IsOf, term_at}
+use Rattle.swreq_param.specs.Terms.{with_steps}
+use Rattle.swreq_param.specs.Terms.Term.{Generic}
+use Rattle.swreq_lines.proofs.interning.intern.Given as goal
+
+abbrev pub invariant-loop-step : goal.invariant-loop-step
+invariant-loop-step l = record {
+  is_of : IsOf l.table l.id;
+  stands : term_at l.table l.id ≡ with_steps (Generic l.t.head) (take l.step-index l.t.steps);
+  extends : Extends l.fn.table l.table;
+}

@@ -1,0 +1,15 @@
+use Rattle.std.proofs.Common.{◌≡◌, ◌++◌, List, length}
+use Rattle.std.specs.List.{AllByRecursion}
+use Rattle.swreq_lowering.specs.OfText.{IsStepOf}
+use Rattle.swreq_param.specs.declared.ids.Step.{Step}
+use Rattle.swreq_print.specs.Types.{steps_text}
+use Rattle.swreq_lines.specs.Pieces.{behind}
+use Rattle.swreq_lines.proofs.types.read_steps.Given as goal
+
+abbrev pub invariant-loop-rest : goal.invariant-loop-rest
+invariant-loop-rest l =
+    (all : List Step) → AllByRecursion (IsStepOf l.names) all → l.text ≡ behind (steps_text l.names all)
+    → (left : List Step) × (l.steps.items ++ left ≡ all) × AllByRecursion (IsStepOf l.names) left × (l.rest ≡ behind (steps_text l.names left))
+
+abbrev pub decreases-loop-rest : goal.decreases-loop-rest
+decreases-loop-rest l = length l.rest

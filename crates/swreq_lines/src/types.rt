@@ -1,0 +1,80 @@
+//! Reading type parameters.
+
+ghost use Rattle.std.specs.Prelude.{◌≡◌, IfOk, List};
+ghost use Rattle.std.specs.List.{AllByRecursion};
+ghost use Rattle.swreq_lowering.specs.OfText.{IsStepOf};
+ghost use Rattle.swreq_param.specs.declared.ids.ParamId.{ParamId};
+ghost use Rattle.swreq_param.specs.declared.ids.Step.{Step};
+ghost use Rattle.swreq_param.specs.Owned.{as_term};
+ghost use Rattle.swreq_param.specs.Terms.{Term};
+ghost use Rattle.swreq_print.specs.Reading.{HasNumbers, IsReadableType, TellsApart};
+ghost use Rattle.swreq_print.specs.Types.{param_text, step_text, steps_text, type_text};
+ghost use Rattle.swreq_lines.specs.Pieces.{behind};
+
+use crate::named::{associated, name_named, protocol_named};
+use crate::numbers::read_number;
+use crate::pieces::next_piece;
+use std::alloc::{AllocError, Global};
+use swreq_lexicon::Lexicon;
+use swreq_param::{ParamId, Step, TypeParam};
+use swreq_text::Seq;
+
+/// The generic parameter that is written as `τ_d_i`.
+fn read_param(text: &[u8]) -> ParamId
+    ensures { (g : ParamId) → HasNumbers g → text.now ≡ param_text g → result ≡ g }
+{
+    let tau = next_piece(text, b'_');
+    let depth = next_piece(tau.rest, b'_');
+    ParamId {
+        depth: read_number(depth.piece),
+        index: read_number(depth.rest),
+    }
+}
+
+/// The step that is written as `A` or `[P]A`.
+fn read_step(names: &Lexicon, text: &[u8]) -> Step
+    requires { TellsApart names.now }
+    ensures { (s : Step) → IsStepOf names.now s → text.now ≡ behind (step_text names.now s) → result ≡ s }
+{
+    let bracket = next_piece(text, b'[');
+    if bracket.piece.is_empty() {
+        let proto = next_piece(bracket.rest, b']');
+        let p = protocol_named(names, proto.piece);
+        let a = name_named(names, proto.rest);
+        return Step::Bound(associated(names, p, a));
+    }
+    Step::Name(name_named(names, text))
+}
+
+/// The steps that are written one after the other, with a dot between each two.
+fn read_steps(alloc: Global, names: &Lexicon, text: &[u8]) -> Result<Vec<Step>, AllocError>
+    requires { TellsApart names.now }
+    ensures { (steps : List Step) → AllByRecursion (IsStepOf names.now) steps → text.now ≡ behind (steps_text names.now steps)
+        → IfOk result (λ v. v.items ≡ steps) }
+{
+    let mut steps = Vec::new(alloc);
+    let mut rest = text;
+    while !rest.is_empty() {
+        let next = next_piece(rest, b'.');
+        steps.push(read_step(names, next.piece))?;
+        rest = next.rest;
+    }
+    Ok(steps)
+}
+
+/// The type parameter that is written as `τ_0_0.[P]A.B`.
+pub(crate) fn read_type(
+    alloc: Global,
+    names: &Lexicon,
+    text: &[u8],
+) -> Result<TypeParam, AllocError>
+    requires { TellsApart names.now }
+    ensures { (t : Term) → IsReadableType names.now t → text.now ≡ type_text names.now t → IfOk result (λ p. as_term p ≡ t) }
+{
+    let head = next_piece(text, b'.');
+    let steps = read_steps(alloc, names, head.rest)?;
+    Ok(TypeParam {
+        head: read_param(head.piece),
+        steps: Seq::new(steps),
+    })
+}
