@@ -1,0 +1,5 @@
+//! Derivations as text, read and printed again.
+#![tactic(auto)]
+
+#[cfg(test)]
+mod read_again;

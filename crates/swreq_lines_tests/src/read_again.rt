@@ -1,0 +1,173 @@
+//! Lines of derivations that are read and printed again, and lines that are refused.
+
+ghost use Rattle.std.specs.Prelude.{◌≤◌, IfOk, length};
+ghost use Rattle.swreq_decl.specs.Skeletons.{StandsFor};
+ghost use Rattle.swreq_print.specs.Reading.{TellsApart};
+
+use std::alloc::Global;
+use std::test::Fail;
+use swreq_decl::Skeleton;
+use swreq_lexicon::Lexicon;
+use swreq_lines::{LinesErr, lines_text, read_lines};
+use swreq_lowering::laws::lists_are_short;
+use swreq_param::ParamTable;
+use swreq_print::laws::names_tell_ids_apart;
+use swreq_resolve::resolve_names;
+use swreq_samples::skeleton_of;
+
+/// A text with a protocol named `by`, and one named as a rule.
+const TEXT: &str = "\
+protocol N { associatedtype Next: N }
+protocol by { associatedtype Next }
+protocol CONF { associatedtype from }
+";
+
+/// The lexicon of a text.
+fn with_names(alloc: Global, text: &[u8], s: &Skeleton) -> Result<Lexicon, Fail>
+    requires short { length text.now ≤ 1048576 }
+    requires stands { StandsFor text.now s.now }
+    ensures { IfOk result (λ names. TellsApart names) }
+{
+    lists_are_short(text);
+    names_tell_ids_apart(text);
+    match resolve_names(alloc, text, s) {
+        Ok(names) => Ok(Lexicon::of(alloc, text, s, names)?),
+        Err(_) => Err("a refusal of names".into()),
+    }
+}
+
+/// What is printed of the lines that are read, or what is refused.
+fn again(alloc: Global, names: &Lexicon, text: &str) -> Result<String, Fail>
+    requires { TellsApart names.now }
+{
+    let bytes = text.as_bytes();
+    if bytes.len() > 1_048_576 {
+        return Err("a text that is too long".into());
+    }
+    let mut table = ParamTable::new(alloc);
+    match read_lines(alloc, names, &mut table, bytes) {
+        Ok(lines) => {
+            let mut out = Vec::new(alloc);
+            lines_text(alloc, names, &table, &lines, &mut out)?;
+            Ok(String::from_utf8_lossy(alloc, &out)?)
+        }
+        Err(LinesErr::Syntax { line }) => Ok(format!(in alloc; "syntax at {line}")?),
+        Err(LinesErr::Memory) => Err("no memory".into()),
+    }
+}
+
+/// A line by each rule.
+const EACH_RULE: &str = "  1. τ_0_0 by GENERIC
+  2. τ_0_0 : N by CONF 1
+  3. τ_0_0 == τ_1_0 by SAME 2
+  4. τ_0_0 : AnyObject by LAYOUT 3
+  5. τ_0_0.Next by ASSOCNAME N Next from 2
+  6. τ_0_0.[N]Next by ASSOCDECL N Next from 2
+  7. τ_0_0.[N]Next == τ_0_0.Next by ASSOCBIND N Next from 2
+  8. τ_0_0.[N]Next : N by ASSOCCONF N 1 from 2
+  9. τ_0_0.from == τ_0_0.[CONF]from by ASSOCSAME CONF 2 from 2
+  10. τ_0_0.[N]Next.Next.[by]Next : AnyObject by ASSOCLAYOUT by 3 from 2
+  11. τ_0_0 == τ_0_0 by REFLEX from 1
+  12. τ_1_0 == τ_0_0 by SYMM from 3
+  13. τ_0_0 == τ_0_0 by TRANS from 3, 12
+  14. τ_1_0 : N by SAMECONF N from 2, 12
+  15. τ_1_0 : AnyObject by SAMELAYOUT from 4, 12
+  16. τ_1_0.Next == τ_0_0.Next by SAMENAME N Next from 2, 12
+  17. τ_1_0.[N]Next == τ_0_0.[N]Next by SAMEDECL N Next from 2, 12
+";
+
+/// Texts, each with what is printed of the lines that are read of it, or with the first line that is not good.
+const CASES: &[(&str, &str)] = &[
+    // No line at all.
+    ("", ""),
+    // Each kind of statement, and each rule.
+    (EACH_RULE, EACH_RULE),
+    // The last line feed may be missing; a carriage return before it is none of the line.
+    ("  1. τ_0_0 by GENERIC", "  1. τ_0_0 by GENERIC\n"),
+    ("  1. τ_0_0 by GENERIC\r\n", "syntax at 1"),
+    ("  1. τ_0_0 by GENERIC\n\n", "syntax at 2"),
+    ("\n", "syntax at 1"),
+    // Whether a line follows is not asked: premises may be too many, none or those of later lines.
+    (
+        "  1. τ_0_0 by GENERIC from 1, 0, 7\n",
+        "  1. τ_0_0 by GENERIC from 1, 0, 7\n",
+    ),
+    (
+        "  1. τ_0_0 == τ_0_0 by TRANS\n",
+        "  1. τ_0_0 == τ_0_0 by TRANS\n",
+    ),
+    // A name may be a word that stands in lines.
+    ("  1. τ_0_0 : by by CONF 1\n", "  1. τ_0_0 : by by CONF 1\n"),
+    (
+        "  1. τ_0_0 : CONF by SAMECONF CONF\n",
+        "  1. τ_0_0 : CONF by SAMECONF CONF\n",
+    ),
+    (
+        "  1. τ_0_0.from by ASSOCNAME CONF from from 1\n",
+        "  1. τ_0_0.from by ASSOCNAME CONF from from 1\n",
+    ),
+    // Numbers are below 2^32, without leading zeros.
+    (
+        "  1. τ_4294967295_4294967295 by CONF 4294967295 from 4294967295\n",
+        "  1. τ_4294967295_4294967295 by CONF 4294967295 from 4294967295\n",
+    ),
+    ("  1. τ_0_0 : N by CONF 4294967296\n", "syntax at 1"),
+    ("  1. τ_0_4294967296 by GENERIC\n", "syntax at 1"),
+    ("  1. τ_0_0 by GENERIC from 4294967296\n", "syntax at 1"),
+    ("  1. τ_0_0 : N by CONF 01\n", "syntax at 1"),
+    ("  1. τ_0_0 : N by CONF +1\n", "syntax at 1"),
+    ("  1. τ_00_0 by GENERIC\n", "syntax at 1"),
+    ("  01. τ_0_0 by GENERIC\n", "syntax at 1"),
+    // Lines are numbered from 1, one after the other.
+    ("  0. τ_0_0 by GENERIC\n", "syntax at 1"),
+    ("  2. τ_0_0 by GENERIC\n", "syntax at 1"),
+    (
+        "  1. τ_0_0 by GENERIC\n  1. τ_0_0 by GENERIC\n",
+        "syntax at 2",
+    ),
+    (
+        "  1. τ_0_0 by GENERIC\n  3. τ_0_0 by GENERIC\n",
+        "syntax at 2",
+    ),
+    // Names are those of the text, and a bound member is declared by its protocol.
+    ("  1. τ_0_0 : M by CONF 1\n", "syntax at 1"),
+    ("  1. τ_0_0.Other by GENERIC\n", "syntax at 1"),
+    ("  1. τ_0_0.[N]from by GENERIC\n", "syntax at 1"),
+    ("  1. τ_0_0.[M]Next by GENERIC\n", "syntax at 1"),
+    ("  1. τ_0_0.N by GENERIC\n", "syntax at 1"),
+    ("  1. τ_0_0 by ASSOCNAME Next N\n", "syntax at 1"),
+    // A rule has its fields, and no more.
+    ("  1. τ_0_0 : N by CONF\n", "syntax at 1"),
+    ("  1. τ_0_0 by GENERIC 1\n", "syntax at 1"),
+    ("  1. τ_0_0 by ASSOCCONF 1\n", "syntax at 1"),
+    ("  1. τ_0_0 by SAMECONF N 1\n", "syntax at 1"),
+    ("  1. τ_0_0 by Generic\n", "syntax at 1"),
+    ("  1. τ_0_0\n", "syntax at 1"),
+    // Words stand where they do, with one space between them.
+    (" 1. τ_0_0 by GENERIC\n", "syntax at 1"),
+    ("   1. τ_0_0 by GENERIC\n", "syntax at 1"),
+    ("  1 τ_0_0 by GENERIC\n", "syntax at 1"),
+    ("  1. τ_0_0  by GENERIC\n", "syntax at 1"),
+    ("  1. τ_0_0 by GENERIC \n", "syntax at 1"),
+    ("  1. τ_0_0 by GENERIC from\n", "syntax at 1"),
+    ("  1. τ_0_0 by GENERIC from 1,2\n", "syntax at 1"),
+    ("  1. τ_0_0 by GENERIC from 1, \n", "syntax at 1"),
+    ("  1. τ_0_0. by GENERIC\n", "syntax at 1"),
+    ("  1. τ_0_0.[N by GENERIC\n", "syntax at 1"),
+    ("  1. t_0_0 by GENERIC\n", "syntax at 1"),
+    ("  1. τ_0_0 = τ_0_0 by REFLEX\n", "syntax at 1"),
+    ("yes\n", "syntax at 1"),
+];
+
+#[test]
+fn lines_are_read_and_printed_again(rt: HostRuntime) -> Result<(), Fail> {
+    let alloc = rt.alloc();
+    let text = TEXT.as_bytes();
+    let skeleton = skeleton_of(alloc, text)?;
+    let names = with_names(alloc, text, &skeleton)?;
+    for (text, want) in CASES {
+        let found = again(alloc, &names, text)?;
+        assert_eq!(rt; found.as_str(), *want, "{text}");
+    }
+    Ok(())
+}
