@@ -1,2 +1,3 @@
 pub mod Lined
+pub mod LineEnds
 pub mod Divided

@@ -56,7 +56,8 @@ lines-feed_some : (before : List ℕ) → lines (before ++ (line_feed ∷ [])) �
 lines-feed_some [] = λ e. cc
 lines-feed_some (c ∷ before) = lines-some c (before ++ (line_feed ∷ []))
 
-lines-feed_append : (before text : List ℕ) → lines ((before ++ (line_feed ∷ [])) ++ text) ≡ lines (before ++ (line_feed ∷ [])) ++ lines text
+lines-feed_append : (before text : List ℕ)
+    → lines ((before ++ (line_feed ∷ [])) ++ text) ≡ lines (before ++ (line_feed ∷ [])) ++ lines text
 lines-feed_append [] text = refl
 lines-feed_append (c ∷ before) text =
     let front = before ++ (line_feed ∷ []) in
@@ -90,7 +91,8 @@ joined-feed (c ∷ before) =
     let front = before ++ (line_feed ∷ []) in
     elim (eqb_tells c 10) [
       | inl h ↦ ap joined (lines-feed c front h.1) ∙ ap (λ z. line_feed ∷ z) (joined-feed before) ∙ ap (λ z. z ∷ front) (sym h.1)
-      | inr h ↦ ap joined (lines-other c front h.1) ∙ joined-onto_first c (lines front) (lines-feed_some before) ∙ ap (λ z. c ∷ z) (joined-feed before)
+      | inr h ↦ ap joined (lines-other c front h.1) ∙ joined-onto_first c (lines front) (lines-feed_some before)
+          ∙ ap (λ z. c ∷ z) (joined-feed before)
     ]
 
 -- whole lines are told by their lines
@@ -131,13 +133,15 @@ cut_nowhere text e =
     is : ℕ → Bool
     is = λ c. eqb c line_feed
 
-    by : (b : Bool) → ltb (position_or_len is text) (length text) ≡ b → None ≡ cond b (Some (position_or_len is text)) None → IsCut text text []
+    by : (b : Bool) → ltb (position_or_len is text) (length text) ≡ b → None ≡ cond b (Some (position_or_len is text)) None
+        → IsCut text text []
     by true l h = absurd cc
     by false l h =
         let all = ltb-false (position_or_len is text) (length text) l in
         (λ k d lt. eqb-false (get_or text k d) line_feed (fails_before_first is text k d (omega arith)), inr (refl, refl))
 
-pub cut_at : (text : List ℕ) (at : ℕ) → Some at ≡ position (λ c. eqb c line_feed) text → IsCut text (take at text) (take (length text - (at + 1)) (drop (at + 1) text))
+pub cut_at : (text : List ℕ) (at : ℕ) → Some at ≡ position (λ c. eqb c line_feed) text
+    → IsCut text (take at text) (take (length text - (at + 1)) (drop (at + 1) text))
 cut_at text at e =
     let found = position-Some (λ c. eqb c line_feed) text at 0 (sym e) in
     let here : get_or text at 0 ≡ line_feed = eqb-true (get_or text at 0) line_feed found.1 in

@@ -6,8 +6,8 @@ use Rattle.swreq_parts.specs.Lines.{lines, HasWholeLines, StandsBefore}
 abbrev pub divider : List ℕ
 divider = codes "%%"
 
--- The input is divided at its first line that is exactly `%%`: the first part has whole lines, and none of them is `%%`; the divider stands behind it,
--- and behind that the second part.
+-- The input is divided at its first line that is exactly `%%`: the first part has whole lines, and none of them is `%%`; the divider stands
+-- behind it, and behind that the second part.
 pub record Divides (input first second : List ℕ) : Type 0 where
   -- the divider, with its line feed if it has one, and what stands behind it
   pub behind : List ℕ

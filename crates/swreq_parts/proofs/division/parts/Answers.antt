@@ -12,7 +12,8 @@ returns-then-eq-clause-parts c =
     let line = c.in-Some.found.line.now in
     let rest = c.in-Some.found.rest.now in
     let first = subst (λ z. IsFirstLine z line rest) (take_rest c.args.input.now c.loop-found.at) c.in-Some.ensures.first in
-    found c.args.input.now c.loop-found.at line rest c.loop-found.invariant first ((bytes_eq-Decides line divider).0 (sym c.eq.ensures ∙ c.if-eq.true))
+    found c.args.input.now c.loop-found.at line rest c.loop-found.invariant first
+    ((bytes_eq-Decides line divider).0 (sym c.eq.ensures ∙ c.if-eq.true))
 
 pub returns-then-eq-clause-lines : goal.returns-then-eq-clause-lines
 returns-then-eq-clause-lines c =
@@ -20,7 +21,8 @@ returns-then-eq-clause-lines c =
     let rest = c.in-Some.found.rest.now in
     let first = subst (λ z. IsFirstLine z line rest) (take_rest c.args.input.now c.loop-found.at) c.in-Some.ensures.first in
     lines-divided c.args.input.now _ rest
-    (found c.args.input.now c.loop-found.at line rest c.loop-found.invariant first ((bytes_eq-Decides line divider).0 (sym c.eq.ensures ∙ c.if-eq.true)))
+    (found c.args.input.now c.loop-found.at line rest c.loop-found.invariant first
+    ((bytes_eq-Decides line divider).0 (sym c.eq.ensures ∙ c.if-eq.true)))
 
 pub loop-found-preserved : goal.loop-found-preserved
 loop-found-preserved c =
@@ -32,4 +34,5 @@ loop-found-preserved c =
 
 pub returns-clause-parts : goal.returns-clause-parts
 returns-clause-parts c =
-    nowhere c.args.input.now c.loop-found.at c.loop-found.invariant (sym (take_rest c.args.input.now c.loop-found.at) ∙ c.in_default.ensures.first)
+    nowhere c.args.input.now c.loop-found.at c.loop-found.invariant (sym (take_rest c.args.input.now c.loop-found.at)
+    ∙ c.in_default.ensures.first)
