@@ -1,0 +1,6 @@
+pub mod SecondParts
+pub mod Laying
+pub mod Judgements
+pub mod ByTable
+pub mod Listing
+pub mod Outputs

@@ -1,0 +1,25 @@
+//! What is said by an output, over the definitions alone.
+ghost use Rattle.std.specs.Prelude.{ℕ, List};
+ghost use Rattle.swreq_derive.specs.Derivation.{BookDerivable};
+ghost use Rattle.swreq_derive.specs.Derivation.TermStatement.{Requires};
+ghost use Rattle.swreq_lexicon.specs.Views.{LexiconView};
+ghost use Rattle.swreq_lowering.specs.Queries.{TermQuery};
+ghost use Rattle.swreq_print.specs.Names.{Text};
+ghost use Rattle.swreq_world.specs.FactsAt.{facts_of, source_of};
+ghost use Rattle.swreq_world.specs.Worlds.{TextWorld, signature_at};
+ghost use Rattle.swreq_verify.specs.declared.judging.Judgement.TheVariants.{Derived};
+ghost use Rattle.swreq_verify.specs.Judgements.{Asked, IsJudged, IsToDerive};
+ghost use Rattle.swreq_verify.specs.SecondParts.{AreSections, IsFirstMisfit, TermSection};
+
+/// `ok` says that the requirement that the query asks is derivable by the book's rules from the written list of its signature: the
+/// lines under the query are such a derivation.
+pub fn ok_says_derivable()
+    ensures { (w : TextWorld) (q : TermQuery) (s : TermSection) → IsJudged w q s Derived
+        → (a : Asked) × IsToDerive q s a × BookDerivable (facts_of w) (source_of (signature_at w a.signature)) (Requires a.requirement) }
+{}
+
+/// Where a first line does not fit, the lines are no such sections.
+pub fn misfits_are_no_sections()
+    ensures { (x : LexiconView) (count n : ℕ) (lines : List Text) (ss : List TermSection)
+        → IsFirstMisfit x count lines n → AreSections x count lines ss → ⊥ }
+{}

@@ -1,0 +1,70 @@
+// The second part of an input, read and judged.
+ghost use Rattle.std.specs.Prelude.{◌≡◌, ◌≤◌, ℕ, OnErr, OnOk, length, map};
+ghost use Rattle.std.specs.List.{AllByRecursion};
+ghost use Rattle.swreq_lines.specs.declared.lines.LinesErr.TheVariants.{Syntax};
+ghost use Rattle.swreq_param.specs.Tables.{Extends};
+ghost use Rattle.swreq_parts.specs.Lines.{lines};
+ghost use Rattle.swreq_print.specs.Reading.{TellsApart};
+ghost use Rattle.swreq_symbols.specs.Known.{IsTextOver};
+ghost use Rattle.swreq_world.specs.ByTable.{world_by};
+ghost use Rattle.swreq_verify.specs.Laying.{IsSectionOver, section_of};
+ghost use Rattle.swreq_verify.specs.Outputs.{AppendsJudgements, AppendsOutput};
+ghost use Rattle.swreq_verify.specs.SecondParts.{IsFirstMisfit};
+
+use crate::judging::judgements;
+use crate::printing::put_lines;
+use crate::reading::{Section, read_sections};
+use std::alloc::{AllocError, Global};
+use swreq_lines::LinesErr;
+use swreq_param::ParamTable;
+use swreq_text::append_bytes;
+use swreq_world::World;
+
+/// Appends a line for the section under each query.
+fn append_judgements(
+    alloc: Global,
+    world: &World,
+    table: &ParamTable,
+    sections: &[Section],
+    out: &mut Vec<u8>,
+) -> Result<(), AllocError>
+    requires text { IsTextOver table.now world.now }
+    requires count { length sections.now ≡ length world.now.queries }
+    requires each { AllByRecursion (IsSectionOver world.now.lexicon table.now) sections.now }
+    ensures ok { OnOk result
+        (AppendsJudgements (world_by table.now world.now) (map (section_of table.now) sections.now) out.old.items out.new.items) }
+    ensures err { OnErr result (out.new.items ≡ out.old.items) }
+{
+    let found = judgements(alloc, world, table, sections)?;
+    let mut text = Vec::new(alloc);
+    put_lines(&found, &mut text)?;
+    append_bytes(out, &text)
+}
+
+/// Lays the second part of an input against the queries of the world, and appends what is said of the derivation under each query.
+///
+/// It is `LinesErr::Syntax` exactly where the second part does not fit the queries, with the first line that does not fit; where lines are
+/// missing, with the number after the last one. On every error `out` is as before. Type parameters come into the table, which begins with
+/// the old one on every answer.
+pub fn verify(
+    alloc: Global,
+    world: &World,
+    table: &mut ParamTable,
+    text: &[u8],
+    out: &mut Vec<u8>,
+) -> Result<(), LinesErr>
+    requires text { IsTextOver table.old world.now }
+    requires names { TellsApart world.now.lexicon }
+    requires short { length text.now ≤ 1048576 }
+    ensures output { OnOk result (AppendsOutput (world_by table.old world.now) text.now out.old.items out.new.items) }
+    ensures misfit { (n : ℕ) → result ≡ Err (Syntax n) → IsFirstMisfit world.now.lexicon (length world.now.queries) (lines text.now) n }
+    ensures err { OnErr result (out.new.items ≡ out.old.items) }
+    ensures extends { Extends table.old table.new }
+{
+    let count = world.queries().len();
+    let sections = read_sections(alloc, world.lexicon(), table, count, text)?;
+    match append_judgements(alloc, world, table, &sections, out) {
+        Ok(()) => Ok(()),
+        Err(_) => Err(LinesErr::Memory),
+    }
+}
