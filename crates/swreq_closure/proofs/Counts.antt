@@ -161,7 +161,7 @@ module _ (words other : List ℕ) where
 -- ---- numbers of one set
 
 module _ (words : List ℕ) where
-  alone_bits : (k j : ℕ) → j < 64 → has words (64 * k + j) ≡ nat_eq (bit_at (get_or words k 0) j) 1
+  pub alone_bits : (k j : ℕ) → j < 64 → has words (64 * k + j) ≡ nat_eq (bit_at (get_or words k 0) j) 1
   alone_bits k j l =
       let at : (64 * k + j) / 64 ≡ k = omega (arith, l) in
       let bit : (64 * k + j) % 64 ≡ j = omega (arith, l) in

@@ -1,5 +1,5 @@
 -- Member symbols by rank, where the protocols stand in their order within each name.
-use Rattle.std.specs.Prelude.{◌≡◌, ◌↔◌, ◌<◌, ◌≤◌, ◌+◌, ◌&&◌, ◌||◌, ℕ, zero, suc, Bool, false, nat_eq, List, [], ◌++◌, Some, length, map, filter, slice_get, slice_index, slice_index_or, Contains}
+use Rattle.std.specs.Prelude.{◌≡◌, ◌↔◌, ◌<◌, ◌≤◌, ◌+◌, ◌/◌, ◌%◌, ◌&&◌, ◌||◌, ℕ, zero, suc, Bool, false, nat_eq, List, [], ◌++◌, Some, length, map, filter, slice_get, slice_index, slice_index_or, Contains}
 use Rattle.std.specs.List.{list_any}
 use Rattle.swreq_closure.specs.Bits as sets
 use Rattle.swreq_param.specs.declared.ids.NameId.{NameId}
@@ -7,6 +7,7 @@ use Rattle.swreq_param.specs.declared.ids.ProtoId.{ProtoId}
 use Rattle.swreq_lexicon.specs.declared.pair.ProtocolName.{ProtocolName}
 use Rattle.swreq_lexicon.specs.Lexicons.{pair}
 use Rattle.swreq_lexicon.specs.Associated.{name}
+use Rattle.swreq_lexicon.specs.Views.{place_by}
 
 -- P declares A or inherits a protocol that declares A.
 abbrev pub has_member : (ProtoId → ProtoId → Bool) → List ProtocolName → ProtoId → NameId → Bool
@@ -69,6 +70,11 @@ module _ (inherits : ProtoId → ProtoId → Bool) (order : List ProtoId) where
   -- From this place on no protocol inherits another.
   abbrev pub AreNoHeirs : ℕ → Type 0
   AreNoHeirs from = (k : ℕ) (p q : ProtoId) → from ≤ k → slice_get order k ≡ Some p → inherits p q ≡ false
+
+  -- Each word has, as its bits, which of 64 protocols the one at its place in order inherits, from 64 times the index on by place in the text.
+  abbrev pub AreInherited : List ℕ → ℕ → List ℕ → Type 0
+  AreInherited places index words = (k : ℕ) (p q : ProtoId) → slice_get order k ≡ Some p → place_by places q / 64 ≡ index
+      → sets.has_bit (slice_index words k) (place_by places q % 64) ≡ inherits p q
 
 -- The protocols in their order, where the member symbols of each name begin, and for each name the places of those that have it.
 pub record SymbolsView : Type 0 where

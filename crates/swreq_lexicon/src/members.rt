@@ -1,8 +1,8 @@
 // Which protocol has which member name.
-ghost use Rattle.std.specs.Prelude.{◌≡◌, ◌<◌, ◌≤◌, ◌||◌, ◌&&◌, ℕ, false, nat_eq, [], length, slice_get, Some, MatchOption, IfOk, OnOk, Contains};
-ghost use Rattle.swreq_closure.specs.Bits.{count_below, has, room};
-ghost use Rattle.swreq_lexicon.specs.Symbols.{has_member, row_of, AreHeirs, AreNoHeirs, AreRows};
-ghost use Rattle.swreq_lexicon.specs.Views.{inherits_by};
+ghost use Rattle.std.specs.Prelude.{◌≡◌, ◌<◌, ◌≤◌, ◌/◌, ◌%◌, ◌||◌, ◌&&◌, ℕ, false, nat_eq, [], length, slice_get, slice_index, Some, MatchOption, IfOk, OnOk, Contains};
+ghost use Rattle.swreq_closure.specs.Bits.{count_below, has, has_bit, room};
+ghost use Rattle.swreq_lexicon.specs.Symbols.{has_member, row_of, AreHeirs, AreInherited, AreNoHeirs, AreRows};
+ghost use Rattle.swreq_lexicon.specs.Views.{inherits_by, place_by};
 ghost use Rattle.swreq_lexicon.specs.declared.pair.ProtocolName.{ProtocolName};
 
 use crate::associated::Associated;
@@ -83,6 +83,21 @@ impl Members {
     }
 }
 
+/// What each protocol of an order inherits of 64 protocols, from 64 times the index on by place in written order: a word for each, whose
+/// bits these are.
+#[derive(Drop)]
+struct Group {
+    index: usize,
+    words: Vec<u64>,
+}
+
+/// A protocol, and the places in order of those that are it or inherit it.
+#[derive(Drop)]
+struct Column {
+    proto: ProtoId,
+    places: Bits,
+}
+
 /// The row of a name, or None where it has no place.
 fn row_at(rows: &[Bits], a: NameId) -> Option<&Bits>
     ensures { MatchOption result (row_of rows.now a ≡ []) (λ row. row.now ≡ row_of rows.now a) }
@@ -117,35 +132,107 @@ fn itself(alloc: Global, ordered: &Ordered, q: ProtoId) -> Result<Bits, AllocErr
     Ok(set)
 }
 
-/// Adds the places below the end whose protocols inherit this one.
-fn add_heirs(protocols: &Protocols, order: &[ProtoId], end: usize, q: ProtoId, set: &mut Bits)
+/// What each protocol of the order up to the end inherits of 64 protocols.
+fn inherited(
+    alloc: Global,
+    protocols: &Protocols,
+    order: &[ProtoId],
+    end: usize,
+    index: usize,
+) -> Result<Vec<u64>, AllocError>
     requires end { end ≤ length order.now }
-    requires room { length order.now < room set.old }
-    ensures below { (k : ℕ) (p : ProtoId) → k < end → slice_get order.now k ≡ Some p
-        → has set.new k ≡ (has set.old k || inherits_by protocols.now.places protocols.now.resolved.inherits p q) }
-    ensures rest { (k : ℕ) → end ≤ k → has set.new k ≡ has set.old k }
+    ensures len { IfOk result (λ words. length words.items ≡ end) }
+    ensures each { IfOk result (λ words. (k : ℕ) (p q : ProtoId) → k < end → slice_get order.now k ≡ Some p
+        → place_by protocols.now.places q / 64 ≡ index
+        → has_bit (slice_index words.items k) (place_by protocols.now.places q % 64)
+        ≡ inherits_by protocols.now.places protocols.now.resolved.inherits p q) }
 {
+    let mut words = Vec::with_capacity(alloc, end)?;
     for k in 0..end {
-        if protocols.inherits(order[k], q) {
-            set.insert(k);
-        }
+        words.push(protocols.inherited_word(order[k], index))?;
     }
+    Ok(words)
 }
 
-/// The places of the protocols that are this one or inherit it. Those from the end on inherit none.
-fn heirs(
+/// From here on, up to the end, no protocol of the order inherits one of 64 protocols.
+fn group_end(protocols: &Protocols, order: &[ProtoId], end: usize, index: usize) -> usize
+    requires end { end ≤ length order.now }
+    ensures within { result ≤ end }
+    ensures rest { (k : ℕ) (p q : ProtoId) → result ≤ k → k < end → slice_get order.now k ≡ Some p
+        → place_by protocols.now.places q / 64 ≡ index → inherits_by protocols.now.places protocols.now.resolved.inherits p q ≡ false }
+{
+    for gone in 0..end {
+        let word = protocols.inherited_word(order[end - 1 - gone], index);
+        if word != 0 {
+            return end - gone;
+        }
+    }
+    0
+}
+
+/// What the protocols inherit of this one and of those around it. Those from the end on inherit none.
+fn group_of(
     alloc: Global,
     protocols: &Protocols,
     ordered: &Ordered,
     end: usize,
     q: ProtoId,
-) -> Result<Bits, AllocError>
+) -> Result<Group, AllocError>
     requires end { end ≤ length ordered.now }
     requires none { AreNoHeirs (inherits_by protocols.now.places protocols.now.resolved.inherits) ordered.now end }
+    ensures here { IfOk result (λ g. place_by protocols.now.places q / 64 ≡ g.index) }
+    ensures short { IfOk result (λ g. length g.words.items ≤ length ordered.now) }
+    ensures each { IfOk result (λ g. AreInherited (inherits_by protocols.now.places protocols.now.resolved.inherits) ordered.now
+        protocols.now.places g.index g.words.items) }
+{
+    let index = protocols.place(q) / 64;
+    let last = group_end(protocols, ordered.protos(), end, index);
+    let words = inherited(alloc, protocols, ordered.protos(), last, index)?;
+    Ok(Group { index, words })
+}
+
+/// The same of the protocol that comes next, which is found anew only where that is not among these.
+fn next_group(
+    alloc: Global,
+    protocols: &Protocols,
+    ordered: &Ordered,
+    end: usize,
+    group: Group,
+    q: ProtoId,
+) -> Result<Group, AllocError>
+    requires end { end ≤ length ordered.now }
+    requires none { AreNoHeirs (inherits_by protocols.now.places protocols.now.resolved.inherits) ordered.now end }
+    requires short { length group.words.items ≤ length ordered.now }
+    requires each { AreInherited (inherits_by protocols.now.places protocols.now.resolved.inherits) ordered.now
+        protocols.now.places group.index group.words.items }
+    ensures here { IfOk result (λ g. place_by protocols.now.places q / 64 ≡ g.index) }
+    ensures short { IfOk result (λ g. length g.words.items ≤ length ordered.now) }
+    ensures each { IfOk result (λ g. AreInherited (inherits_by protocols.now.places protocols.now.resolved.inherits) ordered.now
+        protocols.now.places g.index g.words.items) }
+{
+    if protocols.place(q) / 64 == group.index {
+        Ok(group)
+    } else {
+        group_of(alloc, protocols, ordered, end, q)
+    }
+}
+
+/// The places of the protocols that are this one or inherit it.
+fn heirs(
+    alloc: Global,
+    protocols: &Protocols,
+    ordered: &Ordered,
+    group: &Group,
+    q: ProtoId,
+) -> Result<Bits, AllocError>
+    requires here { place_by protocols.now.places q / 64 ≡ group.now.index }
+    requires short { length group.now.words.items ≤ length ordered.now }
+    requires each { AreInherited (inherits_by protocols.now.places protocols.now.resolved.inherits) ordered.now
+        protocols.now.places group.now.index group.now.words.items }
     ensures { IfOk result (AreHeirs (inherits_by protocols.now.places protocols.now.resolved.inherits) ordered.now q) }
 {
     let mut set = itself(alloc, ordered, q)?;
-    add_heirs(protocols, ordered.protos(), end, q, &mut set);
+    set.insert_column(&group.words, protocols.place(q) % 64);
     let short = set.trimmed(alloc)?;
     Ok(short)
 }
@@ -174,29 +261,32 @@ fn add(alloc: Global, heirs: &Bits, a: NameId, rows: &mut Vec<Bits>) -> Result<(
     Ok(())
 }
 
-/// The same of the protocol that comes next, which is found anew only where that is another one.
+/// The heirs of the protocol that comes next, which are found anew only where that is another one.
 fn next_heirs(
     alloc: Global,
     protocols: &Protocols,
     ordered: &Ordered,
-    end: usize,
-    last: ProtoId,
-    found: Bits,
+    group: &Group,
+    found: Column,
     q: ProtoId,
-) -> Result<Bits, AllocError>
-    requires end { end ≤ length ordered.now }
-    requires none { AreNoHeirs (inherits_by protocols.now.places protocols.now.resolved.inherits) ordered.now end }
-    requires found { AreHeirs (inherits_by protocols.now.places protocols.now.resolved.inherits) ordered.now last found }
-    ensures { IfOk result (AreHeirs (inherits_by protocols.now.places protocols.now.resolved.inherits) ordered.now q) }
+) -> Result<Column, AllocError>
+    requires here { place_by protocols.now.places q / 64 ≡ group.now.index }
+    requires short { length group.now.words.items ≤ length ordered.now }
+    requires each { AreInherited (inherits_by protocols.now.places protocols.now.resolved.inherits) ordered.now
+        protocols.now.places group.now.index group.now.words.items }
+    requires found { AreHeirs (inherits_by protocols.now.places protocols.now.resolved.inherits) ordered.now found.proto found.places }
+    ensures proto { IfOk result (λ h. h.proto ≡ q) }
+    ensures heirs { IfOk result (λ h. AreHeirs (inherits_by protocols.now.places protocols.now.resolved.inherits) ordered.now q h.places) }
 {
-    if q == last {
-        Ok(found)
-    } else {
-        heirs(alloc, protocols, ordered, end, q)
+    if q == found.proto {
+        return Ok(found);
     }
+    let places = heirs(alloc, protocols, ordered, group, q)?;
+    Ok(Column { proto: q, places })
 }
 
-/// The rows of the first `names` names. The heirs of a protocol are found once for all pairs of it that stand together.
+/// The rows of the first `names` names. The heirs of a protocol are found once for all pairs of it that stand together, and what is
+/// inherited of 64 protocols once for all pairs of these.
 fn rows(
     alloc: Global,
     protocols: &Protocols,
@@ -208,13 +298,18 @@ fn rows(
     ensures { IfOk result (λ rows. AreRows ordered.now (has_member (inherits_by protocols.now.places protocols.now.resolved.inherits) pairs.now) rows.items) }
 {
     let end = heirs_end(protocols, ordered.protos());
-    let mut last = ProtoId { rank: 0 };
-    let mut found = heirs(alloc, protocols, ordered, end, last)?;
+    let first = ProtoId { rank: 0 };
+    let mut group = group_of(alloc, protocols, ordered, end, first)?;
+    let places = heirs(alloc, protocols, ordered, &group, first)?;
+    let mut found = Column {
+        proto: first,
+        places,
+    };
     let mut rows = no_rows(alloc, names)?;
     for d in pairs {
-        found = next_heirs(alloc, protocols, ordered, end, last, found, d.proto)?;
-        last = d.proto;
-        add(alloc, &found, d.name, &mut rows)?;
+        group = next_group(alloc, protocols, ordered, end, group, d.proto)?;
+        found = next_heirs(alloc, protocols, ordered, &group, found, d.proto)?;
+        add(alloc, &found.places, d.name, &mut rows)?;
     }
     Ok(rows)
 }

@@ -1,8 +1,8 @@
 // The protocols of a text by rank.
-ghost use Rattle.std.specs.Prelude.{◌≡◌, ◌<◌, ◌≤◌, ◌+◌, ◌*◌, ◌/◌, ◌++◌, ◌∷◌, [], ◌↔◌, ℕ, false, List, length, map, cond, slice_get, slice_index, slice_index_or, unwrap_or, Some, MatchOption, IfOk, Contains};
+ghost use Rattle.std.specs.Prelude.{◌≡◌, ◌<◌, ◌≤◌, ◌+◌, ◌*◌, ◌/◌, ◌%◌, ◌++◌, ◌∷◌, [], ◌↔◌, ℕ, false, List, length, map, cond, slice_get, slice_index, slice_index_or, unwrap_or, Some, MatchOption, IfOk, Contains};
 ghost use Rattle.std.specs.List.{position_from};
 ghost use Rattle.std.specs.Str.{bytes_eq};
-ghost use Rattle.swreq_closure.specs.Bits.{room};
+ghost use Rattle.swreq_closure.specs.Bits.{has_bit, room};
 ghost use Rattle.swreq_closure.specs.Walks.{AreApart};
 ghost use Rattle.swreq_names.specs.Spaces.{word, declarations, place};
 ghost use Rattle.swreq_lexicon.specs.Associated.{depth};
@@ -124,7 +124,8 @@ impl Protocols {
         self.written_order[k as usize]
     }
 
-    fn place(&self, p: ProtoId) -> usize
+    /// The first place of the name of a protocol in written order.
+    pub fn place(&self, p: ProtoId) -> usize
         ensures { result ≡ place_by self.now.places p }
     {
         match self.places.get(p.rank as usize) {
@@ -138,6 +139,14 @@ impl Protocols {
         ensures { result ≡ inherits_by self.now.places self.now.resolved.inherits p q }
     {
         self.resolved.inherits(self.place(p), self.place(q))
+    }
+
+    /// Which of 64 protocols it inherits, from 64 times the index on by place in written order, as the bits of a word.
+    pub fn inherited_word(&self, p: ProtoId, index: usize) -> u64
+        ensures { (q : ProtoId) → place_by self.now.places q / 64 ≡ index
+            → has_bit result (place_by self.now.places q % 64) ≡ inherits_by self.now.places self.now.resolved.inherits p q }
+    {
+        self.resolved.inheritance().word(self.place(p), index)
     }
 
     /// Whether it may inherit any. It is false only where it inherits none.

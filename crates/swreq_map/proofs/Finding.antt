@@ -1,5 +1,5 @@
 -- The properties that are found, and that there are no others.
-use Rattle.std.proofs.Common.{◌≡◌, ◌↔◌, inl, inr, ℕ, suc, ◌<◌, ◌≤◌, ◌==◌, List, [], ◌∷◌, ◌++◌, length, drop, take, sym, ◌∙◌, subst, arith, Some, Contains}
+use Rattle.std.proofs.Common.{◌≡◌, ◌↔◌, inl, inr, ℕ, suc, ◌-◌, ◌<◌, ◌≤◌, ◌==◌, List, [], ◌∷◌, ◌++◌, length, length-append, length-drop, drop, take, sym, ◌∙◌, ap, subst, arith, Some, Contains}
 use Rattle.std.specs.List.{slice_get, dedup}
 use Rattle.std.specs.List.Sorted.{IsPermutation}
 use Rattle.std.proofs.lemmas.List.Elements.{Contains-append_left, Contains-append_right, Contains-append_cases}
@@ -13,6 +13,7 @@ use Rattle.swreq_word.proofs.SameSymbols.{same_protocols}
 use Rattle.swreq_orders.proofs.Elements.{get_contains, take_one}
 use Rattle.swreq_orders.proofs.Members.{only_member}
 use Rattle.swreq_rule.specs.declared.rules.Rule.{Rule}
+use Rattle.swreq_rule.specs.Search.{NoneLonger}
 use Rattle.swreq_rule.specs.Steps.{Step}
 use Rattle.swreq_complete.specs.Complete.{IsComplete}
 use Rattle.swreq_map.specs.Follows.{AreConforming, Follows, IsMapOf, MapView}
@@ -58,21 +59,23 @@ module _ (rules : List Rule) (protocols : ℕ) (u symbols : List Symbol) (k : �
 
 module _ (rules : List Rule) (complete : IsComplete rules) (m : MapView) (map : IsMapOf rules m) (u : List Symbol)
     (least : IsLeast (Linked (Step rules)) u) where
-  -- a property that vanishes behind the word follows an ending of it
-  pub vanishing_follows : (x : Symbol) → IsProperty m.protocols x → Vanishes rules u x
-      → (at : ℕ) × (at ≤ length u) × Follows m.words m.lists (drop at u) x
-  vanishing_follows x p v =
+  -- a property that vanishes behind the word follows an ending of it that is no longer than the left sides
+  pub vanishing_follows : (longest : ℕ) → NoneLonger rules longest → (x : Symbol) → IsProperty m.protocols x → Vanishes rules u x
+      → (at : ℕ) × (length u - longest ≤ at) × (at ≤ length u) × Follows m.words m.lists (drop at u) x
+  vanishing_follows longest short x p v =
       let e = ends_left_side rules complete u least x v in
-      (e.2, e.4, map e.1 (drop e.2 u) x (get_contains rules e.0 e.1 e.3) e.5 p)
+      let size = simp (length-append, length-drop) at (ap length e.5) in
+      let most = short e.0 e.1 e.3 in
+      (e.2, omega (arith, size, most, e.4), e.4, map e.1 (drop e.2 u) x (get_contains rules e.0 e.1 e.3) e.5 p)
 
   -- all protocols that vanish behind the word are among the symbols that follow its endings
-  pub all_conforming : (symbols : List Symbol) (found : List ℕ)
-      → ((at : ℕ) (x : Symbol) → at ≤ length u → Follows m.words m.lists (drop at u) x → Contains symbols x)
+  pub all_conforming : (longest : ℕ) → NoneLonger rules longest → (symbols : List Symbol) (found : List ℕ)
+      → ((at : ℕ) (x : Symbol) → length u - longest ≤ at → at ≤ length u → Follows m.words m.lists (drop at u) x → Contains symbols x)
       → AreConforming rules m.protocols u symbols found
       → (p : ℕ) → Contains found p ↔ ((p < m.protocols) × Vanishes rules u (Proto p))
-  all_conforming symbols found followers are p = (
+  all_conforming longest short symbols found followers are p = (
     λ c. (let s = (are p).0 c in (s.1, s.2)),
-    λ s. (let f = vanishing_follows (Proto p) s.0 s.1 in (are p).1 (followers f.0 (Proto p) f.1 f.2, s.0, s.1)),
+    λ s. (let f = vanishing_follows longest short (Proto p) s.0 s.1 in (are p).1 (followers f.0 (Proto p) f.1 f.2 f.3, s.0, s.1)),
   )
 
 -- ---- ascending, each once

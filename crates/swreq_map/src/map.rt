@@ -44,18 +44,20 @@ impl Model for PropertyMap {
     ghost invariant = { λ m. AreDistinct m.table };
 }
 
-/// The symbols that are kept with some ending of a word.
+/// The symbols that are kept with some ending of a word that begins at this place or behind it.
 fn candidates(
     alloc: Global,
     table: &WordTable,
     lists: &[Vec<Symbol>],
     u: &[Symbol],
+    from: usize,
 ) -> Result<Vec<Symbol>, AllocError>
     requires { AreDistinct table.now }
-    ensures { IfOk result (λ v. (at : ℕ) (x : Symbol) → at ≤ length u.now → Follows table.now lists.now (drop at u.now) x → Contains v.items x) }
+    ensures { IfOk result (λ v. (at : ℕ) (x : Symbol) → from ≤ at → at ≤ length u.now → Follows table.now lists.now (drop at u.now) x
+        → Contains v.items x) }
 {
     let mut found: Vec<Symbol> = Vec::new(alloc);
-    for at in 0..u.len() + 1 {
+    for at in from..u.len() + 1 {
         found.extend_from_slice(followers(table, lists, &u[at..]))?;
     }
     Ok(found)
@@ -89,11 +91,12 @@ impl PropertyMap {
             lists,
         })
     }
-    /// Whether the map keeps the symbol with some ending of a word.
-    fn is_candidate(&self, u: &[Symbol], x: Symbol) -> bool
-        ensures { (at : ℕ) → at ≤ length u.now → Follows self.now.words self.now.lists (drop at u.now) x → result ≡ true }
+
+    /// Whether the map keeps the symbol with some ending of a word that begins at this place or behind it.
+    fn is_candidate(&self, u: &[Symbol], from: usize, x: Symbol) -> bool
+        ensures { (at : ℕ) → from ≤ at → at ≤ length u.now → Follows self.now.words self.now.lists (drop at u.now) x → result ≡ true }
     {
-        for at in 0..u.len() + 1 {
+        for at in from..u.len() + 1 {
             if is_among(followers(&self.table, &self.lists, &u[at..]), x) {
                 return true;
             }
@@ -118,7 +121,8 @@ impl PropertyMap {
         ensures room { vec_capacity room.old ≤ vec_capacity room.new }
     {
         let _complete = rules.count();
-        if self.is_candidate(u, x) {
+        let longest = rules.longest();
+        if self.is_candidate(u, u.len().saturating_sub(longest), x) {
             vanishes(rules, u, x, room)
         } else {
             false
@@ -137,7 +141,9 @@ impl PropertyMap {
         ensures { IfOk result (ArePropertiesOf rules.now self.now.protocols u.now) }
     {
         let _complete = rules.count();
-        let candidates = candidates(alloc, &self.table, &self.lists, u)?;
+        let longest = rules.longest();
+        let from = u.len().saturating_sub(longest);
+        let candidates = candidates(alloc, &self.table, &self.lists, u, from)?;
         let mut room = Vec::with_capacity(alloc, u.len() + 1)?;
         let mut protocols = conforming(alloc, rules, u, self.protocols, &candidates, &mut room)?;
         protocols.sort_unstable();

@@ -1,8 +1,9 @@
 // Whether a symbol vanishes behind a word.
-ghost use Rattle.std.specs.Prelude.{◌≡◌, ◌+◌, ◌≤◌, ◌++◌, length, vec_capacity, vec_len};
+ghost use Rattle.std.specs.Prelude.{◌≡◌, ◌+◌, ◌-◌, ◌≤◌, [], ◌∷◌, ◌++◌, length, vec_capacity, vec_len, IfSome};
 ghost use Rattle.std.specs.Bool.{Decides};
 ghost use Rattle.swreq_word.specs.Least.{IsLeast};
 ghost use Rattle.swreq_word.specs.Relations.{Linked};
+ghost use Rattle.swreq_rule.specs.Search.{NoneLonger};
 ghost use Rattle.swreq_rule.specs.Steps.{Step};
 ghost use Rattle.swreq_map.specs.Properties.{IsProperty, Vanishes};
 
@@ -28,8 +29,49 @@ fn put_all(room: &mut Vec<Symbol>, u: &[Symbol])
     if let Err(_) = room.extend_from_slice(u) {}
 }
 
-/// Whether the symbol vanishes behind the least word of a class. The room is for one symbol more than the word.
-pub fn vanishes(rules: &CompleteRules<'_>, u: &[Symbol], x: Symbol, room: &mut Vec<Symbol>) -> bool
+/// Whether a word is the other one with this symbol behind it.
+fn is_followed(w: &[Symbol], u: &[Symbol], x: Symbol) -> bool
+    ensures { Decides result (w.now ≡ u.now ++ x ∷ []) }
+{
+    w.len() == u.len() + 1 && w[u.len()] == x && are_same(&w[..u.len()], u)
+}
+
+/// Whether the symbol vanishes behind the least word of a class, by the ending of the word from a place on, to which left sides that end
+/// behind the word do not reach. Where the ending alone does not tell, the answer is None.
+fn vanishes_by_ending(
+    rules: &CompleteRules<'_>,
+    u: &[Symbol],
+    from: usize,
+    x: Symbol,
+    room: &mut Vec<Symbol>,
+) -> Option<bool>
+    requires least { IsLeast (Linked (Step rules.now)) u.now }
+    requires from { NoneLonger rules.now (length u.now - from) }
+    requires within { from ≤ length u.now }
+    requires fits { length u.now + 1 ≤ vec_capacity room.old }
+    ensures answer { IfSome result (λ b. Decides b (Vanishes rules.now u.now x)) }
+    ensures room { vec_capacity room.old ≤ vec_capacity room.new }
+{
+    let _complete = rules.count();
+    let ending = &u[from..];
+    write(room, ending);
+    append(rules, room, x);
+    if are_same(room, ending) {
+        return Some(true);
+    }
+    if is_followed(room, ending, x) {
+        return Some(false);
+    }
+    None
+}
+
+/// The same by the whole word.
+fn vanishes_by_all(
+    rules: &CompleteRules<'_>,
+    u: &[Symbol],
+    x: Symbol,
+    room: &mut Vec<Symbol>,
+) -> bool
     requires least { IsLeast (Linked (Step rules.now)) u.now }
     requires fits { length u.now + 1 ≤ vec_capacity room.old }
     ensures answer { Decides result (Vanishes rules.now u.now x) }
@@ -39,6 +81,25 @@ pub fn vanishes(rules: &CompleteRules<'_>, u: &[Symbol], x: Symbol, room: &mut V
     write(room, u);
     append(rules, room, x);
     are_same(room, u)
+}
+
+/// Whether the symbol vanishes behind the least word of a class. The room is for one symbol more than the word.
+///
+/// Only near the end of the word a left side can stand that reaches behind it, so mostly the last symbols tell, however long the word is.
+pub fn vanishes(rules: &CompleteRules<'_>, u: &[Symbol], x: Symbol, room: &mut Vec<Symbol>) -> bool
+    requires least { IsLeast (Linked (Step rules.now)) u.now }
+    requires fits { length u.now + 1 ≤ vec_capacity room.old }
+    ensures answer { Decides result (Vanishes rules.now u.now x) }
+    ensures room { vec_capacity room.old ≤ vec_capacity room.new }
+{
+    let longest = rules.longest();
+    if u.len() <= longest {
+        return vanishes_by_all(rules, u, x, room);
+    }
+    match vanishes_by_ending(rules, u, u.len() - longest, x, room) {
+        Some(answer) => answer,
+        None => vanishes_by_all(rules, u, x, room),
+    }
 }
 
 /// Whether the symbol is a protocol below this number, or the layout.

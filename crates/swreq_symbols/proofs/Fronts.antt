@@ -1,5 +1,6 @@
 -- Type parameters without their last members.
 use Rattle.std.proofs.Common.{◌≡◌, ℕ, zero, suc, ◌+◌, ◌-◌, ◌<◌, ◌≤◌, refl, sym, ◌∙◌, ap, subst, arith}
+use Rattle.swreq_param.specs.declared.ids.ParamId.{ParamId}
 use Rattle.swreq_param.specs.declared.ids.Step.{Step}
 use Rattle.swreq_param.specs.Terms.{Term, head, member_count}
 use Rattle.swreq_param.specs.Terms.Term.{Generic, Member}
@@ -15,6 +16,16 @@ one_more (suc n) (Member t x) = one_more n t
 
 pub without_more : (n m : ℕ) (t : Term) → m ≡ n + 1 → without 1 (without n t) ≡ without m t
 without_more n m t e = let next : suc n ≡ m = omega (arith, e) in subst (λ k. without 1 (without n t) ≡ without k t) next (one_more n t)
+
+generic : (n : ℕ) (g : ParamId) → without n (Generic g) ≡ Generic g
+generic zero g = refl
+generic (suc n) g = refl
+
+pub without_both : (n m k : ℕ) (t : Term) → k ≡ n + m → without n (without m t) ≡ without k t
+without_both n zero k t e = let same : n ≡ k = omega (arith, e) in subst (λ j. without n t ≡ without j t) same refl
+without_both n (suc m) zero t e = absurd (omega (arith, e))
+without_both n (suc m) (suc k) (Generic g) e = generic n g
+without_both n (suc m) (suc k) (Member t x) e = without_both n m k t (omega (arith, e))
 
 pub count_without : (n : ℕ) (t : Term) → member_count (without n t) ≡ member_count t - n
 count_without zero t = omega arith
@@ -44,12 +55,3 @@ not_generic n m t u e l k g =
 
 pub base_without : (n m : ℕ) (t u b : Term) (x : Step) → u ≡ without n t → u ≡ Member b x → m ≡ n + 1 → b ≡ without m t
 base_without n m t u b x e f h = ap (without 1) (sym f ∙ e) ∙ without_more n m t h
-
-pub next_base : (n m : ℕ) (t u : Term) → u ≡ without n t → m ≡ n + 1 → without 1 u ≡ without m t
-next_base n m t u e h = ap (without 1) e ∙ without_more n m t h
-
-pub some_left : (n m count : ℕ) (t u : Term) → u ≡ without n t → n ≡ m - 1 - count → m ≡ member_count t → count < m → 0 < member_count u
-some_left n m count t u e f g l =
-    let all = count_without n t in
-    let same = ap member_count e in
-    omega (arith, all, same, f, g, l)

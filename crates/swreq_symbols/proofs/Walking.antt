@@ -1,5 +1,5 @@
 -- The walk along the members of a type parameter.
-use Rattle.std.proofs.Common.{◌≡◌, ℕ, zero, suc, ◌-◌, arith, inl, inr, sym, subst, List, [], ◌∷◌, ◌++◌}
+use Rattle.std.proofs.Common.{◌≡◌, ℕ, zero, suc, inl, inr, sym, subst, List, [], ◌∷◌, ◌++◌}
 use Rattle.swreq_param.specs.declared.ids.ParamId.{ParamId}
 use Rattle.swreq_param.specs.declared.ids.ProtoId.{ProtoId}
 use Rattle.swreq_param.specs.declared.ids.Step.{Step}
@@ -95,14 +95,10 @@ module _ (w : TextWorld) (s : Source) (rules : List Rule) where
   head_valid t h = subst Valid (without_all t) (valid_without (member_count t) t h)
 
   -- where the walk begins
-  pub begins_valid : (t : Term) (g : ParamId) → g ≡ head t → HasParam s g → Valid (without (member_count t - 0) t)
-  begins_valid t g e h =
-      let all : member_count t ≡ member_count t - 0 = omega arith in
-      subst (λ n. Valid (without n t)) all (subst Valid (sym (without_all t)) (subst (HasParam s) e h))
+  pub begins_valid : (t : Term) (g : ParamId) → g ≡ head t → HasParam s g → Valid (without (member_count t) t)
+  begins_valid t g e h = subst Valid (sym (without_all t)) (subst (HasParam s) e h)
 
   pub begins_linked : (t : Term) (g : ParamId) (v : Word) → g ≡ head t → Links rules (start s g ∷ []) v
-      → Links rules (word_of m s (without (member_count t - 0) t)) v
+      → Links rules (word_of m s (without (member_count t) t)) v
   begins_linked t g v e h =
-      let all : member_count t ≡ member_count t - 0 = omega arith in
-      subst (λ n. Links rules (word_of m s (without n t)) v) all
-      (subst (λ z. Links rules (word_of m s z) v) (sym (without_all t)) (subst (λ z. Links rules (start s z ∷ []) v) e h))
+      subst (λ z. Links rules (word_of m s z) v) (sym (without_all t)) (subst (λ z. Links rules (start s z ∷ []) v) e h)

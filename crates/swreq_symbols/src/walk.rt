@@ -166,6 +166,68 @@ fn add_member(
     }
 }
 
+/// What type parameters are read by: a text, a table, and rules over the list of a signature or over a protocol.
+#[derive(Clone, Copy)]
+struct Reading<'a, 'b> {
+    world: &'a World,
+    table: &'a ParamTable,
+    rules: &'a CompleteRules<'b>,
+    over: Over,
+}
+
+/// Whether the rules show that a type parameter is valid which without its last members, so many, they show valid, with this least word.
+/// Where they do, the word becomes that of the type parameter.
+///
+/// The first half of these members comes first, and then the other. So to find where each of them stands takes no memory, and few steps
+/// along a long type parameter.
+fn add_members(
+    reading: &Reading<'_, '_>,
+    t: TermId,
+    count: usize,
+    word: &mut Vec<Symbol>,
+    test: &mut Vec<Symbol>,
+) -> bool
+    requires text { IsTextOver reading.now.table.now reading.now.world.now }
+    requires t { IsTypeIn reading.now.table.now reading.now.world.now.lexicon t }
+    requires count { count ≤ member_count (term_at reading.now.table.now t) }
+    requires base { ShowsValid (symbols_of reading.now.world.now.lexicon) (facts_of (world_by reading.now.table.now reading.now.world.now))
+        (source_over reading.now.over) (Links reading.now.rules.now) (without count (term_at reading.now.table.now t)) }
+    requires linked { Links reading.now.rules.now (word_of (symbols_of reading.now.world.now.lexicon) (source_over reading.now.over)
+        (without count (term_at reading.now.table.now t))) word.old.items }
+    requires least { IsLeastBy reading.now.rules.now word.old.items }
+    requires fits { vec_len word.old + count ≤ vec_capacity word.old }
+    requires fits_test { vec_len word.old + count ≤ vec_capacity test.old }
+    ensures valid { IsTrue result ↔ ShowsValid (symbols_of reading.now.world.now.lexicon) (facts_of (world_by reading.now.table.now reading.now.world.now))
+        (source_over reading.now.over) (Links reading.now.rules.now) (term_at reading.now.table.now t) }
+    ensures least { OnTrue result (IsLeastBy reading.now.rules.now word.new.items) }
+    ensures linked { OnTrue result (Links reading.now.rules.now (word_of (symbols_of reading.now.world.now.lexicon) (source_over reading.now.over)
+        (term_at reading.now.table.now t)) word.new.items) }
+    ensures short { OnTrue result (vec_len word.new ≤ vec_len word.old + count) }
+    ensures room { vec_capacity word.old ≤ vec_capacity word.new }
+    ensures room_test { vec_capacity test.old ≤ vec_capacity test.new }
+{
+    if count == 0 {
+        return true;
+    }
+    if count == 1 {
+        return add_member(
+            reading.world,
+            reading.table,
+            reading.rules,
+            reading.over,
+            t,
+            word,
+            test,
+        );
+    }
+    let half = count / 2;
+    let front = without(reading.table, t, half);
+    if !add_members(reading, front, count - half, word, test) {
+        return false;
+    }
+    add_members(reading, t, half, word, test)
+}
+
 /// Whether the rules show that a type parameter is valid. Where they do, `word` becomes its least word. Both lists of symbols have
 /// room for the word of the type parameter and a symbol more, and keep it.
 pub fn least_word(
@@ -193,12 +255,11 @@ pub fn least_word(
     if !begins(rules, over, table.head(t), word) {
         return false;
     }
-    let members = table.members(t);
-    for count in 0..members {
-        let member = without(table, t, members - 1 - count);
-        if !add_member(world, table, rules, over, member, word, test) {
-            return false;
-        }
-    }
-    true
+    let reading = Reading {
+        world,
+        table,
+        rules,
+        over,
+    };
+    add_members(&reading, t, table.members(t), word, test)
 }

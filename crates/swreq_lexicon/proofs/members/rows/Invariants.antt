@@ -1,11 +1,13 @@
-use Rattle.std.proofs.Common.{◌≡◌, length, take}
-use Rattle.swreq_lexicon.specs.Symbols.{has_member, AreHeirs, AreRows}
+use Rattle.std.proofs.Common.{◌≡◌, ◌≤◌, length, take}
+use Rattle.swreq_lexicon.specs.Symbols.{has_member, AreHeirs, AreInherited, AreRows}
 use Rattle.swreq_lexicon.specs.Views.{inherits_by}
 use Rattle.swreq_lexicon.proofs.members.rows.Given as goal
 
 abbrev pub invariant-loop-d : goal.invariant-loop-d
 invariant-loop-d l = record {
   size : length l.rows.items ≡ l.names;
-  heirs : AreHeirs (inherits_by l.protocols.places l.protocols.resolved.inherits) l.ordered l.last l.found;
+  short : length l.group.words.items ≤ length l.ordered;
+  each : AreInherited (inherits_by l.protocols.places l.protocols.resolved.inherits) l.ordered l.protocols.places l.group.index l.group.words.items;
+  heirs : AreHeirs (inherits_by l.protocols.places l.protocols.resolved.inherits) l.ordered l.found.proto l.found.places;
   said : AreRows l.ordered (has_member (inherits_by l.protocols.places l.protocols.resolved.inherits) (take l.d-index l.pairs)) l.rows.items;
 }

@@ -5,7 +5,7 @@ use Rattle.swreq_map.specs.Follows.{Follows, MapView}
 use Rattle.swreq_map.proofs.map.PropertyMap.is_candidate.Goals as goal
 
 pub loop-at-preserved : goal.loop-at-preserved
-loop-at-preserved c at l f = elim (cases_eq at c.loop-at.at) [
+loop-at-preserved c at from l f = elim (cases_eq at c.loop-at.at) [
   | inl e ↦ (let u = c.args.u.now in
       let n = c.loop-at.at in
       let x = c.args.x in
@@ -14,8 +14,8 @@ loop-at-preserved c at l f = elim (cases_eq at c.loop-at.at) [
       let kept = subst (λ lists. Follows c.self.inside.table lists (drop n u) x) (sym c.deref.ensures.value) inside in
       let ending = subst (λ v. Follows c.self.inside.table c.deref.result.now v x) (sym (whole_rest u n)) kept in
       false≢true (c.if-is_among.ensures.1 (c.followers.ensures x ending)))
-  | inr e ↦ c.loop-at.invariant at (omega (arith, l, e)) f
+  | inr e ↦ c.loop-at.invariant at from (omega (arith, l, e)) f
 ]
 
 pub returns : goal.returns
-returns c at l f = absurd (c.loop-at.invariant at (omega (arith, l, c.loop-at-test.false)) f)
+returns c at from l f = absurd (c.loop-at.invariant at from (omega (arith, l, c.loop-at-test.false)) f)

@@ -4,7 +4,7 @@ use Rattle.swreq_word.specs.Least.{IsLeast}
 use Rattle.swreq_word.specs.Relations.{Linked}
 use Rattle.swreq_rule.specs.Steps.{Step}
 use Rattle.swreq_map.proofs.Ending.{vanishes_decided}
-use Rattle.swreq_map.proofs.vanishing.vanishes.Goals as goal
+use Rattle.swreq_map.proofs.vanishing.vanishes_by_all.Goals as goal
 
 pub append-requires-clause-least : goal.append-requires-clause-least
 append-requires-clause-least c = subst (IsLeast (Linked (Step c.args.rules.now))) (sym c.write.ensures.items) c.requires.least
