@@ -311,6 +311,7 @@ fn rules_stand_alone_and_in_traces(rt: HostRuntime) -> Result<(), Fail> {
 
 const REFUSALS: &[RefusalKind] = &[
     RefusalKind::TooLarge,
+    RefusalKind::MissingPart,
     RefusalKind::NotUtf8 { at: 0 },
     RefusalKind::BadCharacter { at: 1 },
     RefusalKind::OpenComment { at: 2 },
@@ -326,6 +327,7 @@ const REFUSALS: &[RefusalKind] = &[
     RefusalKind::UnknownSignature { at: 6 },
     RefusalKind::WrongArity { at: 25 },
     RefusalKind::Cycle { at: 9 },
+    RefusalKind::DerivationSyntax { line: 2 },
     RefusalKind::NotATypeParameter { at: 85 },
     RefusalKind::LimitRules { max: 4000 },
     RefusalKind::LimitLength { max: 64 },
@@ -335,6 +337,7 @@ const REFUSALS: &[RefusalKind] = &[
 ];
 
 const REFUSAL_LINES: &str = "error: text longer than 1048576 bytes
+error: no second part
 error: not UTF-8 at 0
 error: bad character at 1
 error: open comment at 2
@@ -347,6 +350,7 @@ error: no such member at 43
 error: unknown signature at 6
 error: wrong number of arguments at 25
 error: circular inheritance at 9
+error: derivation syntax at line 2
 error: not a type parameter at 85
 error: more than 4000 rules
 error: rule longer than 64 symbols

@@ -18,8 +18,17 @@ const DIVIDED: [(&str, &str, &str); 7] = [
 ];
 
 /// Inputs in which no line is exactly `%%`.
-const WHOLE: [&str; 8] = [
-    "", "%", "a%%b\n", "a%%\n", "%%b\n", " %%\n", "%% \n", "%%\r\n",
+const WHOLE: [&str; 9] = [
+    "",
+    "%",
+    "a%%b\n",
+    "a%%\n",
+    "%%b\n",
+    " %%\n",
+    "%% \n",
+    "%%\r\n",
+    // Behind a byte order mark.
+    "\u{feff}%%\n",
 ];
 
 #[test]
@@ -36,6 +45,18 @@ fn first_line_of_two_percent_signs_divides(rt: HostRuntime) -> Result<(), Fail> 
                 assert!(&rt; before == first.as_bytes(), "{input}");
                 assert!(&rt; behind == second.as_bytes(), "{input}");
             }
+        }
+    }
+    Ok(())
+}
+
+#[test]
+fn bytes_that_are_no_text_are_divided(rt: HostRuntime) -> Result<(), Fail> {
+    match parts(b"\xff\n%%\n\xfe\n") {
+        None => assert!(&rt; false, "one part"),
+        Some(parts) => {
+            assert!(&rt; parts.first == b"\xff\n".as_slice());
+            assert!(&rt; parts.second == b"\xfe\n".as_slice());
         }
     }
     Ok(())

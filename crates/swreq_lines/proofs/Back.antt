@@ -6,19 +6,15 @@ use Rattle.swreq_derive.specs.Instances.{TermLine}
 use Rattle.swreq_derive.specs.Lines.{line_of}
 use Rattle.swreq_lexicon.specs.Views.{LexiconView}
 use Rattle.swreq_param.specs.Terms.{Term}
+use Rattle.swreq_parts.specs.Lines.{lines}
+use Rattle.swreq_parts.proofs.Lined.{lines-line}
 use Rattle.swreq_print.specs.Names.{Text}
 use Rattle.swreq_print.specs.Reading.{TellsApart}
 use Rattle.swreq_lines.specs.GoodLines.{AreLinesOf, AreTextsOf, IsFirstNotGood, IsGood, IsReadableLine}
-use Rattle.swreq_lines.specs.LineTexts.{line_text, lines_from, lines_text}
-use Rattle.swreq_lines.specs.Pieces.{lines_in}
+use Rattle.swreq_lines.specs.LineTexts.{line_text, lines_from, lines_text, texts_from}
 use Rattle.swreq_lines.specs.Writing.{AreNamesOfOneLine}
-use Rattle.swreq_lines.proofs.Cuts.{line_and_rest}
+use Rattle.swreq_lines.proofs.Cuts.{is_one_line}
 use Rattle.swreq_lines.proofs.OneLine.{one_line}
-
--- the texts of lines that are numbered from n on
-texts_from : LexiconView → ℕ → List TermLine → List Text
-texts_from x n [] = []
-texts_from x n (l ∷ ls) = line_text x n l ∷ texts_from x (suc n) ls
 
 -- There are no more lines than bytes.
 as_long : (x : LexiconView) (n : ℕ) (ls : List TermLine) → length ls ≤ length (lines_from x n ls)
@@ -30,15 +26,14 @@ as_long x n (l ∷ ls) =
 
 module _ (x : LexiconView) (tells : TellsApart x) (names : AreNamesOfOneLine x) where
   -- The lines of what is written are the texts of the lines.
-  lines_are : (n : ℕ) (ls : List TermLine) → AllByRecursion (IsReadableLine x) ls → n + length ls ≤ 2 ^ 32 → lines_in (lines_from x n ls) ≡ texts_from x n ls
-  unfolding texts_from
+  lines_are : (n : ℕ) (ls : List TermLine) → AllByRecursion (IsReadableLine x) ls → n + length ls ≤ 2 ^ 32 → lines (lines_from x n ls) ≡ texts_from x n ls
   lines_are n [] h small = refl
   lines_are n (l ∷ ls) h small =
-      line_and_rest (line_text x n l) (lines_from x (suc n) ls) (one_line x tells names n l (omega (arith, small)) h.0)
+      lines-line (line_text x n l) (lines_from x (suc n) ls)
+      (is_one_line (line_text x n l) (one_line x tells names n l (omega (arith, small)) h.0))
       ∙ ap (λ z. line_text x n l ∷ z) (lines_are (suc n) ls h.1 (omega (arith, small)))
 
   same_lines : (n : ℕ) (ls ks : List TermLine) → AllByRecursion (IsReadableLine x) ls → AreTextsOf x n (texts_from x n ls) ks → ks ≡ ls
-  unfolding texts_from
   same_lines n [] [] h r = refl
   same_lines n [] (k ∷ ks) h r = absurd r
   same_lines n (l ∷ ls) [] h r = absurd r
@@ -46,7 +41,6 @@ module _ (x : LexiconView) (tells : TellsApart x) (names : AreNamesOfOneLine x) 
 
   each_good : (n : ℕ) (ls : List TermLine) → AllByRecursion (IsReadableLine x) ls → n + length ls ≤ 2 ^ 32 → (k : ℕ) (bytes : Text)
       → slice_get (texts_from x n ls) k ≡ Some bytes → IsGood x (k + n) bytes
-  unfolding texts_from
   each_good n [] h small k bytes e = absurd cc
   each_good n (l ∷ ls) h small zero bytes e =
       let same : line_text x n l ≡ bytes = cc in

@@ -1,12 +1,13 @@
 -- Texts that are cut at a byte.
-use Rattle.std.proofs.Common.{◌≡◌, ◌∙◌, ◌⊎◌, inl, inr, refl, sym, ap, ap₂, subst, ℕ, zero, suc, ◌<◌, ◌≤◌, ◌+◌, ◌-◌, arith, length-drop, ltb-true, ltb-false, Bool, true, false, true≢false, cond, List, [], ◌∷◌, ◌++◌, length, take, drop, Some, None}
-use Rattle.std.specs.Prelude.{not, position, ◌==◌, ◌&&◌, nat_lt}
-use Rattle.std.specs.Bool.{if◌then◌else◌}
+use Rattle.std.proofs.Common.{◌≡◌, ◌≢◌, ◌∙◌, ◌⊎◌, inl, inr, refl, sym, ap, ap₂, subst, ℕ, suc, ◌<◌, ◌≤◌, ◌+◌, ◌-◌, arith, ltb-true, ltb-false, Bool, true, false, cond, [], ◌∷◌, ◌++◌, length, take, drop, Some, None}
+use Rattle.std.specs.Prelude.{not, position, ◌==◌, nat_lt}
 use Rattle.std.specs.List.{list_all, position_or_len}
-use Rattle.std.proofs.lemmas.Bool.{and_parts, eq-eqb, eqb-true}
-use Rattle.std.proofs.lemmas.List.{append-nil}
+use Rattle.std.proofs.lemmas.Bool.{and_from, and_parts, eq-eqb, eqb-true}
+use Rattle.std.proofs.lemmas.List.{append-nil, take_rest}
+use Rattle.std.proofs.lemmas.List.Elements.{All-cons, All-nil}
+use Rattle.swreq_parts.specs.Lines.{IsOneLine, line_feed}
 use Rattle.swreq_print.specs.Names.{Text}
-use Rattle.swreq_lines.specs.Pieces.{Ends, IsWithout, behind, in_front, lines_in}
+use Rattle.swreq_lines.specs.Pieces.{Ends, IsWithout, behind}
 
 module _ (byte : ℕ) where
   abbrev is : ℕ → Bool
@@ -17,14 +18,9 @@ module _ (byte : ℕ) where
 
   -- ---- where the byte stands first
 
-  together : (a b : Bool) → a ≡ true → b ≡ true → (a && b) ≡ true
-  together true true e h = refl
-  together true false e h = absurd cc
-  together false b e h = absurd cc
-
-  not_both : (b : Bool) → not b ≡ true → b ≡ true → ⊥
-  not_both true e h = cc
-  not_both false e h = cc
+  not_itself : (b : Bool) → not b ≡ b → ⊥
+  not_itself true e = cc
+  not_itself false e = cc
 
   -- the text is cut at its n-th byte, which is the first such
   record IsCut (t : Text) (n : ℕ) : Type 0 where
@@ -41,7 +37,7 @@ module _ (byte : ℕ) where
       let two : suc (at t + 1) ≡ suc (at t) + 1 = omega arith in
       let k : IsCut t (at t) = more (omega (arith, l)) in
       subst (IsCut (c ∷ t)) one (record {
-        before = together (not (is c)) (list_all (λ z. not (z == byte)) (take (at t) t)) (ap not e) k.before;
+        before = and_from (not (is c)) (list_all (λ z. not (z == byte)) (take (at t) t)) (ap not e) k.before;
         split = ap (λ z. c ∷ z) k.split ∙ ap (λ (n : ℕ). (c ∷ take (at t) t) ++ (byte ∷ drop n (c ∷ t))) two;
       })
 
@@ -51,7 +47,7 @@ module _ (byte : ℕ) where
 
   none_by : (c : ℕ) (t : Text) (b : Bool) → is c ≡ b → (length t ≤ at t → IsWithout byte t) → suc (length t) ≤ cond (not b) (1 + at t) 0 → IsWithout byte (c ∷ t)
   none_by c t true e more l = absurd (omega (arith, l))
-  none_by c t false e more l = together (not (is c)) (list_all (λ z. not (z == byte)) t) (ap not e) (more (omega (arith, l)))
+  none_by c t false e more l = and_from (not (is c)) (list_all (λ z. not (z == byte)) t) (ap not e) (more (omega (arith, l)))
 
   cut_none : (t : Text) → length t ≤ at t → IsWithout byte t
   cut_none [] l = refl
@@ -77,25 +73,15 @@ module _ (byte : ℕ) where
       by true l h = absurd cc
       by false l h = cut_none t (ltb-false (at t) (length t) l)
 
-  take_whole : (t : Text) (n : ℕ) → length t ≤ n → take n t ≡ t
-  take_whole [] zero l = refl
-  take_whole [] (suc n) l = refl
-  take_whole (c ∷ t) zero l = absurd (omega (arith, l))
-  take_whole (c ∷ t) (suc n) l = ap (λ u. c ∷ u) (take_whole t n (omega (arith, l)))
-
-  -- a slice up to the end
-  pub to_end : (t : Text) (m : ℕ) → take (length t - m) (drop m t) ≡ drop m t
-  to_end t m = take_whole (drop m t) (length t - m) (let e = length-drop m t in omega (arith, e))
-
   -- ---- one way to cut
 
   -- Texts without the byte, each before the byte, end at one place.
   pub cut_one : (a b v w : Text) → IsWithout byte a → IsWithout byte b → a ++ (byte ∷ v) ≡ b ++ (byte ∷ w) → (a ≡ b) × (v ≡ w)
   cut_one [] [] v w h k e = (refl, cc)
   cut_one [] (d ∷ b) v w h k e =
-      let same : byte ≡ d = cc in absurd (not_both (is d) (and_parts (not (is d)) (list_all (λ z. not (z == byte)) b) k).0 (eq-eqb d byte (sym same)))
+      let same : byte ≡ d = cc in absurd (not_itself (is d) ((and_parts (not (is d)) (list_all (λ z. not (z == byte)) b) k).0 ∙ sym (eq-eqb d byte (sym same))))
   cut_one (c ∷ a) [] v w h k e =
-      let same : c ≡ byte = cc in absurd (not_both (is c) (and_parts (not (is c)) (list_all (λ z. not (z == byte)) a) h).0 (eq-eqb c byte same))
+      let same : c ≡ byte = cc in absurd (not_itself (is c) ((and_parts (not (is c)) (list_all (λ z. not (z == byte)) a) h).0 ∙ sym (eq-eqb c byte same)))
   cut_one (c ∷ a) (d ∷ b) v w h k e =
       let same : c ≡ d = cc in
       let rest : a ++ (byte ∷ v) ≡ b ++ (byte ∷ w) = cc in
@@ -106,13 +92,13 @@ module _ (byte : ℕ) where
   pub not_cut : (a b v : Text) → IsWithout byte a → a ≡ b ++ (byte ∷ v) → ⊥
   not_cut [] [] v h e = cc
   not_cut [] (d ∷ b) v h e = cc
-  not_cut (c ∷ a) [] v h e = let same : c ≡ byte = cc in not_both (is c) (and_parts (not (is c)) (list_all (λ z. not (z == byte)) a) h).0 (eq-eqb c byte same)
+  not_cut (c ∷ a) [] v h e = let same : c ≡ byte = cc in not_itself (is c) ((and_parts (not (is c)) (list_all (λ z. not (z == byte)) a) h).0 ∙ sym (eq-eqb c byte same))
   not_cut (c ∷ a) (d ∷ b) v h e = not_cut a b v (and_parts (not (is c)) (list_all (λ z. not (z == byte)) a) h).1 (let rest : a ≡ b ++ (byte ∷ v) = cc in rest)
 
   pub without_append : (a b : Text) → IsWithout byte a → IsWithout byte b → IsWithout byte (a ++ b)
   without_append [] b h k = k
   without_append (c ∷ a) b h k =
-      let p = and_parts (not (is c)) (list_all (λ z. not (z == byte)) a) h in together (not (is c)) (list_all (λ z. not (z == byte)) (a ++ b)) p.0 (without_append a b p.1 k)
+      let p = and_parts (not (is c)) (list_all (λ z. not (z == byte)) a) h in and_from (not (is c)) (list_all (λ z. not (z == byte)) (a ++ b)) p.0 (without_append a b p.1 k)
 
   -- ---- pieces
 
@@ -153,54 +139,22 @@ module _ (byte : ℕ) where
   pub one_found : (t : Text) (n : ℕ) → Some n ≡ position is t → IsPiece t (take n t) (take (length t - (n + 1)) (drop (n + 1) t))
   one_found t n e =
       let f = found t n e in
-      record { without = f.1; whole = inl (f.2 ∙ ap (λ z. take n t ++ (byte ∷ z)) (sym (to_end t (n + 1)))) }
+      record { without = f.1; whole = inl (f.2 ∙ ap (λ z. take n t ++ (byte ∷ z)) (sym (take_rest t (n + 1)))) }
 
 -- ---- lines
 
-ahead : (c : ℕ) (w t : Text) (rest : List Text) (b : Bool) → not b ≡ true → lines_in t ≡ w ∷ rest
-    → (if b then [] ∷ lines_in t else in_front c (lines_in t)) ≡ (c ∷ w) ∷ rest
-ahead c w t rest true n e = absurd cc
-ahead c w t rest false n e = ap (in_front c) e
-
--- a line, and the lines behind its line feed
-pub line_and_rest : (w rest : Text) → IsWithout 10 w → lines_in (w ++ (10 ∷ rest)) ≡ w ∷ lines_in rest
-line_and_rest [] rest h = refl
-line_and_rest (c ∷ w) rest h =
-    let k = and_parts (not (c == 10)) (list_all (λ z. not (z == 10)) w) h in
-    ahead c w (w ++ (10 ∷ rest)) (lines_in rest) (c == 10) k.0 (line_and_rest w rest k.1)
-
--- a last line without its line feed
-pub last_line : (c : ℕ) (w : Text) → IsWithout 10 (c ∷ w) → lines_in (c ∷ w) ≡ (c ∷ w) ∷ []
-last_line c [] h = nothing_behind (c == 10) (and_parts (not (c == 10)) true h).0
-  where
-    nothing_behind : (b : Bool) → not b ≡ true → (if b then [] ∷ [] else ((c ∷ []) ∷ [])) ≡ (c ∷ []) ∷ []
-    nothing_behind true n = absurd cc
-    nothing_behind false n = refl
-last_line c (d ∷ w) h =
-    let k = and_parts (not (c == 10)) (list_all (λ z. not (z == 10)) (d ∷ w)) h in
-    ahead c (d ∷ w) (d ∷ w) [] (c == 10) k.0 (last_line d w k.1)
-
--- the first line of a text that is not at its end
-pub first_line : (t piece rest : Text) → (t ≡ [] → ⊥) → IsPiece 10 t piece rest → lines_in t ≡ piece ∷ lines_in rest
-first_line t piece rest some p = by p.whole
-  where
-    alone : (u : Text) → t ≡ u → IsWithout 10 u → lines_in u ≡ u ∷ []
-    alone [] e w = absurd (some e)
-    alone (c ∷ u) e w = last_line c u w
-
-    by : ((t ≡ piece ++ (10 ∷ rest)) ⊎ ((t ≡ piece) × (rest ≡ []))) → lines_in t ≡ piece ∷ lines_in rest
-    by (inl e) = ap lines_in e ∙ line_and_rest piece rest p.without
-    by (inr e) = ap lines_in e.0 ∙ alone piece e.0 p.without ∙ ap (λ z. piece ∷ lines_in z) (sym e.1)
+-- A text without a line feed is one line.
+pub is_one_line : (t : Text) → IsWithout 10 t → IsOneLine t
+is_one_line [] h = All-nil (λ c. c ≢ line_feed)
+is_one_line (c ∷ t) h =
+    let k = and_parts (not (c == 10)) (list_all (λ z. not (z == 10)) t) h in
+    All-cons (λ z. z ≢ line_feed) c t (λ e. not_itself 10 (c == 10) (k.0 ∙ sym (eq-eqb c 10 e))) (is_one_line t k.1)
 
 -- ---- whether a byte is left
 
 pub some_left : (t : Text) → false ≡ (length t == 0) → t ≡ [] → ⊥
 some_left [] h e = cc
 some_left (c ∷ t) h e = cc
-
-pub some_length : (t : Text) → false ≡ (length t == 0) → 0 < length t
-some_length [] h = absurd (true≢false (sym h))
-some_length (c ∷ t) h = omega arith
 
 pub none_left : (t : Text) → true ≡ (length t == 0) → t ≡ []
 none_left [] h = refl

@@ -1,11 +1,12 @@
 -- Bytes that do not stand in numbers and names.
-use Rattle.std.proofs.Common.{◌≡◌, ◌&&◌, ◌==◌, ◌++◌, ◌∷◌, [], refl, ap, ap₂, ℕ, ◌+◌, ◌<◌, ◌^◌, ◌%◌, arith, Bool, true, false, nat_le, length}
+use Rattle.std.proofs.Common.{◌≡◌, ◌&&◌, ◌==◌, ◌++◌, ◌∷◌, [], refl, ap, ap₂, ℕ, ◌<◌, ◌^◌, arith, Bool, true, false, length}
 use Rattle.std.specs.Prelude.{not}
 use Rattle.std.specs.Fmt.{decimal}
 use Rattle.std.specs.List.{list_all}
 use Rattle.std.proofs.lemmas.Bool.{and_parts, eqb-true}
-use Rattle.std.proofs.lemmas.Fmt.{decimal_by_steps, decimal_nonempty}
+use Rattle.std.proofs.lemmas.Fmt.{decimal_nonempty}
 use Rattle.swreq_print.specs.Names.{Text}
+use Rattle.swreq_print.proofs.Digits.{digits_only, in_number}
 use Rattle.swreq_lines.specs.Pieces.{IsWithout}
 
 not_it : (inside : ℕ → Bool) (byte c : ℕ) → inside byte ≡ false → inside c ≡ true → (b : Bool) → (c == byte) ≡ b → not b ≡ true
@@ -20,20 +21,6 @@ apart inside byte n (c ∷ t) h =
     ap₂ (λ a b. a && b) (not_it inside byte c n k.0 (c == byte) refl) (apart inside byte n t k.1)
 
 -- ---- digits
-
-abbrev pub in_number : ℕ → Bool
-in_number c = nat_le 48 c && nat_le c 57
-
-glyph : (n : ℕ) → n < 10 → in_number (48 + n) ≡ true
-glyph n lt = search (arith, lt)
-
-all_snoc : (ds : Text) (c : ℕ) → list_all in_number ds ≡ true → in_number c ≡ true → list_all in_number (ds ++ c ∷ []) ≡ true
-all_snoc [] c e f = rw f refl
-all_snoc (d ∷ ds) c e f = let p = and_parts (in_number d) _ e in rw (p.0) (all_snoc ds c p.1 f)
-
-digits_only : (n : ℕ) → n < 2 ^ 64 → list_all in_number (decimal n) ≡ true
-digits_only = decimal_by_steps (λ n bs. list_all in_number bs ≡ true) (λ n lt. rw (glyph n lt) refl)
-    (λ n ds big e. all_snoc ds (48 + n % 10) e (glyph (n % 10) (omega arith)))
 
 pub number_without : (byte : ℕ) → in_number byte ≡ false → (n : ℕ) → n < 2 ^ 32 → IsWithout byte (decimal n)
 number_without byte h n l = apart in_number byte h (decimal n) (digits_only n (omega (arith, l)))

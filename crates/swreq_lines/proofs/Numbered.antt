@@ -1,18 +1,12 @@
 -- The texts of lines, one after the other.
-use Rattle.std.proofs.Common.{◌≡◌, ◌∙◌, refl, sym, ap, ℕ, zero, suc, ◌+◌, ◌<◌, ◌≤◌, arith, List, [], ◌∷◌, ◌++◌, length, map, drop, get_or, append_assoc, codes}
-use Rattle.std.proofs.lemmas.List.{append-nil, drop_more}
+use Rattle.std.proofs.Common.{◌≡◌, ◌∙◌, sym, ap, ℕ, suc, ◌+◌, ◌<◌, ◌≤◌, arith, List, ◌∷◌, ◌++◌, length, map, drop, get_or, append_assoc, codes}
+use Rattle.std.proofs.lemmas.List.{append-nil, drop_all, drop_more}
 use Rattle.swreq_derive.specs.declared.lines.Line.{Line}
 use Rattle.swreq_derive.specs.Lines.{line_of}
 use Rattle.swreq_lexicon.specs.Views.{LexiconView}
 use Rattle.swreq_param.specs.Terms.{Term}
 use Rattle.swreq_print.specs.Names.{Text}
 use Rattle.swreq_lines.specs.LineTexts.{line_text, lines_from}
-
-pub past_drop : {A : Type 0} (xs : List A) (k : ℕ) → length xs ≤ k → drop k xs ≡ []
-past_drop [] zero l = refl
-past_drop [] (suc k) l = refl
-past_drop (x ∷ xs) zero l = absurd (omega (arith, l))
-past_drop (x ∷ xs) (suc k) l = past_drop xs k (omega (arith, l))
 
 module _ (x : LexiconView) (terms : List Term) (lines : List Line) where
   -- the lines from the place on
@@ -34,4 +28,4 @@ module _ (x : LexiconView) (terms : List Term) (lines : List Line) where
       ∙ h
 
   pub all_lines : (k : ℕ) (all whole : Text) → length lines ≤ k → all ++ rest_of k ≡ whole → all ≡ whole
-  all_lines k all whole l h = sym (append-nil all) ∙ ap (λ z. all ++ lines_from x (k + 1) (map (line_of terms) z)) (sym (past_drop lines k l)) ∙ h
+  all_lines k all whole l h = sym (append-nil all) ∙ ap (λ z. all ++ lines_from x (k + 1) (map (line_of terms) z)) (sym (drop_all k lines l)) ∙ h

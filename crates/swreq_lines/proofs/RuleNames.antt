@@ -2,13 +2,12 @@
 use Rattle.std.proofs.Common.{◌≡◌, ◌∙◌, sym, ap, ℕ, ◌+◌, ◌<◌, ◌≤◌, Bool, true, false, List, length, drop, get_or}
 use Rattle.std.specs.Bool.{if◌then◌else◌}
 use Rattle.std.specs.Str.{bytes_eq}
-use Rattle.std.proofs.lemmas.List.{drop_more}
+use Rattle.std.proofs.lemmas.List.{drop_all, drop_more}
 use Rattle.swreq_derive.specs.declared.lines.DerivRule.{DerivRule}
 use Rattle.swreq_derive.specs.declared.lines.DerivRule.TheVariants.{Generic}
 use Rattle.swreq_print.specs.Names.{Text}
 use Rattle.swreq_lines.specs.LineTexts.{rule_name}
 use Rattle.swreq_lines.specs.Written.{rule_named}
-use Rattle.swreq_lines.proofs.Numbered.{past_drop}
 
 module _ (rules : List DerivRule) (name : Text) (k : ℕ) (whole : DerivRule) (left : rule_named (drop k rules) name ≡ whole) where
   module _ (d : DerivRule) (shown : Text) (l : k < length rules) (named : shown ≡ rule_name (get_or rules k d)) where
@@ -27,4 +26,4 @@ module _ (rules : List DerivRule) (name : Text) (k : ℕ) (whole : DerivRule) (l
     later e = test false e
 
   pub nowhere : length rules ≤ k → Generic ≡ whole
-  nowhere l = ap (λ z. rule_named z name) (sym (past_drop rules k l)) ∙ left
+  nowhere l = ap (λ z. rule_named z name) (sym (drop_all k rules l)) ∙ left

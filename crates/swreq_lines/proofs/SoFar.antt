@@ -6,11 +6,11 @@ use Rattle.swreq_derive.specs.Instances.{TermLine}
 use Rattle.swreq_derive.specs.Lines.{line_of}
 use Rattle.swreq_lexicon.specs.Views.{LexiconView}
 use Rattle.swreq_param.specs.Terms.{Term}
+use Rattle.swreq_parts.specs.Lines.{lines}
 use Rattle.swreq_print.specs.Names.{Text}
 use Rattle.swreq_lines.specs.declared.lines.LinesErr.{LinesErr}
 use Rattle.swreq_lines.specs.declared.lines.LinesErr.TheVariants.{Memory, Syntax}
 use Rattle.swreq_lines.specs.GoodLines.{AreLinesOf, AreTextsOf, IsFirstNotGood, IsGood, IsRefused, IsTextOf}
-use Rattle.swreq_lines.specs.Pieces.{lines_in}
 use Rattle.swreq_lines.specs.Written.{IsRefusedAt}
 
 module _ (x : LexiconView) where
@@ -55,7 +55,7 @@ module _ (x : LexiconView) where
   pub record AreSoFar (terms : List Term) (text rest : Text) (ls : List Line) : Type 0 where
     pub done : List Text
     pub texts : AreTextsOf x 1 done (map (line_of terms) ls)
-    pub split : lines_in text ≡ done ++ lines_in rest
+    pub split : lines text ≡ done ++ lines rest
 
   pub at_start : (terms : List Term) (text : Text) (ls : List Line) → ls ≡ [] → AreSoFar terms text text ls
   at_start terms text [] e = record { done = []; texts = tt; split = refl }
@@ -70,7 +70,7 @@ module _ (x : LexiconView) where
   count terms text rest ls s = as_many 1 s.done (map (line_of terms) ls) s.texts ∙ length_map terms ls
 
   pub with_line : (old new : List Term) (text rest piece after : Text) (ls more : List Line) (l : Line) (n : ℕ) → AreSoFar old text rest ls
-      → map (line_of new) ls ≡ map (line_of old) ls → lines_in rest ≡ piece ∷ lines_in after → n ≡ length ls + 1 → IsTextOf x n piece (line_of new l)
+      → map (line_of new) ls ≡ map (line_of old) ls → lines rest ≡ piece ∷ lines after → n ≡ length ls + 1 → IsTextOf x n piece (line_of new l)
       → more ≡ ls ++ l ∷ [] → AreSoFar new text after more
   with_line old new text rest piece after ls more l n s still next number is e = record {
     done = s.done ++ piece ∷ [];
@@ -78,32 +78,32 @@ module _ (x : LexiconView) where
         subst (AreTextsOf x 1 (s.done ++ piece ∷ [])) (sym (map-append (line_of new) ls (l ∷ [])) ∙ ap (map (line_of new)) (sym e))
         (one_more 1 s.done (map (line_of new) ls) piece (line_of new l) (subst (AreTextsOf x 1 s.done) (sym still) s.texts)
         (subst (λ m. IsTextOf x m piece (line_of new l)) place is)));
-    split = s.split ∙ ap (λ z. s.done ++ z) next ∙ sym (append_assoc s.done (piece ∷ []) (lines_in after));
+    split = s.split ∙ ap (λ z. s.done ++ z) next ∙ sym (append_assoc s.done (piece ∷ []) (lines after));
   }
 
   pub at_end : (terms : List Term) (text rest : Text) (ls : List Line) → AreSoFar terms text rest ls → rest ≡ [] → AreLinesOf x terms text ls
   at_end terms text rest ls s none =
-      let all : s.done ≡ lines_in text = sym (append-nil s.done) ∙ ap (λ z. s.done ++ lines_in z) (sym none) ∙ sym s.split in
+      let all : s.done ≡ lines text = sym (append-nil s.done) ∙ ap (λ z. s.done ++ lines z) (sym none) ∙ sym s.split in
       subst (λ z. AreTextsOf x 1 z (map (line_of terms) ls)) all s.texts
 
   -- The next line is the first that is not good.
   pub first_not_good : (terms : List Term) (text rest piece after : Text) (ls : List Line) (n : ℕ) → AreSoFar terms text rest ls → n < 2 ^ 32
-      → lines_in rest ≡ piece ∷ lines_in after → n ≡ length ls + 1 → (IsGood x n piece → ⊥) → IsFirstNotGood x text n
+      → lines rest ≡ piece ∷ lines after → n ≡ length ls + 1 → (IsGood x n piece → ⊥) → IsFirstNotGood x text n
   first_not_good terms text rest piece after ls n s small next number bad =
       let c = count terms text rest ls s in
       let place : n - 1 ≡ length s.done = omega (arith, c, number) in
-      let all : lines_in text ≡ s.done ++ (piece ∷ lines_in after) = s.split ∙ ap (λ z. s.done ++ z) next in
+      let all : lines text ≡ s.done ++ (piece ∷ lines after) = s.split ∙ ap (λ z. s.done ++ z) next in
       record {
         bytes = piece;
-        number = (omega (arith, number), ap (λ (k : ℕ). slice_get (lines_in text) k) place ∙ ap (λ z. slice_get z (length s.done)) all ∙ at_seam s.done (lines_in after) piece);
+        number = (omega (arith, number), ap (λ (k : ℕ). slice_get (lines text) k) place ∙ ap (λ z. slice_get z (length s.done)) all ∙ at_seam s.done (lines after) piece);
         bad = bad;
-        before = λ k good l e. each_good 1 s.done (piece ∷ lines_in after) (map (line_of terms) ls) s.texts (omega (arith, c, number, small)) k good
+        before = λ k good l e. each_good 1 s.done (piece ∷ lines after) (map (line_of terms) ls) s.texts (omega (arith, c, number, small)) k good
             (omega (arith, c, number, l)) (ap (λ z. slice_get z k) (sym all) ∙ e);
       }
 
   -- So it is with each refusal of that line.
   pub refused_at : (terms : List Term) (text rest piece after : Text) (ls : List Line) (n : ℕ) (e : LinesErr) → AreSoFar terms text rest ls → n < 2 ^ 32
-      → lines_in rest ≡ piece ∷ lines_in after → n ≡ length ls + 1 → IsRefusedAt x n piece e → IsRefused x text e
+      → lines rest ≡ piece ∷ lines after → n ≡ length ls + 1 → IsRefusedAt x n piece e → IsRefused x text e
   refused_at terms text rest piece after ls n (Syntax m) s small next number h =
       subst (IsFirstNotGood x text) (sym h.0) (first_not_good terms text rest piece after ls n s small next number h.1)
   refused_at terms text rest piece after ls n Memory s small next number h = tt

@@ -1,5 +1,5 @@
 -- Type parameters as they are read: a generic parameter, and steps with a dot before each.
-use Rattle.std.proofs.Common.{◌≡◌, ◌∙◌, ◌&&◌, ◌==◌, ◌++◌, ◌∷◌, [], refl, sym, ap, ap₂, subst, ℕ, false, true, List, append_assoc}
+use Rattle.std.proofs.Common.{◌≡◌, ◌∙◌, ◌&&◌, ◌==◌, ◌++◌, ◌∷◌, [], refl, sym, ap, ap₂, subst, ℕ, false, true, List}
 use Rattle.std.specs.Prelude.{not}
 use Rattle.std.specs.Fmt.{decimal}
 use Rattle.std.specs.List.{AllByRecursion, list_all}
@@ -8,7 +8,7 @@ use Rattle.std.proofs.lemmas.List.{append-nil}
 use Rattle.swreq_lexicon.specs.Lexicons.{pair}
 use Rattle.swreq_lexicon.specs.Views.{IsName, IsProtocol, LexiconView}
 use Rattle.swreq_lowering.specs.OfText.{IsStepOf, IsTermOf}
-use Rattle.swreq_param.specs.ComparisonLaws.{as_steps, steps_of}
+use Rattle.swreq_param.specs.ComparisonLaws.{steps_of}
 use Rattle.swreq_param.specs.declared.ids.AssocId.{AssocId}
 use Rattle.swreq_param.specs.declared.ids.NameId.{NameId}
 use Rattle.swreq_param.specs.declared.ids.ParamId.{ParamId}
@@ -17,12 +17,13 @@ use Rattle.swreq_param.specs.declared.ids.Step.{Step}
 use Rattle.swreq_param.specs.declared.ids.Step.TheVariants.{Bound, Name}
 use Rattle.swreq_param.specs.declared.owned.TypeParam.{TypeParam}
 use Rattle.swreq_param.specs.Owned.{as_term}
+use Rattle.swreq_param.specs.OwnedLaws.{heads_same}
 use Rattle.swreq_param.specs.Terms.{Term, head, with_steps}
 use Rattle.swreq_param.specs.Terms.Term.{Generic, Member}
 use Rattle.swreq_print.specs.Names.{Text, name_text, pair_at, protocol_name}
 use Rattle.swreq_print.specs.Reading.{HasNumbers, IsAssociated, IsReadableType, TellsApart, in_name}
 use Rattle.swreq_print.specs.Types.{bound_text, param_text, step_text, steps_text, type_text}
-use Rattle.swreq_print.proofs.Steps.{steps_of_text}
+use Rattle.swreq_print.proofs.Steps.{by_steps, each_step, steps_of_text}
 use Rattle.swreq_lines.specs.Pieces.{Ends, IsWithout, behind}
 use Rattle.swreq_lines.proofs.Cuts.{without_append}
 use Rattle.swreq_lines.proofs.Digits.{number_without}
@@ -60,21 +61,6 @@ no_space g h =
 -- ---- type parameters by their steps
 
 module _ (x : LexiconView) where
-  steps_text-more : (steps : List Step) (s : Step) → steps_text x (steps ++ (s ∷ [])) ≡ steps_text x steps ++ step_text x s
-  steps_text-more [] s = append-nil (step_text x s)
-  steps_text-more (q ∷ steps) s =
-      ap (λ z. step_text x q ++ z) (steps_text-more steps s) ∙ sym (append_assoc (step_text x q) (steps_text x steps) (step_text x s))
-
-  pub by_steps : (t : Term) → type_text x t ≡ param_text (head t) ++ steps_text x (steps_of t)
-  by_steps (Generic g) = sym (append-nil (param_text g))
-  by_steps (Member t s) =
-      ap (λ z. z ++ step_text x s) (by_steps t)
-      ∙ append_assoc (param_text (head t)) (steps_text x (steps_of t)) (step_text x s)
-      ∙ ap (λ z. param_text (head t) ++ z) (sym (steps_text-more (steps_of t) s))
-
-  pub each_step : (t : Term) → IsTermOf x t → AllByRecursion (IsStepOf x) (steps_of t)
-  each_step t h = (steps_of_text x (Generic (head t)) (steps_of t) (rw (as_steps t) h)).1
-
   steps_end : (steps : List Step) → Ends 46 (steps_text x steps)
   steps_end [] = tt
   steps_end (Name a ∷ steps) = refl
@@ -86,16 +72,12 @@ module _ (x : LexiconView) where
 
   -- ---- type parameters by themselves
 
-  head_of_steps : (t : Term) (steps : List Step) → head (with_steps t steps) ≡ head t
-  head_of_steps t [] = refl
-  head_of_steps t (s ∷ steps) = head_of_steps (Member t s) steps
-
   all_steps : (t : Term) (steps : List Step) → IsTermOf x t → AllByRecursion (IsStepOf x) steps → IsTermOf x (with_steps t steps)
   all_steps t [] h k = h
   all_steps t (s ∷ steps) h k = all_steps (Member t s) steps (h, k.0) k.1
 
   pub readable_by_steps : (t : TypeParam) → HasNumbers t.head → AllByRecursion (IsStepOf x) t.steps → IsReadableType x (as_term t)
-  readable_by_steps t n h = (subst HasNumbers (sym (head_of_steps (Generic t.head) t.steps)) n, all_steps (Generic t.head) t.steps tt h)
+  readable_by_steps t n h = (subst HasNumbers (sym (heads_same (Generic t.head) t.steps)) n, all_steps (Generic t.head) t.steps tt h)
 
   pub by_steps_readable : (t : TypeParam) → IsReadableType x (as_term t) → AllByRecursion (IsStepOf x) t.steps
   by_steps_readable t h = (steps_of_text x (Generic t.head) t.steps h.1).1

@@ -8,13 +8,13 @@ use Rattle.swreq_derive.specs.Derivation.TermStatement.{IsValid, Requires}
 use Rattle.swreq_derive.specs.Instances.{HasNumber, TermLine}
 use Rattle.swreq_derive.specs.Lines.{line_of}
 use Rattle.swreq_lexicon.specs.Views.{LexiconView}
+use Rattle.swreq_parts.specs.Lines.{lines}
 use Rattle.swreq_print.specs.Names.{Text}
 use Rattle.swreq_print.specs.Reading.{IsReadableRequirement, IsReadableType}
 use Rattle.swreq_lines.specs.declared.lines.LinesErr.{LinesErr}
 use Rattle.swreq_lines.specs.declared.lines.LinesErr.TheVariants.{Memory, Syntax}
 use Rattle.swreq_lines.specs.declared.rules.Fields.{Fields}
 use Rattle.swreq_lines.specs.LineTexts.{HasRuleIds, fields_of, line_text}
-use Rattle.swreq_lines.specs.Pieces.{lines_in}
 
 -- ---- lines of the text
 
@@ -58,14 +58,14 @@ AreTextsOf x n (bytes ∷ rest) (l ∷ ls) = IsTextOf x n bytes l × AreTextsOf 
 
 -- The lines of the text up to its end are the texts of these lines, which are numbered from 1.
 abbrev pub AreLinesOf : LexiconView → List Term → Text → List Line → Type 0
-AreLinesOf x terms text ls = AreTextsOf x 1 (lines_in text) (map (line_of terms) ls)
+AreLinesOf x terms text ls = AreTextsOf x 1 (lines text) (map (line_of terms) ls)
 
 -- The line with this number is the first that is not good.
 pub record IsFirstNotGood (x : LexiconView) (text : Text) (n : ℕ) : Type 0 where
   pub bytes : Text
-  pub number : HasNumber n (lines_in text) bytes
+  pub number : HasNumber n (lines text) bytes
   pub bad : IsGood x n bytes → ⊥
-  pub before : (k : ℕ) (good : Text) → k + 1 < n → slice_get (lines_in text) k ≡ Some good → IsGood x (k + 1) good
+  pub before : (k : ℕ) (good : Text) → k + 1 < n → slice_get (lines text) k ≡ Some good → IsGood x (k + 1) good
 
 -- Syntax names the first line that is not good; of want of memory nothing is said.
 abbrev pub IsRefused : LexiconView → Text → LinesErr → Type 0

@@ -9,12 +9,12 @@ ghost use Rattle.swreq_lines.specs.GoodLines.{AreLinesOf, IsRefused, IsTextOf};
 ghost use Rattle.swreq_lines.specs.LineTexts.{HasLineIds};
 ghost use Rattle.swreq_lines.specs.Written.{IsRefusedAt};
 
-use crate::pieces::next_piece;
 use crate::reading::read_line;
 use std::alloc::{AllocError, Global};
 use swreq_derive::Line;
 use swreq_lexicon::Lexicon;
 use swreq_param::ParamTable;
+use swreq_parts::first_line;
 
 /// Why lines are refused.
 #[derive(Clone, Copy, Debug, PartialEq, Eq)]
@@ -75,12 +75,11 @@ pub fn read_lines(
 {
     let mut lines: Vec<Line> = Vec::new(alloc);
     let mut rest = text;
-    while !rest.is_empty() {
-        let next = next_piece(rest, b'\n');
+    while let Some(found) = first_line(rest) {
         let n = lines.len() as u32 + 1;
-        let line = good_line(alloc, names, table, n, next.piece)?;
+        let line = good_line(alloc, names, table, n, found.line)?;
         put(&mut lines, line)?;
-        rest = next.rest;
+        rest = found.rest;
     }
     Ok(lines)
 }

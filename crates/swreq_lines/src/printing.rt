@@ -1,6 +1,6 @@
 //! The texts of lines.
 
-ghost use Rattle.std.specs.Prelude.{◌≡◌, ◌++◌, ⊤, Contains, IfSome, OnErr, OnOk, decimal, map};
+ghost use Rattle.std.specs.Prelude.{◌≡◌, ◌++◌, ⊤, Contains, IfSome, OnErr, OnOk, codes, decimal, map};
 ghost use Rattle.swreq_derive.specs.declared.lines.Line.{Line};
 ghost use Rattle.swreq_derive.specs.Facts.{statement_of};
 ghost use Rattle.swreq_derive.specs.Lines.{line_of};
@@ -32,6 +32,14 @@ fn put_statement(
     }
 }
 
+// A space and a word.
+fn put_spaced(word: &[u8], out: &mut Vec<u8>) -> Result<(), AllocError>
+    ensures { OnOk result (out.new.items ≡ out.old.items ++ (codes " " ++ word.now)) }
+{
+    append_bytes(out, b" ")?;
+    append_bytes(out, word)
+}
+
 // A space and the name of a protocol, where there is one.
 fn put_protocol(
     names: &Lexicon,
@@ -42,10 +50,7 @@ fn put_protocol(
     ensures { OnOk result (out.new.items ≡ out.old.items ++ field_text (protocol_name names.now) protocol) }
 {
     match protocol {
-        Some(p) => {
-            append_bytes(out, b" ")?;
-            append_bytes(out, names.proto_name(p))
-        }
+        Some(p) => put_spaced(names.proto_name(p), out),
         None => Ok(()),
     }
 }
@@ -56,10 +61,7 @@ fn put_name(names: &Lexicon, name: Option<NameId>, out: &mut Vec<u8>) -> Result<
     ensures { OnOk result (out.new.items ≡ out.old.items ++ field_text (name_text names.now) name) }
 {
     match name {
-        Some(a) => {
-            append_bytes(out, b" ")?;
-            append_bytes(out, names.name(a))
-        }
+        Some(a) => put_spaced(names.name(a), out),
         None => Ok(()),
     }
 }

@@ -2,7 +2,7 @@
 use Rattle.std.proofs.Common.{◌≡◌, ◌∙◌, refl, sym, ap, ℕ, zero, suc, ◌-◌, ◌<◌, ◌≤◌, arith, List, [], ◌∷◌, ◌++◌, inl, inr, length, take, drop, length-append, length-drop, append_assoc}
 use Rattle.std.proofs.Math.Nat.{add-sub_cancel}
 use Rattle.std.proofs.Math.Seq.{take-length, take-append_seam}
-use Rattle.std.proofs.lemmas.List.{append-nil, take-append-drop, take_all}
+use Rattle.std.proofs.lemmas.List.{append-nil, nil_from_length, take-append-drop, take_all}
 use Rattle.swreq_parts.specs.Lines.{line_feed, lines, HasWholeLines, IsFirstLine}
 use Rattle.swreq_parts.proofs.Lined.{lines-append, lines-last, lines-line}
 
@@ -17,12 +17,8 @@ line_end_zero text = record { within = omega arith; whole = λ l. inl refl }
 pub not_at_end : (text : List ℕ) (at : ℕ) → (drop at text ≡ [] → ⊥) → at < length text
 not_at_end text at some = by (length (drop at text)) refl
   where
-    nothing : (t : List ℕ) → length t ≡ 0 → t ≡ []
-    nothing [] e = refl
-    nothing (c ∷ t) e = absurd cc
-
     by : (n : ℕ) → length (drop at text) ≡ n → at < length text
-    by zero e = absurd (some (nothing (drop at text) e))
+    by zero e = absurd (some (nil_from_length (drop at text) e))
     by (suc n) e = let l = length-drop at text in omega arith
 
 pub all_before : (text : List ℕ) (at : ℕ) → drop at text ≡ [] → take at text ≡ text

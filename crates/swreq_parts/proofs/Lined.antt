@@ -1,6 +1,6 @@
 -- Lines of texts that are put together, and of texts that are cut.
-use Rattle.std.proofs.Common.{◌≡◌, ◌≢◌, ◌∙◌, refl, sym, ap, subst, ℕ, suc, ◌+◌, ◌-◌, ◌<◌, arith, Bool, true, false, cond, eqb, ltb, List, [], ◌∷◌, ◌++◌, inl, inr, length, take, drop, get_or, length-append}
-use Rattle.std.specs.Prelude.{Some, None, position}
+use Rattle.std.proofs.Common.{◌≡◌, ◌≢◌, ◌∙◌, refl, sym, ap, subst, ℕ, suc, ◌+◌, ◌-◌, ◌<◌, ◌≤◌, arith, Bool, true, false, cond, eqb, ltb, List, [], ◌∷◌, ◌++◌, inl, inr, length, take, drop, get_or, length-append}
+use Rattle.std.specs.Prelude.{◌==◌, Some, None, position, if◌then◌else◌}
 use Rattle.std.specs.List.{onto_first, flat_map, position_or_len}
 use Rattle.std.proofs.Math.Seq.{drop-cons}
 use Rattle.std.proofs.lemmas.Bool.{ne_eqb, eqb-true, eqb-false, ltb-false}
@@ -49,6 +49,19 @@ lines-last (c ∷ []) h some = lines-other c [] (All-head (λ z. z ≢ line_feed
 lines-last (c ∷ d ∷ line) h some =
     lines-other c (d ∷ line) (All-head (λ z. z ≢ line_feed) c (d ∷ line) h)
     ∙ ap (onto_first c) (lines-last (d ∷ line) (All-tail (λ z. z ≢ line_feed) c (d ∷ line) h) (λ e. cc))
+
+length-onto_first : (c : ℕ) (ls : List (List ℕ)) (n : ℕ) → length ls ≤ n → length (onto_first c ls) ≤ suc n
+length-onto_first c [] n h = omega arith
+length-onto_first c (l ∷ ls) n h = omega (arith, h)
+
+-- there are no more lines than bytes
+pub few_lines : (text : List ℕ) → length (lines text) ≤ length text
+few_lines [] = omega arith
+few_lines (c ∷ rest) = by (c == line_feed) (few_lines rest)
+  where
+    by : (b : Bool) → length (lines rest) ≤ length rest → length (if b then [] ∷ lines rest else onto_first c (lines rest)) ≤ suc (length rest)
+    by true l = omega (arith, l)
+    by false l = length-onto_first c (lines rest) (length rest) l
 
 -- ---- whole lines
 

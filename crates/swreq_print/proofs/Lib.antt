@@ -1,4 +1,5 @@
 mod Cutting
+pub mod Digits
 mod ReadSignatures
 mod ReadTypes
 pub mod Steps

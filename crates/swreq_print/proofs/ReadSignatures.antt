@@ -13,7 +13,8 @@ use Rattle.swreq_print.specs.Types.{param_text, type_text}
 use Rattle.swreq_print.specs.Signatures.{requirement_text, where_text, signature_text}
 use Rattle.swreq_print.specs.Reading.{in_name, TellsApart, HasNumbers, IsReadableType, IsReadableRequirement, IsReadableSignature}
 use Rattle.swreq_print.proofs.Cutting.{Stops, NoComma, cut, rest_of, numbers_apart, some_read}
-use Rattle.swreq_print.proofs.ReadTypes.{in_number, EndsType, stops_name, param_read, protocol_read, type_read}
+use Rattle.swreq_print.proofs.Digits.{in_number}
+use Rattle.swreq_print.proofs.ReadTypes.{EndsType, stops_name, param_read, protocol_read, type_read}
 
 module _ (x : LexiconView) (names : TellsApart x) where
   -- the subject, and what stands behind it

@@ -1,9 +1,9 @@
 -- The text of a type parameter says which one it is.
-use Rattle.std.proofs.Common.{◌≡◌, ◌∙◌, ◌&&◌, ◌==◌, ◌++◌, ◌∷◌, ◌+◌, ◌<◌, ◌^◌, ◌%◌, [], ap, ap₂, refl, sym, ℕ, Bool, true, false, nat_le, List, true≢false, arith, if◌then◌else◌}
+use Rattle.std.proofs.Common.{◌≡◌, ◌∙◌, ◌==◌, ◌++◌, ◌∷◌, ◌<◌, ◌^◌, [], ap, ap₂, refl, sym, ℕ, Bool, true, false, List, true≢false, arith, if◌then◌else◌}
 use Rattle.std.specs.List.{list_all, AllByRecursion}
 use Rattle.std.proofs.lemmas.Bool.{and_parts}
 use Rattle.std.proofs.lemmas.List.{append_assoc}
-use Rattle.std.proofs.lemmas.Fmt.{decimal_by_steps, decimal_is_IsNumeral}
+use Rattle.std.proofs.lemmas.Fmt.{decimal_is_IsNumeral}
 use Rattle.std.specs.Str.Parse.{digits_value}
 use Rattle.std.specs.Fmt.{decimal}
 use Rattle.swreq_param.specs.declared.ids.NameId.{NameId}
@@ -16,29 +16,15 @@ use Rattle.swreq_param.specs.Terms.Term.{Generic}
 use Rattle.swreq_param.specs.ComparisonLaws.{as_steps, steps_of}
 use Rattle.swreq_lexicon.specs.declared.pair.ProtocolName.{ProtocolName}
 use Rattle.swreq_lexicon.specs.Views.{LexiconView, IsName, IsProtocol}
-use Rattle.swreq_print.specs.declared.types.ParamForm.TheVariants.{Signature}
 use Rattle.swreq_print.specs.Names.{Text, protocol_name, name_text, pair_at}
 use Rattle.swreq_print.specs.Types.{param_text, bound_text, step_text, steps_text, type_text}
-use Rattle.swreq_lowering.specs.OfText.{IsStepOf, IsTermOf}
+use Rattle.swreq_lowering.specs.OfText.{IsStepOf}
 use Rattle.swreq_print.specs.Reading.{in_name, IsPair, TellsApart, HasNumbers, IsReadableType}
 use Rattle.swreq_print.proofs.Cutting.{Stops, cut, rest_of, first_of, empty_not}
-use Rattle.swreq_print.proofs.Steps.{steps_of_text, type_by_steps}
+use Rattle.swreq_print.proofs.Digits.{in_number, digits_only}
+use Rattle.swreq_print.proofs.Steps.{by_steps, each_step}
 
 -- ---- numbers and generic parameters
-
-abbrev pub in_number : ℕ → Bool
-in_number c = nat_le 48 c && nat_le c 57
-
-glyph : (n : ℕ) → n < 10 → in_number (48 + n) ≡ true
-glyph n lt = search (arith, lt)
-
-all_snoc : (ds : Text) (c : ℕ) → list_all in_number ds ≡ true → in_number c ≡ true → list_all in_number (ds ++ c ∷ []) ≡ true
-all_snoc [] c e f = rw f refl
-all_snoc (d ∷ ds) c e f = let p = and_parts (in_number d) _ e in rw (p.0) (all_snoc ds c p.1 f)
-
-digits_only : (n : ℕ) → n < 2 ^ 64 → list_all in_number (decimal n) ≡ true
-digits_only = decimal_by_steps (λ n bs. list_all in_number bs ≡ true) (λ n lt. rw (glyph n lt) refl)
-    (λ n ds big e. all_snoc ds (48 + n % 10) e (glyph (n % 10) (omega arith)))
 
 decimal_read : (a b : ℕ) (x y : Text) → a < 2 ^ 64 → b < 2 ^ 64 → Stops in_number x → Stops in_number y → decimal a ++ x ≡ decimal b ++ y
     → (a ≡ b) × (x ≡ y)
@@ -151,19 +137,13 @@ module _ (x : LexiconView) (names : TellsApart x) where
 
   -- ---- the whole text
 
-  by_steps : (t : Term) → type_text x t ≡ param_text (head t) ++ steps_text x (steps_of t)
-  by_steps t = ap (type_text x) (sym (as_steps t)) ∙ type_by_steps x Signature (Generic (head t)) (steps_of t)
-
-  each_step : (t : Term) → IsTermOf x t → AllByRecursion (IsStepOf x) (steps_of t)
-  each_step t h = (steps_of_text x (Generic (head t)) (steps_of t) (rw (as_steps t) h)).1
-
   pub type_read : (t u : Term) (v w : Text) → IsReadableType x t → IsReadableType x u → EndsType v → EndsType w → type_text x t ++ v ≡ type_text x u ++ w
       → (t ≡ u) × (v ≡ w)
   type_read t u v w ot ou sv sw e =
       let inner : param_text (head t) ++ (steps_text x (steps_of t) ++ v) ≡ param_text (head u) ++ (steps_text x (steps_of u) ++ w)
-      = sym (append_assoc (param_text (head t)) (steps_text x (steps_of t)) v) ∙ (ap (λ z. z ++ v) (sym (by_steps t)) ∙ (e
-      ∙ (ap (λ z. z ++ w) (by_steps u) ∙ append_assoc (param_text (head u)) (steps_text x (steps_of u)) w))) in
+      = sym (append_assoc (param_text (head t)) (steps_text x (steps_of t)) v) ∙ (ap (λ z. z ++ v) (sym (by_steps x t)) ∙ (e
+      ∙ (ap (λ z. z ++ w) (by_steps x u) ∙ append_assoc (param_text (head u)) (steps_text x (steps_of u)) w))) in
       let k = param_read (head t) (head u) (steps_text x (steps_of t) ++ v) (steps_text x (steps_of u) ++ w) ot.0 ou.0
       (steps_end (steps_of t) v sv.1) (steps_end (steps_of u) w sw.1) inner in
-      let j = steps_read (steps_of t) (steps_of u) v w (each_step t ot.1) (each_step u ou.1) sv.0 sw.0 k.1 in
+      let j = steps_read (steps_of t) (steps_of u) v w (each_step x t ot.1) (each_step x u ou.1) sv.0 sw.0 k.1 in
       (sym (as_steps t) ∙ (ap₂ (λ g xs. with_steps (Generic g) xs) k.0 j.0 ∙ as_steps u), j.1)

@@ -32,12 +32,13 @@ kind_text kinds.Arrow = codes "arrow"
 kind_text kinds.DefaultValue = codes "default"
 kind_text kinds.GenericArguments = codes "generic arguments"
 
--- a refusal at an offset of the text
+-- a refusal at an offset of the input
 abbrev pub placed_line : List ℕ → ℕ → List ℕ
 placed_line what at = codes "error: " ++ (what ++ (codes " at " ++ (decimal at ++ codes "\n")))
 
 abbrev pub refusal_line : RefusalKind → List ℕ
 refusal_line refusals.TooLarge = codes "error: text longer than 1048576 bytes\n"
+refusal_line refusals.MissingPart = codes "error: no second part\n"
 refusal_line (refusals.NotUtf8 at) = placed_line (codes "not UTF-8") at
 refusal_line (refusals.BadCharacter at) = placed_line (codes "bad character") at
 refusal_line (refusals.OpenComment at) = placed_line (codes "open comment") at
@@ -50,6 +51,7 @@ refusal_line (refusals.NoSuchMember at) = placed_line (codes "no such member") a
 refusal_line (refusals.UnknownSignature at) = placed_line (codes "unknown signature") at
 refusal_line (refusals.WrongArity at) = placed_line (codes "wrong number of arguments") at
 refusal_line (refusals.Cycle at) = placed_line (codes "circular inheritance") at
+refusal_line (refusals.DerivationSyntax line) = codes "error: derivation syntax at line " ++ (decimal line ++ codes "\n")
 refusal_line (refusals.NotATypeParameter at) = placed_line (codes "not a type parameter") at
 refusal_line (refusals.LimitRules max) = codes "error: more than " ++ (decimal max ++ codes " rules\n")
 refusal_line (refusals.LimitLength max) = codes "error: rule longer than " ++ (decimal max ++ codes " symbols\n")

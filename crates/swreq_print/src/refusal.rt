@@ -20,10 +20,12 @@ pub const OUT_OF_MEMORY: &[u8] = b"error: out of memory\n";
 pub const USAGE: &[u8] =
     b"usage: genreq (answer | signatures | rules | gen N) [--max-rules N] [--max-length N] [--trace]\n";
 
-/// Why a text, or a run, is not answered. `at` is an offset into the text, in bytes.
+/// Why an input, or a run, is not answered. `at` is an offset into the input, in bytes.
 #[derive(Clone, Copy, Debug, PartialEq, Eq)]
 pub enum RefusalKind {
     TooLarge,
+    /// An input that is to have two parts has no line between them.
+    MissingPart,
     NotUtf8 { at: u32 },
     BadCharacter { at: u32 },
     OpenComment { at: u32 },
@@ -36,6 +38,8 @@ pub enum RefusalKind {
     UnknownSignature { at: u32 },
     WrongArity { at: u32 },
     Cycle { at: u32 },
+    /// This line of a second part, counted from 1, is the first that does not fit.
+    DerivationSyntax { line: u32 },
     NotATypeParameter { at: u32 },
     /// A completion has more rules than this.
     LimitRules { max: u32 },
@@ -68,13 +72,13 @@ fn put_unsupported(kind: Kind, at: u32, out: &mut Vec<u8>) -> Result<(), AllocEr
     append_bytes(out, b"\n")
 }
 
-// `error: WHAT N THINGS`
-fn put_limit(what: &str, max: u32, things: &str, out: &mut Vec<u8>) -> Result<(), AllocError>
-    ensures { OnOk result (out.new.items ≡ out.old.items ++ (what.now ++ (decimal max ++ things.now))) }
+// A number between two texts.
+fn put_counted(before: &str, n: u32, behind: &str, out: &mut Vec<u8>) -> Result<(), AllocError>
+    ensures { OnOk result (out.new.items ≡ out.old.items ++ (before.now ++ (decimal n ++ behind.now))) }
 {
-    append_bytes(out, what.as_bytes())?;
-    append_number(out, max as u64)?;
-    append_bytes(out, things.as_bytes())
+    append_bytes(out, before.as_bytes())?;
+    append_number(out, n as u64)?;
+    append_bytes(out, behind.as_bytes())
 }
 
 fn put_refusal(refusal: &RefusalKind, out: &mut Vec<u8>) -> Result<(), AllocError>
@@ -82,6 +86,7 @@ fn put_refusal(refusal: &RefusalKind, out: &mut Vec<u8>) -> Result<(), AllocErro
 {
     match refusal {
         RefusalKind::TooLarge => append_bytes(out, TOO_LARGE),
+        RefusalKind::MissingPart => append_bytes(out, b"error: no second part\n"),
         RefusalKind::NotUtf8 { at } => put_placed("not UTF-8", *at, out),
         RefusalKind::BadCharacter { at } => put_placed("bad character", *at, out),
         RefusalKind::OpenComment { at } => put_placed("open comment", *at, out),
@@ -94,10 +99,13 @@ fn put_refusal(refusal: &RefusalKind, out: &mut Vec<u8>) -> Result<(), AllocErro
         RefusalKind::UnknownSignature { at } => put_placed("unknown signature", *at, out),
         RefusalKind::WrongArity { at } => put_placed("wrong number of arguments", *at, out),
         RefusalKind::Cycle { at } => put_placed("circular inheritance", *at, out),
+        RefusalKind::DerivationSyntax { line } => {
+            put_counted("error: derivation syntax at line ", *line, "\n", out)
+        }
         RefusalKind::NotATypeParameter { at } => put_placed("not a type parameter", *at, out),
-        RefusalKind::LimitRules { max } => put_limit("error: more than ", *max, " rules\n", out),
+        RefusalKind::LimitRules { max } => put_counted("error: more than ", *max, " rules\n", out),
         RefusalKind::LimitLength { max } => {
-            put_limit("error: rule longer than ", *max, " symbols\n", out)
+            put_counted("error: rule longer than ", *max, " symbols\n", out)
         }
         RefusalKind::ReadFault => append_bytes(out, READ_FAULT),
         RefusalKind::OutOfMemory => append_bytes(out, OUT_OF_MEMORY),

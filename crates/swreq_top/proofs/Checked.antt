@@ -1,14 +1,8 @@
 -- The check of a text: its parts one after another, and what a check without a refusal gives.
-use Rattle.std.proofs.Common.{◌≡◌, ◌≢◌, ◌∙◌, inl, inr, refl, sym, ap, subst, ℕ, zero, suc, arith, slice_index_or, List, [], ◌∷◌, ◌++◌, append_assoc, Contains, Option, None, Result, Ok, Err, map, length, ◌<◌}
-use Rattle.std.proofs.lemmas.Bool.{cases_lt}
-use Rattle.std.proofs.lemmas.List.{get_or_past}
-use Rattle.std.proofs.lemmas.List.Elements.{Contains-append_left, Contains-append_right}
-use Rattle.swreq_derive.specs.Derivation.{Source, TermFacts, TermRequirement}
-use Rattle.swreq_derive.specs.Derivation.Source.{SelfOf}
-use Rattle.swreq_derive.specs.Derivation.TermRequirement.{Conforms, IsAnyObject, Equals}
-use Rattle.swreq_derive.specs.WellFormed.{AreProtocolsWellFormed, HasValidSides, IsListWellFormed, IsWellFormed}
-use Rattle.swreq_orders.proofs.Members.{first_member, later_member, member_cases, no_member, contains_of_map}
-use Rattle.swreq_param.specs.declared.ids.ProtoId.{ProtoId}
+use Rattle.std.proofs.Common.{◌≡◌, ◌≢◌, ◌∙◌, inl, inr, refl, sym, ap, subst, ℕ, zero, suc, arith, slice_index_or, List, ◌++◌, append_assoc, Contains, Option, None, Result, Ok, Err, map, length, ◌<◌}
+use Rattle.swreq_derive.specs.Derivation.{TermFacts}
+use Rattle.swreq_derive.specs.WellFormed.{IsListWellFormed, IsWellFormed}
+use Rattle.swreq_orders.proofs.Members.{member_cases, no_member, contains_of_map}
 use Rattle.swreq_rule.specs.declared.rules.Rule.{Rule}
 use Rattle.swreq_complete.specs.Limits.{IsWithin}
 use Rattle.swreq_rounds.specs.Plan.{Plan, given}
@@ -16,15 +10,16 @@ use Rattle.swreq_rounds.specs.Rounds.{ComesTo, IsOutcome}
 use Rattle.swreq_watch.specs.declared.events.Event.{Event}
 use Rattle.swreq_lowering.specs.Requirements.{PlacedRequirement}
 use Rattle.swreq_world.specs.Closed.{IsClosed}
-use Rattle.swreq_world.specs.Worlds.{SignatureOver, TextWorld, no_signature, requirements_of}
+use Rattle.swreq_world.specs.Worlds.{SignatureOver, TextWorld, no_signature}
 use Rattle.swreq_symbols.specs.Meaning.{facts_of}
 use Rattle.swreq_valid.specs.Built.{IsBuilt}
 use Rattle.swreq_valid.specs.Machines.{list_of, protocols_of}
-use Rattle.swreq_valid.specs.Sides.{HoldsOfEach, IsValidSide, Side, protocol_sides, sides, sides_at, sides_in, sides_of}
+use Rattle.swreq_valid.specs.Sides.{Side, protocol_sides, sides}
 use Rattle.swreq_valid.specs.declared.refused.Refused.{Refused}
 use Rattle.swreq_valid.specs.declared.refused.Refused.TheVariants.{Limit, NotATypeParameter, Memory}
 use Rattle.swreq_complete.specs.declared.limit.Limits.{Limits}
 use Rattle.swreq_world.specs.FactsAt.{source_of, written_list}
+use Rattle.swreq_reqsig.proofs.WellFormed.{list_formed, protocols_formed}
 use Rattle.swreq_top.specs.Machines.{IsBuiltOver, IsChecked, SignatureComes, SignaturesCome}
 use Rattle.swreq_top.specs.Machines.IsChecked.{protocols_built, protocols_refused}
 use Rattle.swreq_top.specs.Machines.SignaturesCome.{all, next, stopped}
@@ -97,65 +92,21 @@ check_tells limits w (protocols_built rules come signatures e) = past_protocols 
 
 -- ---- well formed texts
 
-of_sides : (f : TermFacts) (s : Source) (r : TermRequirement) (left right : ℕ) → HoldsOfEach (IsValidSide f) (sides_at s r left right)
-    → HasValidSides f s r
-of_sides f s (Conforms t p) left right h = h (record { source = s; term = t; at = left }) (first_member _ [])
-of_sides f s (IsAnyObject t) left right h = h (record { source = s; term = t; at = left }) (first_member _ [])
-of_sides f s (Equals t u) left right h = (
-  h (record { source = s; term = t; at = left }) (first_member _ (record { source = s; term = u; at = right } ∷ [])),
-  h (record { source = s; term = u; at = right }) (later_member _ _ (record { source = s; term = u; at = right } ∷ []) (first_member _ [])),
-)
-
-in_sides : (s : Source) (rs : List PlacedRequirement) (r : PlacedRequirement) (x : Side) → Contains rs r → Contains (sides_of s r) x
-    → Contains (sides s rs) x
-in_sides s [] r x c k = no_member r c
-in_sides s (q ∷ rs) r x c k = elim (member_cases q r rs c) [
-  | inl e ↦ Contains-append_left (sides_of s q) (sides s rs) x (subst (λ (z : PlacedRequirement). Contains (sides_of s z) x) e k)
-  | inr d ↦ Contains-append_right (sides_of s q) (sides s rs) x (in_sides s rs r x d k)
-]
-
--- a list whose sides are valid is well formed
-of_list : (f : TermFacts) (s : Source) (rs : List PlacedRequirement) → HoldsOfEach (IsValidSide f) (sides s rs) → (r : TermRequirement)
-    → Contains (map (λ (q : PlacedRequirement). q.requirement) rs) r → HasValidSides f s r
-of_list f s rs h r c =
-    let q = contains_of_map (λ (q : PlacedRequirement). q.requirement) rs r c in
-    subst (HasValidSides f s) (sym q.2) (of_sides f s q.0.requirement q.0.left_at q.0.right_at (λ x k. h x (in_sides s rs q.0 x q.1 k)))
-
-in_protocols_sides : (w : TextWorld) (ps : List ProtoId) (p : ProtoId) (x : Side) → Contains ps p
-    → Contains (sides (SelfOf p) (requirements_of w p)) x → Contains (sides_in w ps) x
-in_protocols_sides w [] p x c k = no_member p c
-in_protocols_sides w (q ∷ ps) p x c k = elim (member_cases q p ps c) [
-  | inl e ↦ Contains-append_left (sides (SelfOf q) (requirements_of w q)) (sides_in w ps) x (subst (λ (z : ProtoId). Contains (sides (SelfOf z) (requirements_of w z)) x) e k)
-  | inr d ↦ Contains-append_right (sides (SelfOf q) (requirements_of w q)) (sides_in w ps) x (in_protocols_sides w ps p x d k)
-]
-
 module _ (limits : Limits) (w : TextWorld) (closed : IsClosed w) where
-  protocol_declared : (p : ProtoId) (r : PlacedRequirement) → Contains (requirements_of w p) r → Contains w.lexicon.written_order p
-  protocol_declared p r c = elim (cases_lt p.rank (length w.requirements)) [
-    | inl l ↦ (closed.ids.written_order p).1 (subst (λ (n : ℕ). p.rank < n) closed.protocols l)
-    | inr l ↦ no_member r (subst (λ (z : List PlacedRequirement). Contains z r) (get_or_past w.requirements p.rank [] l) c)
-  ]
-
-  protocols_formed : HoldsOfEach (IsValidSide (facts_of w)) (protocol_sides w) → AreProtocolsWellFormed (facts_of w)
-  protocols_formed h p r c =
-      let q = contains_of_map (λ (q : PlacedRequirement). q.requirement) (requirements_of w p) r c in
-      of_list (facts_of w) (SelfOf p) (requirements_of w p)
-      (λ x k. h x (in_protocols_sides w w.lexicon.written_order p x (protocol_declared p q.0 q.1) k)) r c
-
   lists_formed : (rules : List Rule) {gs : Signatures} {told : List Event} → SignaturesCome limits w rules gs None told
       → (g : SignatureOver PlacedRequirement)
       → Contains gs g → IsListWellFormed (facts_of w) (source_of g)
   lists_formed rules all g c = no_member g c
   lists_formed rules (next {g = h} {gs = gs} own one rest e) g c = elim (member_cases h g gs c) [
     | inl i ↦ subst (λ (z : SignatureOver PlacedRequirement). IsListWellFormed (facts_of w) (source_of z)) (sym i)
-        (λ r k. of_list (facts_of w) (source_of h) h.requirements one.1 r k)
+        (λ r k. list_formed (facts_of w) (source_of h) h.requirements one.1 r k)
     | inr k ↦ lists_formed rules rest g k
   ]
 
   -- a text that is not refused is well formed
   pub is_formed : {rules : List Rule} {told : List Event} → IsBuiltOver limits w rules told → IsWellFormed (facts_of w) (map source_of w.signatures)
   is_formed {rules = rules} built = record {
-    protocols = protocols_formed built.protocols.1;
+    protocols = protocols_formed w closed built.protocols.1;
     lists = λ s c. let g = contains_of_map source_of w.signatures s c in
         subst (IsListWellFormed (facts_of w)) (sym g.2) (lists_formed rules built.signatures g.0 g.1);
   }

@@ -101,6 +101,7 @@ no_name_refused e (within, (s, stands, refuses)) = no_name_of_bare e (subst (λ 
 
 never_without_world : (refusal : RefusalKind) → HasNoWorld [] refusal → ⊥
 never_without_world refusals.TooLarge long = omega (arith, long)
+never_without_world refusals.MissingPart has = has
 never_without_world (refusals.NotUtf8 at) has = never_both [] [] (lexical.NotUtf8 at) has_no_tokens has.1
 never_without_world (refusals.BadCharacter at) has = never_both [] [] (lexical.BadCharacter at) has_no_tokens has.1
 never_without_world (refusals.OpenComment at) has = never_both [] [] (lexical.OpenComment at) has_no_tokens has.1
@@ -113,6 +114,7 @@ never_without_world (refusals.NoSuchMember at) has = no_name_refused (names.NoSu
 never_without_world (refusals.UnknownSignature at) has = no_name_refused (names.UnknownSignature at) has
 never_without_world (refusals.WrongArity at) has = no_name_refused (names.WrongArity at) has
 never_without_world (refusals.Cycle at) has = no_name_refused (names.Cycle at) has
+never_without_world (refusals.DerivationSyntax line) has = has
 never_without_world (refusals.NotATypeParameter at) has = has
 never_without_world (refusals.LimitRules most) has = has
 never_without_world (refusals.LimitLength most) has = has

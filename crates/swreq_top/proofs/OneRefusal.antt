@@ -190,6 +190,7 @@ module _ (line : CommandLine) (text : List ℕ) where
 
     no_world_read : (o : Outcome) (refusal : RefusalKind) → HasNoWorld text refusal → o ≡ refused_with refusal → IsReadAs r.parsed o
     no_world_read o refusals.TooLarge long is = absurd (omega (arith, long, r.exact.within))
+    no_world_read o refusals.MissingPart has is = absurd has
     no_world_read o (refusals.NotUtf8 at) has is = by_read o _ ((r.exact.lex (lexical.NotUtf8 at)).1 has.1) is
     no_world_read o (refusals.BadCharacter at) has is = by_read o _ ((r.exact.lex (lexical.BadCharacter at)).1 has.1) is
     no_world_read o (refusals.OpenComment at) has is = by_read o _ ((r.exact.lex (lexical.OpenComment at)).1 has.1) is
@@ -202,6 +203,7 @@ module _ (line : CommandLine) (text : List ℕ) where
     no_world_read o (refusals.UnknownSignature at) has is = by_names o (names.UnknownSignature at) has is
     no_world_read o (refusals.WrongArity at) has is = by_names o (names.WrongArity at) has is
     no_world_read o (refusals.Cycle at) has is = by_names o (names.Cycle at) has is
+    no_world_read o (refusals.DerivationSyntax line) has is = absurd has
     no_world_read o (refusals.NotATypeParameter at) has is = absurd has
     no_world_read o (refusals.LimitRules max) has is = absurd has
     no_world_read o (refusals.LimitLength max) has is = absurd has
@@ -271,6 +273,7 @@ module _ (line : CommandLine) (text : List ℕ) where
     where
       is_too_large : (kind : RefusalKind) → HasNoWorld text kind → kind ≡ refusals.TooLarge
       is_too_large refusals.TooLarge has = refl
+      is_too_large refusals.MissingPart has = absurd has
       is_too_large (refusals.NotUtf8 at) has = absurd (omega (arith, long, has.0))
       is_too_large (refusals.BadCharacter at) has = absurd (omega (arith, long, has.0))
       is_too_large (refusals.OpenComment at) has = absurd (omega (arith, long, has.0))
@@ -283,6 +286,7 @@ module _ (line : CommandLine) (text : List ℕ) where
       is_too_large (refusals.UnknownSignature at) has = absurd (omega (arith, long, has.0))
       is_too_large (refusals.WrongArity at) has = absurd (omega (arith, long, has.0))
       is_too_large (refusals.Cycle at) has = absurd (omega (arith, long, has.0))
+      is_too_large (refusals.DerivationSyntax line) has = absurd has
       is_too_large (refusals.NotATypeParameter at) has = absurd has
       is_too_large (refusals.LimitRules max) has = absurd has
       is_too_large (refusals.LimitLength max) has = absurd has

@@ -1,10 +1,9 @@
 -- What is found of derivations over the ids of a table, and what that says over type parameters.
 use Rattle.std.proofs.Common.{◌≡◌, ◌∙◌, refl, sym, ap, subst, ℕ, ◌<◌, arith, List, [], ◌∷◌, ◌++◌, get_or, length, map}
-use Rattle.std.specs.Prelude.{Contains, Some, slice_get}
+use Rattle.std.specs.Prelude.{Some, slice_get}
 use Rattle.std.proofs.Math.ListN.{get_or-map}
 use Rattle.std.proofs.lemmas.List.{length-map, map-append}
-use Rattle.std.proofs.lemmas.Option.{get_or_from_slice_get, slice_get_within}
-use Rattle.swreq_orders.proofs.Elements.{get_map}
+use Rattle.swreq_orders.proofs.Elements.{get_contains, get_map}
 use Rattle.swreq_derive.specs.declared.lines.DerivRule.{DerivRule}
 use Rattle.swreq_derive.specs.declared.lines.DerivRule.TheVariants as Rule
 use Rattle.swreq_derive.specs.declared.lines.Line.{Line}
@@ -43,9 +42,6 @@ use Rattle.swreq_verify.proofs.ReadBack.{at_place}
 
 -- ---- ids of lines
 
-contains_at : {A : Type 0} (xs : List A) (k : ℕ) (y : A) → slice_get xs k ≡ Some y → Contains xs y
-contains_at xs k y e = (k, slice_get_within xs k y e, get_or_from_slice_get xs k y y e)
-
 module _ (w : IdWorld) (f : FuncId) where
   rule_over : (r : DerivRule) → HasRuleIds w.lexicon (fields_of r) → IsRuleOf (facts_at w f) r
   rule_over Rule.Generic h = tt
@@ -76,7 +72,7 @@ module _ (w : IdWorld) (f : FuncId) where
 
     pub lines_over : (s : Section) → IsSectionOver w.lexicon terms s → AreLinesOf terms (facts_at w f) s.derivation.items
     lines_over s h k l e =
-        let ids = h.ids l (contains_at s.derivation.items k l e) in
+        let ids = h.ids l (get_contains s.derivation.items k l e) in
         let readable =
         at_place (IsReadableLine w.lexicon) (map (line_of terms) s.derivation.items) k (line_of terms l) h.section.derivation
         (get_map (line_of terms) s.derivation.items k l e) in

@@ -7,12 +7,11 @@ use Rattle.swreq_lexicon.specs.Views.{LexiconView}
 use Rattle.swreq_param.specs.Tables.{Extends}
 use Rattle.swreq_param.specs.Terms.{Term}
 use Rattle.swreq_parts.specs.Lines.{lines}
-use Rattle.swreq_parts.proofs.Lined.{lines-some}
+use Rattle.swreq_parts.proofs.Lined.{few_lines, lines-some}
 use Rattle.swreq_print.specs.Names.{Text}
 use Rattle.swreq_verify.specs.declared.reading.Section.{Section}
 use Rattle.swreq_verify.specs.Laying.{AreHeaded, IsFront, IsNoSection, IsSectionOver, section_of}
 use Rattle.swreq_verify.specs.SecondParts.{AreSections, IsFirstMisfit, IsSection, section_lines}
-use Rattle.swreq_verify.proofs.ReadBack.{few_lines}
 use Rattle.swreq_verify.proofs.Sectioned.{each_append, flat, flat-push, length-texts_from, no_section, too_many}
 use Rattle.swreq_verify.proofs.Staying.{each_stays, sections_stay}
 

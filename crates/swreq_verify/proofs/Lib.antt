@@ -4,4 +4,4 @@ pub mod BodyCut
 pub mod Staying
 pub mod Laid
 pub mod Judged
-pub mod Answered
+pub mod InTurn

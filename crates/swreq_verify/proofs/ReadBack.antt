@@ -1,42 +1,17 @@
 -- What was read of the lines under a heading.
-use Rattle.std.proofs.Common.{◌≡◌, ◌∙◌, refl, sym, ap, ap₂, subst, ℕ, zero, suc, ◌+◌, ◌-◌, ◌^◌, ◌<◌, ◌≤◌, arith, Bool, true, false, List, [], ◌∷◌, ◌++◌, length, append_assoc}
-use Rattle.std.specs.Prelude.{Some, slice_get, if◌then◌else◌, ◌==◌}
-use Rattle.std.specs.List.{AllByRecursion, onto_first}
+use Rattle.std.proofs.Common.{◌≡◌, ◌∙◌, refl, sym, ap, ap₂, subst, ℕ, zero, suc, ◌+◌, ◌-◌, ◌^◌, ◌<◌, ◌≤◌, arith, List, [], ◌∷◌, ◌++◌, length, append_assoc}
+use Rattle.std.specs.Prelude.{Some, slice_get}
+use Rattle.std.specs.List.{AllByRecursion}
 use Rattle.std.proofs.lemmas.Option.{slice_get_within}
 use Rattle.swreq_derive.specs.Instances.{HasNumber, TermLine}
 use Rattle.swreq_lexicon.specs.Views.{LexiconView}
 use Rattle.swreq_lines.specs.GoodLines.{AreTextsOf, IsFirstNotGood, IsGood, IsReadableLine}
-use Rattle.swreq_lines.specs.LineTexts.{line_text}
-use Rattle.swreq_lines.specs.Pieces.{in_front, lines_in}
+use Rattle.swreq_lines.specs.LineTexts.{line_text, texts_from}
 use Rattle.swreq_parts.specs.Lines.{lines}
+use Rattle.swreq_parts.proofs.Lined.{few_lines}
 use Rattle.swreq_print.specs.Names.{Text}
 use Rattle.swreq_verify.specs.Laying.{AreHeaded, IsBadUnder, IsFront, IsUnder}
-use Rattle.swreq_verify.specs.SecondParts.{IsHeading, texts_from}
-
--- ---- lines
-
-front_same : (c : ℕ) (ls : List Text) → in_front c ls ≡ onto_first c ls
-front_same c [] = refl
-front_same c (l ∷ ls) = refl
-
-pub lines_same : (t : Text) → lines_in t ≡ lines t
-lines_same [] = refl
-lines_same (c ∷ t) =
-    let more = lines_same t in
-    ap₂ (λ (a b : List Text). if c == 10 then a else b) (ap (λ z. [] ∷ z) more) (front_same c (lines_in t) ∙ ap (onto_first c) more)
-
-length-onto_first : (c : ℕ) (ls : List Text) (n : ℕ) → length ls ≤ n → length (onto_first c ls) ≤ suc n
-length-onto_first c [] n h = omega arith
-length-onto_first c (l ∷ ls) n h = omega (arith, h)
-
--- there are no more lines than bytes
-pub few_lines : (t : Text) → length (lines t) ≤ length t
-few_lines [] = omega arith
-few_lines (c ∷ t) = by (c == 10) (few_lines t)
-  where
-    by : (b : Bool) → length (lines t) ≤ length t → length (if b then [] ∷ lines t else onto_first c (lines t)) ≤ suc (length t)
-    by true l = omega (arith, l)
-    by false l = length-onto_first c (lines t) (length t) l
+use Rattle.swreq_verify.specs.SecondParts.{IsHeading}
 
 pub at_place : {A : Type 0} (P : A → Type 0) (xs : List A) (k : ℕ) (y : A) → AllByRecursion P xs → slice_get xs k ≡ Some y → P y
 at_place P [] k y h e = absurd cc
@@ -56,10 +31,10 @@ module _ (x : LexiconView) where
       (ap₂ (λ (a : Text) (b : List Text). a ∷ b) h.0.is more.0, (h.0.readable, more.1))
 
   pub front_read : (text under rest heading : Text) (ds : List TermLine) → lines text ≡ lines under ++ lines rest → AreHeaded (lines rest)
-      → AreTextsOf x 1 (lines_in under) ds
+      → AreTextsOf x 1 (lines under) ds
       → IsFront x (heading ∷ lines text) (record { heading = heading; derivation = ds }) (lines rest)
   front_read text under rest heading ds split headed h =
-      let same = sym (lines_same under) ∙ (texts_are 1 (lines_in under) ds h).0 in
+      let same = (texts_are 1 (lines under) ds h).0 in
       record { lines_are = ap (λ z. heading ∷ z) (split ∙ ap (λ z. z ++ lines rest) same); headed = headed }
 
   -- ---- the first line that is not
@@ -106,13 +81,11 @@ module _ (x : LexiconView) where
       → AllByRecursion IsUnder (lines under)
       → length under ≤ 1048576 → IsFirstNotGood x under n → IsBadUnder x (heading ∷ lines text) n
   bad_read text under rest heading n split is_heading all short first =
-      let same = lines_same under in
-      let number = subst (λ ls. HasNumber n ls first.bytes) same first.number in
+      let number = first.number in
       let within = slice_get_within (lines under) (n - 1) first.bytes number.1 in
       let few = few_lines under in
       subst (λ z. IsBadUnder x (heading ∷ z) n) (sym split)
-      (bad_in heading (lines under) (lines rest) n first.bytes is_heading all (bound number.0 within few) number first.bad
-      (λ k good l e. first.before k good l (subst (λ ls. slice_get ls k ≡ Some good) (sym same) e)))
+      (bad_in heading (lines under) (lines rest) n first.bytes is_heading all (bound number.0 within few) number first.bad first.before)
     where
       bound : 0 < n → n - 1 < length (lines under) → length (lines under) ≤ length under → n < 2 ^ 32
       bound some within few = omega arith
@@ -120,7 +93,7 @@ module _ (x : LexiconView) where
   -- its number is at most the length of the text
   pub bad_number : (under : Text) (n : ℕ) → IsFirstNotGood x under n → n ≤ length under
   bad_number under n first =
-      let number = subst (λ ls. HasNumber n ls first.bytes) (lines_same under) first.number in
+      let number = first.number in
       let within = slice_get_within (lines under) (n - 1) first.bytes number.1 in
       let few = few_lines under in
       let some = number.0 in

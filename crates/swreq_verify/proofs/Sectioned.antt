@@ -3,14 +3,14 @@ use Rattle.std.proofs.Common.{◌≡◌, ◌∙◌, refl, sym, ap, subst, ℕ, s
 use Rattle.std.specs.Prelude.{replicate}
 use Rattle.std.specs.List.{AllByRecursion, flat_map}
 use Rattle.std.proofs.lemmas.Grind.{flat_map-append}
-use Rattle.std.proofs.lemmas.List.{append-nil, length-replicate}
+use Rattle.std.proofs.lemmas.List.{append-nil, length-replicate, nil_from_length}
 use Rattle.swreq_derive.specs.Instances.{TermLine}
 use Rattle.swreq_lexicon.specs.Views.{LexiconView}
 use Rattle.swreq_lines.specs.GoodLines.{IsReadableLine}
-use Rattle.swreq_lines.specs.LineTexts.{line_text}
+use Rattle.swreq_lines.specs.LineTexts.{line_text, texts_from}
 use Rattle.swreq_print.specs.Names.{Text}
 use Rattle.swreq_verify.specs.Laying.{AreHeaded, IsNoSection, IsUnder}
-use Rattle.swreq_verify.specs.SecondParts.{AreSections, Begin, IsFirstMisfit, IsHeading, IsSection, IsStuck, TermSection, section_lines, texts_from}
+use Rattle.swreq_verify.specs.SecondParts.{AreSections, Begin, IsFirstMisfit, IsHeading, IsSection, IsStuck, TermSection, section_lines}
 
 pub each_append : {A : Type 0} (P : A → Type 0) (xs ys : List A) → AllByRecursion P xs → AllByRecursion P ys → AllByRecursion P (xs ++ ys)
 each_append P [] ys h k = k
@@ -19,10 +19,6 @@ each_append P (x ∷ xs) ys h k = (h.0, each_append P xs ys h.1 k)
 each_replicate : {A : Type 0} (P : A → Type 0) (n : ℕ) (a : A) → P a → AllByRecursion P (replicate n a)
 each_replicate P zero a h = tt
 each_replicate P (suc n) a h = (h, each_replicate P n a h)
-
-pub nothing : {A : Type 0} (xs : List A) → length xs ≡ 0 → xs ≡ []
-nothing [] e = refl
-nothing (x ∷ xs) e = absurd cc
 
 -- ---- where lines that begin with a space end
 
@@ -143,7 +139,7 @@ module _ (x : LexiconView) where
   one_too_many : (count : ℕ) (ss : List TermSection) (line : Text) → Each ss → length ss ≡ count → (0 < length ss → IsHeading line)
       → Begin x count (flat ss ++ (line ∷ [])) → ⊥
   one_too_many count [] line h all heads (more, us, a) =
-      let none = nothing us (a.counted ∙ sym all) in
+      let none = nil_from_length us (a.counted ∙ sym all) in
       let e : line ∷ more ≡ [] = a.lines_are ∙ ap flat none in
       cc
   one_too_many count (s ∷ ss) line h all heads (more, us, a) =
@@ -151,7 +147,7 @@ module _ (x : LexiconView) where
       ∙ a.lines_are) in
       let n = found.3 in
       let m = a.counted in
-      let none = nothing found.0 (omega arith) in
+      let none = nil_from_length found.0 (omega arith) in
       let e : line ∷ more ≡ [] = found.1 ∙ ap flat none in
       cc
 

@@ -6,11 +6,11 @@ use Rattle.swreq_derive.specs.Instances.{TermLine}
 use Rattle.swreq_derive.specs.Lines.{line_of}
 use Rattle.swreq_lexicon.specs.Views.{LexiconView}
 use Rattle.swreq_lines.specs.GoodLines.{IsReadableLine}
-use Rattle.swreq_lines.specs.LineTexts.{HasLineIds, line_text}
+use Rattle.swreq_lines.specs.LineTexts.{HasLineIds, line_text, texts_from}
 use Rattle.swreq_param.specs.Terms.{Term}
 use Rattle.swreq_print.specs.Names.{Text}
 use Rattle.swreq_verify.specs.declared.reading.Section.{Section}
-use Rattle.swreq_verify.specs.SecondParts.{IsHeading, IsSection, TermSection, section_lines, texts_from}
+use Rattle.swreq_verify.specs.SecondParts.{IsHeading, IsSection, TermSection, section_lines}
 
 -- ---- lines
 

@@ -3,4 +3,5 @@ pub mod Laying
 pub mod Judgements
 pub mod ByTable
 pub mod Listing
+pub mod Turns
 pub mod Outputs

@@ -23,11 +23,14 @@ judgement_line j = judgement_text j ++ codes "\n"
 abbrev pub judgement_lines : List Judgement → Text
 judgement_lines js = flat_map judgement_line js
 
+-- This is said of the section under the query at this place.
+abbrev pub IsSaidAt : TextWorld → List TermSection → ℕ → Judgement → Type 0
+IsSaidAt w ss k j = (q : TermQuery) (s : TermSection) → slice_get w.queries k ≡ Some q → slice_get ss k ≡ Some s → IsJudged w q s j
+
 -- There is one judgement for each query, on the section that stands under it.
 pub record AreJudged (w : TextWorld) (ss : List TermSection) (js : List Judgement) : Type 0 where
   pub count : length js ≡ length w.queries
-  pub each : (k : ℕ) (q : TermQuery) (s : TermSection) (j : Judgement)
-      → slice_get w.queries k ≡ Some q → slice_get ss k ≡ Some s → slice_get js k ≡ Some j → IsJudged w q s j
+  pub each : (k : ℕ) (j : Judgement) → slice_get js k ≡ Some j → IsSaidAt w ss k j
 
 -- The second part has one section for each query, and the lines of their judgements are printed.
 pub record IsOutput (w : TextWorld) (second out : Text) : Type 0 where

@@ -1,10 +1,10 @@
 -- The second part of an input: what stands under the queries of the first.
-use Rattle.std.specs.Prelude.{◌≡◌, ◌≢◌, ◌+◌, ℕ, suc, List, [], ◌∷◌, ◌++◌, length}
+use Rattle.std.specs.Prelude.{◌≡◌, ◌≢◌, ◌+◌, ℕ, List, [], ◌∷◌, ◌++◌, length}
 use Rattle.std.specs.List.{AllByRecursion, flat_map}
 use Rattle.swreq_derive.specs.Instances.{TermLine}
 use Rattle.swreq_lexicon.specs.Views.{LexiconView}
 use Rattle.swreq_lines.specs.GoodLines.{IsReadableLine}
-use Rattle.swreq_lines.specs.LineTexts.{line_text}
+use Rattle.swreq_lines.specs.LineTexts.{texts_from}
 use Rattle.swreq_print.specs.Names.{Text}
 
 -- ---- sections
@@ -27,11 +27,6 @@ IsHeading (c ∷ rest) = c ≢ space
 pub record IsSection (x : LexiconView) (s : TermSection) : Type 0 where
   pub heading : IsHeading s.heading
   pub derivation : AllByRecursion (IsReadableLine x) s.derivation
-
--- the texts of the lines of a derivation, which are numbered from n on
-abbrev pub texts_from : LexiconView → ℕ → List TermLine → List Text
-texts_from x n [] = []
-texts_from x n (l ∷ ls) = line_text x n l ∷ texts_from x (suc n) ls
 
 -- the heading, and under it the derivation, numbered from 1
 abbrev pub section_lines : LexiconView → TermSection → List Text

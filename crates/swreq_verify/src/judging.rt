@@ -1,5 +1,5 @@
 // What is said of derivations.
-ghost use Rattle.std.specs.Prelude.{◌≡◌, ◌↔◌, ◌++◌, ◌∷◌, [], IfOk, IfSome, IsTrue, List, MatchOption, length, map};
+ghost use Rattle.std.specs.Prelude.{◌≡◌, ◌<◌, ◌↔◌, ◌++◌, ◌∷◌, [], IfOk, IfSome, IsTrue, List, MatchOption, length, map};
 ghost use Rattle.std.specs.List.{AllByRecursion};
 ghost use Rattle.swreq_derive.specs.declared.lines.Line.{Line};
 ghost use Rattle.swreq_derive.specs.Derivation.TermStatement.{Requires};
@@ -12,11 +12,12 @@ ghost use Rattle.swreq_verify.specs.ByTable.{IsFound, IsQueryOver, IsQuestionOve
 ghost use Rattle.swreq_verify.specs.Judgements.{EndsIn, IsJudged};
 ghost use Rattle.swreq_verify.specs.Laying.{IsSectionOver, section_of};
 ghost use Rattle.swreq_verify.specs.Listing.{IsListOf};
-ghost use Rattle.swreq_verify.specs.Outputs.{AreJudged};
+ghost use Rattle.swreq_verify.specs.Outputs.{AreJudged, IsSaidAt};
 
 use crate::asking::{Question, question_of};
 use crate::listing::{Listed, list_of};
 use crate::reading::Section;
+use crate::turns::turns_of;
 use std::alloc::{AllocError, Global};
 use swreq_derive::{Line, Requirement, Statement, check};
 use swreq_lowering::Query;
@@ -167,7 +168,30 @@ fn judgement_of(
     }
 }
 
-/// What is said of the section under each query. The list of a signature is made once for queries on it that follow one another.
+/// What is said of the section under the query at this place.
+fn judgement_at(
+    alloc: Global,
+    world: &World,
+    table: &ParamTable,
+    sections: &[Section],
+    k: usize,
+    kept: Option<Listed>,
+) -> Result<Said, AllocError>
+    requires text { IsTextOver table.now world.now }
+    requires count { length sections.now ≡ length world.now.queries }
+    requires each { AllByRecursion (IsSectionOver world.now.lexicon table.now) sections.now }
+    requires k { k < length world.now.queries }
+    requires kept { IfSome kept (IsListOf world.now) }
+    ensures said { IfOk result (λ s. IsSaidAt (world_by table.now world.now) (map (section_of table.now) sections.now) k s.judgement) }
+    ensures kept { IfOk result (λ s. IfSome s.kept (IsListOf world.now)) }
+{
+    let queries = world.queries();
+    let query = queries[k];
+    let section = &sections[k];
+    judgement_of(alloc, world, table, query, section, kept)
+}
+
+/// What is said of the section under each query. Queries on one signature are judged one after the other, so that its list is made once.
 pub(crate) fn judgements(
     alloc: Global,
     world: &World,
@@ -180,14 +204,14 @@ pub(crate) fn judgements(
     ensures { IfOk result (λ v. AreJudged (world_by table.now world.now) (map (section_of table.now) sections.now) v.items) }
 {
     let queries = world.queries();
-    let mut found = Vec::new(alloc);
+    let turns = turns_of(alloc, queries)?;
+    let mut found = vec![in alloc; Judgement::Skipped; queries.len()]?;
     let mut kept = None;
-    for k in 0..sections.len() {
-        let query = queries[k];
-        let section = &sections[k];
-        let said = judgement_of(alloc, world, table, query, section, kept)?;
+    for n in 0..turns.len() {
+        let turn = turns[n];
+        let said = judgement_at(alloc, world, table, sections, turn.query, kept)?;
         kept = said.kept;
-        found.push(said.judgement)?;
+        found[turn.query] = said.judgement;
     }
     Ok(found)
 }

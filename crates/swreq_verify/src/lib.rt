@@ -8,6 +8,7 @@ mod listing;
 mod printing;
 mod reading;
 mod sections;
+mod turns;
 mod verifying;
 
 pub use judging::Judgement;

@@ -23,7 +23,18 @@ fn fresh(alloc: Global, world: &World, f: FuncId) -> Result<Listed, AllocError>
     Ok(Listed { signature: f, list })
 }
 
-/// The list of a signature: the one that was kept, where it is of the same signature.
+/// The list of a signature, made of that of another.
+fn changed(alloc: Global, world: &World, last: Listed, f: FuncId) -> Result<Listed, AllocError>
+    requires last { IsListOf world.now last }
+    requires f { f.place < length world.now.signatures }
+    ensures signature { IfOk result (λ l. l.signature ≡ f) }
+    ensures list { IfOk result (IsListOf world.now) }
+{
+    let list = world.bare_signature_after(alloc, last.signature, last.list, f)?;
+    Ok(Listed { signature: f, list })
+}
+
+/// The list of a signature: the one that was kept, where it is of the same signature, or one that is made of that.
 pub(crate) fn list_of(
     alloc: Global,
     world: &World,
@@ -41,7 +52,7 @@ pub(crate) fn list_of(
             if last.signature == f {
                 Ok(last)
             } else {
-                fresh(alloc, world, f)
+                changed(alloc, world, last, f)
             }
         }
     }

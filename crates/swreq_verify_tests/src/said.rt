@@ -7,7 +7,7 @@ ghost use Rattle.swreq_symbols.specs.Known.{IsTextOver};
 
 use std::alloc::Global;
 use std::test::Fail;
-use swreq_decl::Skeleton;
+use swreq_decl::{ParseErr, Skeleton, parse};
 use swreq_lines::LinesErr;
 use swreq_param::ParamTable;
 use swreq_parts::{TwoParts, parts};
@@ -64,6 +64,14 @@ fn said_of(alloc: Global, parts: TwoParts) -> Result<String, Fail> {
     said(alloc, &world, &mut table, parts.second)
 }
 
+/// The same of an input, which may have one part.
+fn said_of_input(alloc: Global, input: &[u8]) -> Result<String, Fail> {
+    match parts(input) {
+        None => Ok(format!(in alloc; "no second part\n")?),
+        Some(parts) => said_of(alloc, parts),
+    }
+}
+
 /// A text with a type parameter of which there are endlessly many members.
 const ENDLESS: &str = "\
 protocol N { associatedtype Next: N }
@@ -87,6 +95,31 @@ const SAID: &[(&str, &str)] = &[
         "yes\n  1. τ_0_0 : N by CONF 2\n  2. τ_0_0.Next : N by ASSOCCONF N 1 from 0\nno",
         "bad line 1\nskipped\n",
     ),
+    (
+        "yes\n  1. τ_0_0 : N by CONF 1\n  2. τ_0_0.Next : N by ASSOCCONF N 1 from 0\nno",
+        "bad line 2\nskipped\n",
+    ),
+    // A premise too many, or too few; a requirement of another kind, or one that is not there.
+    (
+        "yes\n  1. τ_0_0 : N by CONF 1 from 1\nno\n",
+        "bad line 1\nskipped\n",
+    ),
+    (
+        "yes\n  1. τ_0_0 : N by CONF 1\n  2. τ_0_0.Next : N by ASSOCCONF N 1\nno\n",
+        "bad line 2\nskipped\n",
+    ),
+    (
+        "yes\n  1. τ_0_0 : N by CONF 1\n  2. τ_0_0.Next : N by ASSOCCONF N 1 from 1, 1\nno\n",
+        "bad line 2\nskipped\n",
+    ),
+    (
+        "yes\n  1. τ_0_0 : N by LAYOUT 1\nno\n",
+        "bad line 1\nskipped\n",
+    ),
+    (
+        "yes\n  1. τ_0_0 : N by CONF 0\nno\n",
+        "bad line 1\nskipped\n",
+    ),
     ("yes\n  1. τ_0_0 : N by CONF 1\nno\n", "not this\nskipped\n"),
     ("yes\nno\n", "not this\nskipped\n"),
     // The query's requirement stands in a line before the last.
@@ -100,6 +133,11 @@ const SAID: &[(&str, &str)] = &[
         "yes \n  1. τ_0_0 : N by CONF 1\nYes\n",
         "skipped\nskipped\n",
     ),
+    (
+        "yes\r\n  1. τ_0_0 : N by CONF 1\n%%\n",
+        "skipped\nskipped\n",
+    ),
+    ("\u{feff}yes\nno\n", "skipped\nskipped\n"),
     ("no\n  1. τ_0_0 : N by CONF\nno\n", "syntax at line 2\n"),
     (
         "yes\n  1. τ_0_0 : N by CONF\n  2. τ_0_0.Next : N by ASSOCCONF N 1 from 1\nno\n",
@@ -121,8 +159,71 @@ const SAID: &[(&str, &str)] = &[
     ),
 ];
 
-/// Texts with every kind of query, or with none, and their second parts, each with what is printed of it.
-const OTHERS: &[(&str, &str)] = &[
+/// Inputs, some of which have one part, each with what is printed of it.
+const INPUTS: &[(&str, &str)] = &[
+    // An input in one part.
+    (ENDLESS, "no second part\n"),
+    ("func f<T>()\nquery f(T)\n%%\r\nno\n", "no second part\n"),
+    // Behind a byte order mark the first part is a text as ever.
+    ("\u{feff}func f<T>()\nquery f(T)\n%%\nno", "skipped\n"),
+    // A derivation under a query of a type or of a signature is yet to be good.
+    (
+        "func f<T>()\nquery f(T)\n%%\nno\n  1. τ_0_0 by CONF\n",
+        "syntax at line 2\n",
+    ),
+    (
+        "func f<T>()\nquery f()\n%%\nno\n  1. τ_0_0 by GENERIC\n  2. τ_0_0\n",
+        "syntax at line 3\n",
+    ),
+    // CONF names a layout and a same-type.
+    (
+        "\
+protocol P { associatedtype A }
+func f<T: P, U: AnyObject>() where T.A == T
+query f(U : AnyObject)
+query f(T.A == T)
+%%
+yes
+  1. τ_0_1 : AnyObject by CONF 2
+yes
+  1. τ_0_0.A == τ_0_0 by CONF 3
+",
+        "bad line 1\nbad line 1\n",
+    ),
+    // Functions of one struct, the struct itself, and a function behind it, in another order than they are written.
+    (
+        "\
+protocol P { associatedtype A }
+struct S<T: P> {
+    func a<U: P>()
+    func b<U>() where U == T
+}
+func c<T: P>()
+query c(T : P)
+query S.b(U : P)
+query S.a(U : P)
+query S(T : P)
+query S.b(T : P)
+query c(T : P)
+%%
+yes
+  1. τ_0_0 : P by CONF 1
+yes
+  1. τ_0_0 : P by CONF 1
+  2. τ_1_0 == τ_0_0 by SAME 2
+  3. τ_1_0 : P by SAMECONF P from 1, 2
+yes
+  1. τ_1_0 : P by CONF 2
+yes
+  1. τ_0_0 : P by CONF 1
+yes
+  1. τ_0_0 : P by CONF 2
+yes
+  1. τ_0_0 : P by CONF 2
+",
+        "ok\nok\nok\nok\nbad line 1\nbad line 1\n",
+    ),
+    // No query.
     ("func f<T>()\n%%\n", ""),
     ("func f<T>()\n%%\nno\n", "syntax at line 1\n"),
     (
@@ -176,12 +277,32 @@ fn derivations_are_judged(rt: HostRuntime) -> Result<(), Fail> {
 #[test]
 fn every_query_has_its_section(rt: HostRuntime) -> Result<(), Fail> {
     let alloc = rt.alloc();
-    for (input, want) in OTHERS {
-        match parts(input.as_bytes()) {
-            None => assert!(&rt; false, "one part: {input}"),
-            Some(parts) => {
-                let found = said_of(alloc, parts)?;
-                assert_eq!(rt; found.as_str(), *want, "{input}");
+    for (input, want) in INPUTS {
+        let found = said_of_input(alloc, input.as_bytes())?;
+        assert_eq!(rt; found.as_str(), *want, "{input}");
+    }
+    Ok(())
+}
+
+#[test]
+fn headings_may_be_any_bytes(rt: HostRuntime) -> Result<(), Fail> {
+    let alloc = rt.alloc();
+    let found = said_of_input(alloc, b"func f<T>()\nquery f(T)\n%%\n\xff\xfe\n")?;
+    assert_eq!(rt; found.as_str(), "skipped\n");
+    Ok(())
+}
+
+#[test]
+fn first_part_ends_before_the_divider(rt: HostRuntime) -> Result<(), Fail> {
+    // The refusal at the end of the first part.
+    let first = b"func f<T\n".as_slice();
+    match parts(b"func f<T\n%%\nfunc g<U>()\n") {
+        None => assert!(&rt; false, "one part"),
+        Some(parts) => {
+            assert!(&rt; parts.first == first);
+            match parse(rt.alloc(), first) {
+                Err(ParseErr::Syntax { at }) => assert_eq!(rt; at, 9),
+                _ => assert!(&rt; false, "no syntax error"),
             }
         }
     }

@@ -19,6 +19,7 @@ pub mod Offsets
 pub mod OnceDeclared
 pub mod AsDeclared
 pub mod Inheriting
+pub mod KeptFronts
 pub mod Conforming
 pub mod Leading
 pub mod EachOnce

@@ -1,9 +1,10 @@
 // A signature of a text.
-ghost use Rattle.std.specs.Prelude.{◌≡◌, IfOk};
+ghost use Rattle.std.specs.Prelude.{◌≡◌, ◌≤◌, ◌++◌, ◌-◌, IfOk, IsTrue, length, map, take};
 ghost use Rattle.swreq_world.specs.Entries.{around, entry_view};
 
+use crate::listed::bare_of;
 use std::alloc::{AllocError, Global};
-use swreq_derive::Params;
+use swreq_derive::{Params, Requirement};
 use swreq_lowering::{FuncId, Written};
 use swreq_names::Signature;
 use swreq_text::Seq;
@@ -40,4 +41,49 @@ pub fn whole(alloc: Global, entries: &[Entry], entry: &Entry) -> Result<Vec<Writ
     let mut list = Vec::from_slice(alloc, around(entries, entry.outer))?;
     list.extend_from_slice(entry.own.items())?;
     Ok(list)
+}
+
+/// Whether two signatures are in the same struct, or neither is in one.
+fn are_together(a: &Entry, b: &Entry) -> bool
+    ensures { IsTrue result → a.now.outer ≡ b.now.outer }
+{
+    match (a.outer, b.outer) {
+        (None, None) => true,
+        (Some(f), Some(g)) => f == g,
+        _ => false,
+    }
+}
+
+/// The list with these requirements in place of so many at its end.
+fn with_end(
+    mut list: Vec<Requirement>,
+    less: usize,
+    own: &[Written],
+) -> Result<Vec<Requirement>, AllocError>
+    requires { less ≤ length list.items }
+    ensures { IfOk result (λ v. v.items ≡ take (length list.items - less) list.items ++ map (λ r. r.requirement) own.now) }
+{
+    list.truncate(list.len() - less);
+    for r in own {
+        list.push(r.requirement)?;
+    }
+    Ok(list)
+}
+
+/// The list of a signature among these without the places of sides, made of the list of another. What a struct around both requires stays.
+pub fn whole_after(
+    alloc: Global,
+    entries: &[Entry],
+    last: &Entry,
+    list: Vec<Requirement>,
+    entry: &Entry,
+) -> Result<Vec<Requirement>, AllocError>
+    requires { list.items ≡ map (λ r. r.requirement) (entry_view entries.now last.now).requirements }
+    ensures { IfOk result (λ v. v.items ≡ map (λ r. r.requirement) (entry_view entries.now entry.now).requirements) }
+{
+    if are_together(last, entry) {
+        with_end(list, last.own.items().len(), entry.own.items())
+    } else {
+        bare_of(alloc, &whole(alloc, entries, entry)?)
+    }
 }

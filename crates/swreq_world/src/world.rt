@@ -9,7 +9,7 @@ ghost use Rattle.swreq_world.specs.Lookups.{func_named, is_struct, outer_name, p
 ghost use Rattle.swreq_world.specs.Ready.{IsReady};
 ghost use Rattle.swreq_world.specs.Worlds.{requirements_of, signature_at};
 
-use crate::entry::{Entry, whole};
+use crate::entry::{Entry, whole, whole_after};
 use crate::listed::{Listed, bare_of};
 use crate::made::Lists;
 use crate::order::Order;
@@ -190,6 +190,29 @@ impl World {
     {
         let list = self.signature(alloc, f)?;
         bare_of(alloc, &list)
+    }
+
+    /// The same, made of the list of another signature. What a struct around both requires is kept as it stands there.
+    pub fn bare_signature_after(
+        &self,
+        alloc: Global,
+        last: FuncId,
+        list: Vec<Requirement>,
+        f: FuncId,
+    ) -> Result<Vec<Requirement>, AllocError>
+        requires last { last.place < length self.now.signatures }
+        requires list { list.items ≡ map (λ r. r.requirement) (signature_at self.now last).requirements }
+        requires f { f.place < length self.now.signatures }
+        ensures { IfOk result (λ v. v.items ≡ map (λ r. r.requirement) (signature_at self.now f).requirements) }
+    {
+        let entries = self.signatures.items();
+        whole_after(
+            alloc,
+            entries,
+            &entries[last.place as usize],
+            list,
+            &entries[f.place as usize],
+        )
     }
 
     /// The generic parameters of a signature.

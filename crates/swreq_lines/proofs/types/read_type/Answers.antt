@@ -2,7 +2,8 @@ use Rattle.std.proofs.Common.{◌∙◌, ap₂}
 use Rattle.swreq_param.specs.ComparisonLaws.{as_steps, steps_of}
 use Rattle.swreq_param.specs.Terms.{head, with_steps}
 use Rattle.swreq_param.specs.Terms.Term.{Generic}
-use Rattle.swreq_lines.proofs.TypeWords.{each_step, parts_of_type}
+use Rattle.swreq_print.proofs.Steps.{each_step}
+use Rattle.swreq_lines.proofs.TypeWords.{parts_of_type}
 use Rattle.swreq_lines.proofs.types.read_type.Goals as goal
 
 pub returns : goal.returns

@@ -1,51 +1,60 @@
-use Rattle.std.proofs.Common.{◌≡◌, refl, sym, ap, subst, ◌+◌, ◌<◌, arith, List, Some, get_or, length, map}
+use Rattle.std.proofs.Common.{◌≡◌, ◌∙◌, refl, sym, ap, subst, ℕ, ◌<◌, arith, Some, length, map}
 use Rattle.std.specs.Prelude.{slice_get}
-use Rattle.std.proofs.lemmas.Option.{slice_get-get_or, slice_get_read}
-use Rattle.swreq_orders.proofs.Elements.{get_map}
-use Rattle.swreq_lowering.specs.declared.ids.Query.{Query}
-use Rattle.swreq_lowering.specs.declared.ids.Query.TheVariants.{Signature}
+use Rattle.std.proofs.lemmas.List.{length-map}
+use Rattle.std.proofs.lemmas.Option.{slice_get_read}
+use Rattle.swreq_orders.proofs.Elements.{get_contains}
 use Rattle.swreq_lowering.specs.ByTable.{query_by}
 use Rattle.swreq_world.specs.ByTable.{world_by}
-use Rattle.swreq_verify.specs.declared.judging.Judgement.{Judgement}
-use Rattle.swreq_verify.specs.ByTable.{IsQueryOver}
 use Rattle.swreq_verify.specs.Laying.{section_of}
-use Rattle.swreq_verify.proofs.Answered.{AreJudgedUpTo, judged_more}
-use Rattle.swreq_verify.proofs.Judged.{query_over}
+use Rattle.swreq_verify.specs.Turns.{AreTurns}
+use Rattle.swreq_verify.proofs.InTurn.{all_in_turn, judged_in_turn}
 use Rattle.swreq_verify.proofs.judging.judgements.Goals as goal
+use Rattle.swreq_verify.proofs.judging.judgements.Goals.{After-index-turn}
 
--- what is read past the end of the queries
-abbrev no_query : Query
-no_query = Signature (record { place = 0 })
+-- the turn that is read
+turn_at : (c : After-index-turn) → slice_get c.in_ok-turns.turns.items c.loop-n.n ≡ Some c.index-turn.result.now
+turn_at c =
+    let turns = c.in_ok-turns.turns.items in
+    let below = c.loop-n-test.true in
+    let end = c.len-n-end.ensures in
+    slice_get_read turns (length turns) c.loop-n.n c.index-turn.result.now refl (omega arith) c.index-turn.ensures
 
-pub judgement_of-requires-clause-query : goal.judgement_of-requires-clause-query
-judgement_of-requires-clause-query c =
-    let same = c.queries-queries.ensures in
-    let count = c.requires.count in
-    let below : c.loop-k.k < length c.args.world.now.queries = omega arith in
-    subst (λ (qs : List Query). IsQueryOver c.args.table.now c.args.world.now (get_or qs c.loop-k.k no_query)) (sym same)
-    (query_over c.args.table.now c.args.world.now c.requires.text c.loop-k.k no_query below)
+-- is that of a query
+turn_within : (c : After-index-turn) → c.index-turn.result.now.query < length c.args.world.now.queries
+turn_within c =
+    let turn = c.index-turn.result.now in
+    let within = c.in_ok-turns.ensures.within turn (get_contains c.in_ok-turns.turns.items c.loop-n.n turn (turn_at c)) in
+    let same = ap length c.queries-queries.ensures in
+    omega (arith, within, same)
 
-pub loop-k-preserved : goal.loop-k-preserved
-loop-k-preserved c =
+pub judgement_at-requires-clause-k : goal.judgement_at-requires-clause-k
+judgement_at-requires-clause-k c = turn_within (goal.at.judgement_at-requires-clause-k c).After-index-turn
+
+pub index_mut-requires : goal.index_mut-requires
+index_mut-requires c =
+    let within = turn_within (goal.at.index_mut-requires c).After-index-turn in
+    let count = c.loop-n.invariant.before.count in
+    let queries = length-map c.args.world.now.queries (query_by c.args.table.now) in
+    omega (arith, within, count, queries)
+
+pub loop-n-preserved : goal.loop-n-preserved
+loop-n-preserved c =
     let terms = c.args.table.now in
-    let queries = c.queries-queries.result.now in
-    let sections = c.args.sections.now in
-    let k = c.loop-k.k in
-    let same = c.queries-queries.ensures in
-    let count = c.requires.count in
-    let long = ap length same in
-    let below : k < length queries = omega arith in
-    let query = get_or queries k no_query in
-    let query_at = subst (λ (qs : List Query). slice_get qs k ≡ Some query) same (slice_get-get_or queries k no_query below) in
-    let section_at =
-    slice_get_read sections (length sections) k c.index-sections-k.result refl c.loop-k-test.true c.index-sections-k.is in
+    let known = (goal.at.loop-n-preserved c).After-index-turn in
+    record {
+      before = judged_in_turn (world_by terms c.args.world.now) (map (section_of terms) c.args.sections.now) c.in_ok-turns.turns.items c.loop-n.found.items
+          c.loop-n.n c.index-turn.result.now c.in_ok-said.said.judgement c.loop-n.invariant.before (turn_at known) c.in_ok-said.ensures.said;
+      kept = c.in_ok-said.ensures.kept;
+    }
+
+pub returns : goal.returns
+returns c =
+    let terms = c.args.table.now in
     let W = world_by terms c.args.world.now in
-    let ss = map (section_of terms) sections in (
-      subst (λ (js : List Judgement). AreJudgedUpTo W ss js (k + 1)) (sym c.in_ok-push.ensures.items)
-          (judged_more W ss c.loop-k.found.items k (query_by terms query)
-          (section_of terms c.index-sections-k.result) c.in_ok-said.said.judgement c.loop-k.invariant.0
-          (get_map (query_by terms) c.args.world.now.queries k query query_at)
-          (get_map (section_of terms) sections k c.index-sections-k.result section_at)
-          c.in_ok-said.ensures.said),
-      c.in_ok-said.ensures.kept,
-    )
+    let turns = c.in_ok-turns.turns.items in
+    let count : length c.queries-queries.result.now ≡ length W.queries = ap length c.queries-queries.ensures
+    ∙ sym (length-map c.args.world.now.queries (query_by terms)) in
+    let past = c.loop-n-test.false in
+    let end = c.len-n-end.ensures in
+    all_in_turn W (map (section_of terms) c.args.sections.now) turns c.loop-n.found.items c.loop-n.n
+    (subst (λ (n : ℕ). AreTurns turns n) count c.in_ok-turns.ensures) c.loop-n.invariant.before (omega arith)

@@ -1,4 +1,5 @@
 use Rattle.std.proofs.Common.{◌≡◌, ◌∙◌, sym, ap, subst, ℕ, ◌+◌, ◌≤◌, arith, List, [], ◌∷◌, ◌++◌, true, eqb, length}
+use Rattle.std.proofs.lemmas.List.{nil_from_length}
 use Rattle.std.proofs.lemmas.Bool.{eqb-true, false≢true}
 use Rattle.std.proofs.lemmas.Result.{err_from_is_err_and}
 use Rattle.swreq_param.proofs.Growing.{onward}
@@ -6,7 +7,6 @@ use Rattle.swreq_parts.specs.Lines.{lines}
 use Rattle.swreq_verify.specs.declared.reading.Section.{Section}
 use Rattle.swreq_verify.specs.SecondParts.{IsFirstMisfit}
 use Rattle.swreq_verify.proofs.Laid.{IsLaid, all_laid, laid_more, laid_within, misfit_laid, too_many_laid}
-use Rattle.swreq_verify.proofs.Sectioned.{nothing}
 use Rattle.swreq_verify.proofs.reading.read_sections.Goals as goal
 use Rattle.swreq_verify.proofs.reading.read_sections.Goals.{After-len-in-loop-alloc}
 
@@ -83,7 +83,7 @@ returns-then-is_empty-clause-sections c =
     let empty : eqb (length rest) 0 ≡ true = sym c.is_empty.ensures ∙ c.if-is_empty.true in
     all_laid c.args.names.now c.args.count c.args.text.now c.loop-alloc.table c.loop-alloc.sections.items c.loop-alloc.before rest
     c.loop-alloc.invariant.1
-    (omega (arith, own)) (nothing rest (eqb-true (length rest) 0 empty))
+    (omega (arith, own)) (nil_from_length rest (eqb-true (length rest) 0 empty))
 
 pub overflow_add-result : goal.overflow_add-result
 overflow_add-result c =

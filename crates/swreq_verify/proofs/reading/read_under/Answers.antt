@@ -2,7 +2,7 @@ use Rattle.std.proofs.Common.{◌≡◌, subst, arith, inr, map}
 use Rattle.swreq_derive.specs.Lines.{line_of}
 use Rattle.swreq_lines.specs.declared.lines.LinesErr.TheVariants.{Syntax}
 use Rattle.swreq_lines.specs.GoodLines.{IsRefused}
-use Rattle.swreq_lines.specs.Pieces.{lines_in}
+use Rattle.swreq_parts.specs.Lines.{lines}
 use Rattle.swreq_verify.proofs.ReadBack.{bad_number, bad_read, front_read, texts_are}
 use Rattle.swreq_verify.proofs.reading.read_under.Goals as goal
 
@@ -21,7 +21,7 @@ returns-in-Ok-clause-section c = record {
   section = record {
     heading = c.requires.heading;
     derivation =
-        (texts_are c.args.names.now 1 (lines_in c.cut_body-body.result.under.now)
+        (texts_are c.args.names.now 1 (lines c.cut_body-body.result.under.now)
         (map (line_of c.read_lines.new.table) c.in-Ok.derivation.items) c.in-Ok.ensures.lines).1;
   };
 }
