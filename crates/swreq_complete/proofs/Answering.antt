@@ -1,8 +1,8 @@
 -- From what settling did to the answer of a completion.
-use Rattle.std.proofs.Common.{◌≡◌, ℕ, ◌⊎◌, inl, inr, sym, ◌∙◌, ap, subst, arith, List, [], ◌∷◌, length, take, drop, map, Option, Ok, Err}
+use Rattle.std.proofs.Common.{◌≡◌, ℕ, ◌⊎◌, inl, inr, sym, ◌∙◌, ap, subst, arith, List, [], ◌∷◌, length, take, drop, map, slice_get, MatchOption, Option, Some, Ok, Err}
 use Rattle.std.proofs.Math.Seq.{take-append_seam, drop-append_seam}
 use Rattle.swreq_word.specs.declared.symbols.Symbol.{Symbol}
-use Rattle.swreq_word.specs.Relations.{Linked}
+use Rattle.swreq_word.specs.Relations.{IsIrreducible, Linked}
 use Rattle.swreq_word.proofs.Chains.{linked_chain}
 use Rattle.swreq_rule.specs.declared.rules.Rule.{Rule}
 use Rattle.swreq_rule.specs.Steps.{Step}
@@ -18,9 +18,9 @@ use Rattle.swreq_complete.specs.declared.limit.Which.{Which}
 use Rattle.swreq_complete.specs.declared.limit.Failed.{Failed}
 use Rattle.swreq_complete.specs.declared.limit.Failed.TheVariants.{Limit, Memory}
 use Rattle.swreq_complete.specs.Complete.{IsComplete, IsFresh}
-use Rattle.swreq_word.specs.Least.{IsLeast}
-use Rattle.swreq_complete.specs.Reduced.{IsReducedSystem}
-use Rattle.swreq_complete.specs.Search.{Found}
+use Rattle.swreq_word.specs.Least.{EachFactor, IsLeast}
+use Rattle.swreq_complete.specs.Reduced.{IsReducedOf, IsReducedSystem}
+use Rattle.swreq_complete.specs.Search.{Found, IsReducedAt}
 use Rattle.swreq_complete.specs.Limits.{AreInRange, IsWithin, Passes, EndsWithin}
 use Rattle.swreq_complete.specs.Reached.{BeginsWith}
 use Rattle.swreq_complete.specs.Answers.{IsAnswer}
@@ -30,7 +30,7 @@ use Rattle.swreq_complete.proofs.Ended.{pairs_meet}
 use Rattle.swreq_rule.proofs.Search.{all_steps}
 use Rattle.swreq_complete.proofs.Outcome.{fresh_of_reached}
 use Rattle.swreq_complete.proofs.Telling.{kept_length}
-use Rattle.swreq_complete.proofs.ReducedSystem.{irreducible_least, is_reduced}
+use Rattle.swreq_complete.proofs.ReducedSystem.{irreducible_least, is_reduced, reduced_of}
 
 over_grown : (old new : List Rule) (told told' : Option (List Event)) → Grown old new told told' → BeginsWith old new
 over_grown old new told told' g = ap (take (length old)) g.new_is ∙ take-append_seam old g.more
@@ -96,3 +96,10 @@ reduces_least rules c u v r =
 
 pub found_reduced : (rules found : List Rule) → IsComplete rules → Found rules found → IsReducedSystem (Linked (Step rules)) found
 found_reduced rules found c f = is_reduced rules (locally rules c.meet) found f
+
+pub reduced_in : (rules list : List Rule) → list ≡ rules → IsComplete rules → (k : ℕ) (o : Option Rule)
+    → MatchOption o ((rule : Rule) → slice_get list k ≡ Some rule → EachFactor rule.left (IsIrreducible (Step list)) → ⊥) (IsReducedAt list k)
+    → IsReducedOf (Linked (Step rules)) rules k o
+reduced_in rules list e c k o h =
+    reduced_of rules (locally rules c.meet) k o
+    (subst (λ z. MatchOption o ((rule : Rule) → slice_get z k ≡ Some rule → EachFactor rule.left (IsIrreducible (Step z)) → ⊥) (IsReducedAt z k)) e h)

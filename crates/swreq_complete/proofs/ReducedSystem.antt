@@ -1,5 +1,5 @@
 -- The reduced system of the congruence of some rules.
-use Rattle.std.proofs.Common.{◌≡◌, ℕ, ◌<◌, inl, inr, sym, ◌∙◌, ap, subst, arith, List, [], append-nil, length, length-append, take, Some}
+use Rattle.std.proofs.Common.{◌≡◌, ℕ, ◌<◌, inl, inr, sym, ◌∙◌, ap, subst, arith, List, [], append-nil, length, length-append, take, Option, Some, None, MatchOption}
 use Rattle.std.specs.List.{slice_get}
 use Rattle.std.proofs.lemmas.Bool.{cases_lt}
 use Rattle.std.proofs.lemmas.List.{nil_from_length}
@@ -16,10 +16,10 @@ use Rattle.swreq_rule.specs.declared.rules.Rule.{Rule}
 use Rattle.swreq_rule.specs.Steps.{Step}
 use Rattle.swreq_rule.proofs.Downward.{step_down}
 use Rattle.swreq_rule.proofs.Search.{reduction_step, a_step, all_steps}
-use Rattle.swreq_word.specs.Least.{IsLeast, EachFactor}
-use Rattle.swreq_complete.specs.Reduced.{IsReducedSystem, HasBirths}
+use Rattle.swreq_word.specs.Least.{IsLeast, IsMinimal, EachFactor}
+use Rattle.swreq_complete.specs.Reduced.{IsReduced, IsReducedOf, IsReducedSystem, HasBirths}
 use Rattle.swreq_complete.specs.Complete.{IsFresh}
-use Rattle.swreq_complete.specs.Search.{Found}
+use Rattle.swreq_complete.specs.Search.{Found, IsReducedAt}
 use Rattle.swreq_complete.proofs.Ended.{by_rule}
 use Rattle.swreq_orders.proofs.Elements.{in_front}
 
@@ -58,20 +58,42 @@ module _ (rules : List Rule) (local : IsLocallyConfluent (Step rules)) where
         ])
   ]
 
+  -- a left side with irreducible proper factors is minimal
+  left_minimal : (w v : List Symbol) → Step rules w v → EachFactor w (IsIrreducible (Step rules)) → IsMinimal (Linked (Step rules)) w
+  left_minimal w v step factors = record {
+    not_least = λ h. least_irreducible w h v step;
+    factors = λ b u a g l. irreducible_least u (factors b u a g l);
+  }
+
+  pub factors_irreducible : (w : List Symbol) → IsMinimal (Linked (Step rules)) w → EachFactor w (IsIrreducible (Step rules))
+  factors_irreducible w m b u a g l = least_irreducible u (m.factors b u a g l)
+
+  pub minimal_there : (w : List Symbol) → IsMinimal (Linked (Step rules)) w → (k : ℕ) × (rule : Rule) × (slice_get rules k ≡ Some rule) × (rule.left ≡ w)
+  minimal_there w m = minimal_left w (λ i. m.not_least (irreducible_least w i)) (factors_irreducible w m)
+
+  -- a rule that is reduced at its place is of the reduced system
+  pub reduced_rule : (k : ℕ) (r : Rule) → IsReducedAt rules k r → IsReduced (Linked (Step rules)) r
+  reduced_rule k r p =
+      let step : Step rules r.left p.0.right = subst (λ x. Step rules x p.0.right) p.2 (by_rule rules k p.0 p.1) in (
+        left_minimal r.left p.0.right step p.4,
+        forth step (linked_chain (all_steps rules p.5.steps)),
+        irreducible_least r.right p.5.irreducible,
+      )
+
   pub is_reduced : (found : List Rule) → Found rules found → IsReducedSystem (Linked (Step rules)) found
   is_reduced found f = record {
-    each = λ k r e. (let p = f.each k r e in
-        let step : Step rules r.left p.1.right = subst (λ x. Step rules x p.1.right) p.3 (by_rule rules p.0 p.1 p.2) in (
-          record { not_least = λ h. least_irreducible r.left h p.1.right step; factors = λ b u a g l. irreducible_least u (p.5 b u a g l) },
-          forth step (linked_chain (all_steps rules p.6.steps)),
-          irreducible_least r.right p.6.irreducible,
-        ));
-    all = λ w m. (let factors : EachFactor w (IsIrreducible (Step rules)) = (λ b u a g l. least_irreducible u (m.factors b u a g l)) in
-        let p = minimal_left w (λ i. m.not_least (irreducible_least w i)) factors in
-        let q = f.all p.0 p.1 p.2 (subst (λ x. EachFactor x (IsIrreducible (Step rules))) (sym p.3) factors) in
+    each = λ k r e. (let p = f.each k r e in reduced_rule p.0 r p.1);
+    all = λ w m. (let p = minimal_there w m in
+        let q = f.all p.0 p.1 p.2 (subst (λ x. EachFactor x (IsIrreducible (Step rules))) (sym p.3) (factors_irreducible w m)) in
         (q.0, q.1, q.2, q.3 ∙ p.3));
     sorted = f.sorted;
   }
 
 pub has_births : (rules : List Rule) (found : List Rule) → Found rules found → HasBirths rules found
-has_births rules found f k r e = let p = f.each k r e in (p.0, p.1, p.2, p.3, p.4)
+has_births rules found f k r e = let p = f.each k r e in (p.0, p.1.0, p.1.1, p.1.2, p.1.3)
+
+pub reduced_of : (rules : List Rule) → IsLocallyConfluent (Step rules) → (k : ℕ) (o : Option Rule)
+    → MatchOption o ((rule : Rule) → slice_get rules k ≡ Some rule → EachFactor rule.left (IsIrreducible (Step rules)) → ⊥) (IsReducedAt rules k)
+    → IsReducedOf (Linked (Step rules)) rules k o
+reduced_of rules local k None none = λ rule e m. none rule e (factors_irreducible rules local rule.left m)
+reduced_of rules local k (Some r) p = (reduced_rule rules local k r p, (p.0, p.1, p.2, p.3))

@@ -162,7 +162,7 @@ reduced_rule rules keys of n key e rule new f left right birth =
     let same : r.0 ≡ rule = cc in
     let minimal = subst (λ (x : Rule). EachFactor x.left (IsIrreducible (Step rules))) same r.3 in (
       left ∙ sym (ap (λ (x : Rule). x.left) same) ∙ r.2,
-      (key.1, rule, f, sym left, sym birth, subst (λ x. EachFactor x (IsIrreducible (Step rules))) (sym left) minimal, right),
+      (key.1, (rule, f, sym left, sym birth, subst (λ x. EachFactor x (IsIrreducible (Step rules))) (sym left) minimal, right)),
     )
 
 pub key_within : (rules : List Rule) (keys : List Key) → AreKeys rules keys → (n : ℕ) (key : Key) → slice_get keys n ≡ Some key

@@ -33,10 +33,14 @@ pub record AreKeysBelow (rules : List Rule) (count : ℕ) (keys : List Key) : Ty
 abbrev pub AreKeys : List Rule → List Key → Type 0
 AreKeys rules = AreKeysBelow rules (length rules)
 
--- a rule with the left side and the birth of one whose left side has no reducible proper factor, and its right side reduced
-abbrev pub IsReducedRule : List Rule → Rule → Type 0
-IsReducedRule rules r = (j : ℕ) × (rule : Rule) × (slice_get rules j ≡ Some rule) × (rule.left ≡ r.left) × (rule.birth ≡ r.birth)
+-- a rule with the left side and the birth of the one at the place, whose left side has no reducible proper factor, and its right side reduced
+abbrev pub IsReducedAt : List Rule → ℕ → Rule → Type 0
+IsReducedAt rules j r = (rule : Rule) × (slice_get rules j ≡ Some rule) × (rule.left ≡ r.left) × (rule.birth ≡ r.birth)
     × EachFactor r.left (IsIrreducible (Step rules)) × Reduces rules rule.right r.right
+
+-- such a rule of some place
+abbrev pub IsReducedRule : List Rule → Rule → Type 0
+IsReducedRule rules r = (j : ℕ) × IsReducedAt rules j r
 
 -- such rules, sorted, one for each left side of the first keys, so many, the last of which is not below that of a rule
 pub record FoundBelow (rules : List Rule) (keys : List Key) (count : ℕ) (found : List Rule) : Type 0 where

@@ -11,12 +11,12 @@ ghost use Rattle.swreq_complete.specs.Complete.{IsComplete};
 ghost use Rattle.swreq_complete.specs.Events.{TellsEvents};
 ghost use Rattle.swreq_complete.specs.Limits.{AreInRange};
 ghost use Rattle.swreq_word.specs.Least.{IsLeast};
-ghost use Rattle.swreq_complete.specs.Reduced.{HasBirths, IsReducedSystem};
+ghost use Rattle.swreq_complete.specs.Reduced.{HasBirths, IsReducedOf, IsReducedSystem};
 
 use crate::completion::complete;
 use crate::indexed::Indexed;
 use crate::limit::{Failed, Limits, Stop, Which};
-use crate::reduced::find;
+use crate::reduced::{find, reduced_at};
 use crate::task::Task;
 use std::alloc::{AllocError, Global};
 use std::marker::Model;
@@ -127,6 +127,15 @@ impl<'b> CompleteRules<'b> {
         ensures births { IfOk result (λ v. HasBirths self.now v.items) }
     {
         find(alloc, &self.list)
+    }
+
+    /// The rule of the reduced system with the left side and the birth of the rule at this place, or None where the left side of that rule
+    /// is not minimal.
+    pub fn canonical_at(&self, alloc: Global, k: usize) -> Result<Option<Rule>, AllocError>
+        requires { k < length self.now }
+        ensures { IfOk result (IsReducedOf (Linked (Step self.now)) self.now k) }
+    {
+        reduced_at(alloc, &self.list, k)
     }
 }
 

@@ -1,13 +1,13 @@
 //! The search for the reduced system of some rules.
 
-ghost use Rattle.std.specs.Prelude.{◌≡◌, ℕ, suc, ◌+◌, ◌<◌, [], ◌∷◌, ◌++◌, length, slice_get, Some, IfOk, OnOk};
+ghost use Rattle.std.specs.Prelude.{◌≡◌, ℕ, suc, ◌+◌, ◌<◌, [], ◌∷◌, ◌++◌, length, slice_get, Some, IfOk, MatchOption, OnOk};
 ghost use Rattle.std.specs.Bool.{Decides, OnFalse, OnTrue};
 ghost use Rattle.std.specs.List.Sorted.{IsSorted};
 ghost use Rattle.swreq_word.specs.Relations.{IsIrreducible};
 ghost use Rattle.swreq_rule.specs.Reduction.{Reduces};
 ghost use Rattle.swreq_rule.specs.Steps.{Step};
 ghost use Rattle.swreq_word.specs.Least.{EachFactor};
-ghost use Rattle.swreq_complete.specs.Search.{AreKeys, AreKeysBelow, Found, FoundBelow, Key, key_cmp};
+ghost use Rattle.swreq_complete.specs.Search.{AreKeys, AreKeysBelow, Found, FoundBelow, IsReducedAt, Key, key_cmp};
 
 use crate::indexed::Indexed;
 use std::alloc::{AllocError, Global};
@@ -141,6 +141,25 @@ fn rules_of(alloc: Global, rules: &Indexed<'_>, keys: &[Key]) -> Result<Vec<Rule
         add(alloc, rules, keys, n, &mut found)?;
     }
     Ok(found)
+}
+
+// The rule at a place with its right side reduced, if none of the proper factors of its left side can be reduced.
+pub(crate) fn reduced_at(
+    alloc: Global,
+    rules: &Indexed<'_>,
+    k: usize,
+) -> Result<Option<Rule>, AllocError>
+    requires { k < length rules.now }
+    ensures { IfOk result (λ o. MatchOption o
+        ((rule : Rule) → slice_get rules.now k ≡ Some rule → EachFactor rule.left (IsIrreducible (Step rules.now)) → ⊥)
+        (IsReducedAt rules.now k)) }
+{
+    let rule = rules.rule(k);
+    if !is_minimal(rules, rule.left.symbols()) {
+        return Ok(None);
+    }
+    let new = reduced(alloc, rules, rule)?;
+    Ok(Some(new))
 }
 
 // The reduced system that the rules give.
