@@ -1,0 +1,12 @@
+pub mod Choosing
+pub mod Leaving
+pub mod OneFamily
+pub mod OfWorld
+pub mod Placing
+pub mod InLists
+pub mod Signatures
+pub mod ByRules
+pub mod Deriving
+pub mod Coming
+pub mod Printed
+pub mod WellFormed

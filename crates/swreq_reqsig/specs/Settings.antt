@@ -1,0 +1,18 @@
+-- What families are asked over.
+use Rattle.swreq_derive.specs.WellFormed.{AreProtocolsWellFormed}
+use Rattle.swreq_complete.specs.Limits.{AreInRange}
+use Rattle.swreq_symbols.specs.Known.{IsTextOver}
+use Rattle.swreq_symbols.specs.Meaning.{facts_of}
+use Rattle.swreq_world.specs.ByTable.{world_by}
+use Rattle.swreq_world.specs.Worlds.{TextWorld}
+use Rattle.swreq_reqsig.specs.declared.setting.Setting.{Setting}
+
+-- the world of the text
+abbrev pub text_in : Setting → TextWorld
+text_in s = world_by s.table.now s.world.now
+
+-- The table is that of the text, its protocols are well formed, and the limits are in range.
+pub record IsSetting (s : Setting) : Type 0 where
+  pub text : IsTextOver s.table.now s.world.now
+  pub well_formed : AreProtocolsWellFormed (facts_of (text_in s))
+  pub limits : AreInRange s.limits

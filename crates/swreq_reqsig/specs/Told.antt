@@ -1,0 +1,71 @@
+-- What the rounds come to of the families that one meets, going through the requirements of the protocols.
+use Rattle.std.specs.Prelude.{◌≡◌, ◌⊎◌, ℕ, suc, Bool, List, [], ◌++◌, length, Option, Result, Ok, Err}
+use Rattle.swreq_rule.specs.declared.rules.Rule.{Rule}
+use Rattle.swreq_watch.specs.declared.events.Event.{Event}
+use Rattle.swreq_watch.specs.Told.{GrewBy}
+use Rattle.swreq_complete.specs.declared.limit.Limits.{Limits}
+use Rattle.swreq_complete.specs.declared.limit.Which.{Which}
+use Rattle.swreq_complete.specs.declared.limit.Failed.{Failed}
+use Rattle.swreq_complete.specs.declared.limit.Failed.TheVariants.{Limit, Memory}
+use Rattle.swreq_rounds.specs.Rounds.{ComesTo, IsOutcome}
+use Rattle.swreq_world.specs.Worlds.{TextWorld}
+use Rattle.swreq_reqsig.specs.declared.family.Family.{Family}
+use Rattle.swreq_reqsig.specs.Families.{associated_types_of, family_plan, numbers, owned}
+use Rattle.swreq_reqsig.specs.GoingThrough.{IsDecided, all_kept, without}
+
+module _ (limits : Limits) (w : TextWorld) where
+  -- The rounds of the family without the requirement at the place end, they tell this, and it is decided whether that requirement stays.
+  pub record MeetsFamily (n : ℕ) (flags left : List Bool) (part : List Event) : Type 0 where
+    pub rules : List Rule
+    pub ends : IsOutcome limits (family_plan w (without flags n)) (Ok rules) part
+    pub decided : IsDecided (associated_types_of w) (owned w) n flags left
+
+  -- One has gone through the requirements from the last to the one at this place; these are kept, and the rounds of the families that one
+  -- met told this, one after the other.
+  pub data HasGone : ℕ → List Bool → List Event → Type 0 where
+    start : {n : ℕ} {flags : List Bool} {told : List Event}
+        → n ≡ length (owned w) → flags ≡ all_kept (owned w) → told ≡ [] → HasGone n flags told
+    further : {n : ℕ} {flags left : List Bool} {before part told : List Event}
+        → HasGone (suc n) flags before → MeetsFamily n flags left part → told ≡ before ++ part → HasGone n left told
+
+  -- The rounds of the next family pass the limit, with this trace.
+  pub record IsStopped (which : Which) (trace : List Rule) (told : List Event) : Type 0 where
+    pub place : ℕ
+    pub flags : List Bool
+    pub before : List Event
+    pub part : List Event
+    pub gone : HasGone (suc place) flags before
+    pub stops : IsOutcome limits (family_plan w (without flags place)) (Err (Limit which trace)) part
+    pub told_is : told ≡ before ++ part
+
+  -- One has gone through all requirements, and this family is left, with its numbers; or the rounds of a family pass a limit, with that
+  -- trace.
+  abbrev pub IsFamilyOutcome : Result Family Failed → List Event → Type 0
+  IsFamilyOutcome (Ok family) told = (flags : List Bool) × HasGone 0 flags told × (family.kept ≡ numbers w flags)
+  IsFamilyOutcome (Err (Limit which trace)) told = IsStopped which trace told
+  IsFamilyOutcome (Err Memory) told = Unit {0}
+
+  -- So far as this the families tell before one stops or all are met.
+  pub record ComesSoFar (told : List Event) : Type 0 where
+    pub place : ℕ
+    pub flags : List Bool
+    pub before : List Event
+    pub gone : HasGone place flags before
+    pub part : (told ≡ before)
+        ⊎ ((n : ℕ) × (some : List Event) × (place ≡ suc n) × ComesTo limits (family_plan w (without flags n)) some
+        × (told ≡ before ++ some))
+
+  -- It comes out so, and the watcher was told what is told: in all, or for want of memory so far as one came.
+  abbrev pub AnswersFamily : Option (List Event) → Option (List Event) → Result Family Failed → Type 0
+  AnswersFamily old new (Ok family) = (told : List Event) × IsFamilyOutcome (Ok family) told × GrewBy old new told
+  AnswersFamily old new (Err (Limit which trace)) =
+      (told : List Event) × IsFamilyOutcome (Err (Limit which trace)) told × GrewBy old new told
+  AnswersFamily old new (Err Memory) = (told : List Event) × ComesSoFar told × GrewBy old new told
+
+  abbrev pub IsForMemory : Result Family Failed → Type 0
+  IsForMemory answer = answer ≡ Err Memory
+
+  -- But for want of memory it comes out in no other way.
+  abbrev pub IsOnlyFamily : Result Family Failed → Type 0
+  IsOnlyFamily answer = (other : Result Family Failed) (told : List Event) → IsFamilyOutcome other told
+      → (answer ≡ other) ⊎ (IsForMemory answer ⊎ IsForMemory other)

@@ -1,0 +1,92 @@
+//! Whether one requirement stays.
+ghost use Rattle.std.specs.Prelude.{◌≡◌, ◌↔◌, suc, Err, IfErr, IfOk, IsTrue, List, Ok, OnOk, Some, length, slice_get};
+ghost use Rattle.swreq_derive.specs.Derivation.{Derivable};
+ghost use Rattle.swreq_derive.specs.Derivation.Source.{SelfOf};
+ghost use Rattle.swreq_derive.specs.Derivation.TermStatement.{Requires};
+ghost use Rattle.swreq_derive.specs.Facts.{requirement_of};
+ghost use Rattle.swreq_derive.specs.Kept.{owned_facts};
+ghost use Rattle.swreq_rule.specs.declared.rules.Rule.{Rule};
+ghost use Rattle.swreq_watch.specs.declared.events.Event.{Event};
+ghost use Rattle.swreq_watch.specs.Told.{GrewBy};
+ghost use Rattle.swreq_valid.specs.Answers.{Answers};
+ghost use Rattle.swreq_reqsig.specs.Families.{associated_types_of, family_of, family_plan, owned};
+ghost use Rattle.swreq_reqsig.specs.GoingThrough.{AreLeft, without};
+ghost use Rattle.swreq_reqsig.specs.Places.{IsPlaceIn, all_places};
+ghost use Rattle.swreq_reqsig.specs.Settings.{IsSetting, text_in};
+ghost use Rattle.swreq_reqsig.specs.Told.{MeetsFamily};
+
+use crate::derived::is_derivable;
+use crate::flags::kept_by;
+use crate::places::Place;
+use crate::setting::Setting;
+use std::alloc::Global;
+use swreq_complete::Failed;
+use swreq_valid::Protocols;
+use swreq_watch::Watch;
+
+/// Whether a requirement is derivable with those alone whose flags are set. The watcher is told the events of their rounds.
+fn follows<W: Watch>(
+    alloc: Global,
+    setting: &Setting<'_>,
+    flags: &[bool],
+    place: &Place,
+    watch: &mut W,
+) -> Result<bool, Failed>
+    requires setting { IsSetting setting.now }
+    requires flags { length flags.now ≡ length (all_places setting.now.world.now) }
+    requires place { IsPlaceIn setting.now.world.now place.now }
+    ensures answer { IfOk result (λ b. IsTrue b
+        ↔ Derivable (owned_facts (associated_types_of (text_in setting.now)) (family_of (text_in setting.now) flags.now))
+        (SelfOf place.now.proto) (Requires (requirement_of setting.now.table.now place.now.requirement))) }
+    ensures told { IfOk result (λ _. (rules : List Rule) × Answers setting.now.limits (family_plan (text_in setting.now) flags.now)
+        (W.told watch.old) (W.told watch.new) (Ok rules)) }
+    ensures failed { IfErr result (λ failed. Answers setting.now.limits (family_plan (text_in setting.now) flags.now)
+        (W.told watch.old) (W.told watch.new) (Err failed)) }
+{
+    let keep = match kept_by(alloc, setting.world, flags) {
+        Ok(keep) => keep,
+        Err(_) => return Err(Failed::Memory),
+    };
+    match Protocols::build_kept(
+        alloc,
+        setting.world,
+        setting.table,
+        &keep,
+        setting.limits,
+        watch,
+    ) {
+        Err(failed) => Err(failed),
+        Ok(protocols) => match is_derivable(alloc, setting, &protocols, place) {
+            Ok(derivable) => Ok(derivable),
+            Err(_) => Err(Failed::Memory),
+        },
+    }
+}
+
+/// Leaves out the requirement at a place, where the same is derivable without it: where it is derivable itself without it.
+pub(crate) fn decide<W: Watch>(
+    alloc: Global,
+    setting: &Setting<'_>,
+    flags: &mut Vec<bool>,
+    at: usize,
+    place: &Place,
+    watch: &mut W,
+) -> Result<(), Failed>
+    requires setting { IsSetting setting.now }
+    requires place { slice_get (all_places setting.now.world.now) at ≡ Some place.now }
+    requires left { AreLeft (associated_types_of (text_in setting.now)) (owned (text_in setting.now)) (suc at) flags.old.items }
+    ensures met { OnOk result ((part : List Event)
+        × MeetsFamily setting.now.limits (text_in setting.now) at flags.old.items flags.new.items part
+        × GrewBy (W.told watch.old) (W.told watch.new) part) }
+    ensures failed { IfErr result (λ failed. Answers setting.now.limits (family_plan (text_in setting.now) (without flags.old.items at))
+        (W.told watch.old) (W.told watch.new) (Err failed)) }
+{
+    flags[at] = false;
+    match follows(alloc, setting, flags, place, watch) {
+        Err(failed) => Err(failed),
+        Ok(derivable) => {
+            flags[at] = !derivable;
+            Ok(())
+        }
+    }
+}

@@ -1,0 +1,115 @@
+//! Flags for the requirements of all protocols, in a list for each protocol.
+ghost use Rattle.std.specs.Prelude.{◌≡◌, ◌++◌, ◌∷◌, [], IfOk, OnOk, drop, length, take};
+ghost use Rattle.swreq_valid.specs.Keeping.{AreFlags};
+ghost use Rattle.swreq_world.specs.Closed.{AreIds};
+ghost use Rattle.swreq_reqsig.specs.Families.{flag_lists, numbers, numbers_from};
+ghost use Rattle.swreq_reqsig.specs.Places.{all_places};
+
+use crate::family::Family;
+use crate::places::number;
+use std::alloc::{AllocError, Global};
+use swreq_text::Seq;
+use swreq_valid::Kept;
+use swreq_world::World;
+
+/// So many of the flags from the first on, or all where there are no more.
+fn first(flags: &[bool], count: usize) -> &[bool]
+    ensures { result.now ≡ take count flags.now }
+{
+    if count < flags.len() {
+        &flags[..count]
+    } else {
+        flags
+    }
+}
+
+/// The flags behind so many.
+fn behind(flags: &[bool], count: usize) -> &[bool]
+    ensures { result.now ≡ drop count flags.now }
+{
+    if count < flags.len() {
+        &flags[count..]
+    } else {
+        &[]
+    }
+}
+
+/// Puts the flags last, as a list.
+fn put_flags(alloc: Global, flags: &[bool], lists: &mut Vec<Seq<bool>>) -> Result<(), AllocError>
+    ensures { OnOk result (lists.new.items ≡ lists.old.items ++ flags.now ∷ []) }
+{
+    let list = Seq::new(flags.to_vec(alloc)?);
+    match lists.push(list) {
+        Ok(()) => Ok(()),
+        Err(_) => Err(AllocError),
+    }
+}
+
+/// The flags of the requirements of all protocols, in a list for each protocol.
+fn flag_lists(alloc: Global, world: &World, flags: &[bool]) -> Result<Vec<Seq<bool>>, AllocError>
+    requires { AreIds world.now.lexicon }
+    ensures { IfOk result (λ v. v.items ≡ flag_lists world.now flags.now) }
+{
+    let mut lists: Vec<Seq<bool>> = Vec::new(alloc);
+    let mut rest = flags;
+    for k in 0..world.protocols() {
+        let p = world.proto_at(k);
+        let count = world.bare_requirements(p).len();
+        put_flags(alloc, first(rest, count), &mut lists)?;
+        rest = behind(rest, count);
+    }
+    Ok(lists)
+}
+
+/// Which requirements are kept, by the flags of all of them.
+pub(crate) fn kept_by(alloc: Global, world: &World, flags: &[bool]) -> Result<Kept, AllocError>
+    requires ids { AreIds world.now.lexicon }
+    requires flags { length flags.now ≡ length (all_places world.now) }
+    ensures lists { IfOk result (λ keep. keep.lists ≡ flag_lists world.now flags.now) }
+    ensures flags { IfOk result (λ keep. AreFlags world.now keep.lists) }
+{
+    let lists = flag_lists(alloc, world, flags)?;
+    Ok(Kept {
+        lists: Seq::new(lists),
+    })
+}
+
+/// The numbers of those whose flags are set, from 1.
+fn numbers_of(alloc: Global, flags: &[bool]) -> Result<Vec<u32>, AllocError>
+    ensures { IfOk result (λ v. v.items ≡ numbers_from 1 flags.now) }
+{
+    let mut numbers = Vec::new(alloc);
+    for k in 0..flags.len() {
+        if flags[k] {
+            numbers.push(number(k + 1)?)?;
+        }
+    }
+    Ok(numbers)
+}
+
+/// Puts the numbers of those whose flags are set last, as a list.
+fn put_numbers(alloc: Global, flags: &[bool], lists: &mut Vec<Seq<u32>>) -> Result<(), AllocError>
+    ensures { OnOk result (lists.new.items ≡ lists.old.items ++ numbers_from 1 flags.now ∷ []) }
+{
+    let list = Seq::new(numbers_of(alloc, flags)?);
+    match lists.push(list) {
+        Ok(()) => Ok(()),
+        Err(_) => Err(AllocError),
+    }
+}
+
+/// The family of the requirements whose flags are set.
+pub(crate) fn family_of(alloc: Global, world: &World, flags: &[bool]) -> Result<Family, AllocError>
+    requires { AreIds world.now.lexicon }
+    ensures { IfOk result (λ family. family.kept ≡ numbers world.now flags.now) }
+{
+    let lists = flag_lists(alloc, world, flags)?;
+    let mut kept: Vec<Seq<u32>> = Vec::new(alloc);
+    for k in 0..lists.len() {
+        let list = &lists[k];
+        put_numbers(alloc, list.items(), &mut kept)?;
+    }
+    Ok(Family {
+        kept: Seq::new(kept),
+    })
+}

@@ -1,0 +1,53 @@
+//! Going through the requirements of the protocols, from the last to the first.
+ghost use Rattle.std.specs.Prelude.{◌≡◌, Err, IfErr, IfOk, List, replicate, true};
+ghost use Rattle.swreq_watch.specs.declared.events.Event.{Event};
+ghost use Rattle.swreq_watch.specs.Told.{GrewBy};
+ghost use Rattle.swreq_reqsig.specs.Places.{all_places};
+ghost use Rattle.swreq_reqsig.specs.Settings.{IsSetting, text_in};
+ghost use Rattle.swreq_reqsig.specs.Told.{AnswersFamily, HasGone};
+
+use crate::deciding::decide;
+use crate::places::Place;
+use crate::setting::Setting;
+use std::alloc::{AllocError, Global};
+use swreq_complete::Failed;
+use swreq_watch::Watch;
+
+/// So many flags, all of them set.
+fn all_set(alloc: Global, count: usize) -> Result<Vec<bool>, AllocError>
+    ensures { IfOk result (λ flags. flags.items ≡ replicate count true) }
+{
+    let flags = vec![in alloc; true; count]?;
+    Ok(flags)
+}
+
+/// Goes through the requirements from the last to the first, and leaves out each without which the same is derivable. The watcher is told
+/// the events of the rounds of the families that are met, one after the other.
+pub(crate) fn go_through<W: Watch>(
+    alloc: Global,
+    setting: &Setting<'_>,
+    places: &[Place],
+    watch: &mut W,
+) -> Result<Vec<bool>, Failed>
+    requires setting { IsSetting setting.now }
+    requires places { places.now ≡ all_places setting.now.world.now }
+    ensures gone { IfOk result (λ flags. (told : List Event) × HasGone setting.now.limits (text_in setting.now) 0 flags.items told
+        × GrewBy (W.told watch.old) (W.told watch.new) told) }
+    ensures failed { IfErr result (λ failed. AnswersFamily setting.now.limits (text_in setting.now)
+        (W.told watch.old) (W.told watch.new) (Err failed)) }
+{
+    let mut flags = match all_set(alloc, places.len()) {
+        Ok(flags) => flags,
+        Err(_) => return Err(Failed::Memory),
+    };
+    let mut left = places.len();
+    while left > 0 {
+        left -= 1;
+        let place = places[left];
+        match decide(alloc, setting, &mut flags, left, &place, watch) {
+            Ok(()) => {}
+            Err(failed) => return Err(failed),
+        }
+    }
+    Ok(flags)
+}

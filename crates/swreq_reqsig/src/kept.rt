@@ -1,0 +1,63 @@
+//! The family of requirement signatures that is given.
+ghost use Rattle.std.specs.Prelude.{◌≡◌, IfOk, length};
+ghost use Rattle.swreq_derive.specs.WellFormed.{AreProtocolsWellFormed};
+ghost use Rattle.swreq_complete.specs.Limits.{AreInRange};
+ghost use Rattle.swreq_symbols.specs.Known.{IsTextOver};
+ghost use Rattle.swreq_symbols.specs.Meaning.{facts_of};
+ghost use Rattle.swreq_world.specs.ByTable.{world_by};
+ghost use Rattle.swreq_reqsig.specs.Families.{AreRequirementSignatures, IsGivenFamily, members};
+ghost use Rattle.swreq_reqsig.specs.Told.{AnswersFamily, IsOnlyFamily};
+
+use crate::family::Family;
+use crate::flags::family_of;
+use crate::going::go_through;
+use crate::places::all_places;
+use crate::setting::Setting;
+use std::alloc::Global;
+use swreq_complete::{Failed, Limits};
+use swreq_param::ParamTable;
+use swreq_watch::Watch;
+use swreq_world::World;
+
+/// The family of requirement signatures of a text whose protocols are well formed.
+///
+/// Going through the protocols from the last to the first in written order, and through the requirements of each from the last to the
+/// first, each requirement is left out without which the same is derivable from `[τ_0_0 : P]` for every protocol P.
+///
+/// A family that is met on the way is that of the requirements that are left, without the one in question. It is `Failed::Limit` exactly
+/// where the rounds of such a family pass a limit, with the limit and the trace of the first. The watcher is told the events of the rounds
+/// of these families, one after the other.
+pub fn kept_family<W: Watch>(
+    alloc: Global,
+    world: &World,
+    table: &ParamTable,
+    limits: Limits,
+    watch: &mut W,
+) -> Result<Family, Failed>
+    requires text { IsTextOver table.now world.now }
+    requires well_formed { AreProtocolsWellFormed (facts_of (world_by table.now world.now)) }
+    requires limits { AreInRange limits }
+    ensures answer { AnswersFamily limits (world_by table.now world.now) (W.told watch.old) (W.told watch.new) result }
+    ensures only { IsOnlyFamily limits (world_by table.now world.now) result }
+    ensures given { IfOk result (λ family. IsGivenFamily (world_by table.now world.now) family.kept) }
+    ensures protocols { IfOk result (λ family. length family.kept ≡ length world.now.lexicon.protocols) }
+    ensures signatures { IfOk result (λ family. AreRequirementSignatures (world_by table.now world.now)
+        (members (world_by table.now world.now) family.kept)) }
+{
+    let places = match all_places(alloc, world) {
+        Ok(places) => places,
+        Err(_) => return Err(Failed::Memory),
+    };
+    let setting = Setting {
+        world,
+        table,
+        limits,
+    };
+    match go_through(alloc, &setting, &places, watch) {
+        Err(failed) => Err(failed),
+        Ok(flags) => match family_of(alloc, world, &flags) {
+            Ok(family) => Ok(family),
+            Err(_) => Err(Failed::Memory),
+        },
+    }
+}

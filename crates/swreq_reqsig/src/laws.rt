@@ -1,0 +1,25 @@
+//! Laws on requirement signatures, over the definitions alone.
+ghost use Rattle.std.specs.Prelude.{◌≡◌, ℕ, List, []};
+ghost use Rattle.swreq_derive.specs.Kept.{Keeps};
+ghost use Rattle.swreq_derive.specs.WellFormed.{AreProtocolsWellFormed};
+ghost use Rattle.swreq_symbols.specs.Meaning.{facts_of};
+ghost use Rattle.swreq_world.specs.Closed.{IsClosed};
+ghost use Rattle.swreq_world.specs.Worlds.{TextWorld};
+ghost use Rattle.swreq_valid.specs.Sides.{HoldsOfEach, IsValidSide, protocol_sides};
+ghost use Rattle.swreq_reqsig.specs.Families.{IsGivenFamily, associated_types_of, members, owned};
+
+/// What is left of the requirements, going through them by flags, is what is kept of their list.
+pub fn given_family_is_kept()
+    ensures { (w : TextWorld) (kept : List (List ℕ)) → IsGivenFamily w kept → Keeps (associated_types_of w) [] (owned w) (members w kept) }
+{}
+
+/// Going through the requirements leaves one family.
+pub fn given_family_is_one()
+    ensures { (w : TextWorld) (kept others : List (List ℕ)) → IsGivenFamily w kept → IsGivenFamily w others → kept ≡ others }
+{}
+
+/// Protocols are well formed where each side of what they require is a type parameter.
+pub fn valid_sides_are_well_formed()
+    ensures { (w : TextWorld) → IsClosed w → HoldsOfEach (IsValidSide (facts_of w)) (protocol_sides w)
+        → AreProtocolsWellFormed (facts_of w) }
+{}
