@@ -1,27 +1,22 @@
 //! Texts, and what minimising their signatures takes.
-ghost use Rattle.std.specs.Prelude.{◌<◌, length, IfOk};
+ghost use Rattle.std.specs.Prelude.{◌<◌, length};
 ghost use Rattle.swreq_complete.specs.Limits.{AreInRange};
 ghost use Rattle.swreq_symbols.specs.Known.{IsTextOver};
 ghost use Rattle.swreq_world.specs.ByTable.{world_by};
 ghost use Rattle.swreq_valid.specs.Machines.{AreRulesOf};
 ghost use Rattle.swreq_valid.specs.Rounds.{last_rules};
 
+use crate::limits::{LIMITS, limits_of, why_not};
 use crate::worlds::world_of;
 use std::alloc::Global;
 use std::process::Abort;
 use std::test::Fail;
-use swreq_complete::{Failed, Limits};
+use swreq_complete::Limits;
 use swreq_minimal::minimise;
 use swreq_param::ParamTable;
 use swreq_valid::{Machine, Protocols, Refused};
 use swreq_watch::{Event, Quiet, Recorder};
 use swreq_world::{FuncId, World};
-
-/// The limits of machines.
-const LIMITS: Limits = Limits {
-    max_rules: 4000,
-    max_length: 64,
-};
 
 /// The machine of a signature.
 fn machine_of<'b>(
@@ -48,13 +43,6 @@ fn machine_of<'b>(
         limits,
         &mut Quiet,
     )
-}
-
-fn why_not(failed: &Failed) -> &'static str {
-    match failed {
-        Failed::Limit { .. } => "limit",
-        Failed::Memory => "no memory",
-    }
 }
 
 /// How many requirements minimising keeps of the list of the machine, or why it fails.
@@ -116,20 +104,6 @@ fn kept_of_first(
     match Protocols::build(alloc, world, table, LIMITS, &mut Quiet) {
         Ok(protocols) => kept_of(alloc, world, table, &protocols, f, limits, watch),
         Err(_) => Err("no rules".into()),
-    }
-}
-
-/// The limits of minimising.
-fn limits_of(max_rules: u32) -> Result<Limits, Fail>
-    ensures { IfOk result AreInRange }
-{
-    if 1 <= max_rules && max_rules <= 100_000 {
-        Ok(Limits {
-            max_rules,
-            max_length: 64,
-        })
-    } else {
-        Err("a limit out of range".into())
     }
 }
 
@@ -205,22 +179,27 @@ protocol P { associatedtype A: Q }
 func f<T: P, U: Q>() where T.A == U
 ";
 
-/// Each round of a list completes once: the first uses none of it, each other one what the round before it shows usable, and the last is
-/// one that shows no others usable, or that uses all. Minimising that text completes
-///
-/// 1. before `T : P` the empty list, in 1 round;
-/// 2. before `U : Q` the list of `T : P`, in 2 rounds;
-/// 3. before `U == T.[P]A` the list of `T : P` and `U : Q`, in 2 rounds;
-/// 4. without `T : P` the list of `U == T.[P]A`, in 1 round, since nothing shows `T.[P]A`.
-///
-/// That `U == T.[P]A` is needed is known from the third, and a loop shows that `U : Q` follows from the others.
-const STARTS: u32 = 1 + 2 + 2 + 1;
+/// Of each list that minimising meets, the rules grow from those of another one. So no list is completed from its begin, and nothing is told.
+const STARTS: u32 = 0;
 
 #[test]
-fn evidence_spares_completions(rt: HostRuntime) -> Result<(), Fail> {
+fn rules_that_grow_spare_completions(rt: HostRuntime) -> Result<(), Fail> {
     let alloc = rt.alloc();
     let mut recorder = Recorder::new(alloc);
     kept_within(alloc, IMPLIED, 4000, &mut recorder)?;
     assert_eq!(&rt; starts(recorder.events()), STARTS);
+    Ok(())
+}
+
+/// The rules of `T : P` and `U : Q` are so many: five of the protocols, two of `T : P`, and one of `U : Q`. Those of `T : P` and `T.A == U` are
+/// nine, so a completion of them passes this limit, but a loop shows that `U : Q` follows from them.
+const EIGHT: u32 = 8;
+
+#[test]
+fn evidence_answers_where_rules_pass_a_limit(rt: HostRuntime) -> Result<(), Fail> {
+    let alloc = rt.alloc();
+    let mut recorder = Recorder::new(alloc);
+    let found = kept_within(alloc, IMPLIED, EIGHT, &mut recorder)?;
+    assert_eq!(&rt; found.as_str(), "2");
     Ok(())
 }

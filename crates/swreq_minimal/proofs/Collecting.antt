@@ -7,27 +7,34 @@ use Rattle.swreq_derive.specs.Derivation.{Source, TermFacts, TermRequirement}
 use Rattle.swreq_derive.specs.Derivation.Source.{Written}
 use Rattle.swreq_derive.specs.Facts.{generic_params}
 use Rattle.swreq_orders.proofs.Members.{no_member}
+use Rattle.swreq_word.specs.Least.{IsMinimal}
 use Rattle.swreq_word.specs.Relations.{Linked}
+use Rattle.swreq_word.proofs.Chains.{joined}
+use Rattle.swreq_word.proofs.LeastWords.{least_along, minimal_along, one_least}
 use Rattle.swreq_rule.specs.declared.rules.Rule.{Rule}
 use Rattle.swreq_rule.specs.Steps.{Step}
-use Rattle.swreq_complete.specs.Reduced.{IsReducedSystem}
+use Rattle.swreq_pair.proofs.CriticalPairs.{locally}
+use Rattle.swreq_complete.specs.Complete.{IsComplete}
+use Rattle.swreq_complete.specs.Reduced.{IsReduced}
+use Rattle.swreq_complete.proofs.ReducedSystem.{minimal_there}
 use Rattle.swreq_lexicon.specs.Views.{LexiconView}
-use Rattle.swreq_correspondence.specs.Equations.{AreCongruent, UsableEquation}
+use Rattle.swreq_correspondence.specs.Equations.{AreCongruent}
+use Rattle.swreq_correspondence.proofs.Chained.{turn_all}
 use Rattle.swreq_correspondence.specs.Symbols.{Word}
 use Rattle.swreq_canonical.specs.Canonical.{IsCanonical}
 use Rattle.swreq_canonical.specs.CanonicalOrder.{IsStrictlySorted}
-use Rattle.swreq_candidates.specs.Candidates.{IsCandidate, IsCandidateList}
+use Rattle.swreq_candidates.specs.Candidates.{IsCandidate, IsCandidateList, IsReadOff, IsReducedRule}
 use Rattle.swreq_candidates.specs.Completed.{IsCompleted}
-use Rattle.swreq_candidates.proofs.CandidateLists.{off_rules}
 use Rattle.swreq_candidates.proofs.Completions.{canonical_here}
-use Rattle.swreq_candidates.proofs.RulesGive.{reduced_system}
 use Rattle.swreq_symbols.specs.Meaning.{facts_of, symbols_of}
 use Rattle.swreq_world.specs.Closed.{IsClosed}
 use Rattle.swreq_world.specs.Worlds.{TextWorld}
 use Rattle.swreq_valid.specs.Machines.{IsMachineOf, MachineView}
 use Rattle.swreq_valid.specs.Rounds.{last_rules}
+use Rattle.swreq_minimal.specs.OfParams.{AreOfParams, BeginsWithParam}
 use Rattle.swreq_minimal.specs.Sorted.{IsSaidBefore, IsSaidList}
 use Rattle.swreq_minimal.specs.Typed.{SaysBy}
+use Rattle.swreq_minimal.proofs.ByParams.{read_begins}
 use Rattle.swreq_minimal.proofs.Lifting.{from_said, to_said}
 use Rattle.swreq_minimal.proofs.Speaking.{one_said}
 
@@ -94,24 +101,49 @@ module _ (x : LexiconView) (rules : List Rule) (params : Params) (system : List 
 -- ---- all of them
 
 module _ (w : TextWorld) (closed : IsClosed w) (machine : MachineView) (list : List TermRequirement) (is : IsMachineOf w list machine)
-    (system : List Rule) (reduced : IsReducedSystem (Linked (Step (last_rules machine.rounds))) system) where
+    (complete : IsComplete (last_rules machine.rounds)) (system : List Rule)
+    (of_params : AreOfParams (Linked (Step (last_rules machine.rounds))) (last_rules machine.rounds) (length (last_rules machine.rounds)) system) where
   abbrev L : Source
   L = Written (generic_params machine.params) list
 
-  in_classes : IsReducedSystem (AreCongruent (symbols_of w.lexicon) (facts_of w) L) system
-  in_classes = reduced_system (last_rules machine.rounds) (UsableEquation (symbols_of w.lexicon) (facts_of w) L) is.rules system reduced
+  abbrev C : Word → Word → Type 0
+  C = AreCongruent (symbols_of w.lexicon) (facts_of w) L
+
+  abbrev D : Word → Word → Type 0
+  D = Linked (Step (last_rules machine.rounds))
+
+  in_class : (rule : Rule) → IsReduced D rule → IsReducedRule C rule.left rule.right
+  in_class rule (m, c, l) = (
+    minimal_along D C (λ u v. (is.rules u v).0) (λ u v. (is.rules u v).1) rule.left m,
+    (is.rules rule.left rule.right).0 c,
+    least_along D C (λ u v. (is.rules u v).0) (λ u v. (is.rules u v).1) rule.right l,
+  )
 
   from_rules : (n : ℕ) (q : TermRequirement) → IsSaidBefore w.lexicon (last_rules machine.rounds) machine.params system n q → IsCandidate (symbols_of w.lexicon) (facts_of w) L q
   from_rules n q (k, rule, l, at, s) =
-      let (m, c, least) = in_classes.each k rule at in
-      (off_rules (symbols_of w.lexicon) (facts_of w) L system in_classes q).1 (k, rule, at, from_said w closed machine list is rule.left rule.right c q s)
+      let reduced = in_class rule (of_params.each k rule at) in
+      (rule.left, rule.right, reduced, from_said w closed machine list is rule.left rule.right reduced.1 q s)
 
   to_rules : (n : ℕ) → length system ≤ n → (q : TermRequirement) → IsCandidate (symbols_of w.lexicon) (facts_of w) L q → IsSaidBefore w.lexicon (last_rules machine.rounds) machine.params system n q
-  to_rules n far q h =
-      let (k, rule, at, off) = (off_rules (symbols_of w.lexicon) (facts_of w) L system in_classes q).0 h in
-      let (m, c, least) = in_classes.each k rule at in
-      let within = slice_get_within system k rule at in
-      (k, rule, omega (arith, within, far), at, to_said w closed machine list is rule.left rule.right c q off)
+  to_rules n far q (l, r, (minimal, c, least), off) =
+      let minimal_too = minimal_along C D (λ u v. (is.rules u v).1) (λ u v. (is.rules u v).0) l minimal in
+      let (j, there, at, e) = minimal_there (last_rules machine.rounds) (locally (last_rules machine.rounds) complete.meet) l minimal_too in
+      let begins = read_begins (symbols_of w.lexicon) (facts_of w) L l r q off in
+      let within = slice_get_within (last_rules machine.rounds) j there at in
+      let (k, rule, g, same) = of_params.all j there within at (subst BeginsWithParam (sym e) begins) (subst (IsMinimal D) (sym e) minimal_too) in
+      let (_, d, also) = in_class rule (of_params.each k rule g) in
+      let left : l ≡ rule.left = sym (same ∙ e) in
+      let linked = subst (λ x. C x rule.right) (sym left) d in
+      let right : r ≡ rule.right = one_least C r rule.right (joined (turn_all c) linked) (joined (turn_all linked) c) least also in
+      let far_off = slice_get_within system k rule g in (
+        k,
+        rule,
+        omega (arith, far_off, far),
+        g,
+        to_said w closed machine list is rule.left rule.right d q
+            (subst (λ x. IsReadOff (symbols_of w.lexicon) (facts_of w) L x rule.right q) left
+            (subst (λ x. IsReadOff (symbols_of w.lexicon) (facts_of w) L l x q) right off)),
+      )
 
   pub are_candidates : IsCompleted (symbols_of w.lexicon) (facts_of w) (generic_params machine.params) list → (found : List TermRequirement)
       → IsSaidList w.lexicon (last_rules machine.rounds) machine.params system (length system) found

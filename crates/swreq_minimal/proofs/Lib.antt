@@ -3,13 +3,14 @@ pub mod Giving
 pub mod Typing
 pub mod Speaking
 pub mod Lifting
-pub mod ByEquation
 pub mod Inserting
+pub mod ByParams
 pub mod Collecting
 pub mod Growing
 pub mod Named
 pub mod Completing
 pub mod Passing
+pub mod Halving
 pub mod Telling
 pub mod Whole
 pub mod PlainTypes

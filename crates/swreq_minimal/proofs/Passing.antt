@@ -20,7 +20,7 @@ use Rattle.swreq_canonical.specs.Generators.Takes.{ended, skipped, taken}
 use Rattle.swreq_canonical.specs.Minimised.{Leaves}
 use Rattle.swreq_canonical.specs.Minimised.Leaves.{dropped, kept, nothing}
 use Rattle.swreq_valid.specs.Plans.{listed}
-use Rattle.swreq_minimal.specs.Passed.{IsLastNeeded, IsLeftWithout, IsTakenBefore}
+use Rattle.swreq_minimal.specs.Passed.{IsLastNeeded, IsLeftFrom, IsLeftWithout, IsTakenBefore}
 
 module _ (f : TermFacts) (ps : List ParamId) where
   -- ---- taking
@@ -74,21 +74,17 @@ module _ (f : TermFacts) (ps : List ParamId) where
 
   -- ---- dropping
 
-  -- the last ones, from so many on, were gone through
-  abbrev pub IsLeftFrom : ℕ → List TermRequirement → List TermRequirement → Type 0
-  IsLeftFrom count all now = (out : List TermRequirement) × (now ≡ take count all ++ out) × Leaves f ps (take count all) (drop count all) out
-
-  pub all_there : (n : ℕ) (all : List TermRequirement) → length all ≤ n → IsLeftFrom n all all
+  pub all_there : (n : ℕ) (all : List TermRequirement) → length all ≤ n → IsLeftFrom f ps n all all
   all_there n all l = (
     [],
     sym (append-nil (take n all) ∙ take_all n all l),
     subst (λ z. Leaves f ps (take n all) z []) (sym (drop_all n all l)) nothing,
   )
 
-  pub all_passed : (all now : List TermRequirement) → IsLeftFrom 0 all now → Leaves f ps [] all now
+  pub all_passed : (all now : List TermRequirement) → IsLeftFrom f ps 0 all now → Leaves f ps [] all now
   all_passed all now (out, e, h) = subst (Leaves f ps [] all) (sym e) h
 
-  module _ (all now : List TermRequirement) (k : ℕ) (d : TermRequirement) (l : k < length all) (left : IsLeftFrom (k + 1) all now) where
+  module _ (all now : List TermRequirement) (k : ℕ) (d : TermRequirement) (l : k < length all) (left : IsLeftFrom f ps (k + 1) all now) where
     abbrev r : TermRequirement
     r = get_or all k d
 
@@ -104,7 +100,7 @@ module _ (f : TermFacts) (ps : List ParamId) where
     rest_is : drop k all ≡ r ∷ drop (k + 1) all
     rest_is = drop-cons all k d l ∙ ap (λ n. r ∷ drop n all) (let e : suc k ≡ k + 1 = omega arith in e)
 
-    pub next_left : (new more : List TermRequirement) → new ≡ take k all ++ more → Leaves f ps (take k all) (r ∷ drop (k + 1) all) more → IsLeftFrom k all new
+    pub next_left : (new more : List TermRequirement) → new ≡ take k all ++ more → Leaves f ps (take k all) (r ∷ drop (k + 1) all) more → IsLeftFrom f ps k all new
     next_left new more e h = (more, e, subst (λ z. Leaves f ps (take k all) z more) (sym rest_is) h)
 
     pub left_without : (list : List TermRequirement) → list ≡ take k all ++ left.0 → IsLeftWithout f ps all list
@@ -119,7 +115,7 @@ module _ (f : TermFacts) (ps : List ParamId) where
     }
 
   -- the last one was gone through, and is needed
-  pub last_stays : (n : ℕ) (all : List TermRequirement) (d : TermRequirement) → n ≡ length all - 1 → IsLastNeeded f ps all → IsLeftFrom n all all
+  pub last_stays : (n : ℕ) (all : List TermRequirement) (d : TermRequirement) → n ≡ length all - 1 → IsLastNeeded f ps all → IsLeftFrom f ps n all all
   unfolding all_there
   last_stays n [] d e is_needed = all_there n [] (omega (arith, e))
   last_stays n (x ∷ xs) d e is_needed =
@@ -204,21 +200,18 @@ module _ (f : TermFacts) (ps : List ParamId) (terms : List Term) (now : List Req
             (subst (λ z. Derivable f (Written ps (front ++ out)) (Requires z)) (sym (one_is terms now k d l front out r is e)) h))),
       )
 
--- ---- the next one to be dropped, the last of so many that were not gone through
+-- ---- the one at a place, where those behind it were gone through
 
-module _ (f : TermFacts) (ps : List ParamId) (terms : List Term) (all : List TermRequirement) (now : List Requirement) (count : ℕ) (any : Requirement) (some : 0 < count)
-    (within : count ≤ length all) (left : IsLeftFrom f ps count all (listed terms now)) where
-  abbrev k : ℕ
-  k = count - 1
-
+module _ (f : TermFacts) (ps : List ParamId) (terms : List Term) (all : List TermRequirement) (now : List Requirement) (k : ℕ) (any : Requirement)
+    (within : suc k ≤ length all) (left : IsLeftFrom f ps (suc k) all (listed terms now)) where
   abbrev d : TermRequirement
   d = requirement_of terms any
 
   place_within : k < length all
-  place_within = omega (arith, some, within)
+  place_within = omega (arith, within)
 
   left_on : IsLeftFrom f ps (k + 1) all (listed terms now)
-  left_on = subst (λ n. IsLeftFrom f ps n all (listed terms now)) (let e : count ≡ k + 1 = omega (arith, some) in e) left
+  left_on = subst (λ n. IsLeftFrom f ps n all (listed terms now)) (let e : suc k ≡ k + 1 = omega arith in e) left
 
   front_is : length (take k all) ≡ k
   front_is = front_length f ps all (listed terms now) k d place_within left_on

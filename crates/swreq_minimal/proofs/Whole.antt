@@ -1,5 +1,5 @@
 -- What is left of the candidates of a machine's list is its minimised list.
-use Rattle.std.proofs.Common.{◌≡◌, subst, List, Contains, Option}
+use Rattle.std.proofs.Common.{subst, List, Contains, Option}
 use Rattle.swreq_param.specs.declared.ids.ParamId.{ParamId}
 use Rattle.swreq_param.specs.Tables.{Extends}
 use Rattle.swreq_param.specs.Terms.{Term}

@@ -1,7 +1,7 @@
-pub mod Built
 pub mod Typed
 pub mod Sorted
 pub mod Passed
 pub mod Told
 pub mod Evident
-pub mod Settings
+pub mod OfParams
+pub mod Halves

@@ -1,5 +1,5 @@
 -- The lists that minimising may complete.
-use Rattle.std.specs.Prelude.{◌≡◌, ◌⊎◌, List, [], ◌∷◌, ◌++◌}
+use Rattle.std.specs.Prelude.{◌≡◌, ◌⊎◌, ℕ, List, [], ◌∷◌, ◌++◌, take, drop}
 use Rattle.swreq_param.specs.declared.ids.ParamId.{ParamId}
 use Rattle.swreq_derive.specs.Derivation.{Derivable, TermFacts, TermRequirement}
 use Rattle.swreq_derive.specs.Derivation.Source.{Written}
@@ -26,6 +26,11 @@ pub record IsLeftWithout (f : TermFacts) (params : List ParamId) (generators lis
   pub split : generators ≡ front ++ generator ∷ behind
   pub leaves : Leaves f params (front ++ generator ∷ []) behind left
   pub list_is : list ≡ front ++ left
+
+-- It is left of all when one has gone through those from the place on: those before the place, and what is left of the others.
+abbrev pub IsLeftFrom : TermFacts → List ParamId → ℕ → List TermRequirement → List TermRequirement → Type 0
+IsLeftFrom f params place all now =
+    (out : List TermRequirement) × (now ≡ take place all ++ out) × Leaves f params (take place all) (drop place all) out
 
 -- The last of the list is not derivable from those before it.
 abbrev pub IsLastNeeded : TermFacts → List ParamId → List TermRequirement → Type 0

@@ -1,11 +1,11 @@
 //! The candidates of a machine's list, read off the reduced system of its rules.
-ghost use Rattle.std.specs.Prelude.{◌≡◌, ◌⊎◌, ◌↔◌, ◌≤◌, ◌<◌, List, length, insert, Contains, IfOk, OnOk, MatchOption};
+ghost use Rattle.std.specs.Prelude.{◌≡◌, ◌⊎◌, ◌↔◌, ◌≤◌, ◌<◌, ℕ, List, length, insert, slice_get, Some, Contains, IfOk, OnOk, MatchOption};
 ghost use Rattle.swreq_param.specs.Tables.{Extends};
 ghost use Rattle.swreq_derive.specs.Derivation.{Source, TermFacts, TermRequirement};
 ghost use Rattle.swreq_derive.specs.Derivation.Source.{Written};
 ghost use Rattle.swreq_derive.specs.Facts.{generic_params, requirement_of};
 ghost use Rattle.swreq_word.specs.Least.{IsMinimal};
-ghost use Rattle.swreq_complete.specs.Reduced.{IsReducedSystem};
+ghost use Rattle.swreq_complete.specs.Reduced.{IsReduced};
 ghost use Rattle.swreq_lowering.specs.ByTable.{HasIdsOf};
 ghost use Rattle.swreq_canonical.specs.Canonical.{IsCanonical};
 ghost use Rattle.swreq_canonical.specs.CanonicalOrder.{IsStrictlySorted};
@@ -21,6 +21,7 @@ ghost use Rattle.swreq_valid.specs.Plans.{AreKnown, listed};
 ghost use Rattle.swreq_minimal.specs.Sorted.{AreHere, BelongsAt, IsSaidList};
 ghost use Rattle.swreq_minimal.specs.Typed.{SaysBy};
 
+use crate::of_params::of_params;
 use crate::order::{is_before, is_same};
 use crate::spoken::said;
 use std::alloc::{AllocError, Global};
@@ -113,7 +114,7 @@ fn add(
     }
 }
 
-/// What the rules of the reduced system say, in order, each once.
+/// What these rules of the reduced system say, in order, each once.
 fn collect(
     alloc: Global,
     world: &World,
@@ -122,7 +123,7 @@ fn collect(
     table: &mut ParamTable,
     system: &[Rule],
 ) -> Result<Vec<Requirement>, AllocError>
-    requires { IsReducedSystem (Links rules.now) system.now }
+    requires { (k : ℕ) (rule : Rule) → slice_get system.now k ≡ Some rule → IsReduced (Links rules.now) rule }
     ensures said { IfOk result (λ v. IsSaidList world.now.lexicon rules.now params system.now (length system.now)
         (listed table.new v.items)) }
     ensures known { IfOk result (λ v. AreKnown table.new world.now.lexicon v.items) }
@@ -152,6 +153,6 @@ pub(crate) fn candidates(
     ensures extends { Extends table.old table.new }
 {
     let rules = machine.rules();
-    let system = rules.canonical(alloc)?;
+    let system = of_params(alloc, rules)?;
     collect(alloc, world, rules, machine.params(), table, &system)
 }

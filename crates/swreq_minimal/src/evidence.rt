@@ -17,15 +17,15 @@ ghost use Rattle.swreq_valid.specs.Machines.{AreRulesOf};
 ghost use Rattle.swreq_valid.specs.Plans.{AreKnown, listed};
 ghost use Rattle.swreq_valid.specs.Rounds.{last_rules};
 ghost use Rattle.swreq_minimal.specs.Evident.{HasSides, IsOfEquation, LinkLast};
-ghost use Rattle.swreq_minimal.specs.Settings.{IsSetting, facts_in, params_in};
+ghost use Rattle.swreq_list_rules.specs.Settings.{IsSetting, facts_in, params_in};
 
 use crate::plain::{are_plain, has_plain_types};
-use crate::setting::Setting;
 use std::alloc::{AllocError, Global};
 use std::cmp::Ordering;
 use swreq_derive::Requirement;
 use swreq_homotopy::laws::evidence_links;
 use swreq_homotopy::{loop_of_pair, redundant};
+use swreq_list_rules::Setting;
 use swreq_pair::{Pair, pairs_up_to};
 use swreq_param::ParamTable;
 use swreq_path::Loop;

@@ -4,11 +4,10 @@
 mod candidates;
 mod evidence;
 mod given;
-mod holding;
 mod minimised;
+mod of_params;
 mod order;
 mod plain;
-mod setting;
 mod sifting;
 mod spoken;
 mod typed;

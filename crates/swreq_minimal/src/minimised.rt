@@ -19,11 +19,11 @@ ghost use Rattle.swreq_minimal.specs.Passed.{IsPassedOf};
 ghost use Rattle.swreq_minimal.specs.Told.{TellsFailure, TellsParts};
 
 use crate::candidates::candidates;
-use crate::setting::Setting;
 use crate::sifting::sift;
 use std::alloc::Global;
 use swreq_complete::{Failed, Limits};
 use swreq_derive::Requirement;
+use swreq_list_rules::Setting;
 use swreq_param::ParamTable;
 use swreq_valid::{Machine, Protocols};
 use swreq_watch::Watch;

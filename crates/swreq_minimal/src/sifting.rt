@@ -1,5 +1,7 @@
 //! The generators among candidates, and what is left of them.
-ghost use Rattle.std.specs.Prelude.{◌≡◌, ◌↔◌, ◌<◌, ◌≤◌, [], ◌∷◌, ◌++◌, List, length, insert, remove, IfErr, IfOk, IfSome, IsTrue, OnOk};
+ghost use Rattle.std.specs.Prelude.{◌≡◌, ◌↔◌, ◌<◌, ◌≤◌, ◌-◌, [], ◌∷◌, ◌++◌, List, length, drop, insert, remove, suc, take, IfErr, IfOk, IfSome, IsTrue, OnOk, Some};
+ghost use Rattle.std.specs.Borrow.{Bor};
+ghost use Rattle.swreq_derive.specs.declared.requirements.Requirement.{Requirement};
 ghost use Rattle.swreq_derive.specs.Derivation.{Derivable, TermRequirement};
 ghost use Rattle.swreq_derive.specs.Derivation.Source.{Written};
 ghost use Rattle.swreq_derive.specs.Derivation.TermStatement.{Requires};
@@ -7,24 +9,25 @@ ghost use Rattle.swreq_derive.specs.Facts.{requirement_of};
 ghost use Rattle.swreq_complete.specs.declared.limit.Failed.TheVariants.{Memory};
 ghost use Rattle.swreq_canonical.specs.Generators.{Takes};
 ghost use Rattle.swreq_canonical.specs.Minimised.{Leaves};
+ghost use Rattle.swreq_list_rules.specs.ListRules.{AreOfList, ListRulesView};
+ghost use Rattle.swreq_list_rules.specs.Settings.{AreKnownIn, IsSetting, facts_in, params_in, plan_in, said_in, source_in};
 ghost use Rattle.swreq_symbols.specs.Known.{IsRequirementIn};
-ghost use Rattle.swreq_valid.specs.Plans.{AreKnown, listed};
-ghost use Rattle.swreq_minimal.specs.Built.{IsBuiltFor};
-ghost use Rattle.swreq_minimal.specs.Passed.{IsLastNeeded, IsLeftWithout, IsPassed, IsSifted, IsTakenBefore};
-ghost use Rattle.swreq_minimal.specs.Settings.{IsSetting, facts_in, params_in, plan_in, text_in};
+ghost use Rattle.swreq_minimal.specs.Halves.{AreBesideBoth, AreGrownBy, IsPartOf, IsSpanOf};
+ghost use Rattle.swreq_minimal.specs.Passed.{IsLastNeeded, IsLeftFrom, IsLeftWithout, IsPassed, IsSifted, IsTakenBefore};
 ghost use Rattle.swreq_minimal.specs.Told.{TellsFailure, TellsParts};
 
 use crate::evidence::is_evident;
-use crate::holding::holds;
-use crate::setting::Setting;
 use std::alloc::Global;
 use swreq_complete::Failed;
 use swreq_derive::Requirement;
-use swreq_valid::{Machine, core};
+use swreq_list_rules::{ListRules, Setting, holds};
+use swreq_valid::core;
 use swreq_watch::Watch;
 
+// ---- whether a requirement follows
+
 /// Whether a requirement is derivable from a list, as the machine of the list tells.
-fn is_derivable<W: Watch>(
+fn by_machine<W: Watch>(
     alloc: Global,
     setting: &Setting<'_>,
     list: &[Requirement],
@@ -32,15 +35,14 @@ fn is_derivable<W: Watch>(
     watch: &mut W,
 ) -> Result<bool, Failed>
     requires setting { IsSetting setting.now }
-    requires list { AreKnown setting.now.table.now setting.now.world.now.lexicon list.now }
+    requires list { AreKnownIn setting.now list.now }
     requires r { IsRequirementIn setting.now.table.now setting.now.world.now.lexicon r }
     ensures answer { IfOk result (λ b. IsTrue b
-        ↔ Derivable (facts_in setting.now) (Written (params_in setting.now) (listed setting.now.table.now list.now))
-        (Requires (requirement_of setting.now.table.now r))) }
+        ↔ Derivable (facts_in setting.now) (source_in setting.now (said_in setting.now list.now)) (Requires (requirement_of setting.now.table.now r))) }
     ensures told { IfOk result (λ _. TellsParts setting.now.limits (plan_in setting.now)
-        (λ l. l ≡ listed setting.now.table.now list.now) (W.told watch.old) (W.told watch.new)) }
+        (λ l. l ≡ said_in setting.now list.now) (W.told watch.old) (W.told watch.new)) }
     ensures failed { IfErr result (TellsFailure setting.now.limits (plan_in setting.now)
-        (λ l. l ≡ listed setting.now.table.now list.now) (W.told watch.old) (W.told watch.new)) }
+        (λ l. l ≡ said_in setting.now list.now) (W.told watch.old) (W.told watch.new)) }
 {
     match core(
         alloc,
@@ -53,7 +55,7 @@ fn is_derivable<W: Watch>(
         watch,
     ) {
         Err(failed) => Err(failed),
-        Ok(machine) => match holds(alloc, setting.world, setting.table, &machine, r) {
+        Ok(machine) => match holds(alloc, setting, machine.rules(), r) {
             Ok(derivable) => Ok(derivable),
             Err(_) => Err(Failed::Memory),
         },
@@ -61,7 +63,7 @@ fn is_derivable<W: Watch>(
 }
 
 /// Whether a requirement is derivable from a list: by evidence, or else as the machine of the list tells.
-fn follows<W: Watch>(
+fn by_evidence<W: Watch>(
     alloc: Global,
     setting: &Setting<'_>,
     list: &[Requirement],
@@ -69,15 +71,14 @@ fn follows<W: Watch>(
     watch: &mut W,
 ) -> Result<bool, Failed>
     requires setting { IsSetting setting.now }
-    requires list { AreKnown setting.now.table.now setting.now.world.now.lexicon list.now }
+    requires list { AreKnownIn setting.now list.now }
     requires r { IsRequirementIn setting.now.table.now setting.now.world.now.lexicon r }
     ensures answer { IfOk result (λ b. IsTrue b
-        ↔ Derivable (facts_in setting.now) (Written (params_in setting.now) (listed setting.now.table.now list.now))
-        (Requires (requirement_of setting.now.table.now r))) }
+        ↔ Derivable (facts_in setting.now) (source_in setting.now (said_in setting.now list.now)) (Requires (requirement_of setting.now.table.now r))) }
     ensures told { IfOk result (λ _. TellsParts setting.now.limits (plan_in setting.now)
-        (λ l. l ≡ listed setting.now.table.now list.now) (W.told watch.old) (W.told watch.new)) }
+        (λ l. l ≡ said_in setting.now list.now) (W.told watch.old) (W.told watch.new)) }
     ensures failed { IfErr result (TellsFailure setting.now.limits (plan_in setting.now)
-        (λ l. l ≡ listed setting.now.table.now list.now) (W.told watch.old) (W.told watch.new)) }
+        (λ l. l ≡ said_in setting.now list.now) (W.told watch.old) (W.told watch.new)) }
 {
     let evident = match is_evident(alloc, setting, list, r) {
         Ok(evident) => evident,
@@ -86,8 +87,101 @@ fn follows<W: Watch>(
     if evident {
         return Ok(true);
     }
-    is_derivable(alloc, setting, list, r, watch)
+    by_machine(alloc, setting, list, r, watch)
 }
+
+/// Whether a requirement is derivable from a list: as its rules tell, or where there are none, by evidence or its machine.
+fn follows<W: Watch>(
+    alloc: Global,
+    setting: &Setting<'_>,
+    rules: Option<&ListRules<'_>>,
+    list: &[Requirement],
+    r: Requirement,
+    watch: &mut W,
+) -> Result<bool, Failed>
+    requires setting { IsSetting setting.now }
+    requires rules { IfSome rules (λ rules. AreOfList setting.now (said_in setting.now list.now) rules.now) }
+    requires list { AreKnownIn setting.now list.now }
+    requires r { IsRequirementIn setting.now.table.now setting.now.world.now.lexicon r }
+    ensures answer { IfOk result (λ b. IsTrue b
+        ↔ Derivable (facts_in setting.now) (source_in setting.now (said_in setting.now list.now)) (Requires (requirement_of setting.now.table.now r))) }
+    ensures told { IfOk result (λ _. TellsParts setting.now.limits (plan_in setting.now)
+        (λ l. l ≡ said_in setting.now list.now) (W.told watch.old) (W.told watch.new)) }
+    ensures failed { IfErr result (TellsFailure setting.now.limits (plan_in setting.now)
+        (λ l. l ≡ said_in setting.now list.now) (W.told watch.old) (W.told watch.new)) }
+{
+    match rules {
+        None => by_evidence(alloc, setting, list, r, watch),
+        Some(rules) => match rules.derives(alloc, setting, r) {
+            Ok(derivable) => Ok(derivable),
+            Err(_) => Err(Failed::Memory),
+        },
+    }
+}
+
+// ---- rules that grow
+
+/// The rules of a list with members more, or None where a completion passes a limit.
+fn with<'b>(
+    alloc: Global,
+    setting: &Setting<'_>,
+    rules: ListRules<'b>,
+    more: &[Requirement],
+) -> Result<Option<ListRules<'b>>, Failed>
+    requires setting { IsSetting setting.now }
+    requires waiting { AreKnownIn setting.now rules.waiting }
+    requires more { AreKnownIn setting.now more.now }
+    ensures rules { IfOk result (λ o. IfSome o (AreGrownBy setting.now rules.entry more.now)) }
+    ensures memory { IfErr result (λ failed. failed ≡ Memory) }
+{
+    match rules.with(alloc, setting, more) {
+        Ok(grown) => Ok(Some(grown)),
+        Err(Failed::Limit { .. }) => Ok(None),
+        Err(Failed::Memory) => Err(Failed::Memory),
+    }
+}
+
+/// The same over rules that are borrowed, where there are any.
+fn over_with<'a>(
+    alloc: Global,
+    setting: &Setting<'_>,
+    rules: Option<&'a ListRules<'_>>,
+    more: &[Requirement],
+) -> Result<Option<ListRules<'a>>, Failed>
+    requires setting { IsSetting setting.now }
+    requires waiting { IfSome rules (λ rules. AreKnownIn setting.now rules.now.waiting) }
+    requires more { AreKnownIn setting.now more.now }
+    ensures rules { IfOk result (λ o. IfSome o (λ new. (old : Bor ListRulesView) × (rules.entry ≡ Some old)
+        × AreGrownBy setting.now old.now more.now new)) }
+    ensures memory { IfErr result (λ failed. failed ≡ Memory) }
+{
+    match rules {
+        None => Ok(None),
+        Some(rules) => match rules.over(alloc) {
+            Ok(same) => with(alloc, setting, same, more),
+            Err(_) => Err(Failed::Memory),
+        },
+    }
+}
+
+/// The rules of a list with these members, or None where a completion passes a limit.
+fn rules_of<'b>(
+    alloc: Global,
+    setting: &Setting<'b>,
+    list: &[Requirement],
+) -> Result<Option<ListRules<'b>>, Failed>
+    requires setting { IsSetting setting.now }
+    requires list { AreKnownIn setting.now list.now }
+    ensures rules { IfOk result (λ o. IfSome o (AreOfList setting.entry.now (said_in setting.entry.now list.now))) }
+    ensures memory { IfErr result (λ failed. failed ≡ Memory) }
+{
+    match ListRules::empty(alloc, setting) {
+        Ok(rules) => with(alloc, setting, rules, list),
+        Err(_) => Err(Failed::Memory),
+    }
+}
+
+// ---- generators
 
 /// Puts a requirement last.
 fn put(list: &mut Vec<Requirement>, r: Requirement) -> Result<(), Failed>
@@ -100,81 +194,64 @@ fn put(list: &mut Vec<Requirement>, r: Requirement) -> Result<(), Failed>
     }
 }
 
-/// The machine of a list: the one that is there, or else one that is built.
-fn machine_for<'b, W: Watch>(
+/// Takes a candidate that is not derivable from those that were taken before, and goes on with the rules of the list, where there are any.
+fn put_taken<'b>(
     alloc: Global,
     setting: &Setting<'b>,
-    list: &[Requirement],
-    built: Option<Machine<'b>>,
-    watch: &mut W,
-) -> Result<Machine<'b>, Failed>
+    taken: &mut Vec<Requirement>,
+    rules: Option<ListRules<'b>>,
+    candidate: Requirement,
+) -> Result<Option<ListRules<'b>>, Failed>
     requires setting { IsSetting setting.now }
-    requires list { AreKnown setting.now.table.now setting.now.world.now.lexicon list.now }
-    requires built { IfSome built (IsBuiltFor (text_in setting.now) setting.now.params (listed setting.now.table.now list.now)) }
-    ensures machine { IfOk result (IsBuiltFor (text_in setting.entry.now) setting.entry.now.params (listed setting.entry.now.table.now list.now)) }
-    ensures told { IfOk result (λ _. TellsParts setting.entry.now.limits (plan_in setting.entry.now)
-        (λ l. l ≡ listed setting.entry.now.table.now list.now) (W.told watch.old) (W.told watch.new)) }
-    ensures failed { IfErr result (TellsFailure setting.entry.now.limits (plan_in setting.entry.now)
-        (λ l. l ≡ listed setting.entry.now.table.now list.now) (W.told watch.old) (W.told watch.new)) }
+    requires rules { IfSome rules (AreOfList setting.now (said_in setting.now taken.old.items)) }
+    requires candidate { IsRequirementIn setting.now.table.now setting.now.world.now.lexicon candidate }
+    ensures taken { OnOk result (taken.new.items ≡ taken.old.items ++ candidate ∷ []) }
+    ensures rules { IfOk result (λ o. IfSome o (AreOfList setting.entry.now (said_in setting.entry.now taken.new.items))) }
+    ensures memory { IfErr result (λ failed. failed ≡ Memory) }
 {
-    match built {
-        Some(machine) => Ok(machine),
-        None => match core(
-            alloc,
-            setting.world,
-            setting.table,
-            setting.protocols,
-            setting.params,
-            list,
-            setting.limits,
-            watch,
-        ) {
-            Ok(machine) => Ok(machine),
-            Err(failed) => Err(failed),
-        },
+    match put(taken, candidate) {
+        Ok(()) => {}
+        Err(failed) => return Err(failed),
+    }
+    match rules {
+        None => Ok(None),
+        Some(rules) => with(alloc, setting, rules, &[candidate]),
     }
 }
 
-/// Takes a candidate, unless it is derivable from those that were taken before. The machine of these is given where it is there, and is
-/// handed back while it is still theirs.
+/// Takes a candidate, unless it is derivable from those that were taken before. The rules of these are given where they are there, and so are
+/// those of what is taken then handed back.
 fn take<'b, W: Watch>(
     alloc: Global,
     setting: &Setting<'b>,
     taken: &mut Vec<Requirement>,
-    built: Option<Machine<'b>>,
+    rules: Option<ListRules<'b>>,
     candidate: Requirement,
     watch: &mut W,
-) -> Result<Option<Machine<'b>>, Failed>
+) -> Result<Option<ListRules<'b>>, Failed>
     requires setting { IsSetting setting.now }
-    requires taken { AreKnown setting.now.table.now setting.now.world.now.lexicon taken.old.items }
-    requires built { IfSome built (IsBuiltFor (text_in setting.now) setting.now.params (listed setting.now.table.now taken.old.items)) }
+    requires taken { AreKnownIn setting.now taken.old.items }
+    requires rules { IfSome rules (AreOfList setting.now (said_in setting.now taken.old.items)) }
     requires candidate { IsRequirementIn setting.now.table.now setting.now.world.now.lexicon candidate }
     ensures takes { OnOk result ((before : List TermRequirement)
-        → Takes (facts_in setting.entry.now) (params_in setting.entry.now) [] before (listed setting.entry.now.table.now taken.old.items)
+        → Takes (facts_in setting.entry.now) (params_in setting.entry.now) [] before (said_in setting.entry.now taken.old.items)
         → Takes (facts_in setting.entry.now) (params_in setting.entry.now) [] (before ++ requirement_of setting.entry.now.table.now candidate ∷ [])
-        (listed setting.entry.now.table.now taken.new.items)) }
-    ensures known { OnOk result (AreKnown setting.entry.now.table.now setting.entry.now.world.now.lexicon taken.new.items) }
-    ensures built { IfOk result (λ built. IfSome built (IsBuiltFor (text_in setting.entry.now) setting.entry.now.params (listed setting.entry.now.table.now taken.new.items))) }
+        (said_in setting.entry.now taken.new.items)) }
+    ensures known { OnOk result (AreKnownIn setting.entry.now taken.new.items) }
+    ensures rules { IfOk result (λ o. IfSome o (AreOfList setting.entry.now (said_in setting.entry.now taken.new.items))) }
     ensures told { OnOk result (TellsParts setting.entry.now.limits (plan_in setting.entry.now)
-        (λ l. l ≡ listed setting.entry.now.table.now taken.old.items) (W.told watch.old) (W.told watch.new)) }
+        (λ l. l ≡ said_in setting.entry.now taken.old.items) (W.told watch.old) (W.told watch.new)) }
     ensures failed { IfErr result (TellsFailure setting.entry.now.limits (plan_in setting.entry.now)
-        (λ l. l ≡ listed setting.entry.now.table.now taken.old.items) (W.told watch.old) (W.told watch.new)) }
+        (λ l. l ≡ said_in setting.entry.now taken.old.items) (W.told watch.old) (W.told watch.new)) }
 {
-    let machine = match machine_for(alloc, setting, taken, built, watch) {
-        Ok(machine) => machine,
+    let derivable = match follows(alloc, setting, rules.as_ref(), taken, candidate, watch) {
+        Ok(derivable) => derivable,
         Err(failed) => return Err(failed),
     };
-    let derivable = match holds(alloc, setting.world, setting.table, &machine, candidate) {
-        Ok(derivable) => derivable,
-        Err(_) => return Err(Failed::Memory),
-    };
     if derivable {
-        return Ok(Some(machine));
+        return Ok(rules);
     }
-    match put(taken, candidate) {
-        Ok(()) => Ok(None),
-        Err(failed) => Err(failed),
-    }
+    put_taken(alloc, setting, taken, rules, candidate)
 }
 
 /// Those of the candidates, in order, that are not derivable from those that were taken before them.
@@ -185,27 +262,32 @@ fn generators<W: Watch>(
     watch: &mut W,
 ) -> Result<Vec<Requirement>, Failed>
     requires setting { IsSetting setting.now }
-    requires candidates { AreKnown setting.now.table.now setting.now.world.now.lexicon candidates.now }
+    requires candidates { AreKnownIn setting.now candidates.now }
     ensures takes { IfOk result (λ v. Takes (facts_in setting.now) (params_in setting.now) []
-        (listed setting.now.table.now candidates.now) (listed setting.now.table.now v.items)) }
-    ensures known { IfOk result (λ v. AreKnown setting.now.table.now setting.now.world.now.lexicon v.items) }
+        (said_in setting.now candidates.now) (said_in setting.now v.items)) }
+    ensures known { IfOk result (λ v. AreKnownIn setting.now v.items) }
     ensures told { IfOk result (λ _. TellsParts setting.now.limits (plan_in setting.now)
-        (IsTakenBefore (facts_in setting.now) (params_in setting.now) (listed setting.now.table.now candidates.now))
+        (IsTakenBefore (facts_in setting.now) (params_in setting.now) (said_in setting.now candidates.now))
         (W.told watch.old) (W.told watch.new)) }
     ensures failed { IfErr result (TellsFailure setting.now.limits (plan_in setting.now)
-        (IsTakenBefore (facts_in setting.now) (params_in setting.now) (listed setting.now.table.now candidates.now))
+        (IsTakenBefore (facts_in setting.now) (params_in setting.now) (said_in setting.now candidates.now))
         (W.told watch.old) (W.told watch.new)) }
 {
     let mut taken: Vec<Requirement> = Vec::new(alloc);
-    let mut built: Option<Machine<'_>> = None;
+    let mut rules = match rules_of(alloc, setting, &[]) {
+        Ok(rules) => rules,
+        Err(failed) => return Err(failed),
+    };
     for k in 0..candidates.len() {
-        match take(alloc, setting, &mut taken, built, candidates[k], watch) {
-            Ok(left) => built = left,
+        match take(alloc, setting, &mut taken, rules, candidates[k], watch) {
+            Ok(grown) => rules = grown,
             Err(failed) => return Err(failed),
         }
     }
     Ok(taken)
 }
+
+// ---- what is left of them
 
 /// Puts a requirement at a place.
 fn put_at(list: &mut Vec<Requirement>, place: usize, r: Requirement) -> Result<(), Failed>
@@ -219,30 +301,34 @@ fn put_at(list: &mut Vec<Requirement>, place: usize, r: Requirement) -> Result<(
     }
 }
 
-/// Drops the requirement at a place, if it is derivable from the others.
+/// Drops the requirement at a place, if it is derivable from the others, of which these are the rules where there are any.
 fn drop_at<W: Watch>(
     alloc: Global,
     setting: &Setting<'_>,
+    rules: Option<&ListRules<'_>>,
     left: &mut Vec<Requirement>,
     place: usize,
     watch: &mut W,
 ) -> Result<(), Failed>
     requires setting { IsSetting setting.now }
-    requires left { AreKnown setting.now.table.now setting.now.world.now.lexicon left.old.items }
+    requires rules { IfSome rules (λ rules. AreOfList setting.now (said_in setting.now (remove left.old.items place)) rules.now) }
+    requires left { AreKnownIn setting.now left.old.items }
     requires place { place < length left.old.items }
     ensures leaves { OnOk result ((front behind out : List TermRequirement) (r : TermRequirement)
-        → listed setting.now.table.now left.old.items ≡ front ++ r ∷ out → length front ≡ place
+        → said_in setting.now left.old.items ≡ front ++ r ∷ out → length front ≡ place
         → Leaves (facts_in setting.now) (params_in setting.now) (front ++ r ∷ []) behind out
-        → (more : List TermRequirement) × (listed setting.now.table.now left.new.items ≡ front ++ more)
+        → (more : List TermRequirement) × (said_in setting.now left.new.items ≡ front ++ more)
         × Leaves (facts_in setting.now) (params_in setting.now) front (r ∷ behind) more) }
-    ensures known { OnOk result (AreKnown setting.now.table.now setting.now.world.now.lexicon left.new.items) }
+    ensures stays { OnOk result ((kept : List Requirement)
+        × (left.new.items ≡ take place left.old.items ++ (kept ++ drop (suc place) left.old.items))) }
+    ensures known { OnOk result (AreKnownIn setting.now left.new.items) }
     ensures told { OnOk result (TellsParts setting.now.limits (plan_in setting.now)
-        (λ l. l ≡ listed setting.now.table.now (remove left.old.items place)) (W.told watch.old) (W.told watch.new)) }
+        (λ l. l ≡ said_in setting.now (remove left.old.items place)) (W.told watch.old) (W.told watch.new)) }
     ensures failed { IfErr result (TellsFailure setting.now.limits (plan_in setting.now)
-        (λ l. l ≡ listed setting.now.table.now (remove left.old.items place)) (W.told watch.old) (W.told watch.new)) }
+        (λ l. l ≡ said_in setting.now (remove left.old.items place)) (W.told watch.old) (W.told watch.new)) }
 {
     let one = left.remove(place);
-    let derivable = match follows(alloc, setting, left, one, watch) {
+    let derivable = match follows(alloc, setting, rules, left, one, watch) {
         Ok(derivable) => derivable,
         Err(failed) => return Err(failed),
     };
@@ -250,6 +336,122 @@ fn drop_at<W: Watch>(
         return Ok(());
     }
     put_at(left, place, one)
+}
+
+/// The places from one on up to another.
+#[derive(Clone, Copy)]
+struct Span {
+    from: usize,
+    to: usize,
+}
+
+/// A half of a span, and where the other half stands.
+#[derive(Clone, Copy)]
+struct Half {
+    span: Span,
+    other: Span,
+}
+
+/// Goes through the requirements of a half from the last to the first, as `drop_in` does. The rules are those of the requirements beside both
+/// halves, where there are any.
+#[cycle(halves)]
+fn drop_half<W: Watch>(
+    alloc: Global,
+    setting: &Setting<'_>,
+    rules: Option<&ListRules<'_>>,
+    left: &mut Vec<Requirement>,
+    half: Half,
+    watch: &mut W,
+) -> Result<(), Failed>
+    requires setting { IsSetting setting.now }
+    requires rules { IfSome rules (λ rules. AreBesideBoth setting.now left.old.items half rules.now) }
+    requires left { AreKnownIn setting.now left.old.items }
+    requires span { IsSpanOf left.old.items half.span }
+    requires other { IsPartOf left.old.items half.other }
+    ensures leaves { OnOk result ((all : List TermRequirement)
+        → half.span.to ≤ length all → IsLeftFrom (facts_in setting.now) (params_in setting.now) half.span.to all (said_in setting.now left.old.items)
+        → IsLeftFrom (facts_in setting.now) (params_in setting.now) half.span.from all (said_in setting.now left.new.items)) }
+    ensures stays { OnOk result ((kept : List Requirement)
+        × (left.new.items ≡ take half.span.from left.old.items ++ (kept ++ drop half.span.to left.old.items))) }
+    ensures known { OnOk result (AreKnownIn setting.now left.new.items) }
+    ensures told { OnOk result ((all : List TermRequirement)
+        → half.span.to ≤ length all → IsLeftFrom (facts_in setting.now) (params_in setting.now) half.span.to all (said_in setting.now left.old.items)
+        → TellsParts setting.now.limits (plan_in setting.now) (IsLeftWithout (facts_in setting.now) (params_in setting.now) all)
+        (W.told watch.old) (W.told watch.new)) }
+    ensures failed { IfErr result (λ failed. (all : List TermRequirement)
+        → half.span.to ≤ length all → IsLeftFrom (facts_in setting.now) (params_in setting.now) half.span.to all (said_in setting.now left.old.items)
+        → TellsFailure setting.now.limits (plan_in setting.now) (IsLeftWithout (facts_in setting.now) (params_in setting.now) all)
+        (W.told watch.old) (W.told watch.new) failed) }
+{
+    let more = &left[half.other.from..half.other.to];
+    match over_with(alloc, setting, rules, more) {
+        Ok(grown) => drop_in(alloc, setting, grown.as_ref(), left, half.span, watch),
+        Err(failed) => Err(failed),
+    }
+}
+
+/// Goes through the requirements of a span from the last to the first, and drops each that is derivable from the others that are then left.
+/// The rules are those of the requirements beside the span, where there are any. Each half of the span is gone through with the rules to which
+/// the other half was added.
+#[cycle(halves)]
+fn drop_in<W: Watch>(
+    alloc: Global,
+    setting: &Setting<'_>,
+    rules: Option<&ListRules<'_>>,
+    left: &mut Vec<Requirement>,
+    span: Span,
+    watch: &mut W,
+) -> Result<(), Failed>
+    requires setting { IsSetting setting.now }
+    requires rules { IfSome rules (λ rules. AreOfList setting.now
+        (said_in setting.now (take span.from left.old.items ++ drop span.to left.old.items)) rules.now) }
+    requires left { AreKnownIn setting.now left.old.items }
+    requires span { IsSpanOf left.old.items span }
+    ensures leaves { OnOk result ((all : List TermRequirement)
+        → span.to ≤ length all → IsLeftFrom (facts_in setting.now) (params_in setting.now) span.to all (said_in setting.now left.old.items)
+        → IsLeftFrom (facts_in setting.now) (params_in setting.now) span.from all (said_in setting.now left.new.items)) }
+    ensures stays { OnOk result ((kept : List Requirement)
+        × (left.new.items ≡ take span.from left.old.items ++ (kept ++ drop span.to left.old.items))) }
+    ensures known { OnOk result (AreKnownIn setting.now left.new.items) }
+    ensures told { OnOk result ((all : List TermRequirement)
+        → span.to ≤ length all → IsLeftFrom (facts_in setting.now) (params_in setting.now) span.to all (said_in setting.now left.old.items)
+        → TellsParts setting.now.limits (plan_in setting.now) (IsLeftWithout (facts_in setting.now) (params_in setting.now) all)
+        (W.told watch.old) (W.told watch.new)) }
+    ensures failed { IfErr result (λ failed. (all : List TermRequirement)
+        → span.to ≤ length all → IsLeftFrom (facts_in setting.now) (params_in setting.now) span.to all (said_in setting.now left.old.items)
+        → TellsFailure setting.now.limits (plan_in setting.now) (IsLeftWithout (facts_in setting.now) (params_in setting.now) all)
+        (W.told watch.old) (W.told watch.new) failed) }
+{
+    let middle = span.from + (span.to - span.from) / 2;
+    if middle == span.from {
+        return drop_at(alloc, setting, rules, left, span.from, watch);
+    }
+    let behind = left.len() - span.to;
+    let first = Span {
+        from: span.from,
+        to: middle,
+    };
+    let second = Span {
+        from: middle,
+        to: span.to,
+    };
+    let last_half = Half {
+        span: second,
+        other: first,
+    };
+    match drop_half(alloc, setting, rules, left, last_half, watch) {
+        Ok(()) => {}
+        Err(failed) => return Err(failed),
+    }
+    let kept = Span {
+        from: middle,
+        to: left.len() - behind,
+    };
+    let first_half = Half {
+        span: first,
+        other: kept,
+    };
+    drop_half(alloc, setting, rules, left, first_half, watch)
 }
 
 /// Goes through the requirements from the last to the first, and drops each that is derivable from the others that are then left. The last is known
@@ -261,27 +463,34 @@ fn drop_derivable<W: Watch>(
     watch: &mut W,
 ) -> Result<(), Failed>
     requires setting { IsSetting setting.now }
-    requires left { AreKnown setting.now.table.now setting.now.world.now.lexicon left.old.items }
-    requires last { IsLastNeeded (facts_in setting.now) (params_in setting.now) (listed setting.now.table.now left.old.items) }
+    requires left { AreKnownIn setting.now left.old.items }
+    requires last { IsLastNeeded (facts_in setting.now) (params_in setting.now) (said_in setting.now left.old.items) }
     ensures leaves { OnOk result (Leaves (facts_in setting.now) (params_in setting.now) []
-        (listed setting.now.table.now left.old.items) (listed setting.now.table.now left.new.items)) }
-    ensures known { OnOk result (AreKnown setting.now.table.now setting.now.world.now.lexicon left.new.items) }
+        (said_in setting.now left.old.items) (said_in setting.now left.new.items)) }
+    ensures known { OnOk result (AreKnownIn setting.now left.new.items) }
     ensures told { OnOk result (TellsParts setting.now.limits (plan_in setting.now)
-        (IsLeftWithout (facts_in setting.now) (params_in setting.now) (listed setting.now.table.now left.old.items))
+        (IsLeftWithout (facts_in setting.now) (params_in setting.now) (said_in setting.now left.old.items))
         (W.told watch.old) (W.told watch.new)) }
     ensures failed { IfErr result (TellsFailure setting.now.limits (plan_in setting.now)
-        (IsLeftWithout (facts_in setting.now) (params_in setting.now) (listed setting.now.table.now left.old.items))
+        (IsLeftWithout (facts_in setting.now) (params_in setting.now) (said_in setting.now left.old.items))
         (W.told watch.old) (W.told watch.new)) }
 {
-    let mut count = left.len().saturating_sub(1);
-    while count > 0 {
-        count -= 1;
-        match drop_at(alloc, setting, left, count, watch) {
-            Ok(()) => {}
-            Err(failed) => return Err(failed),
-        }
+    let last = left.len().saturating_sub(1);
+    if last == 0 {
+        return Ok(());
     }
-    Ok(())
+    let rules = match rules_of(alloc, setting, &left[last..]) {
+        Ok(rules) => rules,
+        Err(failed) => return Err(failed),
+    };
+    drop_in(
+        alloc,
+        setting,
+        rules.as_ref(),
+        left,
+        Span { from: 0, to: last },
+        watch,
+    )
 }
 
 /// What is left of the candidates.
@@ -292,15 +501,15 @@ pub(crate) fn sift<W: Watch>(
     watch: &mut W,
 ) -> Result<Vec<Requirement>, Failed>
     requires setting { IsSetting setting.now }
-    requires candidates { AreKnown setting.now.table.now setting.now.world.now.lexicon candidates.now }
+    requires candidates { AreKnownIn setting.now candidates.now }
     ensures sifted { IfOk result (λ v. IsSifted (facts_in setting.now) (params_in setting.now)
-        (listed setting.now.table.now candidates.now) (listed setting.now.table.now v.items)) }
-    ensures known { IfOk result (λ v. AreKnown setting.now.table.now setting.now.world.now.lexicon v.items) }
+        (said_in setting.now candidates.now) (said_in setting.now v.items)) }
+    ensures known { IfOk result (λ v. AreKnownIn setting.now v.items) }
     ensures told { IfOk result (λ _. TellsParts setting.now.limits (plan_in setting.now)
-        (IsPassed (facts_in setting.now) (params_in setting.now) (listed setting.now.table.now candidates.now))
+        (IsPassed (facts_in setting.now) (params_in setting.now) (said_in setting.now candidates.now))
         (W.told watch.old) (W.told watch.new)) }
     ensures failed { IfErr result (TellsFailure setting.now.limits (plan_in setting.now)
-        (IsPassed (facts_in setting.now) (params_in setting.now) (listed setting.now.table.now candidates.now))
+        (IsPassed (facts_in setting.now) (params_in setting.now) (said_in setting.now candidates.now))
         (W.told watch.old) (W.told watch.new)) }
 {
     match generators(alloc, setting, candidates, watch) {

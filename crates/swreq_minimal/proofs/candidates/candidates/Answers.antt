@@ -1,17 +1,21 @@
-use Rattle.std.proofs.Common.{subst, sym, length, List}
+use Rattle.std.proofs.Common.{◌≡◌, subst, sym, length, slice_get, ℕ, List, Some}
 use Rattle.std.proofs.lemmas.Result.{IfOk-weaker}
 use Rattle.swreq_derive.specs.declared.known.Params.{Params}
 use Rattle.swreq_rule.specs.declared.rules.Rule.{Rule}
-use Rattle.swreq_complete.specs.Reduced.{IsReducedSystem}
+use Rattle.swreq_complete.specs.Complete.{IsComplete}
+use Rattle.swreq_complete.specs.Reduced.{IsReduced}
 use Rattle.swreq_symbols.specs.Vanishing.{Links}
 use Rattle.swreq_valid.specs.Plans.{listed}
 use Rattle.swreq_world.specs.ByTable.{world_by}
+use Rattle.swreq_minimal.specs.OfParams.{AreOfParams}
 use Rattle.swreq_minimal.specs.Sorted.{IsSaidList}
 use Rattle.swreq_minimal.proofs.Collecting.{are_candidates}
 use Rattle.swreq_minimal.proofs.candidates.candidates.Goals as goal
 
 pub collect-requires : goal.collect-requires
-collect-requires c = subst (IsReducedSystem (Links c.rules-rules.result.now)) (sym c.deref.ensures.value) c.in_ok-system.ensures.reduced
+collect-requires c =
+    subst (λ (z : List Rule). (k : ℕ) (rule : Rule) → slice_get z k ≡ Some rule → IsReduced (Links c.rules-rules.result.now) rule)
+    (sym c.deref.ensures.value) c.in_ok-system.ensures.system.each
 
 pub returns-clause-candidates : goal.returns-clause-candidates
 returns-clause-candidates c list is ended =
@@ -20,8 +24,9 @@ returns-clause-candidates c list is ended =
     let system = c.in_ok-system.system.items in
     let new = c.collect.new.table in
     IfOk-weaker c.collect.result _ _ (λ v said.
-    are_candidates w c.requires.closed c.args.machine.now list is system
-    (subst (λ (z : List Rule). IsReducedSystem (Links z) system) c.rules-rules.ensures c.in_ok-system.ensures.reduced) ended (listed new v.items)
+    are_candidates w c.requires.closed c.args.machine.now list is
+    (subst IsComplete c.rules-rules.ensures c.in_ok-system.ensures.complete) system
+    (subst (λ (z : List Rule). AreOfParams (Links z) z (length z) system) c.rules-rules.ensures c.in_ok-system.ensures.system) ended (listed new v.items)
     (subst (λ (z : List Rule). IsSaidList x z c.args.machine.now.params system (length system) (listed new v.items)) c.rules-rules.ensures
     (subst (λ (z : Params). IsSaidList x c.rules-rules.result.now z system (length system) (listed new v.items)) c.params.ensures
     (subst (λ (z : List Rule). IsSaidList x c.rules-rules.result.now c.params.result z (length z) (listed new v.items)) c.deref.ensures.value said))))

@@ -7,7 +7,7 @@ use Rattle.swreq_symbols.specs.Meaning.{symbols_of}
 use Rattle.swreq_valid.specs.Plans.{listed}
 use Rattle.swreq_valid.proofs.Listing.{list_in_text}
 use Rattle.swreq_minimal.specs.Evident.{IsOfEquation}
-use Rattle.swreq_minimal.specs.Settings.{params_in, text_in}
+use Rattle.swreq_list_rules.specs.Settings.{params_in, text_in}
 use Rattle.swreq_minimal.proofs.Showing.{evident}
 use Rattle.swreq_minimal.proofs.evidence.is_evident.Goals as goal
 

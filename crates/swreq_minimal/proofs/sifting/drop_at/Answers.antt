@@ -1,4 +1,5 @@
-use Rattle.std.proofs.Common.{◌≡◌, ◌∙◌, ap, sym, subst, get_or, List}
+use Rattle.std.proofs.Common.{◌≡◌, ◌∙◌, ap, sym, subst, get_or, List, [], ◌∷◌, IfSome}
+use Rattle.std.specs.Borrow.{Bor}
 use Rattle.std.specs.Prelude.{insert, remove}
 use Rattle.std.proofs.lemmas.List.Elements.{Contains-get_or}
 use Rattle.std.proofs.lemmas.Result.{IfErr-weaker, on_ok_weaker}
@@ -9,9 +10,10 @@ use Rattle.swreq_derive.specs.declared.requirements.Requirement.{Requirement}
 use Rattle.swreq_derive.specs.Facts.{requirement_of}
 use Rattle.swreq_symbols.specs.Known.{IsRequirementIn}
 use Rattle.swreq_valid.specs.Plans.{AreKnown, listed}
-use Rattle.swreq_minimal.specs.Settings.{facts_in, params_in, plan_in}
+use Rattle.swreq_list_rules.specs.ListRules.{AreOfList, ListRulesView}
+use Rattle.swreq_list_rules.specs.Settings.{facts_in, params_in, plan_in, said_in}
 use Rattle.swreq_minimal.specs.Told.{TellsFailure}
-use Rattle.swreq_minimal.proofs.Passing.{LeavesNow, one_dropped, one_kept, put_back, there_before}
+use Rattle.swreq_minimal.proofs.Passing.{LeavesNow, one_dropped, one_kept, parted, put_back, there_before, without}
 use Rattle.swreq_minimal.proofs.Telling.{failure_of, tells_of, wants_memory}
 use Rattle.swreq_minimal.proofs.sifting.drop_at.Goals as goal
 
@@ -102,3 +104,23 @@ returns-clause-failed g c =
     subst (TellsFailure c.args.setting.now.limits plan (λ l. l ≡ listed c.args.setting.now.table.now (remove c.args.left.now.items c.args.place)) (g.W.Watch.told c.args.watch.now) (g.W.Watch.told c.follows.new.watch)) (sym e)
     (wants_memory c.args.setting.now.limits plan (λ l. l ≡ listed c.args.setting.now.table.now (remove c.args.left.now.items c.args.place)) (g.W.Watch.told c.args.watch.now) (g.W.Watch.told c.follows.new.watch) told))
     c.put_at.ensures.memory
+
+pub follows-requires-clause-rules : goal.follows-requires-clause-rules
+follows-requires-clause-rules g c =
+    subst (λ (z : List Requirement). IfSome c.args.rules (λ (rules : Bor ListRulesView). AreOfList c.args.setting.now (said_in c.args.setting.now z) rules.now))
+    (sym (c.deref.ensures.value ∙ c.remove-one.ensures.items)) c.requires.rules
+
+pub returns-then-derivable-clause-stays : goal.returns-then-derivable-clause-stays
+returns-then-derivable-clause-stays g c =
+    ([], c.remove-one.ensures.items ∙ without c.args.setting.now.table.now c.args.left.now.items c.args.place c.remove-one.result c.requires.place)
+
+pub returns-clause-stays : goal.returns-clause-stays
+returns-clause-stays g c =
+    let now = c.args.left.now.items in
+    let k = c.args.place in
+    let one = c.remove-one.result in
+    on_ok_weaker c.put_at.result (λ e. (
+      get_or now k one ∷ [],
+      e ∙ (ap (λ z. insert z k one) c.remove-one.ensures.items ∙ (ap (λ z. insert (remove now k) k z) c.remove-one.ensures.value
+          ∙ (put_back c.args.setting.now.table.now now k one c.requires.place ∙ parted now k one c.requires.place))),
+    )) c.put_at.ensures.put

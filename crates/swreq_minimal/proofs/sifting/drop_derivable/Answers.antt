@@ -1,70 +1,67 @@
-use Rattle.std.proofs.Common.{◌≡◌, ◌-◌, subst, length, arith}
-use Rattle.std.specs.Prelude.{remove}
+use Rattle.std.proofs.Common.{◌≡◌, ◌-◌, arith, length, sym, subst}
 use Rattle.std.proofs.lemmas.List.{length-map}
+use Rattle.std.proofs.lemmas.Result.{IfErr-weaker, on_ok_weaker}
 use Rattle.swreq_derive.specs.Facts.{requirement_of}
-use Rattle.swreq_valid.specs.Plans.{listed}
+use Rattle.swreq_list_rules.specs.Settings.{facts_in, params_in, plan_in, said_in}
 use Rattle.swreq_minimal.specs.Passed.{IsLeftWithout}
-use Rattle.swreq_minimal.specs.Settings.{facts_in, params_in, plan_in}
+use Rattle.swreq_minimal.specs.Told.{TellsFailure}
 use Rattle.swreq_minimal.proofs.Inserting.{any}
-use Rattle.swreq_minimal.proofs.Passing.{IsLeftFrom, all_passed, is_without, last_stays, passed_on, within_now}
-use Rattle.swreq_minimal.proofs.Telling.{fails_next, tells_next, tells_none}
+use Rattle.swreq_minimal.proofs.Passing.{all_passed, last_stays}
+use Rattle.swreq_minimal.proofs.Telling.{tells_none, wants_at_once}
 use Rattle.swreq_minimal.proofs.sifting.drop_derivable.Goals as goal
 
-pub loop-count-init : goal.loop-count-init
-loop-count-init g c =
-    let all = listed c.args.setting.now.table.now c.args.left.now.items in
-    let n : length all ≡ length c.args.left.now.items = length-map c.args.left.now.items (requirement_of c.args.setting.now.table.now) in
-    let e : c.saturating_sub-count.result ≡ length all - 1 = omega (arith, c.saturating_sub-count.ensures, c.len.ensures, n) in
-    record {
-      within = omega (arith, e);
-      left = last_stays (facts_in c.args.setting.now) (params_in c.args.setting.now) c.saturating_sub-count.result all
-          (requirement_of c.args.setting.now.table.now any) e c.requires.last;
-      known = c.requires.left;
-      told = tells_none c.args.setting.now.limits (plan_in c.args.setting.now)
-          (IsLeftWithout (facts_in c.args.setting.now) (params_in c.args.setting.now) all) (g.W.Watch.told c.args.watch.now);
-    }
+pub returns-then-last-eq0-clause-leaves : goal.returns-then-last-eq0-clause-leaves
+returns-then-last-eq0-clause-leaves g c =
+    let s = c.args.setting.now in
+    let all = said_in s c.args.left.now.items in
+    let n : length all ≡ length c.args.left.now.items = length-map c.args.left.now.items (requirement_of s.table.now) in
+    let zero = c.if-last-eq0.true in
+    let e : 0 ≡ length all - 1 = omega (arith, c.saturating_sub-last.ensures, c.len.ensures, n, zero) in
+    all_passed (facts_in s) (params_in s) all all
+    (last_stays (facts_in s) (params_in s) 0 all (requirement_of s.table.now any) e c.requires.last)
 
-pub drop_at-requires-clause-place : goal.drop_at-requires-clause-place
-drop_at-requires-clause-place g c =
-    let terms = c.args.setting.now.table.now in
-    within_now (facts_in c.args.setting.now) (params_in c.args.setting.now) terms (listed terms c.args.left.now.items) c.loop-count.left.items c.loop-count.count any
-    c.loop-count-test.true c.loop-count.invariant.within c.loop-count.invariant.left
+pub returns-then-last-eq0-clause-told : goal.returns-then-last-eq0-clause-told
+returns-then-last-eq0-clause-told g c =
+    let s = c.args.setting.now in
+    tells_none s.limits (plan_in s) (IsLeftWithout (facts_in s) (params_in s) (said_in s c.args.left.now.items)) (g.W.Watch.told c.args.watch.now)
 
 pub returns-in-Err-clause-failed : goal.returns-in-Err-clause-failed
 returns-in-Err-clause-failed g c =
-    let terms = c.args.setting.now.table.now in
-    let f = facts_in c.args.setting.now in
-    let ps = params_in c.args.setting.now in
-    let all = listed terms c.args.left.now.items in
-    fails_next c.args.setting.now.limits (plan_in c.args.setting.now) (IsLeftWithout f ps all)
-    (listed terms (remove c.loop-count.left.items (c.loop-count.count - 1)))
-    (is_without f ps terms all c.loop-count.left.items c.loop-count.count any c.loop-count-test.true c.loop-count.invariant.within c.loop-count.invariant.left)
-    (g.W.Watch.told c.args.watch.now) (g.W.Watch.told c.loop-count.watch) (g.W.Watch.told c.drop_at.new.watch) c.loop-count.invariant.told c.in-Err.failed c.in-Err.ensures.failed
-
-pub loop-count-preserved : goal.loop-count-preserved
-loop-count-preserved g c =
-    let terms = c.args.setting.now.table.now in
-    let f = facts_in c.args.setting.now in
-    let ps = params_in c.args.setting.now in
-    let all = listed terms c.args.left.now.items in
-    let some = c.loop-count-test.true in
-    let now = c.loop-count.invariant in
-    record {
-      within = let w = now.within in omega (arith, w);
-      left = passed_on f ps terms all c.loop-count.left.items c.loop-count.count any some now.within now.left c.drop_at.new.left.items c.in-Ok.ensures.leaves;
-      known = c.in-Ok.ensures.known;
-      told = tells_next c.args.setting.now.limits (plan_in c.args.setting.now) (IsLeftWithout f ps all)
-          (listed terms (remove c.loop-count.left.items (c.loop-count.count - 1)))
-          (is_without f ps terms all c.loop-count.left.items c.loop-count.count any some now.within now.left)
-          (g.W.Watch.told c.args.watch.now) (g.W.Watch.told c.loop-count.watch) (g.W.Watch.told c.drop_at.new.watch) now.told c.in-Ok.ensures.told;
-    }
+    let s = c.args.setting.now in
+    let P = IsLeftWithout (facts_in s) (params_in s) (said_in s c.args.left.now.items) in
+    subst (TellsFailure s.limits (plan_in s) P (g.W.Watch.told c.args.watch.now) (g.W.Watch.told c.args.watch.now)) (sym c.in-Err.ensures.memory)
+    (wants_at_once s.limits (plan_in s) P (g.W.Watch.told c.args.watch.now))
 
 pub returns-clause-leaves : goal.returns-clause-leaves
 returns-clause-leaves g c =
-    let terms = c.args.setting.now.table.now in
-    let f = facts_in c.args.setting.now in
-    let ps = params_in c.args.setting.now in
-    let all = listed terms c.args.left.now.items in
-    let t = c.loop-count-test.false in
-    let e : c.loop-count.count ≡ 0 = omega (arith, t) in
-    all_passed f ps all (listed terms c.loop-count.left.items) (subst (λ n. IsLeftFrom f ps n all (listed terms c.loop-count.left.items)) e c.loop-count.invariant.left)
+    let s = c.args.setting.now in
+    let all = said_in s c.args.left.now.items in
+    let last = c.saturating_sub-last.result in
+    let n : length all ≡ length c.args.left.now.items = length-map c.args.left.now.items (requirement_of s.table.now) in
+    let e : last ≡ length all - 1 = omega (arith, c.saturating_sub-last.ensures, c.len.ensures, n) in
+    on_ok_weaker c.drop_in.result (λ leaves.
+    all_passed (facts_in s) (params_in s) all (said_in s c.drop_in.new.left.items)
+    (leaves all (omega (arith, e)) (last_stays (facts_in s) (params_in s) last all (requirement_of s.table.now any) e c.requires.last)))
+    c.drop_in.ensures.leaves
+
+pub returns-clause-told : goal.returns-clause-told
+returns-clause-told g c =
+    let s = c.args.setting.now in
+    let all = said_in s c.args.left.now.items in
+    let last = c.saturating_sub-last.result in
+    let n : length all ≡ length c.args.left.now.items = length-map c.args.left.now.items (requirement_of s.table.now) in
+    let e : last ≡ length all - 1 = omega (arith, c.saturating_sub-last.ensures, c.len.ensures, n) in
+    on_ok_weaker c.drop_in.result (λ told.
+    told all (omega (arith, e)) (last_stays (facts_in s) (params_in s) last all (requirement_of s.table.now any) e c.requires.last))
+    c.drop_in.ensures.told
+
+pub returns-clause-failed : goal.returns-clause-failed
+returns-clause-failed g c =
+    let s = c.args.setting.now in
+    let all = said_in s c.args.left.now.items in
+    let last = c.saturating_sub-last.result in
+    let n : length all ≡ length c.args.left.now.items = length-map c.args.left.now.items (requirement_of s.table.now) in
+    let e : last ≡ length all - 1 = omega (arith, c.saturating_sub-last.ensures, c.len.ensures, n) in
+    IfErr-weaker c.drop_in.result _ _ (λ failed h.
+    h all (omega (arith, e)) (last_stays (facts_in s) (params_in s) last all (requirement_of s.table.now any) e c.requires.last))
+    c.drop_in.ensures.failed

@@ -1,7 +1,7 @@
 use Rattle.std.proofs.Common.{inl, inr}
 use Rattle.swreq_valid.specs.Plans.{listed}
 use Rattle.swreq_minimal.specs.Passed.{IsLeftWithout, IsPassed, IsTakenBefore}
-use Rattle.swreq_minimal.specs.Settings.{facts_in, params_in, plan_in}
+use Rattle.swreq_list_rules.specs.Settings.{facts_in, params_in, plan_in}
 use Rattle.swreq_minimal.proofs.Passing.{last_needed}
 use Rattle.swreq_minimal.proofs.Telling.{failure_of, fails_after, tells_of, tells_on}
 use Rattle.swreq_minimal.proofs.sifting.sift.Goals as goal

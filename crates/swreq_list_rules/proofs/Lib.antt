@@ -1,0 +1,5 @@
+pub mod Extended
+pub mod Usable
+pub mod Parting
+pub mod ByEquation
+pub mod Growing

@@ -1,0 +1,11 @@
+use Rattle.std.proofs.Common.{◌∙◌, sym, subst₂, List, []}
+use Rattle.swreq_derive.specs.declared.requirements.Requirement.{Requirement}
+use Rattle.swreq_rule.specs.declared.rules.Rule.{Rule}
+use Rattle.swreq_list_rules.specs.ListRules.{AreOfList}
+use Rattle.swreq_list_rules.proofs.Growing.{empty_list}
+use Rattle.swreq_list_rules.proofs.list_rules.ListRules.empty.Goals as goal
+
+pub returns : goal.returns
+returns c =
+    subst₂ (λ (rules : List Rule) (waiting : List Requirement). AreOfList c.args.setting.now [] (record { rules = rules; waiting = waiting }))
+    (sym (c.in_ok-rules.ensures ∙ c.rules.ensures)) (sym c.new.ensures.items) (empty_list c.args.setting.now c.requires)

@@ -1,0 +1,56 @@
+-- What lists are asked over.
+use Rattle.std.specs.Prelude.{List}
+use Rattle.swreq_param.specs.declared.ids.ParamId.{ParamId}
+use Rattle.swreq_derive.specs.declared.requirements.Requirement.{Requirement}
+use Rattle.swreq_derive.specs.Derivation.{Source, TermFacts, TermRequirement}
+use Rattle.swreq_derive.specs.Derivation.Source.{Written}
+use Rattle.swreq_derive.specs.Facts.{generic_params}
+use Rattle.swreq_complete.specs.Limits.{AreInRange}
+use Rattle.swreq_correspondence.specs.Symbols.{Symbols}
+use Rattle.swreq_rounds.specs.Plan.{Plan}
+use Rattle.swreq_symbols.specs.Known.{IsTextOver}
+use Rattle.swreq_symbols.specs.Meaning.{facts_of, symbols_of}
+use Rattle.swreq_world.specs.ByTable.{world_by}
+use Rattle.swreq_world.specs.Worlds.{TextWorld}
+use Rattle.swreq_valid.specs.Machines.{AreRulesOf, list_of}
+use Rattle.swreq_valid.specs.Plans.{AreKnown, listed}
+use Rattle.swreq_valid.specs.Rounds.{last_rules}
+use Rattle.swreq_list_rules.specs.declared.setting.Setting.{Setting}
+
+-- the world of the text
+abbrev pub text_in : Setting → TextWorld
+text_in s = world_by s.table.now s.world.now
+
+-- its symbols
+abbrev pub symbols_in : Setting → Symbols
+symbols_in s = symbols_of s.world.now.lexicon
+
+-- what one derives from
+abbrev pub facts_in : Setting → TermFacts
+facts_in s = facts_of (text_in s)
+
+-- the generic parameters of a list
+abbrev pub params_in : Setting → List ParamId
+params_in s = generic_params s.params
+
+-- a list with these generic parameters
+abbrev pub source_in : Setting → List TermRequirement → Source
+source_in s list = Written (params_in s) list
+
+-- the rounds of a list
+abbrev pub plan_in : Setting → List TermRequirement → Plan
+plan_in s = list_of (text_in s) (last_rules s.protocols.now.rounds) s.params
+
+-- what requirements say
+abbrev pub said_in : Setting → List Requirement → List TermRequirement
+said_in s list = listed s.table.now list
+
+-- requirements of the table and of the text
+abbrev pub AreKnownIn : Setting → List Requirement → Type 0
+AreKnownIn s list = AreKnown s.table.now s.world.now.lexicon list
+
+-- The table is that of the text, the rules are those of its protocols, and the limits are in range.
+pub record IsSetting (s : Setting) : Type 0 where
+  pub text : IsTextOver s.table.now s.world.now
+  pub protocols : AreRulesOf (text_in s) (last_rules s.protocols.now.rounds)
+  pub limits : AreInRange s.limits

@@ -1,0 +1,77 @@
+//! Whether a requirement is derivable from a list, by the rules of the list.
+ghost use Rattle.std.specs.Prelude.{◌≡◌, ◌↔◌, IfOk, IsTrue, List};
+ghost use Rattle.swreq_derive.specs.Derivation.{Derivable, TermRequirement};
+ghost use Rattle.swreq_derive.specs.Derivation.TermStatement.{Requires};
+ghost use Rattle.swreq_derive.specs.Facts.{requirement_of};
+ghost use Rattle.swreq_symbols.specs.Known.{IsRequirementIn};
+ghost use Rattle.swreq_symbols.specs.Vanishing.{IsLeastBy, Links};
+ghost use Rattle.swreq_list_rules.specs.ListRules.{AreRulesOfList, AreShownBy};
+ghost use Rattle.swreq_list_rules.specs.Settings.{IsSetting, facts_in, source_in};
+
+use crate::setting::Setting;
+use std::alloc::{AllocError, Global};
+use swreq_complete::CompleteRules;
+use swreq_derive::Requirement;
+use swreq_symbols::{Over, equation};
+use swreq_valid::is_usable;
+use swreq_word::{Symbol, Word, are_same};
+
+/// Whether the rules show that the type parameters of a requirement are valid.
+pub(crate) fn has_valid_sides(
+    alloc: Global,
+    setting: &Setting<'_>,
+    rules: &CompleteRules<'_>,
+    r: Requirement,
+) -> Result<bool, AllocError>
+    requires setting { IsSetting setting.now }
+    requires r { IsRequirementIn setting.now.table.now setting.now.world.now.lexicon r }
+    ensures { IfOk result (λ b. IsTrue b ↔ AreShownBy setting.now rules.now (requirement_of setting.now.table.now r)) }
+{
+    let over = Over::Signature(setting.params);
+    is_usable(alloc, setting.world, setting.table, rules, over, r)
+}
+
+/// The least word that the rules link to a word.
+fn least(alloc: Global, rules: &CompleteRules<'_>, word: &Word) -> Result<Vec<Symbol>, AllocError>
+    ensures linked { IfOk result (λ v. Links rules.now word.now v.items) }
+    ensures least { IfOk result (λ v. IsLeastBy rules.now v.items) }
+{
+    let mut least = Vec::from_slice(alloc, word.symbols())?;
+    rules.reduce(&mut least);
+    Ok(least)
+}
+
+/// Whether the rules link two words.
+fn are_linked(
+    alloc: Global,
+    rules: &CompleteRules<'_>,
+    u: &Word,
+    v: &Word,
+) -> Result<bool, AllocError>
+    ensures { IfOk result (λ b. IsTrue b ↔ Links rules.now u.now v.now) }
+{
+    let left = least(alloc, rules, u)?;
+    let right = least(alloc, rules, v)?;
+    Ok(are_same(&left, &right))
+}
+
+/// Whether a requirement is derivable from a list with these rules: whether its type parameters are valid, and the rules link the two sides of
+/// its equation.
+pub fn holds(
+    alloc: Global,
+    setting: &Setting<'_>,
+    rules: &CompleteRules<'_>,
+    r: Requirement,
+) -> Result<bool, AllocError>
+    requires setting { IsSetting setting.now }
+    requires r { IsRequirementIn setting.now.table.now setting.now.world.now.lexicon r }
+    ensures { (list : List TermRequirement) → AreRulesOfList setting.now list rules.now
+        → IfOk result (λ b. IsTrue b ↔ Derivable (facts_in setting.now) (source_in setting.now list) (Requires (requirement_of setting.now.table.now r))) }
+{
+    let valid = has_valid_sides(alloc, setting, rules, r)?;
+    if !valid {
+        return Ok(false);
+    }
+    let sides = equation(alloc, setting.world, setting.table, None, &r)?;
+    are_linked(alloc, rules, &sides.0, &sides.1)
+}

@@ -1,0 +1,11 @@
+//! The rules of lists of requirements, which grow with the lists, and what is derivable from a list by its rules.
+#![tactic(auto)]
+
+mod derivable;
+mod list_rules;
+mod setting;
+mod settling;
+
+pub use derivable::holds;
+pub use list_rules::ListRules;
+pub use setting::Setting;

@@ -1,0 +1,97 @@
+//! The rules of a list.
+ghost use Rattle.std.specs.Prelude.{◌≡◌, ◌↔◌, ◌++◌, [], IfOk, IsTrue, List, Contains};
+ghost use Rattle.swreq_derive.specs.Derivation.{Derivable, TermRequirement};
+ghost use Rattle.swreq_derive.specs.Derivation.TermStatement.{Requires};
+ghost use Rattle.swreq_derive.specs.Facts.{requirement_of};
+ghost use Rattle.swreq_symbols.specs.Known.{IsRequirementIn};
+ghost use Rattle.swreq_list_rules.specs.ListRules.{AreOfList};
+ghost use Rattle.swreq_list_rules.specs.Settings.{AreKnownIn, IsSetting, facts_in, said_in, source_in};
+
+use crate::derivable::holds;
+use crate::setting::Setting;
+use crate::settling::settle;
+use std::alloc::{AllocError, Global};
+use std::marker::Model;
+use swreq_complete::{CompleteRules, Failed};
+use swreq_derive::Requirement;
+
+/// The rules of the usable members of a list, over those of the protocols, which are borrowed, and the members that are not usable. They
+/// wait: a list that grows may make them usable.
+#[derive(Drop)]
+pub struct ListRules<'b> {
+    rules: CompleteRules<'b>,
+    waiting: Vec<Requirement>,
+}
+
+impl<'b> Model for ListRules<'b> {
+    ghost use Rattle.swreq_list_rules.specs.ListRules.{ListRulesView};
+
+    ghost Value = { ListRulesView };
+
+    ghost view = { λ r. record { rules = r.rules; waiting = r.waiting.items } };
+}
+
+impl<'b> ListRules<'b> {
+    /// These rules, and these members that wait.
+    pub(crate) fn new(rules: CompleteRules<'b>, waiting: Vec<Requirement>) -> ListRules<'b>
+        ensures { result ≡ record { rules = rules.entry; waiting = waiting.items } }
+    {
+        ListRules { rules, waiting }
+    }
+
+    /// The rules of the list without members.
+    pub fn empty(alloc: Global, setting: &Setting<'b>) -> Result<ListRules<'b>, AllocError>
+        requires { IsSetting setting.now }
+        ensures { IfOk result (AreOfList setting.entry.now []) }
+    {
+        let rules = setting.protocols.rules().over(alloc)?;
+        Ok(ListRules {
+            rules,
+            waiting: Vec::new(alloc),
+        })
+    }
+
+    /// The same rules once more. What of them is not borrowed is copied.
+    pub fn over<'a>(&'a self, alloc: Global) -> Result<ListRules<'a>, AllocError>
+        ensures { IfOk result (λ same. same ≡ self.now) }
+    {
+        let rules = self.rules.over(alloc)?;
+        let waiting = Vec::from_slice(alloc, &self.waiting)?;
+        Ok(ListRules { rules, waiting })
+    }
+
+    /// The rules of a list with these members more. Of members in another order, or of some twice, they are the same rules.
+    ///
+    /// `Failed::Limit` comes where a completion by one more equation passes a limit; the rounds of the list may then pass it or not.
+    pub fn with(
+        self,
+        alloc: Global,
+        setting: &Setting<'_>,
+        more: &[Requirement],
+    ) -> Result<ListRules<'b>, Failed>
+        requires setting { IsSetting setting.now }
+        requires waiting { AreKnownIn setting.now self.waiting }
+        requires more { AreKnownIn setting.now more.now }
+        ensures { (list : List TermRequirement) → AreOfList setting.now list self.entry
+            → IfOk result (AreOfList setting.now (list ++ said_in setting.now more.now)) }
+    {
+        let ListRules { rules, mut waiting } = self;
+        waiting.extend_from_slice(more)?;
+        settle(alloc, setting, rules, waiting)
+    }
+
+    /// Whether a requirement is derivable from the list.
+    pub fn derives(
+        &self,
+        alloc: Global,
+        setting: &Setting<'_>,
+        r: Requirement,
+    ) -> Result<bool, AllocError>
+        requires setting { IsSetting setting.now }
+        requires r { IsRequirementIn setting.now.table.now setting.now.world.now.lexicon r }
+        ensures { (list : List TermRequirement) → AreOfList setting.now list self.now
+            → IfOk result (λ b. IsTrue b ↔ Derivable (facts_in setting.now) (source_in setting.now list) (Requires (requirement_of setting.now.table.now r))) }
+    {
+        holds(alloc, setting, &self.rules, r)
+    }
+}

@@ -1,0 +1,199 @@
+use Rattle.std.proofs.Common.{◌≡◌, ◌↔◌, ◌∙◌, ◌≤◌, ◌+◌, ◌-◌, ◌/◌, ◌++◌, arith, ap, sym, subst, suc, List, take, drop, length, Contains, IfSome, OnOk}
+use Rattle.std.specs.Borrow.{Bor}
+use Rattle.std.specs.Prelude.{remove}
+use Rattle.std.proofs.lemmas.Result.{IfErr-weaker, on_ok_weaker}
+use Rattle.swreq_derive.specs.declared.requirements.Requirement.{Requirement}
+use Rattle.swreq_derive.specs.Derivation.{TermRequirement}
+use Rattle.swreq_list_rules.specs.ListRules.{AreOfList, ListRulesView}
+use Rattle.swreq_list_rules.specs.Settings.{facts_in, params_in, plan_in, said_in}
+use Rattle.swreq_minimal.specs.declared.sifting.Half.{Half}
+use Rattle.swreq_minimal.specs.Halves.{AreBesideBoth, beside, part_of}
+use Rattle.swreq_minimal.specs.Passed.{IsLeftFrom, IsLeftWithout}
+use Rattle.swreq_minimal.specs.Told.{TellsFailure}
+use Rattle.swreq_minimal.proofs.Halving.{both_stay, for_first, for_second, grown_to, halves, if_some_weaker, new_length, one_place, where_borrowed}
+use Rattle.swreq_minimal.proofs.Inserting.{any}
+use Rattle.swreq_minimal.proofs.Passing.{passed_on, is_without, without}
+use Rattle.swreq_minimal.proofs.Telling.{failure_of, fails_after, tells_of, tells_on, wants_at_once}
+use Rattle.swreq_minimal.proofs.sifting.+halves.Goals as goal
+
+-- ---- a span of one place
+
+pub drop_in-drop_at-requires-clause-rules : goal.drop_in-drop_at-requires-clause-rules
+drop_in-drop_at-requires-clause-rules g t c =
+    let s = c.args.setting.now in
+    let now = c.args.left.now.items in
+    let from = c.args.span.from in
+    let one : c.args.span.to ≡ suc from = one_place from c.args.span.to c.requires.span.0 c.if-middle-span.true in
+    let w = c.requires.span.1 in
+    subst (λ (z : List Requirement). IfSome c.args.rules (λ (rules : Bor ListRulesView). AreOfList s (said_in s z) rules.now))
+    (ap (λ n. take from now ++ drop n now) one ∙ sym (without s.table.now now from any (omega (arith, w, one)))) c.requires.rules
+
+pub drop_in-returns-then-middle-span-clause-leaves : goal.drop_in-returns-then-middle-span-clause-leaves
+drop_in-returns-then-middle-span-clause-leaves g t c =
+    let s = c.args.setting.now in
+    let from = c.args.span.from in
+    let one : c.args.span.to ≡ suc from = one_place from c.args.span.to c.requires.span.0 c.if-middle-span.true in
+    on_ok_weaker c.drop_at.result (λ leaves all within left.
+    passed_on (facts_in s) (params_in s) s.table.now all c.args.left.now.items from any (subst (λ n. n ≤ length all) one within)
+    (subst (λ n. IsLeftFrom (facts_in s) (params_in s) n all (said_in s c.args.left.now.items)) one left) c.drop_at.new.left.items leaves)
+    c.drop_at.ensures.leaves
+
+pub drop_in-returns-then-middle-span-clause-stays : goal.drop_in-returns-then-middle-span-clause-stays
+drop_in-returns-then-middle-span-clause-stays g t c =
+    let from = c.args.span.from in
+    let now = c.args.left.now.items in
+    let one : c.args.span.to ≡ suc from = one_place from c.args.span.to c.requires.span.0 c.if-middle-span.true in
+    subst (λ n. OnOk c.drop_at.result ((kept : List Requirement) × (c.drop_at.new.left.items ≡ take from now ++ (kept ++ drop n now)))) (sym one)
+    c.drop_at.ensures.stays
+
+pub drop_in-returns-then-middle-span-clause-told : goal.drop_in-returns-then-middle-span-clause-told
+drop_in-returns-then-middle-span-clause-told g t c =
+    let s = c.args.setting.now in
+    let from = c.args.span.from in
+    let one : c.args.span.to ≡ suc from = one_place from c.args.span.to c.requires.span.0 c.if-middle-span.true in
+    on_ok_weaker c.drop_at.result (λ told all within left.
+    tells_of s.limits (plan_in s) (λ l. l ≡ said_in s (remove c.args.left.now.items from)) (IsLeftWithout (facts_in s) (params_in s) all)
+    (λ l e. subst (IsLeftWithout (facts_in s) (params_in s) all) (sym e)
+    (is_without (facts_in s) (params_in s) s.table.now all c.args.left.now.items from any (subst (λ n. n ≤ length all) one within)
+    (subst (λ n. IsLeftFrom (facts_in s) (params_in s) n all (said_in s c.args.left.now.items)) one left)))
+    (g.W.Watch.told c.args.watch.now) (g.W.Watch.told c.drop_at.new.watch) told)
+    c.drop_at.ensures.told
+
+pub drop_in-returns-then-middle-span-clause-failed : goal.drop_in-returns-then-middle-span-clause-failed
+drop_in-returns-then-middle-span-clause-failed g t c =
+    let s = c.args.setting.now in
+    let from = c.args.span.from in
+    let one : c.args.span.to ≡ suc from = one_place from c.args.span.to c.requires.span.0 c.if-middle-span.true in
+    IfErr-weaker c.drop_at.result _ _ (λ failed h all within left.
+    failure_of s.limits (plan_in s) (λ l. l ≡ said_in s (remove c.args.left.now.items from)) (IsLeftWithout (facts_in s) (params_in s) all)
+    (λ l e. subst (IsLeftWithout (facts_in s) (params_in s) all) (sym e)
+    (is_without (facts_in s) (params_in s) s.table.now all c.args.left.now.items from any (subst (λ n. n ≤ length all) one within)
+    (subst (λ n. IsLeftFrom (facts_in s) (params_in s) n all (said_in s c.args.left.now.items)) one left)))
+    (g.W.Watch.told c.args.watch.now) (g.W.Watch.told c.drop_at.new.watch) failed h)
+    c.drop_at.ensures.failed
+
+-- ---- a half of a span
+
+pub drop_half-drop_in-requires : goal.drop_half-drop_in-requires
+drop_half-drop_in-requires g t c κs sub =
+    let s = c.args.setting.now in
+    let now = c.args.left.now.items in
+    let other = c.args.half.other in
+    let span = c.args.half.span in
+    let grown = rw c.deref.ensures.value at c.in-Ok.ensures.rules in
+    let rules = if_some_weaker _ (AreOfList s (said_in s (beside now span))) c.in-Ok.grown
+    (λ new h. let (old, e, grew) = h in
+    let (list, are, same) = rw e at c.requires.rules in
+    grown_to s list (part_of now other) (beside now span) old.now new same are grew) grown in (
+      omega (arith, c.decreases),
+      (
+        sub,
+        (
+          c.requires.setting,
+          (
+            where_borrowed (AreOfList s (said_in s (beside now span))) c.as_ref.result c.in-Ok.grown c.as_ref.ensures.value rules,
+            (c.requires.left, c.requires.span),
+          ),
+        ),
+      ),
+    )
+
+pub drop_half-returns-in-Err-clause-failed : goal.drop_half-returns-in-Err-clause-failed
+drop_half-returns-in-Err-clause-failed g t c all within left =
+    let s = c.args.setting.now in
+    let P = IsLeftWithout (facts_in s) (params_in s) all in
+    subst (TellsFailure s.limits (plan_in s) P (g.W.Watch.told c.args.watch.now) (g.W.Watch.told c.args.watch.now)) (sym c.in-Err.ensures.memory)
+    (wants_at_once s.limits (plan_in s) P (g.W.Watch.told c.args.watch.now))
+
+-- ---- both halves
+
+pub drop_in-drop_half-requires : goal.drop_in-drop_half-requires
+drop_in-drop_half-requires g t c κs sub =
+    let s = c.args.setting.now in
+    let now = c.args.left.now.items in
+    let from = c.args.span.from in
+    let to = c.args.span.to in
+    let half = halves from to c.requires.span.0 c.if-middle-span.false in
+    let within = c.requires.span.1 in
+    let middle = from + (to - from) / 2 in
+    let last_half : Half = record { span = record { from = middle; to = to }; other = record { from = from; to = middle } } in
+    let rules = if_some_weaker _ (λ (b : Bor ListRulesView). AreBesideBoth s now last_half b.now) c.args.rules (λ b are. (
+      said_in s (take from now ++ drop to now),
+      are,
+      for_second s now from middle to (omega (arith, half.0)) (omega (arith, half.1)) within,
+    )) c.requires.rules in
+    (omega (arith, c.decreases, half.0, half.1), (sub, (c.requires.setting, (rules, (c.requires.left, ((half.1, within), (omega (arith, half.0), omega (arith, half.1, within))))))))
+
+pub drop_in-drop_half-requires-2 : goal.drop_in-drop_half-requires-2
+drop_in-drop_half-requires-2 g t c κs sub =
+    let s = c.args.setting.now in
+    let now = c.args.left.now.items in
+    let from = c.args.span.from in
+    let to = c.args.span.to in
+    let half = halves from to c.requires.span.0 c.if-middle-span.false in
+    let within = c.requires.span.1 in
+    let middle = from + (to - from) / 2 in
+    let new = c.drop_half.new.left.items in
+    let (kept, is) = c.in-Ok.ensures.stays in
+    let long = new_length now from middle to (omega (arith, half.0)) (omega (arith, half.1)) within new kept is in
+    let end : length new - (length now - to) ≡ c.len-2.result - (c.len.result - to) = omega (arith, c.len-2.ensures, c.len.ensures) in
+    let first_half : Half = record {
+      span = record { from = from; to = middle };
+      other = record { from = middle; to = c.len-2.result - (c.len.result - to) };
+    } in
+    let rules = if_some_weaker _ (λ (b : Bor ListRulesView). AreBesideBoth s new first_half b.now) c.args.rules (λ b are. (
+      said_in s (take from now ++ drop to now),
+      are,
+      subst (λ n. (q : TermRequirement) → Contains (said_in s (take from now ++ drop to now) ++ said_in s (take (n - middle) (drop middle new))) q
+          ↔ Contains (said_in s (take from new ++ drop middle new)) q) end
+          (for_first s now from middle to (omega (arith, half.0)) (omega (arith, half.1)) within new kept is),
+    )) c.requires.rules in (
+      omega (arith, c.decreases, half.0, half.1),
+      (
+        sub,
+        (
+          c.requires.setting,
+          (
+            rules,
+            (
+              c.in-Ok.ensures.known,
+              ((half.0, omega (arith, long)), (omega (arith, long, end), omega (arith, long, end))),
+            ),
+          ),
+        ),
+      ),
+    )
+
+pub drop_in-returns-clause-stays : goal.drop_in-returns-clause-stays
+drop_in-returns-clause-stays g t c =
+    let from = c.args.span.from in
+    let to = c.args.span.to in
+    let half = halves from to c.requires.span.0 c.if-middle-span.false in
+    let (kept, is) = c.in-Ok.ensures.stays in
+    on_ok_weaker c.drop_half-2.result (λ h. (
+      h.0 ++ kept,
+      both_stay c.args.left.now.items from (from + (to - from) / 2) to (omega (arith, half.0)) (omega (arith, half.1)) c.requires.span.1
+          c.drop_half.new.left.items kept is c.drop_half-2.new.left.items h.0 h.1,
+    )) c.drop_half-2.ensures.stays
+
+pub drop_in-returns-clause-told : goal.drop_in-returns-clause-told
+drop_in-returns-clause-told g t c =
+    let s = c.args.setting.now in
+    let half = halves c.args.span.from c.args.span.to c.requires.span.0 c.if-middle-span.false in
+    on_ok_weaker c.drop_half-2.result (λ h all within left.
+    tells_on s.limits (plan_in s) (IsLeftWithout (facts_in s) (params_in s) all)
+    (g.W.Watch.told c.args.watch.now) (g.W.Watch.told c.drop_half.new.watch) (g.W.Watch.told c.drop_half-2.new.watch)
+    (c.in-Ok.ensures.told all within left)
+    (h all (omega (arith, within, half.1)) (c.in-Ok.ensures.leaves all within left)))
+    c.drop_half-2.ensures.told
+
+pub drop_in-returns-clause-failed : goal.drop_in-returns-clause-failed
+drop_in-returns-clause-failed g t c =
+    let s = c.args.setting.now in
+    let half = halves c.args.span.from c.args.span.to c.requires.span.0 c.if-middle-span.false in
+    IfErr-weaker c.drop_half-2.result _ _ (λ failed h all within left.
+    fails_after s.limits (plan_in s) (IsLeftWithout (facts_in s) (params_in s) all)
+    (g.W.Watch.told c.args.watch.now) (g.W.Watch.told c.drop_half.new.watch) (g.W.Watch.told c.drop_half-2.new.watch)
+    (c.in-Ok.ensures.told all within left) failed
+    (h all (omega (arith, within, half.1)) (c.in-Ok.ensures.leaves all within left)))
+    c.drop_half-2.ensures.failed

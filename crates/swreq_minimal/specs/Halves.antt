@@ -1,0 +1,36 @@
+-- Rules with members more, and the spans of a list that is gone through by halves.
+use Rattle.std.specs.Prelude.{◌↔◌, ◌<◌, ◌≤◌, ◌-◌, ◌++◌, List, length, take, drop, Contains}
+use Rattle.swreq_derive.specs.declared.requirements.Requirement.{Requirement}
+use Rattle.swreq_derive.specs.Derivation.{TermRequirement}
+use Rattle.swreq_list_rules.specs.declared.setting.Setting.{Setting}
+use Rattle.swreq_list_rules.specs.ListRules.{AreOfList, ListRulesView}
+use Rattle.swreq_list_rules.specs.Settings.{said_in}
+use Rattle.swreq_minimal.specs.declared.sifting.Half.{Half}
+use Rattle.swreq_minimal.specs.declared.sifting.Span.{Span}
+
+-- Of each list of which these are the rules, the new ones are the rules of the list with these members more.
+abbrev pub AreGrownBy : Setting → ListRulesView → List Requirement → ListRulesView → Type 0
+AreGrownBy s old more new =
+    (list : List TermRequirement) → AreOfList s list old → AreOfList s (list ++ said_in s more) new
+
+-- it has a place or more, and all of them are of the list
+abbrev pub IsSpanOf : List Requirement → Span → Type 0
+IsSpanOf list span = (span.from < span.to) × (span.to ≤ length list)
+
+-- it may be empty, and all its places are of the list
+abbrev pub IsPartOf : List Requirement → Span → Type 0
+IsPartOf list span = (span.from ≤ span.to) × (span.to ≤ length list)
+
+-- what stands in the span
+abbrev pub part_of : List Requirement → Span → List Requirement
+part_of list span = take (span.to - span.from) (drop span.from list)
+
+-- what stands before the span and behind it
+abbrev pub beside : List Requirement → Span → List Requirement
+beside list span = take span.from list ++ drop span.to list
+
+-- The rules are those of a list which, together with the other half, has just the members beside the half.
+abbrev pub AreBesideBoth : Setting → List Requirement → Half → ListRulesView → Type 0
+AreBesideBoth s left half rules =
+    (list : List TermRequirement) × AreOfList s list rules
+    × ((q : TermRequirement) → Contains (list ++ said_in s (part_of left half.other)) q ↔ Contains (said_in s (beside left half.span)) q)
