@@ -1,0 +1,9 @@
+mod Orders
+mod Alike
+mod Covering
+mod Stepping
+mod Standing
+mod Searching
+mod Requirements
+mod Texting
+mod Keeping

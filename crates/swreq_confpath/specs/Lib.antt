@@ -1,0 +1,5 @@
+pub mod Routes
+pub mod Tried
+pub mod Numbers
+pub mod Spots
+pub mod Searches

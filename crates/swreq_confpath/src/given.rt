@@ -1,0 +1,86 @@
+//! The conformance path that is given.
+ghost use Rattle.std.specs.Prelude.{◌≡◌, ◌<◌, IfOk, length};
+ghost use Rattle.swreq_param.specs.Tables.{term_at};
+ghost use Rattle.swreq_derive.specs.declared.requirements.Requirement.TheVariants.{Conf};
+ghost use Rattle.swreq_derive.specs.Derivation.{Derivable};
+ghost use Rattle.swreq_derive.specs.Derivation.TermRequirement.{Conforms};
+ghost use Rattle.swreq_derive.specs.Derivation.TermStatement.{Requires};
+ghost use Rattle.swreq_derive.specs.Facts.{generic_params};
+ghost use Rattle.swreq_derive.specs.Paths.{IsGivenPath};
+ghost use Rattle.swreq_world.specs.ByTable.{world_by};
+ghost use Rattle.swreq_world.specs.FactsAt.{facts_of, source_of, written_list};
+ghost use Rattle.swreq_world.specs.Short.{IsShort};
+ghost use Rattle.swreq_world.specs.Worlds.{signature_at};
+ghost use Rattle.swreq_symbols.specs.Known.{IsRequirementIn, IsTextOver};
+ghost use Rattle.swreq_confpath.specs.declared.places.Place.TheVariants.{Start};
+ghost use Rattle.swreq_confpath.specs.Searches.{IsGiven, IsKnown, IsMachineFor, StandsFor, sought_in};
+
+use crate::path::ConfPath;
+use crate::places::Place;
+use crate::sought::{Sought, follow};
+use crate::tried::Tried;
+use crate::trying::go_on;
+use std::alloc::{AllocError, Global};
+use swreq_lowering::FuncId;
+use swreq_param::{ParamTable, ProtoId, TermId};
+use swreq_valid::Machine;
+use swreq_world::World;
+
+/// The path that is given for the conformance that is sought, whose place this is.
+///
+/// Lists of numbers are tried in their order, the shorter ones first. What was tried grows while the search goes on, so the search ends:
+/// with the path, since there is one, or for want of memory.
+fn find(sought: &Sought<'_>, target: &Place) -> Result<ConfPath, AllocError>
+    requires known { IsKnown sought.now }
+    requires target { StandsFor sought.now target.now (sought_in sought.now) }
+    ensures { IfOk result (IsGiven sought.now) }
+{
+    let mut tried = Tried::start(sought.alloc)?;
+    let mut next = 0;
+    while next < tried.len() {
+        match go_on(sought, target, &mut tried, next)? {
+            Some(path) => return Ok(path),
+            None => next += 1,
+        }
+    }
+    unreachable!()
+}
+
+/// The conformance path that is given for `[t : p]`: of those with the fewest conformances the one whose numbers are the least from the
+/// left.
+///
+/// The text is well formed, as far as its protocols and this signature go, m is the machine of the signature, and `[t : p]` is
+/// derivable from its list.
+pub fn shortest(
+    alloc: Global,
+    world: &World,
+    table: &ParamTable,
+    m: &Machine,
+    f: FuncId,
+    t: TermId,
+    p: ProtoId,
+) -> Result<ConfPath, AllocError>
+    requires text { IsTextOver table.now world.now }
+    requires short { IsShort world.now }
+    requires machine { IsMachineFor table.now world.now f m.now }
+    requires asked { IsRequirementIn table.now world.now.lexicon (Conf t p) }
+    requires derivable { Derivable (facts_of (world_by table.now world.now)) (source_of (signature_at (world_by table.now world.now) f))
+        (Requires (Conforms (term_at table.now t) p)) }
+    ensures path { IfOk result (λ path. IsGivenPath (facts_of (world_by table.now world.now))
+        (generic_params (signature_at (world_by table.now world.now) f).params)
+        (written_list (signature_at (world_by table.now world.now) f))
+        path.first path.steps (term_at table.now t) p) }
+{
+    let list = world.bare_signature(alloc, f)?;
+    let sought = Sought {
+        alloc,
+        world,
+        table,
+        machine: m,
+        list: &list,
+        subject: t,
+        proto: p,
+    };
+    let target = follow(&sought, &Place::Start, t, p)?;
+    find(&sought, &target)
+}

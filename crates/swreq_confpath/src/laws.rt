@@ -1,0 +1,41 @@
+//! Laws on conformance paths and the search for them, over the definitions alone.
+ghost use Rattle.std.specs.Prelude.{◌≡◌, ℕ, List, ◌++◌, ◌∷◌};
+ghost use Rattle.swreq_param.specs.declared.ids.ParamId.{ParamId};
+ghost use Rattle.swreq_param.specs.declared.ids.ProtoId.{ProtoId};
+ghost use Rattle.swreq_param.specs.Terms.{Term};
+ghost use Rattle.swreq_derive.specs.Derivation.{Derivable, TermFacts, TermRequirement};
+ghost use Rattle.swreq_derive.specs.Derivation.Source.{Written};
+ghost use Rattle.swreq_derive.specs.Derivation.TermRequirement.{Conforms};
+ghost use Rattle.swreq_derive.specs.Derivation.TermStatement.{Requires};
+ghost use Rattle.swreq_derive.specs.Paths.{IsConformancePath};
+ghost use Rattle.swreq_derive.specs.WellFormed.{AreProtocolsWellFormed, IsListWellFormed};
+ghost use Rattle.swreq_confpath.specs.Numbers.{AreNumbers};
+ghost use Rattle.swreq_confpath.specs.Routes.{AreAlike, IsNotAfter, LeadTo, TermPlace};
+ghost use Rattle.swreq_confpath.specs.Routes.TermPlace.{Conformance, Start};
+
+/// Numbers that lead to a place alike one that was reached need not be tried: on a well formed text what goes on from the one goes on
+/// from the other, to places alike, and numbers that are not after others are not after them with the same numbers behind both.
+pub fn nothing_better_is_lost()
+    ensures alike { (f : TermFacts) (params : List ParamId) (written : List TermRequirement)
+        → AreProtocolsWellFormed f → IsListWellFormed f (Written params written)
+        → (a b d : TermPlace) (ns : List ℕ) → AreAlike f (Written params written) a b → LeadTo f written b ns d
+        → (c : TermPlace) × LeadTo f written a ns c × AreAlike f (Written params written) c d }
+    ensures order { (xs ys ns : List ℕ) → IsNotAfter xs ys → IsNotAfter (xs ++ ns) (ys ++ ns) }
+{}
+
+/// The numbers of a conformance path for a derivable `[T : P]` are those that lead from the start to a place alike the conformance.
+pub fn paths_lead_from_the_start()
+    ensures leads { (f : TermFacts) (params : List ParamId) (written : List TermRequirement) (t : Term) (p : ProtoId)
+        (first : ℕ) (steps : List ℕ) → Derivable f (Written params written) (Requires (Conforms t p))
+        → IsConformancePath f params written first steps t p
+        → (d : TermPlace) × LeadTo f written Start (first ∷ steps) d × AreAlike f (Written params written) d (Conformance t p) }
+    ensures path { (f : TermFacts) (params : List ParamId) (written : List TermRequirement) (t : Term) (p : ProtoId)
+        (first : ℕ) (steps : List ℕ) (d : TermPlace) → LeadTo f written Start (first ∷ steps) d
+        → AreAlike f (Written params written) d (Conformance t p) → IsConformancePath f params written first steps t p }
+{}
+
+/// The numbers of a conformance path are those of conformances, so the path has a text.
+pub fn paths_have_texts()
+    ensures { (f : TermFacts) (params : List ParamId) (written : List TermRequirement) (t : Term) (p : ProtoId)
+        (first : ℕ) (steps : List ℕ) → IsConformancePath f params written first steps t p → AreNumbers f written first steps }
+{}

@@ -1,0 +1,137 @@
+//! Over what the given path is sought, and where requirements lead.
+ghost use Rattle.std.specs.Prelude.{◌≡◌, ◌++◌, [], ◌∷◌, IfOk, List};
+ghost use Rattle.swreq_param.specs.Tables.{term_at};
+ghost use Rattle.swreq_param.specs.Terms.{Term};
+ghost use Rattle.swreq_derive.specs.Derivation.{for_self};
+ghost use Rattle.swreq_lexicon.specs.Views.{IsProtocol};
+ghost use Rattle.swreq_word.specs.declared.symbols.Symbol.{Symbol};
+ghost use Rattle.swreq_symbols.specs.Known.{IsTextOver, IsTypeIn};
+ghost use Rattle.swreq_symbols.specs.Vanishing.{IsLeastBy, Links};
+ghost use Rattle.swreq_valid.specs.Asked.{IsLeastWord};
+ghost use Rattle.swreq_confpath.specs.declared.places.Place.TheVariants.{Conformance};
+ghost use Rattle.swreq_confpath.specs.Routes.{TermPlace, gone_on};
+ghost use Rattle.swreq_confpath.specs.Searches.{IsPlaceIn, StandsFor, required_at, world_in};
+
+use crate::places::Place;
+use std::alloc::{AllocError, Global};
+use swreq_complete::CompleteRules;
+use swreq_derive::Requirement;
+use swreq_param::{ParamTable, ProtoId, TermId};
+use swreq_symbols::equation;
+use swreq_valid::Machine;
+use swreq_word::{Symbol, Word};
+use swreq_world::World;
+
+/// Over what the path is sought that is given for a conformance: a text, and the list of a signature with its machine.
+#[derive(Clone, Copy)]
+pub(crate) struct Sought<'a> {
+    pub alloc: Global,
+    pub world: &'a World,
+    pub table: &'a ParamTable,
+    pub machine: &'a Machine<'a>,
+    pub list: &'a [Requirement],
+    /// The subject of the conformance that is sought, and its protocol.
+    pub subject: TermId,
+    pub proto: ProtoId,
+}
+
+/// The list from which the next number is at a place: that of the signature, or that of the protocol of the last conformance.
+pub(crate) fn required_at<'a>(
+    world: &'a World,
+    list: &'a [Requirement],
+    place: &Place,
+) -> &'a [Requirement]
+    requires { IsPlaceIn world.now place.now }
+    ensures { result.now ≡ required_at world.now list.now place.now }
+{
+    match place {
+        Place::Start => list,
+        Place::Conformance { proto, .. } => world.bare_requirements(*proto),
+    }
+}
+
+/// The least word of those that the rules link to the one word followed by the other.
+fn least(
+    alloc: Global,
+    rules: &CompleteRules<'_>,
+    front: &[Symbol],
+    rest: &[Symbol],
+) -> Result<Word, AllocError>
+    ensures linked { IfOk result (Links rules.now (front.now ++ rest.now)) }
+    ensures least { IfOk result (IsLeastBy rules.now) }
+{
+    let mut word = Vec::from_slice(alloc, front)?;
+    word.extend_from_slice(rest)?;
+    rules.reduce(&mut word);
+    Ok(Word::new(word))
+}
+
+/// A word without its first symbol.
+fn behind_first(word: &[Symbol]) -> &[Symbol]
+    ensures { (x : Symbol) (rest : List Symbol) → word.now ≡ x ∷ rest → result.now ≡ rest }
+{
+    match word {
+        [] => &[],
+        [_, rest @ ..] => rest,
+    }
+}
+
+/// The least word of a type parameter of the signature.
+fn word_of(sought: &Sought<'_>, t: TermId) -> Result<Word, AllocError>
+    requires text { IsTextOver sought.now.table.now sought.now.world.now }
+    requires t { IsTypeIn sought.now.table.now sought.now.world.now.lexicon t }
+    ensures { IfOk result (IsLeastWord (world_in sought.now) sought.now.machine.now (term_at sought.now.table.now t)) }
+{
+    let side = Requirement::Layout { subject: t };
+    let (_, word) = equation(sought.alloc, sought.world, sought.table, None, &side)?;
+    least(sought.alloc, sought.machine.rules(), &[], word.symbols())
+}
+
+/// The least word of a type parameter of a protocol, with that in place of `Self` of which this is the least word.
+fn word_behind(
+    sought: &Sought<'_>,
+    base: &Word,
+    owner: ProtoId,
+    t: TermId,
+) -> Result<Word, AllocError>
+    requires text { IsTextOver sought.now.table.now sought.now.world.now }
+    requires t { IsTypeIn sought.now.table.now sought.now.world.now.lexicon t }
+    ensures { (u : Term) → IsLeastWord (world_in sought.now) sought.now.machine.now u base.now
+        → IfOk result (IsLeastWord (world_in sought.now) sought.now.machine.now (for_self u (term_at sought.now.table.now t))) }
+{
+    let side = Requirement::Layout { subject: t };
+    let (_, word) = equation(sought.alloc, sought.world, sought.table, Some(owner), &side)?;
+    let steps = behind_first(word.symbols());
+    least(sought.alloc, sought.machine.rules(), base.symbols(), steps)
+}
+
+/// The least word of the subject of a conformance to which one goes on from a place.
+fn subject_from(sought: &Sought<'_>, from: &Place, t: TermId) -> Result<Word, AllocError>
+    requires text { IsTextOver sought.now.table.now sought.now.world.now }
+    requires t { IsTypeIn sought.now.table.now sought.now.world.now.lexicon t }
+    ensures { (a : TermPlace) (p : ProtoId) → StandsFor sought.now from.now a
+        → IfOk result (λ u. StandsFor sought.now (Conformance u p) (gone_on a (term_at sought.now.table.now t) p)) }
+{
+    match from {
+        Place::Start => word_of(sought, t),
+        Place::Conformance { subject, proto } => word_behind(sought, subject, *proto, t),
+    }
+}
+
+/// The place to which one goes on from a place by a conformance.
+pub(crate) fn follow(
+    sought: &Sought<'_>,
+    from: &Place,
+    subject: TermId,
+    proto: ProtoId,
+) -> Result<Place, AllocError>
+    requires text { IsTextOver sought.now.table.now sought.now.world.now }
+    requires subject { IsTypeIn sought.now.table.now sought.now.world.now.lexicon subject }
+    requires proto { IsProtocol sought.now.world.now.lexicon proto }
+    ensures place { IfOk result (IsPlaceIn sought.now.world.now) }
+    ensures stands { (a : TermPlace) → StandsFor sought.now from.now a
+        → IfOk result (λ place. StandsFor sought.now place (gone_on a (term_at sought.now.table.now subject) proto)) }
+{
+    let subject = subject_from(sought, from, subject)?;
+    Ok(Place::Conformance { subject, proto })
+}

@@ -1,0 +1,97 @@
+//! What goes on from a place.
+ghost use Rattle.std.specs.Prelude.{◌≡◌, ◌+◌, ◌-◌, ◌<◌, ◌∷◌, ◌++◌, [], length, slice_get, Some, IfOk, MatchOption};
+ghost use Rattle.swreq_derive.specs.Instances.{HasNumber};
+ghost use Rattle.swreq_confpath.specs.Searches.{IsGiven, IsKnown, IsSearch, IsSearchAt, StandsFor, required_at, sought_in};
+ghost use Rattle.swreq_confpath.specs.Spots.{IsKept, Spot};
+
+use crate::path::{ConfPath, path_of};
+use crate::places::Place;
+use crate::sought::{Sought, follow, required_at};
+use crate::tried::Tried;
+use std::alloc::{AllocError, Global};
+use swreq_derive::Requirement;
+
+/// From where the search goes on.
+#[derive(Clone, Copy)]
+struct Turn<'a> {
+    /// The index of the place among those that were tried.
+    next: usize,
+    from: &'a Place,
+}
+
+/// The path, where the place to which the next number leads is the one that is sought. Else the place is kept, where it is new.
+fn try_place(
+    alloc: Global,
+    target: &Place,
+    tried: &mut Tried,
+    next: usize,
+    number: u32,
+    place: Place,
+) -> Result<Option<ConfPath>, AllocError>
+    requires { next < length tried.old }
+    ensures { (s : Spot) → slice_get tried.old next ≡ Some s → IfOk result (λ o. MatchOption o
+        ((place ≡ target.now → ⊥) × IsKept tried.old tried.new place (s.1 ++ number ∷ []))
+        (λ path. (place ≡ target.now) × (path.first ∷ path.steps ≡ s.1 ++ number ∷ []))) }
+{
+    if place == *target {
+        let (_, numbers) = tried.spot(next);
+        let path = path_of(alloc, numbers, number)?;
+        return Ok(Some(path));
+    }
+    tried.keep(alloc, next, number, place)?;
+    Ok(None)
+}
+
+/// Tries the requirement with the next number. By no other than a conformance one goes on.
+fn try_requirement(
+    sought: &Sought<'_>,
+    target: &Place,
+    tried: &mut Tried,
+    turn: Turn<'_>,
+    number: u32,
+    requirement: Requirement,
+) -> Result<Option<ConfPath>, AllocError>
+    requires known { IsKnown sought.now }
+    requires target { StandsFor sought.now target.now (sought_in sought.now) }
+    requires number { HasNumber number (required_at sought.now.world.now sought.now.list.now turn.from.now) requirement }
+    requires at { IsSearchAt sought.now tried.old turn.next turn.from.now (number - 1) }
+    ensures { IfOk result (λ o. MatchOption o
+        (IsSearchAt sought.now tried.new turn.entry.next turn.entry.from.now number)
+        (IsGiven sought.now)) }
+{
+    match requirement {
+        Requirement::Conf { subject, proto } => {
+            let place = follow(sought, turn.from, subject, proto)?;
+            try_place(sought.alloc, target, tried, turn.next, number, place)
+        }
+        _ => Ok(None),
+    }
+}
+
+/// Tries all that goes on from the next place: the path, where one of them leads to the place that is sought.
+pub(crate) fn go_on(
+    sought: &Sought<'_>,
+    target: &Place,
+    tried: &mut Tried,
+    next: usize,
+) -> Result<Option<ConfPath>, AllocError>
+    requires known { IsKnown sought.now }
+    requires target { StandsFor sought.now target.now (sought_in sought.now) }
+    requires next { next < length tried.old }
+    requires so_far { IsSearch sought.now tried.old next }
+    ensures { IfOk result (λ o. MatchOption o (IsSearch sought.now tried.new (next + 1)) (IsGiven sought.now)) }
+{
+    let (place, _) = tried.spot(next);
+    let from = place.copy()?;
+    let turn = Turn { next, from: &from };
+    let list = required_at(sought.world, sought.list, &from);
+    for k in 0..list.len() {
+        let requirement = list[k];
+        let number = k as u32 + 1;
+        match try_requirement(sought, target, tried, turn, number, requirement)? {
+            Some(path) => return Ok(Some(path)),
+            None => {}
+        }
+    }
+    Ok(None)
+}
