@@ -1,0 +1,3 @@
+pub mod Predictive
+pub mod Answering
+mod AsWritten

@@ -1,0 +1,5 @@
+pub mod Terminals
+pub mod Spellings
+pub mod Grammar
+pub mod Written
+pub mod Calls

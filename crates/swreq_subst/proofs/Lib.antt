@@ -1,0 +1,15 @@
+mod Replacing
+mod Numbering
+mod Refusing
+mod Steps
+mod Named
+pub mod Staying
+mod Calling
+mod Lining
+mod Uses
+mod Unknown
+mod Ordering
+mod Ids
+mod Refused
+pub mod ByTable
+mod OneCall

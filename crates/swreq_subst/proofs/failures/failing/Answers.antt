@@ -1,0 +1,84 @@
+use Rattle.std.proofs.Common.{◌≡◌, ◌<◌, ◌∙◌, Some, List, map, length, sym, ap, subst}
+use Rattle.std.specs.Prelude.{All}
+use Rattle.std.specs.Option.{option_map}
+use Rattle.std.proofs.lemmas.List.{length-map}
+use Rattle.std.proofs.lemmas.Result.{IfOk-weaker}
+use Rattle.swreq_param.specs.declared.ids.TermId.{TermId}
+use Rattle.swreq_param.specs.Tables.{term_at}
+use Rattle.swreq_param.specs.Terms.{Term}
+use Rattle.swreq_derive.specs.declared.known.Params.{Params}
+use Rattle.swreq_derive.specs.declared.requirements.Requirement.{Requirement}
+use Rattle.swreq_derive.specs.Facts.{requirement_of}
+use Rattle.swreq_lowering.specs.Heads.{IsOver}
+use Rattle.swreq_lowering.specs.Requirements.{PlacedRequirement}
+use Rattle.swreq_symbols.specs.Known.{IsRequirementIn, IsTypeIn}
+use Rattle.swreq_symbols.proofs.OfText.{signature_is}
+use Rattle.swreq_valid.specs.Plans.{listed}
+use Rattle.swreq_world.specs.ByTable.{world_by}
+use Rattle.swreq_world.specs.FactsAt.{facts_of, written_list}
+use Rattle.swreq_world.specs.Worlds.{SignatureOver, signature_at}
+use Rattle.swreq_subst.specs.Arguments.{param_count, place_of}
+use Rattle.swreq_subst.specs.Calls.{IsArgumentIn}
+use Rattle.swreq_subst.proofs.Calling.{all_of_text, list_is, named, of_callee, same_types}
+use Rattle.swreq_subst.proofs.Numbering.{same_failing}
+use Rattle.swreq_subst.proofs.Replacing.{over_places}
+use Rattle.swreq_subst.proofs.failures.failing.Goals as goal
+
+pub numbers_of-requires-clause-args : goal.numbers_of-requires-clause-args
+numbers_of-requires-clause-args c =
+    let old = c.args.table.now in
+    let x = c.args.world.now.lexicon in
+    let types = c.in_ok-types.types.items in
+    let are : named types ≡ c.args.c.now.args = c.in_ok-types.ensures ∙ c.items.ensures in
+    subst (All (IsTypeIn old x)) (sym c.deref.ensures.value) (all_of_text old x types (subst (All (IsArgumentIn old x)) (sym are) c.requires.call.args))
+
+pub numbers_of-requires-clause-list : goal.numbers_of-requires-clause-list
+numbers_of-requires-clause-list c =
+    let old = c.args.table.now in
+    let w = c.args.world.now in
+    subst (All (IsRequirementIn old w.lexicon)) (sym c.deref-2.ensures.value)
+    (λ k d l. (of_callee old w c.args.c.now.g c.in_ok-list.list.items c.in_ok-list.ensures c.requires.text c.requires.call.callee k d l).0)
+
+pub numbers_of-requires-clause-over : goal.numbers_of-requires-clause-over
+numbers_of-requires-clause-over c =
+    let old = c.args.table.now in
+    let w = c.args.world.now in
+    let g = c.args.c.now.g in
+    let p : Params = (signature_at w g).params in
+    let types = c.in_ok-types.types.items in
+    let n = length c.deref.result.now in
+    let are : named types ≡ c.args.c.now.args = c.in_ok-types.ensures ∙ c.items.ensures in
+    let count : n ≡ param_count p
+    = ap length c.deref.ensures.value ∙ sym (length-map types (λ (t : TermId). Some t)) ∙ ap length are ∙ c.requires.call.count in
+    let over : All (λ (r : Requirement). IsOver (λ h. place_of p h < n) (requirement_of old r)) c.in_ok-list.list.items
+    = λ k d l. over_places p n count _ (of_callee old w g c.in_ok-list.list.items c.in_ok-list.ensures c.requires.text c.requires.call.callee k d l).1 in
+    subst (λ (rs : List Requirement). All (λ (r : Requirement). IsOver (λ h. place_of c.params.result h < n) (requirement_of old r)) rs) (sym c.deref-2.ensures.value)
+    (subst (λ (q : Params). All (λ (r : Requirement). IsOver (λ h. place_of q h < n) (requirement_of old r)) c.in_ok-list.list.items) (sym c.params.ensures) over)
+
+pub returns-clause-failing : goal.returns-clause-failing
+returns-clause-failing c =
+    let old = c.args.table.now in
+    let w = c.args.world.now in
+    let v = world_by old w in
+    let m = c.args.m.now in
+    let f = signature_at v c.args.c.now.f in
+    let g = c.args.c.now.g in
+    let types = c.in_ok-types.types.items in
+    let list = c.in_ok-list.list.items in
+    let ts = map (term_at old) types in
+    let are : map (option_map (term_at old)) c.args.c.now.args ≡ map (λ (t : Term). Some t) ts
+    = ap (map (option_map (term_at old))) (sym (c.in_ok-types.ensures ∙ c.items.ensures)) ∙ same_types old types in
+    let params : c.params.result ≡ (signature_at v g).params
+    = c.params.ensures ∙ sym (ap (λ (h : SignatureOver PlacedRequirement). h.params) (signature_is w old g)) in
+    let rs : listed old c.deref-2.result.now ≡ written_list (signature_at v g)
+    = ap (listed old) c.deref-2.ensures.value ∙ sym (list_is old w g list c.in_ok-list.ensures) in
+    IfOk-weaker c.numbers_of.result _ _
+    (λ numbers h. (
+      ts,
+      (
+        are,
+        same_failing (facts_of v) (written_list f) c.requires.machine.params params (ap (map (term_at old)) c.deref.ensures.value) rs numbers.items
+            (h (written_list f) c.requires.machine.machine),
+      ),
+    ))
+    c.numbers_of.ensures.failing

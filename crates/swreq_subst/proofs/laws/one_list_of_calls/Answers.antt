@@ -1,0 +1,5 @@
+use Rattle.swreq_subst.proofs.OneCall.{one_list}
+use Rattle.swreq_subst.proofs.laws.one_list_of_calls.Goals as goal
+
+pub returns : goal.returns
+returns c = one_list

@@ -1,0 +1,11 @@
+use Rattle.std.proofs.Common.{List, take}
+use Rattle.swreq_derive.specs.Derivation.{TermRequirement}
+use Rattle.swreq_valid.specs.Asked.{IsDerivable}
+use Rattle.swreq_valid.specs.Machines.{IsMachineOf}
+use Rattle.swreq_world.specs.ByTable.{world_by}
+use Rattle.swreq_subst.specs.Calls.{AreAllValid}
+use Rattle.swreq_subst.proofs.line.are_valid.Given as goal
+
+abbrev pub invariant-loop-k : goal.invariant-loop-k
+invariant-loop-k l = (list : List TermRequirement) → IsMachineOf (world_by l.table l.world) list l.m
+    → AreAllValid (IsDerivable (world_by l.table l.world) l.m list) l.table (take l.k l.args)

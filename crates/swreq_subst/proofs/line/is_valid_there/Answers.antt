@@ -1,0 +1,14 @@
+use Rattle.std.proofs.Common.{◌↔◌, IsTrue, IfOk, Option, List, sym, subst}
+use Rattle.swreq_param.specs.declared.ids.TermId.{TermId}
+use Rattle.swreq_derive.specs.Derivation.{TermRequirement}
+use Rattle.swreq_valid.specs.Asked.{IsDerivable}
+use Rattle.swreq_valid.specs.Machines.{IsMachineOf}
+use Rattle.swreq_world.specs.ByTable.{world_by}
+use Rattle.swreq_subst.specs.Calls.{IsValidThere}
+use Rattle.swreq_subst.proofs.line.is_valid_there.Goals as goal
+
+pub returns-in-Some : goal.returns-in-Some
+returns-in-Some c =
+    subst (λ (a : Option TermId). IfOk c.is_valid.result (λ b. (list : List TermRequirement) → IsMachineOf (world_by c.args.table.now c.args.world.now) list c.args.m.now
+    → IsTrue b ↔ IsValidThere (IsDerivable (world_by c.args.table.now c.args.world.now) c.args.m.now list) c.args.table.now a))
+    (sym c.in-Some.is) c.is_valid.ensures

@@ -1,0 +1,8 @@
+use Rattle.std.proofs.Common.{◌≡◌, None, drop}
+use Rattle.std.specs.List.{flat_map}
+use Rattle.swreq_resolve.specs.First.{least}
+use Rattle.swreq_subst.specs.Refusals.{of_call, refusals}
+use Rattle.swreq_subst.proofs.refusals.first_refusal.Given as goal
+
+abbrev pub invariant-loop-k : goal.invariant-loop-k
+invariant-loop-k l = least l.best (flat_map (of_call l.world l.text) (drop l.k l.calls)) ≡ least None (refusals l.world l.text l.calls)

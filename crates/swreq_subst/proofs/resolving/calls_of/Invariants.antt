@@ -1,0 +1,13 @@
+use Rattle.std.proofs.Common.{map, take}
+use Rattle.std.specs.Prelude.{All}
+use Rattle.swreq_param.specs.Tables.{Extends}
+use Rattle.swreq_subst.specs.Calls.{IsCallIn, call_by}
+use Rattle.swreq_subst.specs.Saying.{SayCalls}
+use Rattle.swreq_subst.proofs.resolving.calls_of.Given as goal
+
+abbrev pub invariant-loop-k : goal.invariant-loop-k
+invariant-loop-k l = record {
+  extends : Extends l.initial.table l.table;
+  say : SayCalls l.world l.text (map (call_by l.table) l.found.items) (take l.k l.calls);
+  known : All (IsCallIn l.table l.world) l.found.items;
+}

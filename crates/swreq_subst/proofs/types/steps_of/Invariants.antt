@@ -1,0 +1,6 @@
+use Rattle.std.proofs.Common.{take}
+use Rattle.swreq_world.specs.ReadBack.{SaySteps}
+use Rattle.swreq_subst.proofs.types.steps_of.Given as goal
+
+abbrev pub invariant-loop-k : goal.invariant-loop-k
+invariant-loop-k l = SaySteps l.text l.world.lexicon l.found.items (take l.k l.steps)

@@ -1,0 +1,27 @@
+-- Type parameters and requirements with types in place of their generic parameters.
+use Rattle.std.specs.Prelude.{ℕ, ◌+◌, ◌==◌, cond, List, slice_index_or}
+use Rattle.swreq_param.specs.declared.ids.ParamId.{ParamId}
+use Rattle.swreq_param.specs.Terms.{Term, self}
+use Rattle.swreq_derive.specs.declared.known.Params.{Params}
+use Rattle.swreq_derive.specs.Derivation.{TermRequirement, substitute}
+use Rattle.swreq_derive.specs.Substitution.{substitute_in}
+
+-- how many generic parameters there are
+abbrev pub param_count : Params → ℕ
+param_count params = params.outer + params.inner
+
+-- the place of a generic parameter: the outer ones stand first
+abbrev pub place_of : Params → ParamId → ℕ
+place_of params g = cond (g.depth == 0) g.index (params.outer + g.index)
+
+-- the type for a generic parameter, of which there is one for each, in order
+abbrev pub argument_of : Params → List Term → ParamId → Term
+argument_of params args g = slice_index_or args (place_of params g) self
+
+-- U with the types in place of its generic parameter, the steps as they are
+abbrev pub with_arguments : Params → List Term → Term → Term
+with_arguments params args u = substitute (argument_of params args) u
+
+-- the same in the sides of a requirement
+abbrev pub requirement_with : Params → List Term → TermRequirement → TermRequirement
+requirement_with params args r = substitute_in (argument_of params args) r

@@ -1,0 +1,7 @@
+pub mod Arguments
+pub mod Calls
+pub mod Refusals
+pub mod Refused
+pub mod Saying
+pub mod Failing
+pub mod Lines

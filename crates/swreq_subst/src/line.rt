@@ -1,0 +1,152 @@
+//! The line that answers a call.
+ghost use Rattle.std.specs.Prelude.{◌≡◌, ◌↔◌, ◌++◌, ◌<◌, ◌≤◌, List, All, IsTrue, IfOk, OnOk, OnErr, MatchBool, length, map};
+ghost use Rattle.swreq_param.specs.Tables.{Extends};
+ghost use Rattle.swreq_derive.specs.Derivation.{TermRequirement};
+ghost use Rattle.swreq_derive.specs.Facts.{requirement_of};
+ghost use Rattle.swreq_lowering.specs.ByTable.{HasIdsOf};
+ghost use Rattle.swreq_symbols.specs.Known.{IsTextOver};
+ghost use Rattle.swreq_valid.specs.Asked.{IsDerivable};
+ghost use Rattle.swreq_valid.specs.Machines.{IsMachineOf};
+ghost use Rattle.swreq_world.specs.ByTable.{world_by};
+ghost use Rattle.swreq_world.specs.Short.{IsShort};
+ghost use Rattle.swreq_subst.specs.Calls.{AreAllValid, IsArgumentIn, IsCallIn, IsMachineOn, IsOneInvalid, IsValidThere, call_by};
+ghost use Rattle.swreq_subst.specs.Lines.{AppendsLine, text_at, verdict_text};
+
+use crate::asking::is_valid;
+use crate::calls::Call;
+use crate::failures::failing;
+use std::alloc::{AllocError, Global};
+use swreq_derive::Requirement;
+use swreq_lexicon::Lexicon;
+use swreq_param::{ParamTable, TermId};
+use swreq_print::requirement_text;
+use swreq_text::{Print, append_bytes, put_joined};
+use swreq_valid::Machine;
+use swreq_world::World;
+
+/// Whether a type is there, and derivable from the list of the machine.
+fn is_valid_there(
+    alloc: Global,
+    world: &World,
+    table: &ParamTable,
+    m: &Machine,
+    argument: Option<TermId>,
+) -> Result<bool, AllocError>
+    requires text { IsTextOver table.now world.now }
+    requires argument { IsArgumentIn table.now world.now.lexicon argument }
+    ensures { IfOk result (λ b. (list : List TermRequirement) → IsMachineOf (world_by table.now world.now) list m.now
+        → IsTrue b ↔ IsValidThere (IsDerivable (world_by table.now world.now) m.now list) table.now argument) }
+{
+    match argument {
+        Some(t) => is_valid(alloc, world, table, m, t),
+        None => Ok(false),
+    }
+}
+
+/// Whether each type is there, and derivable from the list of the machine.
+fn are_valid(
+    alloc: Global,
+    world: &World,
+    table: &ParamTable,
+    m: &Machine,
+    args: &[Option<TermId>],
+) -> Result<bool, AllocError>
+    requires text { IsTextOver table.now world.now }
+    requires args { All (IsArgumentIn table.now world.now.lexicon) args.now }
+    ensures { IfOk result (λ b. (list : List TermRequirement) → IsMachineOf (world_by table.now world.now) list m.now
+        → MatchBool b (AreAllValid (IsDerivable (world_by table.now world.now) m.now list) table.now args.now)
+        (IsOneInvalid (IsDerivable (world_by table.now world.now) m.now list) table.now args.now)) }
+{
+    for k in 0..args.len() {
+        let argument = args[k];
+        if !is_valid_there(alloc, world, table, m, argument)? {
+            return Ok(false);
+        }
+    }
+    Ok(true)
+}
+
+/// What prints the requirements of a list by their numbers.
+#[derive(Drop)]
+struct Numbered<'a> {
+    alloc: Global,
+    names: &'a Lexicon,
+    table: &'a ParamTable,
+    list: &'a [Requirement],
+}
+
+impl Print<u32> for Numbered<'_> {
+    ghost text = { λ s n. text_at s.names.now (map (requirement_of s.table.now) s.list.now) n };
+
+    ghost fits = { λ s n. (0 < n) × (n ≤ length s.list.now) × All (HasIdsOf s.table.now) s.list.now };
+
+    #[tactic(auto, using(swreq_text::proofs::Parts::none_grew))]
+    fn put(&self, out: &mut Vec<u8>, item: &u32) -> Result<(), AllocError> {
+        let place = *item as usize - 1;
+        requirement_text(self.alloc, self.names, self.table, &self.list[place], out)
+    }
+}
+
+/// Writes `yes` where there are no numbers, and else `no: ` and the requirements with these numbers, joined by `, `; and a line feed.
+fn put_verdict(
+    alloc: Global,
+    names: &Lexicon,
+    table: &ParamTable,
+    list: &[Requirement],
+    numbers: &[u32],
+    out: &mut Vec<u8>,
+) -> Result<(), AllocError>
+    requires ids { All (HasIdsOf table.now) list.now }
+    requires numbers { All (λ n. (0 < n) × (n ≤ length list.now)) numbers.now }
+    ensures { OnOk result (out.new.items ≡ out.old.items ++ verdict_text names.now (map (requirement_of table.now) list.now) numbers.now) }
+{
+    match numbers {
+        [] => append_bytes(out, b"yes\n"),
+        [_, ..] => {
+            append_bytes(out, b"no: ")?;
+            put_joined(
+                out,
+                &Numbered {
+                    alloc,
+                    names,
+                    table,
+                    list,
+                },
+                b", ",
+                numbers,
+            )?;
+            append_bytes(out, b"\n")
+        }
+    }
+}
+
+/// Appends the line that answers a call: `invalid` where a type is not derivable from the caller's list; else `yes` where no
+/// requirement of the callee fails; else `no: ` and the failing ones, as the callee's list has them. For want of memory `out` is as
+/// before.
+///
+/// The machine is that of the caller. On every answer the table begins with the one that was given.
+pub fn call_text(
+    alloc: Global,
+    world: &World,
+    table: &mut ParamTable,
+    m: &Machine,
+    c: &Call,
+    out: &mut Vec<u8>,
+) -> Result<(), AllocError>
+    requires text { IsTextOver table.old world.now }
+    requires short { IsShort world.now }
+    requires call { IsCallIn table.old world.now c.now }
+    requires machine { IsMachineOn (world_by table.old world.now) c.now.f m.now }
+    ensures line { OnOk result (AppendsLine (world_by table.old world.now) (call_by table.old c.now) out.old.items out.new.items) }
+    ensures err { OnErr result (out.new.items ≡ out.old.items) }
+    ensures extends { Extends table.old table.new }
+{
+    if !are_valid(alloc, world, table, m, c.args.items())? {
+        return append_bytes(out, b"invalid\n");
+    }
+    let numbers = failing(alloc, world, table, m, c)?;
+    let list = world.bare_signature(alloc, c.g)?;
+    let mut line = Vec::new(alloc);
+    put_verdict(alloc, world.lexicon(), table, &list, &numbers, &mut line)?;
+    append_bytes(out, &line)
+}

@@ -1,0 +1,199 @@
+//! The first name of calls that is refused.
+ghost use Rattle.std.specs.Prelude.{◌≡◌, None, Some};
+ghost use Rattle.swreq_names.specs.Spaces.{struct_of, word};
+ghost use Rattle.swreq_resolve.specs.First as order;
+ghost use Rattle.swreq_resolve.specs.First.{least, walk, when};
+ghost use Rattle.swreq_resolve.specs.RefusedTypes.{of_type_on};
+ghost use Rattle.swreq_resolve.specs.Refusals.{of_nested_query};
+ghost use Rattle.swreq_subst.specs.Arguments.{param_count};
+ghost use Rattle.swreq_subst.specs.Refusals.{declared, func_called, of_call, of_count, of_name, of_types, query_on, refusals, signature_called};
+ghost use Rattle.swreq_subst.specs.Saying.{HaveIds};
+
+use swreq_calls::CallDecl;
+use swreq_decl::{Span, TypeDecl};
+use swreq_derive::Params;
+use swreq_lowering::FuncId;
+use swreq_names::{Declared, Signature, word};
+use swreq_resolve::{Fault, Refusal, resolve_type};
+use swreq_world::World;
+
+/// The first of what is refused so far and this one.
+fn earlier(best: Option<Refusal>, here: Refusal) -> Option<Refusal>
+    ensures { result ≡ order.earlier best here }
+{
+    match best {
+        Some(first) => Some(if here.precedes(first) { here } else { first }),
+        None => Some(here),
+    }
+}
+
+/// The first of what is refused so far and, where the fault is there, of the name at this offset.
+fn noted(best: Option<Refusal>, is_there: bool, fault: Fault, at: u32) -> Option<Refusal>
+    ensures { result ≡ least best (when is_there fault at) }
+{
+    if !is_there {
+        return best;
+    }
+    earlier(best, Refusal { fault, at })
+}
+
+/// A name of a signature, after the name of a struct.
+fn check_nested(
+    d: &Declared,
+    text: &[u8],
+    outer: Span,
+    name: Span,
+    best: Option<Refusal>,
+) -> Option<Refusal>
+    ensures { result ≡ least best (of_nested_query text.now d.now (query_on (Some outer) name) outer (struct_of d.now (word text.now outer))) }
+{
+    match d.struct_of(word(text, outer)) {
+        Some(place) => match d.nested_in(place, word(text, name)) {
+            Some(_) => best,
+            None => noted(best, true, Fault::UnknownSignature, name.start),
+        },
+        None => noted(best, true, Fault::UnknownSignature, outer.start),
+    }
+}
+
+/// The name of a signature.
+fn check_name(
+    world: &World,
+    text: &[u8],
+    outer: Option<Span>,
+    name: Span,
+    best: Option<Refusal>,
+) -> Option<Refusal>
+    ensures { result ≡ least best (of_name world.now text.now outer name) }
+{
+    let d = world.lexicon().resolved().declared();
+    match outer {
+        Some(outer) => check_nested(d, text, outer, name, best),
+        None => match d.signature_of(word(text, name)) {
+            Some(_) => best,
+            None => noted(best, true, Fault::UnknownSignature, name.start),
+        },
+    }
+}
+
+/// The signature of this name.
+fn signature_called(
+    world: &World,
+    text: &[u8],
+    outer: Option<Span>,
+    name: Span,
+) -> Option<Signature>
+    ensures { result ≡ signature_called world.now text.now outer name }
+{
+    let names = world.lexicon().resolved();
+    match outer {
+        Some(outer) => names.find_nested(word(text, outer), word(text, name)),
+        None => names.find_signature(word(text, name)),
+    }
+}
+
+/// Its id.
+pub(crate) fn func_called(
+    world: &World,
+    text: &[u8],
+    outer: Option<Span>,
+    name: Span,
+) -> Option<FuncId>
+    ensures { result ≡ func_called world.now text.now outer name }
+{
+    match outer {
+        Some(outer) => world.find_func(Some(word(text, outer)), word(text, name)),
+        None => world.find_func(None, word(text, name)),
+    }
+}
+
+/// How many generic parameters there are.
+fn param_count(params: Params) -> usize
+    ensures { result ≡ param_count params }
+{
+    params.outer as usize + params.inner as usize
+}
+
+/// The number of the types of a call.
+fn check_count(world: &World, text: &[u8], c: &CallDecl, best: Option<Refusal>) -> Option<Refusal>
+    requires { HaveIds world.now }
+    ensures { result ≡ least best (of_count world.now text.now (func_called world.now text.now c.now.callee_outer c.now.callee) c.now) }
+{
+    match func_called(world, text, c.callee_outer, c.callee) {
+        Some(g) => {
+            let wrong = c.args.items().len() != param_count(world.params(g));
+            noted(best, wrong, Fault::WrongArity, c.callee.start)
+        }
+        None => best,
+    }
+}
+
+/// A type on a signature.
+fn check_type(
+    d: &Declared,
+    signature: Signature,
+    text: &[u8],
+    t: &TypeDecl,
+    best: Option<Refusal>,
+) -> Option<Refusal>
+    ensures { result ≡ least best (of_type_on d.now signature text.now t.now) }
+{
+    match resolve_type(d, signature, text, t) {
+        Ok(()) => best,
+        Err(r) => earlier(best, r),
+    }
+}
+
+/// Types on a signature.
+fn check_types_on(
+    d: &Declared,
+    signature: Signature,
+    text: &[u8],
+    types: &[TypeDecl],
+    best: Option<Refusal>,
+) -> Option<Refusal>
+    ensures { result ≡ walk (of_type_on d.now signature text.now) best types.now }
+{
+    types
+        .iter()
+        .fold(best, |b, t| check_type(d, signature, text, t, b))
+}
+
+/// The types of a call, which are looked at only where the caller is a signature.
+#[tactic(auto, using(swreq_resolve::proofs::Walks::walked))]
+fn check_types(world: &World, text: &[u8], c: &CallDecl, best: Option<Refusal>) -> Option<Refusal>
+    ensures { result ≡ least best (of_types world.now text.now
+        (signature_called world.now text.now c.now.caller_outer c.now.caller) c.now.args) }
+{
+    match signature_called(world, text, c.caller_outer, c.caller) {
+        Some(signature) => {
+            let d = world.lexicon().resolved().declared();
+            check_types_on(d, signature, text, c.args.items(), best)
+        }
+        None => best,
+    }
+}
+
+#[tactic(auto, using(swreq_resolve::proofs::Walks::least_both))]
+fn check_call(world: &World, text: &[u8], c: &CallDecl, best: Option<Refusal>) -> Option<Refusal>
+    requires { HaveIds world.now }
+    ensures { result ≡ least best (of_call world.now text.now c.now) }
+{
+    let best = check_name(world, text, c.caller_outer, c.caller, best);
+    let best = check_name(world, text, c.callee_outer, c.callee, best);
+    let best = check_count(world, text, c, best);
+    check_types(world, text, c, best)
+}
+
+/// The first name of these calls that is refused.
+pub(crate) fn first_refusal(world: &World, text: &[u8], calls: &[CallDecl]) -> Option<Refusal>
+    requires { HaveIds world.now }
+    ensures { result ≡ least None (refusals world.now text.now calls.now) }
+{
+    let mut best = None;
+    for k in 0..calls.len() {
+        let call = &calls[k];
+        best = check_call(world, text, call, best);
+    }
+    best
+}

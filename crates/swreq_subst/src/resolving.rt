@@ -1,0 +1,142 @@
+//! The calls that are written, or the first name that is refused.
+ghost use Rattle.std.specs.Prelude.{◌≡◌, ◌≢◌, ◌<◌, ◌⊎◌, [], All, Err, None, Some, IfErr, IfOk, IsOk, map, length};
+ghost use Rattle.std.specs.List.{flat_map};
+ghost use Rattle.std.specs.Option.{option_map};
+ghost use Rattle.swreq_names.specs.Spaces.{word};
+ghost use Rattle.swreq_param.specs.Tables.{Extends, term_at};
+ghost use Rattle.swreq_resolve.specs.declared.refusal.NameErr.{NameErr};
+ghost use Rattle.swreq_resolve.specs.declared.refusal.NameErr.TheVariants.{Memory};
+ghost use Rattle.swreq_resolve.specs.Refusals.{of_step};
+ghost use Rattle.swreq_world.specs.Lookups.{param_of_signature};
+ghost use Rattle.swreq_subst.specs.Calls.{IsArgumentIn, IsCallIn, call_by};
+ghost use Rattle.swreq_subst.specs.Refusals.{RefusesCalls, declared, func_called, of_call, refusals};
+ghost use Rattle.swreq_subst.specs.Saying.{HaveIds, OneByOne, SayCalls, SaysArgument, SaysCall};
+
+use crate::calls::Call;
+use crate::refusals::{first_refusal, func_called};
+use crate::types::type_of;
+use std::alloc::{AllocError, Global};
+use swreq_calls::CallDecl;
+use swreq_decl::{Span, TypeDecl};
+use swreq_lowering::FuncId;
+use swreq_param::{ParamTable, TermId};
+use swreq_resolve::{NameErr, error_of};
+use swreq_text::Seq;
+use swreq_world::World;
+
+/// The signature of this name, which there is.
+fn called(world: &World, text: &[u8], outer: Option<Span>, name: Span) -> FuncId
+    requires { func_called world.now text.now outer name ≢ None }
+    ensures { func_called world.now text.now outer name ≡ Some result }
+{
+    match func_called(world, text, outer, name) {
+        Some(f) => f,
+        None => unreachable!(),
+    }
+}
+
+/// The types of a call of the signature f.
+fn types_of(
+    alloc: Global,
+    world: &World,
+    table: &mut ParamTable,
+    f: FuncId,
+    text: &[u8],
+    types: &[TypeDecl],
+) -> Result<Vec<Option<TermId>>, AllocError>
+    requires ids { HaveIds world.now }
+    requires signature { f.place < length world.now.signatures }
+    requires heads { All (λ t. param_of_signature world.now f (word text.now t.head) ≢ None) types.now }
+    requires resolve { All (λ t. flat_map (of_step text.now (declared world.now)) t.steps ≡ []) types.now }
+    ensures say { IfOk result (λ found. OneByOne (SaysArgument world.now text.now f)
+        (map (option_map (term_at table.new)) found.items) types.now) }
+    ensures known { IfOk result (λ found. All (IsArgumentIn table.new world.now.lexicon) found.items) }
+    ensures extends { Extends table.old table.new }
+{
+    let mut found = Vec::new(alloc);
+    for k in 0..types.len() {
+        let written = &types[k];
+        let argument = type_of(alloc, world, table, f, text, written)?;
+        found.push(argument)?;
+    }
+    Ok(found)
+}
+
+/// A call of which no name is refused.
+fn call_of(
+    alloc: Global,
+    world: &World,
+    table: &mut ParamTable,
+    text: &[u8],
+    c: &CallDecl,
+) -> Result<Call, AllocError>
+    requires ids { HaveIds world.now }
+    requires resolves { of_call world.now text.now c.now ≡ [] }
+    ensures says { IfOk result (λ call. SaysCall world.now text.now (call_by table.new call) c.now) }
+    ensures known { IfOk result (IsCallIn table.new world.now) }
+    ensures extends { Extends table.old table.new }
+{
+    let f = called(world, text, c.caller_outer, c.caller);
+    let g = called(world, text, c.callee_outer, c.callee);
+    let args = types_of(alloc, world, table, f, text, c.args.items())?;
+    Ok(Call {
+        f,
+        g,
+        args: Seq::new(args),
+    })
+}
+
+/// Calls of which no name is refused.
+fn calls_of(
+    alloc: Global,
+    world: &World,
+    table: &mut ParamTable,
+    text: &[u8],
+    calls: &[CallDecl],
+) -> Result<Vec<Call>, AllocError>
+    requires ids { HaveIds world.now }
+    requires resolve { refusals world.now text.now calls.now ≡ [] }
+    ensures say { IfOk result (λ found. SayCalls world.now text.now (map (call_by table.new) found.items) calls.now) }
+    ensures known { IfOk result (λ found. All (IsCallIn table.new world.now) found.items) }
+    ensures extends { Extends table.old table.new }
+{
+    let mut found = Vec::new(alloc);
+    for k in 0..calls.len() {
+        let written = &calls[k];
+        let call = call_of(alloc, world, table, text, written)?;
+        found.push(call)?;
+    }
+    Ok(found)
+}
+
+/// The calls that are written in these bytes, where their names resolve in a world in which what names refer to has ids. The table has
+/// each type of them.
+///
+/// Where they do not, the refusal is of the name with the least offset among those that are refused. A name is refused where it is in a
+/// query on the caller with the same types, where the callee is no signature, and the last name of the callee as `WrongArity` where it
+/// has another number of generic parameters than types are given. The types of an unknown caller are not looked at. On every answer the
+/// table begins with the one that was given.
+pub fn resolve_calls(
+    alloc: Global,
+    world: &World,
+    table: &mut ParamTable,
+    text: &[u8],
+    calls: &[CallDecl],
+) -> Result<Vec<Call>, NameErr>
+    requires ids { HaveIds world.now }
+    ensures calls { IfOk result (λ found. SayCalls world.now text.now (map (call_by table.new) found.items) calls.now) }
+    ensures known { IfOk result (λ found. All (IsCallIn table.new world.now) found.items) }
+    ensures extends { Extends table.old table.new }
+    ensures ok { IsOk result → refusals world.now text.now calls.now ≡ [] }
+    ensures resolves { refusals world.now text.now calls.now ≡ [] → IsOk result ⊎ (result ≡ Err Memory) }
+    ensures refused { IfErr result (λ e. RefusesCalls world.now text.now calls.now e ⊎ (e ≡ Memory)) }
+    ensures refuses { (e : NameErr) → RefusesCalls world.now text.now calls.now e → (result ≡ Err e) ⊎ (result ≡ Err Memory) }
+{
+    match first_refusal(world, text, calls) {
+        Some(r) => Err(error_of(r)),
+        None => match calls_of(alloc, world, table, text, calls) {
+            Ok(found) => Ok(found),
+            Err(_) => Err(NameErr::Memory),
+        },
+    }
+}
