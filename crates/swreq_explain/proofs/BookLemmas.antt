@@ -1,0 +1,424 @@
+-- The book of a machine is one, and fits the facts of its signature.
+use Rattle.std.proofs.Common.{◌≡◌, ◌∙◌, inl, inr, ℕ, zero, suc, ◌+◌, ◌-◌, ◌<◌, ◌≤◌, List, [], ◌∷◌, ◌++◌, Option, Some, None, ap, ap₂, arith, false, length, length-append, map, refl, replicate, slice_get, subst, sym}
+use Rattle.std.proofs.lemmas.List.{map-append}
+use Rattle.std.proofs.lemmas.Option.{get_or_from_slice_get, slice_get-get_or, slice_get_within}
+use Rattle.swreq_orders.proofs.Elements.{get_after, get_either, get_left, get_map, in_front, there_is}
+use Rattle.swreq_param.specs.declared.ids.ParamId.{ParamId}
+use Rattle.swreq_param.specs.declared.ids.ProtoId.{ProtoId}
+use Rattle.swreq_param.specs.Owned.{as_term}
+use Rattle.swreq_param.specs.Terms.{Term}
+use Rattle.swreq_word.specs.Relations.{Linked}
+use Rattle.swreq_word.specs.declared.symbols.Symbol.TheVariants as symbols
+use Rattle.swreq_rule.specs.declared.rules.Rule.{Rule}
+use Rattle.swreq_rule.specs.Steps.{Step}
+use Rattle.swreq_derive.specs.Derivation.{TermFacts, TermRequirement}
+use Rattle.swreq_derive.specs.Derivation.Source.{Written as WrittenList}
+use Rattle.swreq_derive.specs.Facts.{generic_params, requirement_of}
+use Rattle.swreq_derive.specs.Instances.{HasNumber}
+use Rattle.swreq_complete.specs.Reached.{IsBorn}
+use Rattle.swreq_complete.specs.declared.limit.Limits.{Limits}
+use Rattle.swreq_correspondence.specs.Shown.{ShowsUsable, ShowsValid}
+use Rattle.swreq_correspondence.specs.Symbols.{IsInText, Symbols, Word, left_side, right_side, word_of}
+use Rattle.swreq_lowering.specs.declared.ids.FuncId.{FuncId}
+use Rattle.swreq_rounds.specs.Given.{of_list}
+use Rattle.swreq_rounds.specs.Presents.{AreListRules}
+use Rattle.swreq_rounds.specs.Plan.{AreShown, Plan, equation_of, given}
+use Rattle.swreq_rounds.specs.Rounds.{Ends}
+use Rattle.swreq_sheet.specs.Sheets.{Basis}
+use Rattle.swreq_read.specs.declared.ground.Ground.{Ground}
+use Rattle.swreq_read.specs.declared.ground.Named.{Named}
+use Rattle.swreq_symbols.specs.Meaning.{symbols_of}
+use Rattle.swreq_symbols.specs.Overs.{source_by}
+use Rattle.swreq_unfold.specs.declared.book.Book.{Book}
+use Rattle.swreq_unfold.specs.declared.book.Equation.{Equation}
+use Rattle.swreq_unfold.specs.declared.book.Owned.{Owned}
+use Rattle.swreq_unfold.specs.declared.book.Owned.TheVariants.{Conf, Layout, Same}
+use Rattle.swreq_unfold.specs.declared.book.Reason.{Reason}
+use Rattle.swreq_unfold.specs.declared.book.Reason.TheVariants.{Doubled, Named as NamedBy, Required}
+use Rattle.swreq_unfold.specs.declared.book.System.{System}
+use Rattle.swreq_unfold.specs.Systems.{AreSymbols, FitsBook, HasShownSides, IsBook, IsGivenBy, IsShown, IsSystem, IsWritten, given_of, requirement_by, rules_at, source_of, system_at}
+use Rattle.swreq_valid.specs.Flags.{chosen}
+use Rattle.swreq_valid.specs.Machines.{MachineView, ProtocolsView, machine_plan, protocols_of}
+use Rattle.swreq_valid.specs.Plans.{bare, listed}
+use Rattle.swreq_valid.specs.Rounds.{RoundView, last_rules}
+use Rattle.swreq_valid.proofs.Flagged.{chosen_map, chosen_unset}
+use Rattle.swreq_lowering.specs.Requirements.{PlacedRequirement}
+use Rattle.swreq_symbols.proofs.OfText.{requirements_placed, signature_is}
+use Rattle.swreq_world.specs.ByTable.{signature_by, world_by}
+use Rattle.swreq_world.specs.Closed.{IsClosed}
+use Rattle.swreq_world.specs.FactsAt.{facts_of, written_list}
+use Rattle.swreq_world.specs.Worlds.{IdWorld, SignatureOver, signature_at}
+use Rattle.swreq_explain.specs.declared.numbered.Numbered.{Numbered}
+use Rattle.swreq_explain.specs.Asked.{AreRoundsFor}
+use Rattle.swreq_explain.specs.Books.{IsBookFor, IsBookOf, basis_of, list_origin, protocols_origin}
+use Rattle.swreq_explain.specs.Numbering.{IsBasicBy, item_by, sides_of, source_in}
+use Rattle.swreq_explain.specs.Rounds.{AreSystemsOf, IsSystemOf, Origin}
+use Rattle.swreq_explain.proofs.GroundLemmas.{are_symbols, fits_basis, is_inherited}
+use Rattle.swreq_explain.proofs.NumberingLemmas.{equations_at, equations_sides, left_by, numbered_is, numbered_items, protocol_number, protocols_items, right_by, spell_append, written_of}
+use Rattle.swreq_explain.proofs.RoundLemmas.{chosen_holds, chosen_of, ends_at, last_is, none_at_first, some_round, told_at}
+
+-- ---- systems by their places
+
+module _ (m : Symbols) (terms : List Term) (o : Origin) where
+  pub system_of : (rounds : List RoundView) (vs : List System) → AreSystemsOf m terms o rounds vs → (k : ℕ) (v : System) → slice_get vs k ≡ Some v
+      → (round : RoundView) × (slice_get rounds k ≡ Some round) × IsSystemOf m terms o round v
+  system_of [] [] h k v e = cc
+  system_of [] (u ∷ vs) h k v e = absurd h
+  system_of (r ∷ rounds) [] h k v e = absurd h
+  system_of (r ∷ rounds) (u ∷ vs) h zero v e = (r, refl, (let same : u ≡ v = cc in subst (IsSystemOf m terms o r) same h.0))
+  system_of (r ∷ rounds) (u ∷ vs) h (suc k) v e = system_of rounds vs h.1 k v e
+
+  pub systems_length : (rounds : List RoundView) (vs : List System) → AreSystemsOf m terms o rounds vs → length vs ≡ length rounds
+  systems_length [] [] h = refl
+  systems_length [] (u ∷ vs) h = absurd h
+  systems_length (r ∷ rounds) [] h = absurd h
+  systems_length (r ∷ rounds) (u ∷ vs) h = ap suc (systems_length rounds vs h.1)
+
+  pub systems_more : (rounds : List RoundView) (vs : List System) (round : RoundView) (v : System) → AreSystemsOf m terms o rounds vs
+      → IsSystemOf m terms o round v → AreSystemsOf m terms o (rounds ++ round ∷ []) (vs ++ v ∷ [])
+  systems_more [] [] round v h i = (i, tt)
+  systems_more [] (u ∷ vs) round v h i = absurd h
+  systems_more (r ∷ rounds) [] round v h i = absurd h
+  systems_more (r ∷ rounds) (u ∷ vs) round v h i = (h.0, systems_more rounds vs round v h.1 i)
+
+-- ---- the sides of a requirement that rules show
+
+module _ (g : Ground) (m : Symbols) (f : TermFacts) (are : AreSymbols g m f) (rules : List Rule) (list : List TermRequirement) (owner : Option ProtoId) where
+  shown_word : (t : Term) (w : Word) → ShowsValid m f (source_of g list owner) (Linked (Step rules)) t → w ≡ word_of m (source_of g list owner) t
+      → IsShown g owner rules t w
+  shown_word t w h e = record { symbols = m; facts = f; list = list; are = are; shown = h; word = e }
+
+  shown_sides : (q : Owned) (left right : Word) → left ≡ left_side m (source_of g list owner) (requirement_by q)
+      → right ≡ right_side m (source_of g list owner) (requirement_by q)
+      → ShowsUsable m f (source_of g list owner) (Linked (Step rules)) (requirement_by q) → HasShownSides g owner rules q left right
+  shown_sides (Conf t p) left right l r h = (
+    shown_word (as_term t) right h r,
+    l ∙ spell_append m (source_of g list owner) (as_term t) (symbols.Proto p.rank ∷ []) ∙ ap (λ z. z ++ symbols.Proto p.rank ∷ []) (sym r),
+  )
+  shown_sides (Layout t) left right l r h = (
+    shown_word (as_term t) right h r,
+    l ∙ spell_append m (source_of g list owner) (as_term t) (symbols.Layout ∷ []) ∙ ap (λ z. z ++ symbols.Layout ∷ []) (sym r),
+  )
+  shown_sides (Same t u) left right l r h = (shown_word (as_term t) left h.0 l, shown_word (as_term u) right h.1 r)
+
+  source_same : source_of g list owner ≡ source_in (generic_params g.params) list owner
+  source_same = elim owner [ None ↦ refl | Some p ↦ refl ]
+
+  pub sides_are_shown : (terms : List Term) (x : Numbered) (q : Owned) (left right : Word) → x.owner ≡ owner
+      → requirement_by q ≡ requirement_of terms x.requirement
+      → left ≡ left_side m (source_by x.owner) (requirement_of terms x.requirement)
+      → right ≡ right_side m (source_by x.owner) (requirement_of terms x.requirement)
+      → ShowsUsable m f (source_in (generic_params g.params) list x.owner) (Linked (Step rules)) (requirement_of terms x.requirement)
+      → HasShownSides g owner rules q left right
+  sides_are_shown terms x q left right own stands l r h =
+      let params = generic_params g.params in
+      let r_x = requirement_of terms x.requirement in
+      let source : source_in params list x.owner ≡ source_of g list owner = ap (source_in params list) own ∙ sym source_same in
+      shown_sides q left right
+      (l ∙ left_by m params list x.owner r_x ∙ ap₂ (λ s z. left_side m s z) source (sym stands))
+      (r ∙ right_by m params list x.owner r_x ∙ ap₂ (λ s z. right_side m s z) source (sym stands))
+      (subst (λ s. ShowsUsable m f s (Linked (Step rules)) (requirement_by q)) source
+      (subst (ShowsUsable m f (source_in params list x.owner) (Linked (Step rules))) (sym stands) h))
+
+-- ---- one system
+
+module _ (terms : List Term) (o : Origin) (plan : Plan) (b : Book) (list : List TermRequirement) (base : length plan.base ≡ o.base)
+    (basic : plan.basic ≡ o.basic) (all : plan.all ≡ map (item_by terms (generic_params b.ground.params) list) o.all) (members : o.members ≡ b.ground.members)
+    (are : AreSymbols b.ground plan.symbols plan.facts) where
+  module _ (round : RoundView) (v : System) (is : IsSystemOf plan.symbols terms o round v) where
+    given_is : given_of v ≡ given plan (chosen plan.all round.used)
+    given_is =
+        let h = is.given in
+        let xs = chosen o.all round.used in
+        let item = item_by terms (generic_params b.ground.params) list in
+        ap (map sides_of) h.given_are ∙ map-append sides_of h.basic h.more
+        ∙ ap₂ (λ u w. u ++ w) (h.sides ∙ sym basic)
+        (equations_sides plan.symbols terms (generic_params b.ground.params) list xs h.more h.are_of
+        ∙ ap (map (equation_of plan.symbols)) (sym (chosen_map item o.all round.used) ∙ ap (λ z. chosen z round.used) (sym all)))
+
+    born_is : {limits : Limits} → Ends limits plan (chosen plan.all round.used) round.rules
+        → (k : ℕ) (rule : Rule) → v.base ≤ k → slice_get v.rules k ≡ Some rule → IsBorn v.base (given_of v) v.rules k rule.birth
+    born_is ends k rule above at =
+        let from : v.base ≡ length plan.base = is.base ∙ sym base in
+        let at_round : slice_get round.rules k ≡ Some rule = ap (λ (z : List Rule). slice_get z k) (sym is.rules) ∙ at in
+        let h = ends.1.ended.reached.born k rule (subst (λ n. n ≤ k) from above) at_round in
+        subst (λ n. IsBorn n (given_of v) v.rules k rule.birth) (sym from)
+        (subst (λ z. IsBorn (length plan.base) z v.rules k rule.birth) (sym given_is)
+        (subst (λ z. IsBorn (length plan.base) (given plan (chosen plan.all round.used)) z k rule.birth) (sym is.rules) h))
+
+    -- an equation of a used requirement is of one that the rules of the round before show usable
+    module _ (r : ℕ) (shown : (j : ℕ) (x : Numbered) → slice_get (chosen o.all round.used) j ≡ Some x
+        → (0 < r) × AreShown plan (rules_at b (r - 1)) (item_by terms (generic_params b.ground.params) list x)) where
+      basic_given : (why : Reason) (left right : Word) → IsBasicBy o.members why left right → IsGivenBy b r why left right
+      basic_given (Doubled p) left right h = h
+      basic_given (NamedBy k) left right (n, at, l, w) = (n, ap (λ (z : List Named). slice_get z k) (sym members) ∙ at, l, w)
+      basic_given (Required owner n q) left right h = absurd h
+
+      given_by : (k : ℕ) (e : Equation) → slice_get v.given k ≡ Some e → IsGivenBy b r e.reason e.left e.right
+      given_by k e at =
+          let h = is.given in
+          elim (get_either h.basic h.more k e (sym (ap (λ (z : List Equation). slice_get z k) h.given_are) ∙ at)) [
+            | inl i ↦ basic_given e.reason e.left e.right (h.are_basic k e i)
+            | inr i ↦ (let (x, at_x, eq) = equations_at plan.symbols terms (chosen o.all round.used) h.more h.are_of i.0 e i.2 in
+                let (above, usable) = shown i.0 x at_x in
+                subst (λ why. IsGivenBy b r why e.left e.right) (sym eq.reason.is) (
+                  above,
+                  sides_are_shown b.ground plan.symbols plan.facts are (rules_at b (r - 1)) list x.owner terms x eq.reason.requirement e.left e.right refl
+                      eq.reason.stands eq.left eq.right usable,
+                ))
+          ]
+
+    written_by : (basis : Basis) → ((j : ℕ) (x : Numbered) (q : Owned) → slice_get o.all j ≡ Some x → requirement_by q ≡ requirement_of terms x.requirement
+        → IsWritten basis (Required x.owner x.number q)) → (k : ℕ) (e : Equation) → slice_get v.given k ≡ Some e → IsWritten basis e.reason
+    written_by basis from k e at =
+        let h = is.given in
+        elim (get_either h.basic h.more k e (sym (ap (λ (z : List Equation). slice_get z k) h.given_are) ∙ at)) [
+          | inl i ↦ basic_written e.reason e.left e.right (h.are_basic k e i)
+          | inr i ↦ (let (x, at_x, eq) = equations_at plan.symbols terms (chosen o.all round.used) h.more h.are_of i.0 e i.2 in
+              let (j, there) = chosen_of o.all round.used i.0 x at_x in
+              subst (IsWritten basis) (sym eq.reason.is) (from j x eq.reason.requirement there eq.reason.stands))
+        ]
+      where
+        basic_written : (why : Reason) (left right : Word) → IsBasicBy o.members why left right → IsWritten basis why
+        basic_written (Doubled p) left right h = tt
+        basic_written (NamedBy k) left right h = tt
+        basic_written (Required owner n q) left right h = absurd h
+
+-- ---- the book
+
+module _ (terms : List Term) (w : IdWorld) (fn : FuncId) (p : ProtocolsView) (m : MachineView) (b : Book) (is : IsBookOf terms w fn p m b)
+    (rounds : AreRoundsFor terms w fn p m) (closed : IsClosed (world_by terms w)) where
+  abbrev f : TermFacts
+  f = facts_of (world_by terms w)
+
+  -- what the list of the signature says
+  abbrev pub own_list : List TermRequirement
+  own_list = listed terms (bare (signature_at w fn).requirements)
+
+  abbrev params : List ParamId
+  params = generic_params b.ground.params
+
+  same_params : generic_params m.params ≡ params
+  same_params = ap generic_params (sym is.ground.params_are)
+
+  pub book_symbols : AreSymbols b.ground (symbols_of w.lexicon) f
+  book_symbols = are_symbols terms w m.params b.ground is.ground closed
+
+  abbrev below_plan : Plan
+  below_plan = protocols_of (world_by terms w)
+
+  abbrev own_plan : Plan
+  own_plan = machine_plan terms w (last_rules p.rounds) m.params (bare (signature_at w fn).requirements)
+
+  below_all : below_plan.all ≡ map (item_by terms params own_list) (protocols_origin w).all
+  below_all = protocols_items terms w params own_list w.lexicon.written_order
+
+  own_all : own_plan.all ≡ map (item_by terms params own_list) (list_origin w fn p).all
+  own_all =
+      ap (λ gs. map (of_list gs own_list) own_list) same_params
+      ∙ sym (numbered_items terms params own_list None 1 (bare (signature_at w fn).requirements))
+
+  below_length : length is.below ≡ length p.rounds
+  below_length = systems_length (symbols_of w.lexicon) terms (protocols_origin w) p.rounds is.below is.of_protocols
+
+  -- ---- the rules of a system
+
+  system_is : (r : ℕ) (v : System) → slice_get b.systems r ≡ Some v → system_at b r ≡ v
+  system_is r v e = get_or_from_slice_get b.systems r v (record { base = 0; below = 0; rules = []; given = [] }) e
+
+  below_rules : (k : ℕ) (round : RoundView) → slice_get p.rounds k ≡ Some round → rules_at b k ≡ round.rules
+  below_rules k round e =
+      let within = slice_get_within p.rounds k round e in
+      let (v, at) = there_is is.below k (subst (λ n. k < n) (sym below_length) within) in
+      let (other, at_round, made) = system_of (symbols_of w.lexicon) terms (protocols_origin w) p.rounds is.below is.of_protocols k v at in
+      let same : other ≡ round = cc in
+      let in_book : slice_get b.systems k ≡ Some v = ap (λ (z : List System). slice_get z k) is.systems ∙ get_left is.below is.own k v at in
+      ap (λ (z : System). z.rules) (system_is k v in_book) ∙ made.rules ∙ ap (λ (z : RoundView). z.rules) same
+
+  own_rules : (k : ℕ) (round : RoundView) → slice_get m.rounds k ≡ Some round → rules_at b (length is.below + k) ≡ round.rules
+  own_rules k round e =
+      let within = slice_get_within m.rounds k round e in
+      let count = systems_length (symbols_of w.lexicon) terms (list_origin w fn p) m.rounds is.own is.of_list in
+      let (v, at) = there_is is.own k (subst (λ n. k < n) (sym count) within) in
+      let (other, at_round, made) = system_of (symbols_of w.lexicon) terms (list_origin w fn p) m.rounds is.own is.of_list k v at in
+      let same : other ≡ round = cc in
+      let in_book : slice_get b.systems (length is.below + k) ≡ Some v
+      = ap (λ (z : List System). slice_get z (length is.below + k)) is.systems ∙ get_after is.below is.own k ∙ at in
+      ap (λ (z : System). z.rules) (system_is (length is.below + k) v in_book) ∙ made.rules ∙ ap (λ (z : RoundView). z.rules) same
+
+  -- ---- the systems of the protocols
+
+  below_shown : (k : ℕ) (round : RoundView) → slice_get p.rounds k ≡ Some round
+      → (j : ℕ) (x : Numbered) → slice_get (chosen (protocols_origin w).all round.used) j ≡ Some x
+      → (0 < k) × AreShown below_plan (rules_at b (k - 1)) (item_by terms params own_list x)
+  below_shown zero round e j x at =
+      let none : round.used ≡ replicate (length below_plan.all) false = none_at_first rounds.protocols.1 round e in
+      let empty : chosen (protocols_origin w).all round.used ≡ []
+      = ap (chosen (protocols_origin w).all) none ∙ chosen_unset (protocols_origin w).all (length below_plan.all) in
+      let bad : slice_get [] j ≡ Some x = ap (λ (z : List Numbered). slice_get z j) (sym empty) ∙ at in
+      cc
+  below_shown (suc k) round e j x at =
+      let (earlier, at_earlier) = there_is p.rounds k (let l = slice_get_within p.rounds (suc k) round e in omega (arith, l)) in
+      let told = told_at rounds.protocols.1 k earlier round at_earlier e in
+      let item = item_by terms params own_list in
+      let chosen_there : slice_get (chosen below_plan.all round.used) j ≡ Some (item x)
+      = ap (λ z. slice_get (chosen z round.used) j) below_all ∙ ap (λ z. slice_get z j) (chosen_map item (protocols_origin w).all round.used)
+      ∙ get_map item (chosen (protocols_origin w).all round.used) j x at in
+      let h = chosen_holds (AreShown below_plan earlier.rules) below_plan.all round.used told j (item x) chosen_there in
+      let place : suc k - 1 ≡ k = omega arith in
+      (omega arith, subst (λ rules. AreShown below_plan rules (item x)) (sym (ap (rules_at b) place ∙ below_rules k earlier at_earlier)) h)
+
+  below_system : (r : ℕ) (v : System) → slice_get is.below r ≡ Some v → IsSystem b r v
+  below_system r v e =
+      let (round, at, made) = system_of (symbols_of w.lexicon) terms (protocols_origin w) p.rounds is.below is.of_protocols r v e in
+      let ends = ends_at rounds.protocols.1 r round at in
+      record {
+        complete = made.complete;
+        born = born_is terms (protocols_origin w) below_plan b own_list refl refl below_all (sym is.ground.members) book_symbols round v made ends;
+        lower = λ k rule l h. absurd (let z = made.base in omega (arith, l, z));
+        given = given_by terms (protocols_origin w) below_plan b own_list refl refl below_all (sym is.ground.members) book_symbols round v made r
+            (below_shown r round at);
+      }
+
+  -- ---- the systems of the list
+
+  own_shown : (k : ℕ) (round : RoundView) → slice_get m.rounds k ≡ Some round
+      → (j : ℕ) (x : Numbered) → slice_get (chosen (list_origin w fn p).all round.used) j ≡ Some x
+      → (0 < length is.below + k) × AreShown own_plan (rules_at b (length is.below + k - 1)) (item_by terms params own_list x)
+  own_shown zero round e j x at =
+      let none : round.used ≡ replicate (length own_plan.all) false = none_at_first rounds.list.1 round e in
+      let empty : chosen (list_origin w fn p).all round.used ≡ []
+      = ap (chosen (list_origin w fn p).all) none ∙ chosen_unset (list_origin w fn p).all (length own_plan.all) in
+      let bad : slice_get [] j ≡ Some x = ap (λ (z : List Numbered). slice_get z j) (sym empty) ∙ at in
+      cc
+  own_shown (suc k) round e j x at =
+      let (earlier, at_earlier) = there_is m.rounds k (let l = slice_get_within m.rounds (suc k) round e in omega (arith, l)) in
+      let told = told_at rounds.list.1 k earlier round at_earlier e in
+      let item = item_by terms params own_list in
+      let chosen_there : slice_get (chosen own_plan.all round.used) j ≡ Some (item x)
+      = ap (λ z. slice_get (chosen z round.used) j) own_all ∙ ap (λ z. slice_get z j) (chosen_map item (list_origin w fn p).all round.used)
+      ∙ get_map item (chosen (list_origin w fn p).all round.used) j x at in
+      let h = chosen_holds (AreShown own_plan earlier.rules) own_plan.all round.used told j (item x) chosen_there in
+      let place : length is.below + suc k - 1 ≡ length is.below + k = omega arith in
+      (omega arith, subst (λ rules. AreShown own_plan rules (item x)) (sym (ap (rules_at b) place ∙ own_rules k earlier at_earlier)) h)
+
+  -- the rules of the base are those of the last round of the protocols
+  own_lower : (r : ℕ) (round : RoundView) (v : System) → length is.below ≤ r → IsSystemOf (symbols_of w.lexicon) terms (list_origin w fn p) round v
+      → {limits : Limits} → Ends limits own_plan (chosen own_plan.all round.used) round.rules
+      → (k : ℕ) (rule : Rule) → k < v.base → slice_get v.rules k ≡ Some rule → (v.below < r) × (slice_get (rules_at b v.below) k ≡ Some rule)
+  own_lower r round v above made ends k rule l e =
+      let last_count : k < length (last_rules p.rounds) = subst (λ n. k < n) made.base l in
+      let some : 0 < length p.rounds = some_round p.rounds last_count in
+      let (last, at_last, rules_last) = last_is p.rounds some in
+      let e_below = made.below in
+      let count = below_length in
+      let at_round : slice_get round.rules k ≡ Some rule = ap (λ (z : List Rule). slice_get z k) (sym made.rules) ∙ e in
+      let in_base : slice_get (last_rules p.rounds) k ≡ Some rule
+      = ap (λ (z : List Rule). slice_get z k) (sym ends.0) ∙ in_front round.rules (length (last_rules p.rounds)) k rule last_count at_round in
+      let below_is : rules_at b v.below ≡ last_rules p.rounds
+      = ap (rules_at b) made.below ∙ below_rules (length p.rounds - 1) last at_last ∙ rules_last in
+      (omega (arith, e_below, count, some, above), ap (λ (z : List Rule). slice_get z k) below_is ∙ in_base)
+    where
+      some_round : (rs : List RoundView) → k < length (last_rules rs) → 0 < length rs
+      some_round [] h = absurd (omega (arith, h))
+      some_round (r ∷ rs) h = omega arith
+
+  own_system : (j : ℕ) (v : System) → slice_get is.own j ≡ Some v → IsSystem b (length is.below + j) v
+  own_system j v e =
+      let (round, at, made) = system_of (symbols_of w.lexicon) terms (list_origin w fn p) m.rounds is.own is.of_list j v e in
+      let ends = ends_at rounds.list.1 j round at in
+      record {
+        complete = made.complete;
+        born = born_is terms (list_origin w fn p) own_plan b own_list refl refl own_all (sym is.ground.members) book_symbols round v made ends;
+        lower = own_lower (length is.below + j) round v (omega arith) made ends;
+        given = given_by terms (list_origin w fn p) own_plan b own_list refl refl own_all (sym is.ground.members) book_symbols round v made
+            (length is.below + j) (own_shown j round at);
+      }
+
+  each_system : (r : ℕ) (v : System) → slice_get b.systems r ≡ Some v → IsSystem b r v
+  each_system r v e = elim (get_either is.below is.own r v (ap (λ (z : List System). slice_get z r) (sym is.systems) ∙ e)) [
+    | inl h ↦ below_system r v h
+    | inr h ↦ subst (λ n. IsSystem b n v) (sym h.1) (own_system h.0 v h.2)
+  ]
+
+  system_there : (r : ℕ) → r < length b.systems → slice_get b.systems r ≡ Some (system_at b r)
+  system_there r l = slice_get-get_or b.systems r (record { base = 0; below = 0; rules = []; given = [] }) l
+
+  pub is_book : IsBook b
+  is_book = record {
+    inherited = is_inherited terms w m.params b.ground is.ground closed;
+    systems = λ r l. each_system r (system_at b r) (system_there r l);
+  }
+
+  -- ---- facts
+
+  module _ (basis : Basis) (facts : basis.facts ≡ f) (params_are : basis.params ≡ generic_params m.params) (written : basis.written ≡ own_list) where
+    below_written : (j : ℕ) (x : Numbered) (q : Owned) → slice_get (protocols_origin w).all j ≡ Some x → requirement_by q ≡ requirement_of terms x.requirement
+        → IsWritten basis (Required x.owner x.number q)
+    below_written j x q e stands =
+        let (o, own, number) = protocol_number terms w w.lexicon.written_order j x e in
+        let n = written_of terms w o x.number x.requirement number in
+        subst (λ (z : Option ProtoId). IsWritten basis (Required z x.number q)) (sym own)
+        (subst (λ (z : TermFacts). HasNumber x.number (z.of_protocol o) (requirement_by q)) (sym facts)
+        (subst (HasNumber x.number (f.of_protocol o)) (sym stands) n))
+
+    own_written : (j : ℕ) (x : Numbered) (q : Owned) → slice_get (list_origin w fn p).all j ≡ Some x → requirement_by q ≡ requirement_of terms x.requirement
+        → IsWritten basis (Required x.owner x.number q)
+    own_written j x q e stands =
+        let list = bare (signature_at w fn).requirements in
+        let (own, n, at) = numbered_is None 1 list j x e in
+        let same : x.number - 1 ≡ j = omega (arith, n) in
+        let there : slice_get own_list (x.number - 1) ≡ Some (requirement_of terms x.requirement)
+        = ap (slice_get own_list) same ∙ get_map (requirement_of terms) list j x.requirement at in
+        subst (λ (z : Option ProtoId). IsWritten basis (Required z x.number q)) (sym own)
+        (omega (arith, n), ap (λ (z : List TermRequirement). slice_get z (x.number - 1)) written ∙ there ∙ ap Some (sym stands))
+
+    each_written : (r k : ℕ) (v : System) (e : Equation) → slice_get b.systems r ≡ Some v → slice_get v.given k ≡ Some e → IsWritten basis e.reason
+    each_written r k v e at in_v = elim (get_either is.below is.own r v (ap (λ (z : List System). slice_get z r) (sym is.systems) ∙ at)) [
+      | inl h ↦ (let (round, at_round, made) = system_of (symbols_of w.lexicon) terms (protocols_origin w) p.rounds is.below is.of_protocols r v h in
+          written_by terms (protocols_origin w) below_plan b own_list refl refl below_all (sym is.ground.members) book_symbols round v made basis below_written k e in_v)
+      | inr h ↦ (let (round, at_round, made) = system_of (symbols_of w.lexicon) terms (list_origin w fn p) m.rounds is.own is.of_list h.0 v h.2 in
+          written_by terms (list_origin w fn p) own_plan b own_list refl refl own_all (sym is.ground.members) book_symbols round v made basis own_written k e in_v)
+    ]
+
+    pub fits_book : FitsBook b basis
+    fits_book = record {
+      ground = fits_basis terms w m.params b.ground is.ground closed basis facts params_are;
+      written = λ r k e l at. each_written r k (system_at b r) e (system_there r l) at;
+    }
+
+  -- ---- for the signature
+
+  signature_now : signature_at (world_by terms w) fn ≡ signature_by terms (signature_at w fn)
+  signature_now = signature_is w terms fn
+
+  params_now : generic_params (signature_at (world_by terms w) fn).params ≡ generic_params m.params
+  params_now = ap (λ (g : SignatureOver PlacedRequirement). generic_params g.params) signature_now ∙ sym (ap generic_params rounds.params)
+
+  list_now : written_list (signature_at (world_by terms w) fn) ≡ own_list
+  list_now = ap written_list signature_now ∙ sym (requirements_placed terms (signature_at w fn).requirements)
+
+  last_rules_are : rules_at b (length b.systems - 1) ≡ last_rules m.rounds
+  last_rules_are =
+      let some = some_round rounds.list.1 in
+      let (last, at, rules) = last_is m.rounds some in
+      let count = ap length is.systems ∙ length-append is.below is.own in
+      let own = systems_length (symbols_of w.lexicon) terms (list_origin w fn p) m.rounds is.own is.of_list in
+      let place : length b.systems - 1 ≡ length is.below + (length m.rounds - 1) = omega (arith, some, count, own) in
+      ap (rules_at b) place ∙ own_rules (length m.rounds - 1) last at ∙ rules
+
+  pub book_for : IsBookFor (world_by terms w) fn b
+  book_for = record {
+    book = is_book;
+    fits = fits_book (basis_of (world_by terms w) fn) refl params_now list_now;
+    symbols = book_symbols;
+    params = is.ground.params_are ∙ rounds.params ∙ sym (ap (λ (g : SignatureOver PlacedRequirement). g.params) signature_now);
+    some = (let some = some_round rounds.list.1 in
+        let count = ap length is.systems ∙ length-append is.below is.own in
+        let own = systems_length (symbols_of w.lexicon) terms (list_origin w fn p) m.rounds is.own is.of_list in
+        omega (arith, some, count, own));
+    rules = subst (λ gs. AreListRules (symbols_of w.lexicon) f gs (written_list (signature_at (world_by terms w) fn)) (rules_at b (length b.systems - 1))) (sym params_now)
+        (subst (λ rs. AreListRules (symbols_of w.lexicon) f (generic_params m.params) rs (rules_at b (length b.systems - 1))) (sym list_now)
+        (subst (AreListRules (symbols_of w.lexicon) f (generic_params m.params) own_list) (sym last_rules_are) rounds.machine.rules));
+    in_text = subst (IsInText (symbols_of w.lexicon)) (λ i. WrittenList (sym params_now i) (sym list_now i)) rounds.machine.in_text;
+  }

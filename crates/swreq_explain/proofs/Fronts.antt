@@ -1,0 +1,55 @@
+-- The first lines of a derivation, up to one that states this.
+use Rattle.std.proofs.Common.{◌≡◌, ◌∙◌, ℕ, zero, suc, ◌-◌, ◌≤◌, List, [], ◌∷◌, ap, arith, map, refl, subst, sym, take}
+use Rattle.swreq_orders.proofs.Elements.{get_map, get_of_map, in_whole, take_one}
+use Rattle.swreq_param.specs.Tables.{AreDistinct}
+use Rattle.swreq_param.specs.Terms.{Term}
+use Rattle.swreq_derive.specs.declared.lines.Line.{Line}
+use Rattle.swreq_derive.specs.declared.requirements.Statement.{Statement}
+use Rattle.swreq_derive.specs.Facts.{IdFacts, generic_params, requirement_of, statement_of, term_facts}
+use Rattle.swreq_derive.specs.Instances.{Follows, HasNumber, TermLine, statements_of}
+use Rattle.swreq_derive.specs.Lines.{AreDerived, line_of, stated_by}
+use Rattle.swreq_derive.proofs.LineLemmas.{get_take}
+use Rattle.swreq_sheet.specs.declared.sheet.Sheet.{Sheet}
+use Rattle.swreq_sheet.specs.Sheets.{AreIdsIn, IsSheet, said}
+use Rattle.swreq_sheet.proofs.SheetLemmas.{same_ids}
+use Rattle.swreq_needed.specs.Needed.{AreSomeOf, EndIn}
+
+map_front : {A B : Type 0} (f : A → B) (n : ℕ) (xs : List A) → map f (take n xs) ≡ take n (map f xs)
+map_front f zero xs = refl
+map_front f (suc n) [] = refl
+map_front f (suc n) (x ∷ xs) = ap (λ ys. f x ∷ ys) (map_front f n xs)
+
+front_of_front : {A : Type 0} (k n : ℕ) (xs : List A) → k ≤ n → take k (take n xs) ≡ take k xs
+front_of_front zero n xs l = refl
+front_of_front (suc k) zero xs l = absurd (omega (arith, l))
+front_of_front (suc k) (suc n) [] l = refl
+front_of_front (suc k) (suc n) (x ∷ xs) l = ap (λ ys. x ∷ ys) (front_of_front k n xs (omega (arith, l)))
+
+-- the first lines of a derivation are one
+pub front_derived : (terms : List Term) (m : IdFacts) (ls : List Line) (n : ℕ) → AreDerived terms m ls → AreDerived terms m (take n ls)
+front_derived terms m ls n d k l e =
+    let (x, at, same) = get_of_map (line_of terms) (take n ls) k l e in
+    let (below, there) = get_take n k ls x at in
+    let h = d k (line_of terms x) (get_map (line_of terms) ls k x there) in
+    let earlier : take k (statements_of (map (line_of terms) (take n ls))) ≡ take k (statements_of (map (line_of terms) ls))
+    = ap (take k) (ap statements_of (map_front (line_of terms) n ls) ∙ map_front (λ (z : TermLine). z.statement) n (map (line_of terms) ls))
+    ∙ front_of_front k n (statements_of (map (line_of terms) ls)) (omega (arith, below)) in
+    subst (λ z. Follows (term_facts terms m) (generic_params m.params) (map (requirement_of terms) m.written) z l) (sym earlier)
+    (subst (Follows (term_facts terms m) (generic_params m.params) (map (requirement_of terms) m.written) (take k (statements_of (map (line_of terms) ls)))) same h)
+
+pub front_ends : (ls : List Line) (n : ℕ) (l : Line) → HasNumber n ls l → EndIn (take n ls) l.statement
+front_ends ls n l (above, at) =
+    let e : suc (n - 1) ≡ n = omega (arith, above) in
+    (take (n - 1) ls, l, ap (λ k. take k ls) (sym e) ∙ take_one ls (n - 1) l at, refl)
+
+pub some_of_front : (some ls : List Line) (n : ℕ) → AreSomeOf some (take n ls) → AreSomeOf some ls
+some_of_front some ls n h k l e = let (j, a, at, rule, statement) = h k l e in (j, a, in_whole ls n j a at, rule, statement)
+
+-- the line whose statement has this number
+pub line_said : (s : Sheet) (st : Statement) (n : ℕ) → IsSheet s → AreDistinct s.table → AreIdsIn s.table st
+    → HasNumber n (said s) (statement_of s.table st) → (l : Line) × HasNumber n s.lines.items l × (l.statement ≡ st)
+line_said s st n sheet distinct ids (above, at) =
+    let (x, at_x, same_x) = get_of_map (statement_of s.table) (stated_by s.lines.items) (n - 1) (statement_of s.table st) at in
+    let (l, at_l, same_l) = get_of_map (λ (z : Line). z.statement) s.lines.items (n - 1) x at_x in
+    let of_l = sheet.ids (n - 1) l at_l in
+    (l, (above, at_l), same_ids s.table distinct l.statement st of_l ids (ap (statement_of s.table) same_l ∙ same_x))

@@ -1,0 +1,10 @@
+pub mod GroundLemmas
+pub mod ParentLemmas
+pub mod RoundLemmas
+pub mod NumberingLemmas
+pub mod BookLemmas
+pub mod SideLemmas
+pub mod TextLines
+pub mod Fronts
+pub mod AskedLemmas
+pub mod Standing

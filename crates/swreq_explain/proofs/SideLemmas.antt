@@ -1,0 +1,100 @@
+-- Type parameters that are read on a sheet.
+use Rattle.std.proofs.Common.{◌≡◌, ◌∙◌, ◌-◌, List, [], ◌∷◌, ◌++◌, Option, None, Contains, ap, arith, length, length-append, refl, subst, sym, take}
+use Rattle.std.proofs.Math.Seq.{take-append_seam}
+use Rattle.swreq_param.specs.declared.ids.ParamId.{ParamId}
+use Rattle.swreq_param.specs.declared.ids.ProtoId.{ProtoId}
+use Rattle.swreq_param.specs.declared.ids.Step.{Step}
+use Rattle.swreq_param.specs.declared.ids.Step.TheVariants.{Bound, Name}
+use Rattle.swreq_param.specs.Terms.Term.{Generic, Member}
+use Rattle.swreq_word.specs.declared.symbols.Symbol.TheVariants.{Proto}
+use Rattle.swreq_word.specs.Relations.{Linked}
+use Rattle.swreq_word.proofs.Chains.{linked_back}
+use Rattle.swreq_rule.specs.declared.rules.Rule.{Rule}
+use Rattle.swreq_rule.specs.Steps.{Step as RuleStep}
+use Rattle.swreq_derive.specs.Derivation.{Source}
+use Rattle.swreq_derive.specs.Facts.{generic_params}
+use Rattle.swreq_correspondence.specs.Shown.{ShowsConformance, ShowsValid}
+use Rattle.swreq_correspondence.specs.Symbols.{symbol, word_of}
+use Rattle.swreq_read.specs.declared.ground.Ground.{Ground}
+use Rattle.swreq_unfold.specs.Systems.{IsShown, source_of}
+use Rattle.swreq_unfold.specs.Types.{IsStepShown}
+use Rattle.swreq_explain.proofs.NumberingLemmas.{spell_append}
+use Rattle.swreq_param.specs.Tables.{term_at}
+use Rattle.swreq_param.specs.Terms.{Term}
+use Rattle.swreq_word.specs.declared.symbols.Symbol.{Symbol}
+use Rattle.swreq_sheet.specs.declared.sheet.Sheet.{Sheet}
+use Rattle.swreq_sheet.specs.Sheets.{AreSaidEqual, Grows}
+use Rattle.swreq_read.specs.Readable.{SaysSymbol, SaysWord}
+use Rattle.swreq_read.proofs.ReadLemmas.{equal_as, equal_still, is_still, term_still, word_right, word_still}
+use Rattle.swreq_explain.specs.declared.sides.Desk.{Desk}
+use Rattle.swreq_explain.specs.declared.sides.ReadAs.{ReadAs}
+use Rattle.swreq_explain.specs.declared.sides.Side.{Side}
+use Rattle.swreq_explain.specs.Stating.{IsReadAt, IsReady, ground_at}
+
+pub ready_still : (d : Desk) (s u : Sheet) → Grows s u → IsReady d s → IsReady d u
+ready_still d s u g h = record { book = h.book; system = h.system; sheet = g.sheet; t = is_still s u g d.t h.t }
+
+module _ (d : Desk) (x : Side) (t : Term) where
+  pub read_still : (s u : Sheet) → Grows s u → (r : ReadAs) → IsReadAt d x t s r → IsReadAt d x t u r
+  read_still s u g r h = record {
+    itself_of = is_still s u g r.itself h.itself_of;
+    word_of = is_still s u g r.word h.word_of;
+    itself = term_still s u g r.itself h.itself_of ∙ h.itself;
+    word = term_still s u g r.word h.word_of ∙ h.word;
+    says = word_still (ground_at d) s u g t x.word.now h.says;
+    equal = equal_still (ground_at d) s u g _ _ h.equal;
+  }
+
+  pub read_equal : (s : Sheet) (r : ReadAs) → IsReadAt d x t s r → AreSaidEqual s (term_at s.table r.itself) (term_at s.table r.word)
+  read_equal s r h = equal_as s _ _ _ _ h.itself h.word h.equal
+
+  -- what lines allow behind its word they allow behind that as which the word is read
+  pub vanished : (s : Sheet) (r : ReadAs) (y : Symbol) (longer : List Symbol) → IsReadAt d x t s r → longer ≡ x.word.now ++ y ∷ []
+      → SaysWord (ground_at d) s t longer → SaysSymbol (ground_at d) s (term_at s.table r.word) y
+  vanished s r y longer h e w =
+      let split = subst (SaysWord (ground_at d) s t) e w in
+      subst (λ z. SaysSymbol (ground_at d) s z y) (sym h.word) (word_right (ground_at d) s t x.word.now (y ∷ []) split).0
+
+-- ---- the base of a member
+
+front_of : {A : Type 0} (u : List A) (y : A) → take (length (u ++ y ∷ []) - 1) (u ++ y ∷ []) ≡ u
+front_of u y =
+    let count : length (u ++ y ∷ []) - 1 ≡ length u = (let e = length-append u (y ∷ []) in omega (arith, e)) in
+    ap (λ n. take n (u ++ y ∷ [])) count ∙ take-append_seam u (y ∷ [])
+
+module _ (g : Ground) (owner : Option ProtoId) (rules : List Rule) (t b : Term) (x : Step) (w : List Symbol) (is : t ≡ Member b x) (h : IsShown g owner rules t w) where
+  abbrev s : Source
+  s = source_of g h.list owner
+
+  -- its word is that of the member without the last symbol
+  front_is : take (length w - 1) w ≡ word_of h.symbols s b
+  front_is =
+      let e : w ≡ word_of h.symbols s b ++ symbol h.symbols x ∷ []
+      = h.word ∙ ap (word_of h.symbols s) is ∙ spell_append h.symbols s b (symbol h.symbols x ∷ []) in
+      ap (λ (z : List Symbol). take (length z - 1) z) e ∙ front_of (word_of h.symbols s b) (symbol h.symbols x)
+
+  member_shown : ShowsValid h.symbols h.facts s (Linked (RuleStep rules)) (Member b x)
+  member_shown = subst (ShowsValid h.symbols h.facts s (Linked (RuleStep rules))) is h.shown
+
+  pub base_shown : IsShown g owner rules b (take (length w - 1) w)
+  base_shown = record { symbols = h.symbols; facts = h.facts; list = h.list; are = h.are; shown = of x member_shown; word = front_is }
+    where
+      of : (y : Step) → ShowsValid h.symbols h.facts s (Linked (RuleStep rules)) (Member b y) → ShowsValid h.symbols h.facts s (Linked (RuleStep rules)) b
+      of (Name a) v = v.0
+      of (Bound d) v = v.0
+
+  pub step_shown : IsStepShown g rules (take (length w - 1) w) x
+  step_shown = subst (λ z. IsStepShown g rules z x) (sym front_is) (of x member_shown)
+    where
+      on : (p : ProtoId) → ShowsConformance h.symbols s (Linked (RuleStep rules)) b p
+          → Linked (RuleStep rules) (word_of h.symbols s b) (word_of h.symbols s b ++ Proto p.rank ∷ [])
+      on p c = subst (Linked (RuleStep rules) (word_of h.symbols s b)) (spell_append h.symbols s b (Proto p.rank ∷ [])) (linked_back c)
+
+      of : (y : Step) → ShowsValid h.symbols h.facts s (Linked (RuleStep rules)) (Member b y) → IsStepShown g rules (word_of h.symbols s b) y
+      of (Name a) v = (let (p, d, c, k) = v.1 in (d.rank, record { proto = p; name = a }, (h.are.associated p a d c, refl, on p k)))
+      of (Bound d) v = (let (p, a, c, k) = v.1 in (d.rank, record { proto = p; name = a }, (h.are.associated p a d c, refl, on p k)))
+
+-- a generic parameter that is shown is one of the list
+pub shown_generic : (g : Ground) (rules : List Rule) (t : Term) (p : ParamId) (w : List Symbol) → t ≡ Generic p → IsShown g None rules t w
+    → Contains (generic_params g.params) p
+shown_generic g rules t p w is h = subst (ShowsValid h.symbols h.facts (source_of g h.list None) (Linked (RuleStep rules))) is h.shown

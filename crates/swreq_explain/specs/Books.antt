@@ -1,0 +1,75 @@
+-- The book of a machine.
+use Rattle.std.specs.Prelude.{◌≡◌, ◌<◌, ◌-◌, ◌++◌, [], List, None, length, map}
+use Rattle.swreq_param.specs.Terms.{Term}
+use Rattle.swreq_derive.specs.Facts.{generic_params}
+use Rattle.swreq_correspondence.specs.Symbols.{IsInText}
+use Rattle.swreq_lowering.specs.declared.ids.FuncId.{FuncId}
+use Rattle.swreq_read.specs.declared.ground.Named.{Named}
+use Rattle.swreq_rounds.specs.Given.{basic_equations}
+use Rattle.swreq_rounds.specs.Presents.{AreListRules}
+use Rattle.swreq_sheet.specs.Sheets.{Basis}
+use Rattle.swreq_symbols.specs.Meaning.{symbols_of}
+use Rattle.swreq_unfold.specs.declared.book.Book.{Book}
+use Rattle.swreq_unfold.specs.declared.book.System.{System}
+use Rattle.swreq_unfold.specs.Systems.{AreSymbols, FitsBook, IsBook, rules_at}
+use Rattle.swreq_valid.specs.Machines.{MachineView, ProtocolsView}
+use Rattle.swreq_valid.specs.Plans.{bare}
+use Rattle.swreq_valid.specs.Rounds.{last_rules}
+use Rattle.swreq_world.specs.FactsAt.{facts_of, source_of, written_list}
+use Rattle.swreq_world.specs.Worlds.{IdWorld, TextWorld, signature_at}
+use Rattle.swreq_explain.specs.Grounded.{IsGroundOf, named_by}
+use Rattle.swreq_explain.specs.Numbering.{numbered_from, numbered_in}
+use Rattle.swreq_explain.specs.Rounds.{AreSystemsOf, Origin}
+
+abbrev pub members_in : IdWorld → List Named
+members_in w = map named_by w.lexicon.symbols
+
+-- The rounds of the protocols begin with no rules, and use the requirements of all protocols.
+abbrev pub protocols_origin : IdWorld → Origin
+protocols_origin w = record {
+  base = 0;
+  below = 0;
+  members = members_in w;
+  basic = basic_equations (symbols_of w.lexicon);
+  all = numbered_in w w.lexicon.written_order;
+}
+
+-- Those of a list begin with the rules of the last round of the protocols.
+abbrev pub list_origin : IdWorld → FuncId → ProtocolsView → Origin
+list_origin w f p = record {
+  base = length (last_rules p.rounds);
+  below = length p.rounds - 1;
+  members = members_in w;
+  basic = [];
+  all = numbered_from None 1 (bare (signature_at w f).requirements);
+}
+
+-- The ground is that of the world, and the systems are those of the rounds of the protocols and of the machine.
+pub record IsBookOf (terms : List Term) (w : IdWorld) (f : FuncId) (p : ProtocolsView) (m : MachineView) (b : Book) : Type 0 where
+  pub ground : IsGroundOf terms w m.params b.ground
+  pub below : List System
+  pub own : List System
+  pub systems : b.systems ≡ below ++ own
+  pub of_protocols : AreSystemsOf (symbols_of w.lexicon) terms (protocols_origin w) p.rounds below
+  pub of_list : AreSystemsOf (symbols_of w.lexicon) terms (list_origin w f p) m.rounds own
+
+-- ---- a book that answers for a signature
+
+-- From what its lines are derived: the facts of the text, and the list of the signature with its generic parameters.
+abbrev pub basis_of : TextWorld → FuncId → Basis
+basis_of w f = record {
+  facts = facts_of w;
+  params = generic_params (signature_at w f).params;
+  written = written_list (signature_at w f);
+}
+
+-- It is a book, and its equations are of what is written. Its last system has the rules of the list of the signature.
+pub record IsBookFor (w : TextWorld) (f : FuncId) (b : Book) : Type 0 where
+  pub book : IsBook b
+  pub fits : FitsBook b (basis_of w f)
+  pub symbols : AreSymbols b.ground (symbols_of w.lexicon) (facts_of w)
+  pub params : b.ground.params ≡ (signature_at w f).params
+  pub some : 0 < length b.systems
+  pub rules : AreListRules (symbols_of w.lexicon) (facts_of w) (generic_params (signature_at w f).params) (written_list (signature_at w f))
+      (rules_at b (length b.systems - 1))
+  pub in_text : IsInText (symbols_of w.lexicon) (source_of (signature_at w f))

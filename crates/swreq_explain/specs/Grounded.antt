@@ -1,0 +1,39 @@
+-- The ground of a world: its names and its written inheritance, with the generic parameters of a list.
+use Rattle.std.specs.Prelude.{◌≡◌, ◌⊎◌, ◌<◌, ◌≤◌, ℕ, List, Contains, length, map}
+use Rattle.swreq_param.specs.declared.ids.ProtoId.{ProtoId}
+use Rattle.swreq_param.specs.Terms.{Term, self}
+use Rattle.swreq_derive.specs.declared.known.Params.{Params}
+use Rattle.swreq_derive.specs.Derivation.{TermFacts}
+use Rattle.swreq_derive.specs.Derivation.TermRequirement.{Conforms}
+use Rattle.swreq_derive.specs.Instances.{HasNumber}
+use Rattle.swreq_lexicon.specs.declared.pair.ProtocolName.{ProtocolName}
+use Rattle.swreq_read.specs.declared.ground.Ground.{Ground}
+use Rattle.swreq_read.specs.declared.ground.Named.{Named}
+use Rattle.swreq_read.specs.declared.ground.Parent.{Parent}
+use Rattle.swreq_world.specs.ByTable.{world_by}
+use Rattle.swreq_world.specs.FactsAt.{facts_of}
+use Rattle.swreq_world.specs.Worlds.{IdWorld}
+
+abbrev pub named_by : ProtocolName → Named
+named_by d = record { proto = d.proto; name = d.name }
+
+-- P inherits Q by its requirement with this number.
+abbrev pub parent : ProtoId → ℕ → ProtoId → Parent
+parent p n q = record { heir = p; number = n; proto = q }
+
+-- The written inheritance of the protocols with ranks below p, and of the first requirements of p, so many.
+pub record AreParentsUpTo (f : TermFacts) (p n : ℕ) (parents : List Parent) : Type 0 where
+  pub written : (e : Parent) → Contains parents e → HasNumber e.number (f.of_protocol e.heir) (Conforms self e.proto)
+  pub all : (q o : ProtoId) (k : ℕ) → (q.rank < p) ⊎ ((q.rank ≡ p) × (k ≤ n)) → HasNumber k (f.of_protocol q) (Conforms self o)
+      → Contains parents (parent q k o)
+
+-- the same of all protocols, so many
+abbrev pub AreParentsOf : TermFacts → ℕ → List Parent → Type 0
+AreParentsOf f count parents = AreParentsUpTo f count 0 parents
+
+pub record IsGroundOf (terms : List Term) (w : IdWorld) (params : Params) (g : Ground) : Type 0 where
+  pub params_are : g.params ≡ params
+  pub associated : g.associated ≡ map named_by w.lexicon.associated
+  pub members : g.members ≡ map named_by w.lexicon.symbols
+  pub parents : AreParentsOf (facts_of (world_by terms w)) (length w.lexicon.protocols) g.parents
+  pub protocols : g.protocols ≡ length w.lexicon.protocols

@@ -1,0 +1,7 @@
+pub mod Asked
+pub mod Grounded
+pub mod Numbering
+pub mod Rounds
+pub mod Books
+pub mod Stating
+pub mod Written

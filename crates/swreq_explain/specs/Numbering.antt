@@ -1,0 +1,84 @@
+-- Written requirements with their numbers, and the equations of those that a round uses.
+use Rattle.std.specs.Prelude.{◌≡◌, ℕ, suc, List, [], ◌∷◌, ◌++◌, Option, Some, None, Contains, slice_get}
+use Rattle.swreq_param.specs.declared.ids.ProtoId.{ProtoId}
+use Rattle.swreq_param.specs.Terms.{Term}
+use Rattle.swreq_derive.specs.declared.requirements.Requirement.{Requirement}
+use Rattle.swreq_derive.specs.Derivation.{Source, TermRequirement}
+use Rattle.swreq_derive.specs.Derivation.Source.{SelfOf, Written as WrittenList}
+use Rattle.swreq_derive.specs.Facts.{requirement_of}
+use Rattle.swreq_param.specs.declared.ids.ParamId.{ParamId}
+use Rattle.swreq_correspondence.specs.Symbols.{Symbols, Word, left_side, right_side}
+use Rattle.swreq_word.specs.declared.symbols.Symbol.TheVariants.{Member, Name, Proto}
+use Rattle.swreq_read.specs.declared.ground.Named.{Named}
+use Rattle.swreq_lexicon.specs.Views.{LexiconView}
+use Rattle.swreq_rounds.specs.Plan.{Item}
+use Rattle.swreq_symbols.specs.Known.{IsRequirementIn}
+use Rattle.swreq_symbols.specs.Overs.{source_by}
+use Rattle.swreq_unfold.specs.declared.book.Equation.{Equation}
+use Rattle.swreq_unfold.specs.declared.book.Owned.{Owned}
+use Rattle.swreq_unfold.specs.declared.book.Reason.{Reason}
+use Rattle.swreq_unfold.specs.declared.book.Reason.TheVariants.{Doubled, Named as NamedBy, Required}
+use Rattle.swreq_unfold.specs.Systems.{requirement_by}
+use Rattle.swreq_valid.specs.Plans.{bare}
+use Rattle.swreq_world.specs.Worlds.{IdWorld, requirements_of}
+use Rattle.swreq_explain.specs.declared.numbered.Numbered.{Numbered}
+
+-- ---- numbers
+
+-- the requirements with their numbers, from n on
+abbrev pub numbered_from : Option ProtoId → ℕ → List Requirement → List Numbered
+numbered_from owner n [] = []
+numbered_from owner n (r ∷ rs) = record { owner = owner; number = n; requirement = r } ∷ numbered_from owner (suc n) rs
+
+-- those of these protocols, each counted from 1
+abbrev pub numbered_in : IdWorld → List ProtoId → List Numbered
+numbered_in w [] = []
+numbered_in w (p ∷ ps) = numbered_from (Some p) 1 (bare (requirements_of w p)) ++ numbered_in w ps
+
+-- The requirements are of the table and of the text.
+abbrev pub AreNumberedIn : List Term → LexiconView → List Numbered → Type 0
+AreNumberedIn terms x all = (n : Numbered) → Contains all n → IsRequirementIn terms x n.requirement
+
+-- over what it is read: [τ_0_0 : P], or the list with these generic parameters
+abbrev pub source_in : List ParamId → List TermRequirement → Option ProtoId → Source
+source_in params list (Some p) = SelfOf p
+source_in params list None = WrittenList params list
+
+abbrev pub item_by : List Term → List ParamId → List TermRequirement → Numbered → Item
+item_by terms params list x = record { source = source_in params list x.owner; requirement = requirement_of terms x.requirement }
+
+-- ---- equations
+
+-- the two sides
+abbrev pub sides_of : Equation → Word × Word
+sides_of e = (e.left, e.right)
+
+-- The equation is a basic one, by its reason.
+abbrev pub IsBasicBy : List Named → Reason → Word → Word → Type 0
+IsBasicBy members (Doubled p) left right = (left ≡ Proto p.rank ∷ Proto p.rank ∷ []) × (right ≡ Proto p.rank ∷ [])
+IsBasicBy members (NamedBy k) left right =
+    (n : Named) × (slice_get members k ≡ Some n) × (left ≡ Proto n.proto.rank ∷ Name n.name.rank ∷ []) × (right ≡ Member k ∷ [])
+IsBasicBy members (Required owner n q) left right = ⊥
+
+-- Each equation is a basic one.
+abbrev pub AreBasic : List Named → List Equation → Type 0
+AreBasic members given = (k : ℕ) (e : Equation) → slice_get given k ≡ Some e → IsBasicBy members e.reason e.left e.right
+
+-- The reason is that the requirement is written, with this number.
+pub record IsReasonOf (terms : List Term) (x : Numbered) (why : Reason) : Type 0 where
+  pub requirement : Owned
+  pub stands : requirement_by requirement ≡ requirement_of terms x.requirement
+  pub is : why ≡ Required x.owner x.number requirement
+
+-- It is the equation of the requirement.
+pub record IsEquationOf (m : Symbols) (terms : List Term) (x : Numbered) (e : Equation) : Type 0 where
+  pub left : e.left ≡ left_side m (source_by x.owner) (requirement_of terms x.requirement)
+  pub right : e.right ≡ right_side m (source_by x.owner) (requirement_of terms x.requirement)
+  pub reason : IsReasonOf terms x e.reason
+
+-- They are the equations of these requirements, in order.
+abbrev pub AreEquationsOf : Symbols → List Term → List Numbered → List Equation → Type 0
+AreEquationsOf m terms [] [] = Unit {0}
+AreEquationsOf m terms [] (e ∷ es) = ⊥
+AreEquationsOf m terms (x ∷ xs) [] = ⊥
+AreEquationsOf m terms (x ∷ xs) (e ∷ es) = IsEquationOf m terms x e × AreEquationsOf m terms xs es

@@ -1,0 +1,190 @@
+//! The equations of rounds, with their reasons.
+ghost use Rattle.std.specs.Prelude.{◌≡◌, ◌<◌, ◌++◌, ◌∷◌, [], IfOk, List, OnOk, Some, length, map, slice_get};
+ghost use Rattle.std.specs.Bool.{if◌then◌else◌, nat_eq};
+ghost use Rattle.swreq_derive.specs.Facts.{requirement_of};
+ghost use Rattle.swreq_rounds.specs.Given as basics;
+ghost use Rattle.swreq_lexicon.specs.declared.pair.ProtocolName.{ProtocolName};
+ghost use Rattle.swreq_lowering.specs.ByTable.{HasIdsOf};
+ghost use Rattle.swreq_symbols.specs.Known.{IsRequirementIn, IsTextOver};
+ghost use Rattle.swreq_symbols.specs.Meaning.{member_name, symbols_of};
+ghost use Rattle.swreq_unfold.specs.declared.book.Equation.{Equation as EquationView};
+ghost use Rattle.swreq_unfold.specs.declared.book.Reason.TheVariants as reasons;
+ghost use Rattle.swreq_unfold.specs.Systems.{requirement_by};
+ghost use Rattle.swreq_valid.specs.Flags.{chosen};
+ghost use Rattle.swreq_world.specs.Closed.{AreIds};
+ghost use Rattle.swreq_explain.specs.Books.{members_in};
+ghost use Rattle.swreq_explain.specs.Numbering.{AreBasic, AreEquationsOf, AreNumberedIn, IsEquationOf, sides_of};
+
+use crate::numbered::Numbered;
+use std::alloc::{AllocError, Global};
+use swreq_derive::Requirement;
+use swreq_param::{NameId, ParamTable, ProtoId};
+use swreq_symbols::equation;
+use swreq_unfold::{Equation, Owned, Reason};
+use swreq_word::{Symbol, Word};
+use swreq_world::World;
+
+/// The word of these symbols.
+fn word_of(alloc: Global, symbols: &[Symbol]) -> Result<Word, AllocError>
+    ensures { IfOk result (λ w. w ≡ symbols.now) }
+{
+    let symbols = Vec::from_slice(alloc, symbols)?;
+    Ok(Word::new(symbols))
+}
+
+/// `[P][P] = [P]`
+fn doubled(alloc: Global, p: ProtoId) -> Result<Equation, AllocError>
+    ensures left { IfOk result (λ e. e.left ≡ (basics.doubled p).0) }
+    ensures right { IfOk result (λ e. e.right ≡ (basics.doubled p).1) }
+    ensures reason { IfOk result (λ e. e.reason ≡ reasons.Doubled p) }
+{
+    let left = word_of(alloc, &[Symbol::Proto(p.rank), Symbol::Proto(p.rank)])?;
+    let right = word_of(alloc, &[Symbol::Proto(p.rank)])?;
+    Ok(Equation {
+        left,
+        right,
+        reason: Reason::Doubled { proto: p },
+    })
+}
+
+/// `[P]·A = [P:A]`, where `[P:A]` has this rank.
+fn named(alloc: Global, p: ProtoId, a: NameId, rank: u64) -> Result<Equation, AllocError>
+    ensures left { IfOk result (λ e. e.left ≡ (basics.named p (record { proto = p; name = a }) rank).0) }
+    ensures right { IfOk result (λ e. e.right ≡ (basics.named p (record { proto = p; name = a }) rank).1) }
+    ensures reason { IfOk result (λ e. e.reason ≡ reasons.Named rank) }
+{
+    let left = word_of(alloc, &[Symbol::Proto(p.rank), Symbol::Name(a.rank)])?;
+    let right = word_of(alloc, &[Symbol::Member(rank)])?;
+    Ok(Equation {
+        left,
+        right,
+        reason: Reason::Named { rank },
+    })
+}
+
+/// Puts the equation of the member symbol last, if it is of the protocol.
+fn add_member(
+    alloc: Global,
+    world: &World,
+    p: ProtoId,
+    rank: u64,
+    given: &mut Vec<Equation>,
+) -> Result<(), AllocError>
+    requires rank { rank < length world.now.lexicon.symbols }
+    requires basic { AreBasic (members_in world.now) given.old.items }
+    ensures sides { OnOk result ((d : ProtocolName) → slice_get world.now.lexicon.symbols rank ≡ Some d → map sides_of given.new.items
+        ≡ map sides_of given.old.items ++ (if nat_eq d.proto.rank p.rank then basics.named p (member_name d) rank ∷ [] else [])) }
+    ensures basic { OnOk result (AreBasic (members_in world.now) given.new.items) }
+{
+    let pair = world.member_at(rank);
+    if pair.proto.rank != p.rank {
+        return Ok(());
+    }
+    let e = named(alloc, p, pair.name, rank)?;
+    given.push(e)?;
+    Ok(())
+}
+
+/// Puts the basic equations of the protocol last.
+fn add_protocol(
+    alloc: Global,
+    world: &World,
+    p: ProtoId,
+    given: &mut Vec<Equation>,
+) -> Result<(), AllocError>
+    requires { AreBasic (members_in world.now) given.old.items }
+    ensures sides { OnOk result (map sides_of given.new.items
+        ≡ map sides_of given.old.items ++ (basics.doubled p ∷ basics.named_from p 0 (symbols_of world.now.lexicon).members)) }
+    ensures basic { OnOk result (AreBasic (members_in world.now) given.new.items) }
+{
+    let e = doubled(alloc, p)?;
+    given.push(e)?;
+    for rank in 0..world.members() {
+        add_member(alloc, world, p, rank, given)?;
+    }
+    Ok(())
+}
+
+/// The basic equations: for each protocol in written order the one of its symbol, and then those of its member names.
+pub(crate) fn basic(alloc: Global, world: &World) -> Result<Vec<Equation>, AllocError>
+    requires { AreIds world.now.lexicon }
+    ensures sides { IfOk result (λ v. map sides_of v.items ≡ basics.basic_equations (symbols_of world.now.lexicon)) }
+    ensures basic { IfOk result (λ v. AreBasic (members_in world.now) v.items) }
+{
+    let mut given = Vec::new(alloc);
+    for k in 0..world.protocols() {
+        let p = world.proto_at(k);
+        add_protocol(alloc, world, p, &mut given)?;
+    }
+    Ok(given)
+}
+
+/// The requirement between type parameters by themselves.
+pub(crate) fn owned(alloc: Global, table: &ParamTable, r: Requirement) -> Result<Owned, AllocError>
+    requires { HasIdsOf table.now r }
+    ensures { IfOk result (λ q. requirement_by q ≡ requirement_of table.now r) }
+{
+    match r {
+        Requirement::Conf { subject, proto } => {
+            let subject = table.owned(alloc, subject)?;
+            Ok(Owned::Conf { subject, proto })
+        }
+        Requirement::Layout { subject } => {
+            let subject = table.owned(alloc, subject)?;
+            Ok(Owned::Layout { subject })
+        }
+        Requirement::Same { left, right } => {
+            let left = table.owned(alloc, left)?;
+            let right = table.owned(alloc, right)?;
+            Ok(Owned::Same { left, right })
+        }
+    }
+}
+
+/// The equation of a requirement.
+fn equation_of(
+    alloc: Global,
+    world: &World,
+    table: &ParamTable,
+    x: Numbered,
+) -> Result<Equation, AllocError>
+    requires text { IsTextOver table.now world.now }
+    requires x { IsRequirementIn table.now world.now.lexicon x.requirement }
+    ensures { IfOk result (IsEquationOf (symbols_of world.now.lexicon) table.now x) }
+{
+    let (left, right) = equation(alloc, world, table, x.owner, &x.requirement)?;
+    let requirement = owned(alloc, table, x.requirement)?;
+    Ok(Equation {
+        left,
+        right,
+        reason: Reason::Required {
+            owner: x.owner,
+            number: x.number,
+            requirement,
+        },
+    })
+}
+
+/// Puts the equations of the requirements last whose flags are set.
+pub(crate) fn add_used(
+    alloc: Global,
+    world: &World,
+    table: &ParamTable,
+    all: &[Numbered],
+    used: &[bool],
+    given: &mut Vec<Equation>,
+) -> Result<(), AllocError>
+    requires text { IsTextOver table.now world.now }
+    requires all { AreNumberedIn table.now world.now.lexicon all.now }
+    requires flags { length used.now ≡ length all.now }
+    ensures { OnOk result ((more : List EquationView) × (given.new.items ≡ given.old.items ++ more)
+        × AreEquationsOf (symbols_of world.now.lexicon) table.now (chosen all.now used.now) more) }
+{
+    for k in 0..all.len() {
+        if used[k] {
+            let e = equation_of(alloc, world, table, all[k])?;
+            given.push(e)?;
+        }
+    }
+    Ok(())
+}

@@ -1,0 +1,135 @@
+//! Lines for the queries whose answer is yes.
+ghost use Rattle.std.specs.Prelude.{◌≡◌, ◌<◌, Contains, IfOk, OnOk, Some, length};
+ghost use Rattle.swreq_param.specs.Tables.{Extends};
+ghost use Rattle.swreq_derive.specs.declared.lines.Line.{Line as LineView};
+ghost use Rattle.swreq_derive.specs.declared.requirements.Requirement.{Requirement as RequirementView};
+ghost use Rattle.swreq_derive.specs.declared.requirements.Statement.TheVariants.{Holds};
+ghost use Rattle.swreq_derive.specs.Derivation.{Derivable};
+ghost use Rattle.swreq_derive.specs.Derivation.TermStatement.{Requires};
+ghost use Rattle.swreq_derive.specs.Facts.{requirement_of};
+ghost use Rattle.swreq_derive.specs.Lines.{AreDerived, AreLinesOf};
+ghost use Rattle.swreq_lines.specs.LineTexts.{HasLineIds};
+ghost use Rattle.swreq_needed.specs.Needed.{EndIn};
+ghost use Rattle.swreq_symbols.specs.Known.{IsRequirementIn, IsTextOver};
+ghost use Rattle.swreq_world.specs.ByTable.{world_by};
+ghost use Rattle.swreq_world.specs.FactsAt.{facts_at, facts_of, source_of};
+ghost use Rattle.swreq_world.specs.Short.{IsShort};
+ghost use Rattle.swreq_world.specs.Worlds.{signature_at};
+ghost use Rattle.swreq_explain.specs.Asked.{AreRoundsFor, Asks, IsYes};
+ghost use Rattle.swreq_explain.specs.Books.{IsBookFor};
+ghost use Rattle.swreq_explain.specs.Written.{AreWritten};
+
+use crate::equations::owned;
+use crate::systems::book_of;
+use crate::writing::lines_over;
+use std::alloc::{AllocError, Global};
+use swreq_derive::{Line, Requirement};
+use swreq_lowering::{FuncId, Query};
+use swreq_param::ParamTable;
+use swreq_symbols::equation;
+use swreq_unfold::Book;
+use swreq_valid::{Machine, Protocols};
+use swreq_world::World;
+
+/// What a query asks of its signature, or None for a query of a type or of a signature.
+fn asked(q: &Query) -> Option<Requirement>
+    ensures { (f : FuncId) (r : RequirementView) → Asks q.now f r → result ≡ Some r }
+{
+    match *q {
+        Query::Signature { .. } => None,
+        Query::Reduced { .. } => None,
+        Query::Conf { t, p, .. } => Some(Requirement::Conf {
+            subject: t,
+            proto: p,
+        }),
+        Query::Layout { t, .. } => Some(Requirement::Layout { subject: t }),
+        Query::Same { a, b, .. } => Some(Requirement::Same { left: a, right: b }),
+    }
+}
+
+/// Lines that state a requirement of the list for which the book answers.
+fn derive(
+    alloc: Global,
+    world: &World,
+    table: &mut ParamTable,
+    book: &Book,
+    r: Requirement,
+) -> Result<Vec<Line>, AllocError>
+    requires text { IsTextOver table.old world.now }
+    requires ids { IsRequirementIn table.old world.now.lexicon r }
+    requires derivable { (f : FuncId) × IsBookFor (world_by table.old world.now) f book.now
+        × Derivable (facts_of (world_by table.old world.now)) (source_of (signature_at (world_by table.old world.now) f))
+        (Requires (requirement_of table.old r)) }
+    ensures written { IfOk result (λ v. AreWritten table.old table.new book.now v.items) }
+    ensures last { IfOk result (λ v. EndIn v.items (Holds r)) }
+{
+    let (left, right) = equation(alloc, world, table, None, &r)?;
+    let by_itself = owned(alloc, table, r)?;
+    let lines = lines_over(
+        alloc,
+        book,
+        table,
+        r,
+        &by_itself,
+        (left.symbols(), right.symbols()),
+    )?;
+    Ok(lines)
+}
+
+/// The same as `explain`, by the book of the machine of the signature that the query asks. One book serves for all queries of a
+/// signature.
+pub fn explain_by(
+    alloc: Global,
+    world: &World,
+    table: &mut ParamTable,
+    book: &Book,
+    q: &Query,
+) -> Result<Vec<Line>, AllocError>
+    requires text { IsTextOver table.old world.now }
+    requires yes { (f : FuncId) × (f.place < length world.now.signatures) × IsBookFor (world_by table.old world.now) f book.now
+        × IsYes table.old world.now f q.now }
+    ensures derived { IfOk result (λ v. (f : FuncId) (r : RequirementView) → Asks q.now f r
+        → AreDerived table.new (facts_at world.now f) v.items) }
+    ensures last { IfOk result (λ v. (f : FuncId) (r : RequirementView) → Asks q.now f r → EndIn v.items (Holds r)) }
+    ensures lines { IfOk result (λ v. (f : FuncId) (r : RequirementView) → Asks q.now f r
+        → AreLinesOf table.new (facts_at world.now f) v.items) }
+    ensures ids { IfOk result (λ v. (l : LineView) → Contains v.items l → HasLineIds world.now.lexicon table.new l) }
+    ensures extends { OnOk result (Extends table.old table.new) }
+{
+    match asked(q) {
+        None => unreachable!(),
+        Some(r) => {
+            let lines = derive(alloc, world, table, book, r)?;
+            Ok(lines)
+        }
+    }
+}
+
+/// Lines of a derivation of what a query asks of a signature, by the rules without the guard.
+///
+/// `m` is the machine of the signature, and what is asked is derivable. The checker of derivations accepts the lines over the facts of the
+/// signature, and the last of them states what is asked. Type parameters of the lines come into the table. For want of memory nothing is
+/// said of the table.
+pub fn explain(
+    alloc: Global,
+    world: &World,
+    table: &mut ParamTable,
+    protocols: &Protocols,
+    m: &Machine,
+    f: FuncId,
+    q: &Query,
+) -> Result<Vec<Line>, AllocError>
+    requires text { IsTextOver table.old world.now }
+    requires short { IsShort world.now }
+    requires rounds { AreRoundsFor table.old world.now f protocols.now m.now }
+    requires yes { IsYes table.old world.now f q.now }
+    ensures derived { IfOk result (λ v. AreDerived table.new (facts_at world.now f) v.items) }
+    ensures last { IfOk result (λ v. (r : RequirementView) → Asks q.now f r → EndIn v.items (Holds r)) }
+    ensures lines { IfOk result (λ v. AreLinesOf table.new (facts_at world.now f) v.items) }
+    ensures ids { IfOk result (λ v. (l : LineView) → Contains v.items l → HasLineIds world.now.lexicon table.new l) }
+    ensures extends { OnOk result (Extends table.old table.new) }
+{
+    let book = book_of(alloc, world, table, protocols, m, f)?;
+    let lines = explain_by(alloc, world, table, &book, q)?;
+    Ok(lines)
+}

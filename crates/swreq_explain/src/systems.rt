@@ -1,0 +1,201 @@
+//! The systems of rounds, and the book of a machine.
+ghost use Rattle.std.specs.Prelude.{◌≡◌, ◌<◌, ◌++◌, [], IfOk, List, OnOk, length};
+ghost use Rattle.swreq_symbols.specs.Known.{IsTextOver};
+ghost use Rattle.swreq_symbols.specs.Meaning.{symbols_of};
+ghost use Rattle.swreq_unfold.specs.declared.book.System.{System as SystemView};
+ghost use Rattle.swreq_world.specs.ByTable.{world_by};
+ghost use Rattle.swreq_world.specs.Short.{IsShort};
+ghost use Rattle.swreq_explain.specs.Asked.{AreRoundsFor};
+ghost use Rattle.swreq_explain.specs.Books.{IsBookFor, IsBookOf, list_origin, protocols_origin};
+ghost use Rattle.swreq_explain.specs.Numbering.{AreNumberedIn};
+ghost use Rattle.swreq_explain.specs.Rounds.{AreSystemsOf, HaveFlags, IsBegun, IsSystemOf, Origin};
+
+use crate::equations::{add_used, basic};
+use crate::grounds::ground_of;
+use crate::numbered::{Numbered, add_numbered, protocols_numbered};
+use std::alloc::{AllocError, Global};
+use swreq_lowering::FuncId;
+use swreq_param::ParamTable;
+use swreq_text::Seq;
+use swreq_unfold::{Book, Equation, System};
+use swreq_valid::{Machine, Protocols, Round};
+use swreq_world::World;
+
+/// Over what systems are made, and the written requirements that rounds may use.
+#[derive(Clone, Copy)]
+struct Makings<'a> {
+    alloc: Global,
+    world: &'a World,
+    table: &'a ParamTable,
+    all: &'a [Numbered],
+}
+
+/// The system of a round that begins with so many rules, which are those of the system at `below`, and whose basic equations are given.
+fn system_of(
+    makings: Makings<'_>,
+    basic: Vec<Equation>,
+    base: usize,
+    below: usize,
+    round: &Round<'_>,
+) -> Result<System, AllocError>
+    requires text { IsTextOver makings.table.now makings.world.now }
+    requires all { AreNumberedIn makings.table.now makings.world.now.lexicon makings.all.now }
+    requires flags { length round.now.used ≡ length makings.all.now }
+    ensures { IfOk result (λ v. (o : Origin) → IsBegun o base below makings.entry.all.now basic.items
+        → IsSystemOf (symbols_of makings.entry.world.now.lexicon) makings.entry.table.now o round.now v) }
+{
+    let mut given = basic;
+    add_used(
+        makings.alloc,
+        makings.world,
+        makings.table,
+        makings.all,
+        round.used(),
+        &mut given,
+    )?;
+    let _complete = round.rules().count();
+    let rules = round.rules().written_out(makings.alloc)?;
+    Ok(System {
+        base,
+        below,
+        rules: Seq::new(rules),
+        given: Seq::new(given),
+    })
+}
+
+/// The systems of the rounds of the protocols.
+fn protocols_systems(makings: Makings<'_>, rounds: &[Round<'_>]) -> Result<Vec<System>, AllocError>
+    requires text { IsTextOver makings.table.now makings.world.now }
+    requires all { makings.all.now ≡ (protocols_origin makings.world.now).all }
+    requires in_text { AreNumberedIn makings.table.now makings.world.now.lexicon makings.all.now }
+    requires flags { HaveFlags (length makings.all.now) rounds.now }
+    ensures { IfOk result (λ v. AreSystemsOf (symbols_of makings.entry.world.now.lexicon) makings.entry.table.now
+        (protocols_origin makings.entry.world.now) rounds.now v.items) }
+{
+    let mut systems = Vec::new(makings.alloc);
+    for k in 0..rounds.len() {
+        let given = basic(makings.alloc, makings.world)?;
+        let system = system_of(makings, given, 0, 0, &rounds[k])?;
+        systems.push(system)?;
+    }
+    Ok(systems)
+}
+
+/// Puts the systems of the rounds of a list last, which begin with so many rules, those of the system at `below`.
+fn add_list_systems(
+    makings: Makings<'_>,
+    base: usize,
+    below: usize,
+    rounds: &[Round<'_>],
+    systems: &mut Vec<System>,
+) -> Result<(), AllocError>
+    requires text { IsTextOver makings.table.now makings.world.now }
+    requires in_text { AreNumberedIn makings.table.now makings.world.now.lexicon makings.all.now }
+    requires flags { HaveFlags (length makings.all.now) rounds.now }
+    ensures { OnOk result ((o : Origin) → IsBegun o base below makings.entry.all.now [] → (own : List SystemView)
+        × (systems.new.items ≡ systems.old.items ++ own)
+        × AreSystemsOf (symbols_of makings.entry.world.now.lexicon) makings.entry.table.now o rounds.now own) }
+{
+    for k in 0..rounds.len() {
+        let given = Vec::new(makings.alloc);
+        let system = system_of(makings, given, base, below, &rounds[k])?;
+        systems.push(system)?;
+    }
+    Ok(())
+}
+
+/// The systems of the rounds of the protocols of the world.
+fn world_systems(
+    alloc: Global,
+    world: &World,
+    table: &ParamTable,
+    protocols: &Protocols,
+) -> Result<Vec<System>, AllocError>
+    requires text { IsTextOver table.now world.now }
+    requires short { IsShort world.now }
+    requires flags { HaveFlags (length (protocols_origin world.now).all) protocols.now.rounds }
+    ensures { IfOk result (λ v. AreSystemsOf (symbols_of world.now.lexicon) table.now (protocols_origin world.now)
+        protocols.now.rounds v.items) }
+{
+    let all = protocols_numbered(alloc, world)?;
+    let makings = Makings {
+        alloc,
+        world,
+        table,
+        all: &all,
+    };
+    protocols_systems(makings, protocols.rounds())
+}
+
+/// Puts the systems of the rounds of the machine of a signature last.
+fn add_machine(
+    alloc: Global,
+    world: &World,
+    table: &ParamTable,
+    protocols: &Protocols,
+    m: &Machine,
+    f: FuncId,
+    systems: &mut Vec<System>,
+) -> Result<(), AllocError>
+    requires text { IsTextOver table.now world.now }
+    requires short { IsShort world.now }
+    requires signature { f.place < length world.now.signatures }
+    requires flags { HaveFlags (length (list_origin world.now f protocols.now).all) m.now.rounds }
+    ensures { OnOk result ((own : List SystemView) × (systems.new.items ≡ systems.old.items ++ own)
+        × AreSystemsOf (symbols_of world.now.lexicon) table.now (list_origin world.now f protocols.now) m.now.rounds own) }
+{
+    let list = world.bare_signature(alloc, f)?;
+    let mut all = Vec::new(alloc);
+    add_numbered(None, &list, &mut all)?;
+    let makings = Makings {
+        alloc,
+        world,
+        table,
+        all: &all,
+    };
+    let base = protocols.rules().count();
+    let below = protocols.rounds().len().saturating_sub(1);
+    add_list_systems(makings, base, below, m.rounds(), systems)?;
+    Ok(())
+}
+
+/// The ground of the world, and the systems of the rounds of the protocols and of the machine.
+fn assemble(
+    alloc: Global,
+    world: &World,
+    table: &ParamTable,
+    protocols: &Protocols,
+    m: &Machine,
+    f: FuncId,
+) -> Result<Book, AllocError>
+    requires text { IsTextOver table.now world.now }
+    requires short { IsShort world.now }
+    requires rounds { AreRoundsFor table.now world.now f protocols.now m.now }
+    ensures { IfOk result (IsBookOf table.now world.now f protocols.now m.now) }
+{
+    let ground = ground_of(alloc, world, table, m.params())?;
+    let mut systems = world_systems(alloc, world, table, protocols)?;
+    add_machine(alloc, world, table, protocols, m, f, &mut systems)?;
+    Ok(Book {
+        ground,
+        systems: Seq::new(systems),
+    })
+}
+
+/// The book of the machine of a signature, from which lines are written for all that the machine answers.
+pub fn book_of(
+    alloc: Global,
+    world: &World,
+    table: &ParamTable,
+    protocols: &Protocols,
+    m: &Machine,
+    f: FuncId,
+) -> Result<Book, AllocError>
+    requires text { IsTextOver table.now world.now }
+    requires short { IsShort world.now }
+    requires rounds { AreRoundsFor table.now world.now f protocols.now m.now }
+    ensures { IfOk result (IsBookFor (world_by table.now world.now) f) }
+{
+    let book = assemble(alloc, world, table, protocols, m, f)?;
+    Ok(book)
+}

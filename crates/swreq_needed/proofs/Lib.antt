@@ -1,0 +1,2 @@
+pub mod SetMarks
+pub mod KeptLines

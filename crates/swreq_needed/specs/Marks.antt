@@ -1,0 +1,48 @@
+-- Lines by marks: those that are marked, and their new numbers.
+use Rattle.std.specs.Prelude.{◌≡◌, ◌⊎◌, ◌<◌, ◌≤◌, ◌-◌, ℕ, suc, Bool, true, false, List, [], ◌∷◌, Some, length, map, slice_get, take, Contains}
+use Rattle.swreq_derive.specs.declared.lines.Line.{Line}
+
+-- those that are marked
+abbrev pub kept : {A : Type 0} → List Bool → List A → List A
+kept [] xs = []
+kept (b ∷ marks) [] = []
+kept (true ∷ marks) (x ∷ xs) = x ∷ kept marks xs
+kept (false ∷ marks) (x ∷ xs) = kept marks xs
+
+-- how many are marked
+abbrev pub marked : List Bool → ℕ
+marked [] = 0
+marked (true ∷ marks) = suc (marked marks)
+marked (false ∷ marks) = marked marks
+
+-- the number that a line has among those that are marked
+abbrev pub new_number : List Bool → ℕ → ℕ
+new_number marks n = marked (take n marks)
+
+-- the line with the new numbers of its premises
+abbrev pub renumbered : List Bool → Line → Line
+renumbered marks l = record { rule = l.rule; premises = map (new_number marks) l.premises; statement = l.statement }
+
+abbrev pub IsMarked : List Bool → ℕ → Type 0
+IsMarked marks k = slice_get marks k ≡ Some true
+
+-- the number of a line before that at this place
+abbrev pub IsEarlier : ℕ → ℕ → Type 0
+IsEarlier k n = (0 < n) × (n ≤ k)
+
+-- The lines that these numbers name before a place are marked now, and else as before.
+pub record AreMarked (old new : List Bool) (numbers : List ℕ) (below : ℕ) : Type 0 where
+  pub count : length new ≡ length old
+  pub stay : (k : ℕ) → IsMarked old k → IsMarked new k
+  pub named : (n : ℕ) → Contains numbers n → IsEarlier below n → IsMarked new (n - 1)
+  pub only : (k : ℕ) → IsMarked new k → IsMarked old k ⊎ ((k < below) × Contains numbers (suc k))
+
+-- From this place on the earlier lines that a marked one has as premises are marked. Each marked line but the last is a premise of a
+-- marked one after it.
+pub record AreNeeded (lines : List Line) (marks : List Bool) (from : ℕ) : Type 0 where
+  pub count : length marks ≡ length lines
+  pub last : (k : ℕ) → suc k ≡ length lines → IsMarked marks k
+  pub closed : (k n : ℕ) (l : Line) → from ≤ k → IsMarked marks k → slice_get lines k ≡ Some l → Contains l.premises n → IsEarlier k n
+      → IsMarked marks (n - 1)
+  pub used : (k : ℕ) → suc k < length lines → IsMarked marks k
+      → (j : ℕ) × (l : Line) × (k < j) × (slice_get lines j ≡ Some l) × IsMarked marks j × Contains l.premises (suc k)

@@ -1,0 +1,38 @@
+use Rattle.std.proofs.Common.{sym, ap, ◌∙◌}
+use Rattle.swreq_read.specs.Readable.{after}
+use Rattle.swreq_sheet.proofs.SheetLemmas.{grows_then}
+use Rattle.swreq_read.proofs.ReadLemmas.{equal_as, equals_still, symbol_now, term_still}
+use Rattle.swreq_read.proofs.along.carry.Goals as goal
+
+pub carry_symbol-requires-clause-symbol : goal.carry_symbol-requires-clause-symbol
+carry_symbol-requires-clause-symbol c =
+    symbol_now c.args.ground.now c.args.sheet.now c.after-2.new.sheet
+    (grows_then c.args.sheet.now c.after.new.sheet c.after-2.new.sheet c.in_ok-first.ensures.grows c.in_ok-second.ensures.grows)
+    c.args.t c.args.x c.requires.t c.requires.symbol
+
+pub carry_symbol-requires-clause-equal : goal.carry_symbol-requires-clause-equal
+carry_symbol-requires-clause-equal c =
+    equals_still c.args.sheet.now c.after-2.new.sheet
+    (grows_then c.args.sheet.now c.after.new.sheet c.after-2.new.sheet c.in_ok-first.ensures.grows c.in_ok-second.ensures.grows)
+    c.args.t c.args.u c.requires.t c.requires.u c.requires.equal
+
+pub returns-clause-equal : goal.returns-clause-equal
+returns-clause-equal c =
+    let g = c.args.ground.now in
+    let s1 = c.after.new.sheet in
+    let s2 = c.after-2.new.sheet in
+    equal_as c.carry_symbol.new.sheet _ _ _ _
+    (sym (term_still s1 s2 c.in_ok-second.ensures.grows c.in_ok-first.first c.in_ok-first.ensures.is_of ∙ c.in_ok-first.ensures.stands))
+    (sym (c.in_ok-second.ensures.stands ∙ ap (λ z. after g z c.args.x)
+    (term_still c.args.sheet.now s1 c.in_ok-first.ensures.grows c.args.u c.requires.u)))
+    c.in_ok-carry_symbol.ensures.equal
+
+pub returns-clause-grows : goal.returns-clause-grows
+returns-clause-grows c =
+    grows_then c.args.sheet.now c.after-2.new.sheet c.carry_symbol.new.sheet
+    (grows_then c.args.sheet.now c.after.new.sheet c.after-2.new.sheet c.in_ok-first.ensures.grows c.in_ok-second.ensures.grows)
+    c.in_ok-carry_symbol.ensures.grows
+
+pub returns-clause-derives : goal.returns-clause-derives
+returns-clause-derives c b f d = c.in_ok-carry_symbol.ensures.derives b f
+    (c.in_ok-second.ensures.derives b (c.in_ok-first.ensures.derives b d))

@@ -1,0 +1,24 @@
+use Rattle.std.proofs.Common.{subst, sym}
+use Rattle.swreq_param.specs.Tables.{term_at}
+use Rattle.swreq_derive.specs.Derivation.TermRequirement.{Conforms}
+use Rattle.swreq_derive.specs.Derivation.TermStatement.{Requires}
+use Rattle.swreq_sheet.specs.Sheets.{Says}
+use Rattle.swreq_read.specs.declared.ground.Named.{Named}
+use Rattle.swreq_read.proofs.ReadLemmas.{conforms_still, equals_still, equal_still}
+use Rattle.swreq_read.proofs.along.carry_member.Goals as goal
+
+pub carry_conf-requires-clause-conforms : goal.carry_conf-requires-clause-conforms
+carry_conf-requires-clause-conforms c =
+    let u = c.carry_name.new.sheet in
+    subst (λ (z : Named). Says u (Requires (Conforms (term_at u.table c.args.t) z.proto))) (sym c.member_at-named.ensures)
+    (conforms_still c.args.sheet.now u c.in_ok-carry_name.ensures.grows c.args.t _ c.requires.t c.requires.symbol.1)
+
+pub carry_conf-requires-clause-equal : goal.carry_conf-requires-clause-equal
+carry_conf-requires-clause-equal c =
+    equals_still c.args.sheet.now c.carry_name.new.sheet c.in_ok-carry_name.ensures.grows c.args.t c.args.u c.requires.t c.requires.u
+    c.requires.equal
+
+pub returns-clause-equal : goal.returns-clause-equal
+returns-clause-equal c =
+    equal_still c.args.ground.now c.carry_name.new.sheet c.carry_conf.new.sheet c.in_ok-carry_conf.ensures.grows _ _
+    c.in_ok-carry_name.ensures.equal

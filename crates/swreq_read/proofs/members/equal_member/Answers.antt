@@ -1,0 +1,114 @@
+use Rattle.std.proofs.Common.{◌≡◌, sym, ap, subst, ◌∙◌}
+use Rattle.swreq_param.specs.declared.ids.NameId.{NameId}
+use Rattle.swreq_param.specs.declared.ids.Step.{Step}
+use Rattle.swreq_param.specs.declared.ids.Step.TheVariants.{Name}
+use Rattle.swreq_param.specs.Tables.{term_at}
+use Rattle.swreq_param.specs.Terms.Term.{Member}
+use Rattle.swreq_sheet.proofs.SheetLemmas.{grows_then}
+use Rattle.swreq_read.specs.Readable.{IsGiven, IsOfStep}
+use Rattle.swreq_read.proofs.ReadLemmas.{equal_as, equal_now, equals_still, given_still, is_still, term_still}
+use Rattle.swreq_read.proofs.members.equal_member.Goals as goal
+
+pub bind-requires-clause-given : goal.bind-requires-clause-given
+bind-requires-clause-given c =
+    let s = c.args.sheet.now in
+    let s1 = c.member.new.sheet in
+    let s2 = c.member-2.new.sheet in
+    let s3 = c.member-3.new.sheet in
+    let s4 = c.same_name.new.sheet in
+    let g = grows_then s s2 s4 (grows_then s s1 s2 c.in_ok-plain.ensures.grows c.in_ok-last.ensures.grows)
+    (grows_then s2 s3 s4 c.in_ok-stepped.ensures.grows c.in_ok-same_name.ensures.grows) in
+    subst (λ (z : Step). IsGiven c.args.ground.now s4 (term_at s4.table c.args.u) z c.args.named) c.in-Bound.is
+    (subst (λ z. IsGiven c.args.ground.now s4 z c.args.step c.args.named) (sym (term_still s s4 g c.args.u c.requires.u))
+    (given_still c.args.ground.now s s4 g _ c.args.step c.args.named c.requires.given))
+
+pub bind-requires-clause-unbound : goal.bind-requires-clause-unbound
+bind-requires-clause-unbound c =
+    let s1 = c.member.new.sheet in
+    let s2 = c.member-2.new.sheet in
+    let s3 = c.member-3.new.sheet in
+    let g3 = c.in_ok-stepped.ensures.grows in
+    equal_now s3 c.same_name.new.sheet c.in_ok-same_name.ensures.grows c.in_ok-plain.plain c.in_ok-last.last
+    (is_still s1 s3 (grows_then s1 s2 s3 c.in_ok-last.ensures.grows g3) c.in_ok-plain.plain c.in_ok-plain.ensures.is_of)
+    (is_still s2 s3 g3 c.in_ok-last.last c.in_ok-last.ensures.is_of) c.in_ok-same_name.ensures.equal
+
+pub bind-requires-clause-equal : goal.bind-requires-clause-equal
+bind-requires-clause-equal c =
+    let s = c.args.sheet.now in
+    let s1 = c.member.new.sheet in
+    let s2 = c.member-2.new.sheet in
+    let s3 = c.member-3.new.sheet in
+    let s4 = c.same_name.new.sheet in
+    let g = grows_then s s2 s4 (grows_then s s1 s2 c.in_ok-plain.ensures.grows c.in_ok-last.ensures.grows)
+    (grows_then s2 s3 s4 c.in_ok-stepped.ensures.grows c.in_ok-same_name.ensures.grows) in
+    equals_still s s4 g c.args.t c.args.u c.requires.t c.requires.u c.requires.equal
+
+pub returns-in-Name-clause-equal : goal.returns-in-Name-clause-equal
+returns-in-Name-clause-equal c =
+    let s = c.args.sheet.now in
+    let s1 = c.member.new.sheet in
+    let s2 = c.member-2.new.sheet in
+    let s3 = c.member-3.new.sheet in
+    let g3 = c.in_ok-stepped.ensures.grows in
+    let w : IsOfStep (Name c.in-Name.field-0) c.requires.given.0 c.args.named = subst
+    (λ (z : Step). IsOfStep z c.requires.given.0 c.args.named) c.in-Name.is c.requires.given.1.1 in
+    let x : c.args.step ≡ Name c.args.named.name = c.in-Name.is ∙ ap (λ (z : NameId). Name z) (sym w) in
+    equal_as c.same_name.new.sheet _ _ _ _
+    (ap (λ (z : Step). Member (term_at s.table c.args.t) z) x
+    ∙ sym (term_still s1 s3 (grows_then s1 s2 s3 c.in_ok-last.ensures.grows g3) c.in_ok-plain.plain c.in_ok-plain.ensures.is_of
+    ∙ c.in_ok-plain.ensures.stands))
+    (sym (term_still s2 s3 g3 c.in_ok-last.last c.in_ok-last.ensures.is_of ∙ c.in_ok-last.ensures.stands
+    ∙ ap (λ z. Member z (Name c.args.named.name)) (term_still s s1 c.in_ok-plain.ensures.grows c.args.u c.requires.u)))
+    c.in_ok-same_name.ensures.equal
+
+pub returns-in-Name-clause-grows : goal.returns-in-Name-clause-grows
+returns-in-Name-clause-grows c =
+    let s = c.args.sheet.now in
+    let s1 = c.member.new.sheet in
+    let s2 = c.member-2.new.sheet in
+    let s3 = c.member-3.new.sheet in
+    let s4 = c.same_name.new.sheet in
+    grows_then s s2 s4 (grows_then s s1 s2 c.in_ok-plain.ensures.grows c.in_ok-last.ensures.grows)
+    (grows_then s2 s3 s4 c.in_ok-stepped.ensures.grows c.in_ok-same_name.ensures.grows)
+
+pub returns-in-Name-clause-derives : goal.returns-in-Name-clause-derives
+returns-in-Name-clause-derives c b f d =
+    let w = c.requires.given in
+    c.in_ok-same_name.ensures.derives b (record { rank = w.0 }) (f.associated w.0 c.args.named w.1.0)
+    (c.in_ok-stepped.ensures.derives b (c.in_ok-last.ensures.derives b (c.in_ok-plain.ensures.derives b d)))
+
+pub returns-in_ok-bind-in-Bound-clause-equal : goal.returns-in_ok-bind-in-Bound-clause-equal
+returns-in_ok-bind-in-Bound-clause-equal c =
+    let s = c.args.sheet.now in
+    let s1 = c.member.new.sheet in
+    let s2 = c.member-2.new.sheet in
+    let s3 = c.member-3.new.sheet in
+    let s4 = c.same_name.new.sheet in
+    let g4 = c.in_ok-same_name.ensures.grows in
+    equal_as c.bind.new.sheet _ _ _ _
+    (sym (term_still s3 s4 g4 c.in_ok-stepped.stepped c.in_ok-stepped.ensures.is_of ∙ c.in_ok-stepped.ensures.stands
+    ∙ ap (λ z. Member z c.args.step)
+    (term_still s s2 (grows_then s s1 s2 c.in_ok-plain.ensures.grows c.in_ok-last.ensures.grows) c.args.t c.requires.t)))
+    (sym (term_still s2 s4 (grows_then s2 s3 s4 c.in_ok-stepped.ensures.grows g4) c.in_ok-last.last c.in_ok-last.ensures.is_of
+    ∙ c.in_ok-last.ensures.stands
+    ∙ ap (λ z. Member z (Name c.args.named.name)) (term_still s s1 c.in_ok-plain.ensures.grows c.args.u c.requires.u)))
+    c.in_ok-bind-in-Bound.ensures.equal
+
+pub returns-in_ok-bind-in-Bound-clause-grows : goal.returns-in_ok-bind-in-Bound-clause-grows
+returns-in_ok-bind-in-Bound-clause-grows c =
+    let s = c.args.sheet.now in
+    let s1 = c.member.new.sheet in
+    let s2 = c.member-2.new.sheet in
+    let s3 = c.member-3.new.sheet in
+    let s4 = c.same_name.new.sheet in
+    grows_then s s4 c.bind.new.sheet
+    (grows_then s s2 s4 (grows_then s s1 s2 c.in_ok-plain.ensures.grows c.in_ok-last.ensures.grows)
+    (grows_then s2 s3 s4 c.in_ok-stepped.ensures.grows c.in_ok-same_name.ensures.grows))
+    c.in_ok-bind-in-Bound.ensures.grows
+
+pub returns-in_ok-bind-in-Bound-clause-derives : goal.returns-in_ok-bind-in-Bound-clause-derives
+returns-in_ok-bind-in-Bound-clause-derives c b f d =
+    let w = c.requires.given in
+    c.in_ok-bind-in-Bound.ensures.derives b f
+    (c.in_ok-same_name.ensures.derives b (record { rank = w.0 }) (f.associated w.0 c.args.named w.1.0)
+    (c.in_ok-stepped.ensures.derives b (c.in_ok-last.ensures.derives b (c.in_ok-plain.ensures.derives b d))))

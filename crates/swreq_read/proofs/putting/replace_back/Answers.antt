@@ -1,0 +1,53 @@
+use Rattle.std.proofs.Common.{◌++◌, sym, subst}
+use Rattle.swreq_param.specs.Tables.{term_at}
+use Rattle.swreq_read.specs.Readable.{read, SaysBoth}
+use Rattle.swreq_sheet.proofs.SheetLemmas.{grows_then}
+use Rattle.swreq_read.proofs.ReadLemmas.{both_still, term_still, word_at, word_still}
+use Rattle.swreq_read.proofs.putting.replace_back.Goals as goal
+
+pub turn-requires-clause-both : goal.turn-requires-clause-both
+turn-requires-clause-both c =
+    let g = c.args.ground.now in
+    let s = c.args.sheet.now in
+    let s1 = c.read.new.sheet in
+    subst (λ z. SaysBoth g s1 z c.args.sides.to.now c.args.sides.from.now) (sym c.in_ok-v.ensures.stands)
+    (both_still g s s1 c.in_ok-v.ensures.grows _ _ _ c.requires.both)
+
+pub replace-requires-clause-both : goal.replace-requires-clause-both
+replace-requires-clause-both c =
+    let g = c.args.ground.now in
+    let s = c.args.sheet.now in
+    let s1 = c.read.new.sheet in
+    let s2 = c.turn.new.sheet in
+    let gr = grows_then s s1 s2 c.in_ok-v.ensures.grows c.in_ok-turn.ensures.grows in
+    subst (λ z. SaysBoth g s2 (read g z c.args.before.now) c.args.sides.from.now c.args.sides.to.now)
+    (sym (term_still s s2 gr c.args.t c.requires.t))
+    (subst (λ z. SaysBoth g s2 z c.args.sides.from.now c.args.sides.to.now) c.in_ok-v.ensures.stands c.in_ok-turn.ensures.both)
+
+pub replace-requires-clause-word : goal.replace-requires-clause-word
+replace-requires-clause-word c =
+    let g = c.args.ground.now in
+    let s = c.args.sheet.now in
+    let s2 = c.turn.new.sheet in
+    let gr = grows_then s c.read.new.sheet s2 c.in_ok-v.ensures.grows c.in_ok-turn.ensures.grows in
+    word_at g s2 (term_at s.table c.args.t) _ _ (term_still s s2 gr c.args.t c.requires.t)
+    (word_still g s s2 gr (term_at s.table c.args.t) _ c.requires.word)
+
+pub returns-clause-both : goal.returns-clause-both
+returns-clause-both c =
+    let g = c.args.ground.now in
+    let s = c.args.sheet.now in
+    let s2 = c.turn.new.sheet in
+    let gr = grows_then s c.read.new.sheet s2 c.in_ok-v.ensures.grows c.in_ok-turn.ensures.grows in
+    subst (λ z. SaysBoth g c.replace.new.sheet z (c.args.before.now ++ (c.args.sides.from.now ++ c.args.after.now))
+    (c.args.before.now ++ (c.args.sides.to.now ++ c.args.after.now)))
+    (term_still s s2 gr c.args.t c.requires.t) c.in_ok-replace.ensures.both
+
+pub returns-clause-grows : goal.returns-clause-grows
+returns-clause-grows c =
+    let s = c.args.sheet.now in
+    grows_then s c.turn.new.sheet c.replace.new.sheet
+    (grows_then s c.read.new.sheet c.turn.new.sheet c.in_ok-v.ensures.grows c.in_ok-turn.ensures.grows) c.in_ok-replace.ensures.grows
+
+pub returns-clause-derives : goal.returns-clause-derives
+returns-clause-derives c b f d = c.in_ok-replace.ensures.derives b f (c.in_ok-turn.ensures.derives b (c.in_ok-v.ensures.derives b d))

@@ -1,0 +1,11 @@
+use Rattle.swreq_sheet.proofs.SheetLemmas.{grows_then}
+use Rattle.swreq_read.proofs.ReadLemmas.{read_step}
+use Rattle.swreq_read.proofs.reading.read.Goals as goal
+
+pub loop-k-preserved : goal.loop-k-preserved
+loop-k-preserved c = let i = c.loop-k.invariant in record {
+  is_of = c.in_ok-at.ensures.is_of;
+  rest = read_step c.args.ground.now _ _ _ c.args.word.now c.loop-k.k _ c.loop-k-test.true c.in_ok-at.ensures.stands i.rest;
+  grows = grows_then c.args.sheet.now c.loop-k.sheet c.after.new.sheet i.grows c.in_ok-at.ensures.grows;
+  derives = λ b d. c.in_ok-at.ensures.derives b (i.derives b d);
+}

@@ -1,0 +1,35 @@
+use Rattle.std.proofs.Common.{ap, subst, ◌∙◌}
+use Rattle.swreq_param.specs.Tables.{term_at}
+use Rattle.swreq_sheet.proofs.SheetLemmas.{grows_then}
+use Rattle.swreq_read.specs.Readable.{SaysWord, read}
+use Rattle.swreq_read.proofs.ReadLemmas.{both_told, read_as, term_still, word_still}
+use Rattle.swreq_read.proofs.telling.says_both.Goals as goal
+
+pub returns-in-None-second-clause-grows : goal.returns-in-None-second-clause-grows
+returns-in-None-second-clause-grows c =
+    grows_then c.args.sheet.now c.said_word.new.sheet c.said_word-in-Some.new.sheet c.in_ok-first.ensures.grows
+    c.in_ok-second-in-Some.ensures.grows
+
+pub returns-in-Some-second-clause-grows : goal.returns-in-Some-second-clause-grows
+returns-in-Some-second-clause-grows c =
+    grows_then c.args.sheet.now c.said_word.new.sheet c.said_word-in-Some.new.sheet c.in_ok-first.ensures.grows
+    c.in_ok-second-in-Some.ensures.grows
+
+pub returns-in-Some-second-clause-told : goal.returns-in-Some-second-clause-told
+returns-in-Some-second-clause-told c =
+    let g = c.args.ground.now in
+    let s0 = c.args.sheet.now in
+    let s1 = c.said_word.new.sheet in
+    let s2 = c.said_word-in-Some.new.sheet in
+    let u = c.args.u.now in
+    let v = c.args.v.now in
+    let grows = c.in_ok-second-in-Some.ensures.grows in
+    let t = term_at s0.table c.args.t in
+    let same = term_still s0 s1 c.in_ok-first.ensures.grows c.args.t c.requires.t in
+    let left = read_as g s1 t u c.in_ok-first.first c.in-Some.left c.in-Some.is c.in_ok-first.ensures.told in
+    let right = read_as g s2
+    (term_at s1.table c.args.t) v c.in_ok-second-in-Some.second c.in-Some-second.right c.in-Some-second.is
+    c.in_ok-second-in-Some.ensures.told in
+    both_told g s2 t u v (term_at s2.table c.in-Some.left) (term_at s2.table c.in-Some-second.right) c.are_equal.result
+    (term_still s1 s2 grows c.in-Some.left left.0 ∙ left.2) (right.2 ∙ ap (λ z. read g z v) same)
+    (word_still g s1 s2 grows t u left.1) (subst (λ z. SaysWord g s2 z v) same right.1) c.are_equal.ensures

@@ -1,0 +1,44 @@
+-- The names and the inheritance of a text, and the generic parameters of a list.
+use Rattle.std.specs.Prelude.{◌≡◌, ◌⊎◌, ◌<◌, ◌≤◌, ℕ, Some, Contains, get_or, slice_get}
+use Rattle.swreq_param.specs.Terms.{self}
+use Rattle.swreq_param.specs.declared.ids.NameId.{NameId}
+use Rattle.swreq_param.specs.declared.ids.ProtoId.{ProtoId}
+use Rattle.swreq_derive.specs.Derivation.{Declares}
+use Rattle.swreq_derive.specs.Derivation.TermRequirement.{Conforms}
+use Rattle.swreq_derive.specs.Facts.{generic_params}
+use Rattle.swreq_derive.specs.Instances.{HasNumber}
+use Rattle.swreq_sheet.specs.Sheets.{Basis}
+use Rattle.swreq_read.specs.declared.ground.Ground.{Ground}
+use Rattle.swreq_read.specs.declared.ground.Named.{Named}
+use Rattle.swreq_read.specs.declared.ground.Parent.{Parent}
+
+-- the pair of a member symbol
+abbrev pub member_at : Ground → ℕ → Named
+member_at g k = get_or g.members k (record { proto = record { rank = 0 }; name = record { rank = 0 } })
+
+-- P declares A.
+abbrev pub IsDeclared : Ground → ProtoId → NameId → Type 0
+IsDeclared g p a = (k : ℕ) × (slice_get g.associated k ≡ Some (record { proto = p; name = a }))
+
+-- A is a member name of P.
+abbrev pub IsMember : Ground → ProtoId → NameId → Type 0
+IsMember g p a = (k : ℕ) × (slice_get g.members k ≡ Some (record { proto = p; name = a }))
+
+-- The parent at this place is one of P, and A is a member name of it.
+abbrev pub IsParentFor : Ground → ProtoId → NameId → ℕ → Type 0
+IsParentFor g p a k = (e : Parent) × (slice_get g.parents k ≡ Some e) × (e.heir ≡ p) × IsMember g e.proto a
+
+-- Inheritance goes down, and a protocol inherits no more protocols than there are. A member name of P is declared by P, or is one of a
+-- protocol that P is written to inherit.
+pub record IsInherited (g : Ground) : Type 0 where
+  pub depth : ProtoId → ℕ
+  pub bounded : (p : ProtoId) → depth p ≤ g.protocols
+  pub goes_down : (e : Parent) → Contains g.parents e → depth e.proto < depth e.heir
+  pub from : (p : ProtoId) (a : NameId) → IsMember g p a
+      → IsDeclared g p a ⊎ ((e : Parent) × Contains g.parents e × (e.heir ≡ p) × IsMember g e.proto a)
+
+-- Each associated type is one of the facts, by its rank; each parent is written; and the generic parameters are those of the list.
+pub record FitsBasis (g : Ground) (b : Basis) : Type 0 where
+  pub associated : (k : ℕ) (n : Named) → slice_get g.associated k ≡ Some n → Declares b.facts n.proto n.name (record { rank = k })
+  pub parents : (e : Parent) → Contains g.parents e → HasNumber e.number (b.facts.of_protocol e.heir) (Conforms self e.proto)
+  pub params : b.params ≡ generic_params g.params

@@ -1,0 +1,89 @@
+//! What is read behind a type parameter is read behind an equal one.
+ghost use Rattle.std.specs.Prelude.{◌≡◌, OnOk};
+ghost use Rattle.swreq_param.specs.Tables.{IsOf, term_at};
+ghost use Rattle.swreq_param.specs.declared.ids.Step.TheVariants.{Name};
+ghost use Rattle.swreq_param.specs.Terms.Term.{Member};
+ghost use Rattle.swreq_derive.specs.Derivation.TermRequirement.{Conforms, IsAnyObject};
+ghost use Rattle.swreq_derive.specs.Derivation.TermStatement.{Requires};
+ghost use Rattle.swreq_sheet.specs.Sheets.{AreSaidEqual, Basis, Grows, IsSheet, Keeps, Says};
+ghost use Rattle.swreq_read.specs.Grounds.{FitsBasis};
+ghost use Rattle.swreq_read.specs.Readable.{SaysName};
+
+use crate::given::declarer;
+use crate::ground::Ground;
+use std::alloc::{AllocError, Global};
+use swreq_param::{NameId, ProtoId, TermId};
+use swreq_sheet::{Sheet, same_conf, same_layout, same_name, symm};
+
+/// From `[T : P]` and `[T == U]`: `[U : P]`.
+pub fn carry_conf(
+    alloc: Global,
+    sheet: &mut Sheet,
+    t: TermId,
+    u: TermId,
+    p: ProtoId,
+) -> Result<(), AllocError>
+    requires sheet { IsSheet sheet.old }
+    requires t { IsOf sheet.old.table t }
+    requires u { IsOf sheet.old.table u }
+    requires conforms { Says sheet.old (Requires (Conforms (term_at sheet.old.table t) p)) }
+    requires equal { AreSaidEqual sheet.old (term_at sheet.old.table t) (term_at sheet.old.table u) }
+    ensures conforms { OnOk result (Says sheet.new (Requires (Conforms (term_at sheet.old.table u) p))) }
+    ensures grows { OnOk result (Grows sheet.old sheet.new) }
+    ensures derives { OnOk result ((b : Basis) → Keeps b sheet.old sheet.new) }
+{
+    symm(alloc, sheet, t, u)?;
+    same_conf(alloc, sheet, u, t, p)?;
+    Ok(())
+}
+
+/// From `[T : AnyObject]` and `[T == U]`: `[U : AnyObject]`.
+pub fn carry_layout(
+    alloc: Global,
+    sheet: &mut Sheet,
+    t: TermId,
+    u: TermId,
+) -> Result<(), AllocError>
+    requires sheet { IsSheet sheet.old }
+    requires t { IsOf sheet.old.table t }
+    requires u { IsOf sheet.old.table u }
+    requires object { Says sheet.old (Requires (IsAnyObject (term_at sheet.old.table t))) }
+    requires equal { AreSaidEqual sheet.old (term_at sheet.old.table t) (term_at sheet.old.table u) }
+    ensures object { OnOk result (Says sheet.new (Requires (IsAnyObject (term_at sheet.old.table u)))) }
+    ensures grows { OnOk result (Grows sheet.old sheet.new) }
+    ensures derives { OnOk result ((b : Basis) → Keeps b sheet.old sheet.new) }
+{
+    symm(alloc, sheet, t, u)?;
+    same_layout(alloc, sheet, u, t)?;
+    Ok(())
+}
+
+/// Where a name is read behind T, and `[T == U]`, it is read behind U, and the members are equal. `members` are T.A and U.A.
+pub fn carry_name(
+    alloc: Global,
+    ground: &Ground,
+    sheet: &mut Sheet,
+    t: TermId,
+    u: TermId,
+    a: NameId,
+    members: (TermId, TermId),
+) -> Result<(), AllocError>
+    requires sheet { IsSheet sheet.old }
+    requires t { IsOf sheet.old.table t }
+    requires u { IsOf sheet.old.table u }
+    requires first { IsOf sheet.old.table members.0 }
+    requires second { IsOf sheet.old.table members.1 }
+    requires first_is { term_at sheet.old.table members.0 ≡ Member (term_at sheet.old.table t) (Name a) }
+    requires second_is { term_at sheet.old.table members.1 ≡ Member (term_at sheet.old.table u) (Name a) }
+    requires name { SaysName ground.now sheet.old (term_at sheet.old.table t) a }
+    requires equal { AreSaidEqual sheet.old (term_at sheet.old.table t) (term_at sheet.old.table u) }
+    ensures name { OnOk result (SaysName ground.now sheet.new (term_at sheet.old.table u) a) }
+    ensures equal { OnOk result (AreSaidEqual sheet.new (term_at sheet.old.table members.0) (term_at sheet.old.table members.1)) }
+    ensures grows { OnOk result (Grows sheet.old sheet.new) }
+    ensures derives { OnOk result ((b : Basis) → FitsBasis ground.now b → Keeps b sheet.old sheet.new) }
+{
+    let p = declarer(ground, sheet, t, a);
+    carry_conf(alloc, sheet, t, u, p)?;
+    same_name(alloc, sheet, t, u, (p, a), members)?;
+    Ok(())
+}

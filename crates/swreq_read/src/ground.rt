@@ -1,0 +1,84 @@
+//! The names and the inheritance of a text, and the generic parameters of a list.
+ghost use Rattle.std.specs.Prelude.{◌≡◌, ◌<◌, ℕ, Some, length, slice_get};
+ghost use Rattle.std.specs.Bool.{Decides};
+ghost use Rattle.swreq_read.specs.Grounds.{IsDeclared, IsMember, member_at};
+
+use swreq_derive::Params;
+use swreq_param::{NameId, ProtoId};
+use swreq_text::Seq;
+
+/// A protocol with a name: one that it declares, or one of a member.
+#[derive(Clone, Copy, Debug, PartialEq, Eq)]
+pub struct Named {
+    pub proto: ProtoId,
+    pub name: NameId,
+}
+
+/// A requirement `[Self : Q]` of a protocol, which inherits Q by it. Requirements are counted from 1.
+#[derive(Clone, Copy, Debug, PartialEq, Eq)]
+pub struct Parent {
+    pub heir: ProtoId,
+    pub number: u32,
+    pub proto: ProtoId,
+}
+
+/// The generic parameters of a list; and of its text the associated types and the member symbols, each by rank, the written inheritance,
+/// and how many protocols there are.
+#[derive(Drop)]
+pub struct Ground {
+    pub params: Params,
+    pub associated: Seq<Named>,
+    pub members: Seq<Named>,
+    pub parents: Seq<Parent>,
+    pub protocols: usize,
+}
+
+/// The pair of a member symbol.
+pub fn member_at(ground: &Ground, rank: u64) -> Named
+    ensures { result ≡ member_at ground.now rank }
+{
+    let members = ground.members.items();
+    if rank < members.len() as u64 {
+        members[rank as usize]
+    } else {
+        Named {
+            proto: ProtoId { rank: 0 },
+            name: NameId { rank: 0 },
+        }
+    }
+}
+
+/// The pair of an associated type.
+pub fn declared_at(ground: &Ground, k: usize) -> Named
+    requires { k < length ground.now.associated }
+    ensures { slice_get ground.now.associated k ≡ Some result }
+{
+    ground.associated.items()[k]
+}
+
+/// Whether the protocol with the name is one of these.
+fn has_pair(pairs: &[Named], proto: ProtoId, name: NameId) -> bool
+    ensures { Decides result ((k : ℕ) × (slice_get pairs.now k ≡ Some (record { proto = proto; name = name }))) }
+{
+    let pair = Named { proto, name };
+    for k in 0..pairs.len() {
+        if pairs[k] == pair {
+            return true;
+        }
+    }
+    false
+}
+
+/// Whether P declares A.
+pub fn declares(ground: &Ground, p: ProtoId, a: NameId) -> bool
+    ensures { Decides result (IsDeclared ground.now p a) }
+{
+    has_pair(ground.associated.items(), p, a)
+}
+
+/// Whether A is a member name of P.
+pub fn is_member(ground: &Ground, p: ProtoId, a: NameId) -> bool
+    ensures { Decides result (IsMember ground.now p a) }
+{
+    has_pair(ground.members.items(), p, a)
+}

@@ -1,0 +1,110 @@
+//! The names that a type parameter has since a protocol inherits them.
+ghost use Rattle.std.specs.Prelude.{◌≡◌, ◌<◌, Contains, IfOk, OnOk, Some, length, slice_get};
+ghost use Rattle.std.specs.Bool.{Decides};
+ghost use Rattle.swreq_param.specs.Tables.{IsOf, term_at};
+ghost use Rattle.swreq_derive.specs.Derivation.TermRequirement.{Conforms};
+ghost use Rattle.swreq_derive.specs.Derivation.TermStatement.{Requires};
+ghost use Rattle.swreq_sheet.specs.Sheets.{Basis, Grows, IsSheet, Keeps, Says};
+ghost use Rattle.swreq_read.specs.Grounds.{FitsBasis, IsDeclared, IsInherited, IsMember, IsParentFor};
+ghost use Rattle.swreq_read.specs.Readable.{SaysName};
+
+use crate::ground::{Ground, Parent, declares, is_member};
+use std::alloc::{AllocError, Global};
+use swreq_param::{NameId, ProtoId, TermId};
+use swreq_sheet::{Sheet, assoc_conf};
+
+/// A parent.
+fn parent_at(ground: &Ground, k: usize) -> Parent
+    requires { k < length ground.now.parents }
+    ensures { slice_get ground.now.parents k ≡ Some result }
+{
+    ground.parents.items()[k]
+}
+
+/// Whether P is written to inherit this parent, of which A is a member name.
+fn is_parent_for(ground: &Ground, p: ProtoId, a: NameId, k: usize) -> bool
+    requires { k < length ground.now.parents }
+    ensures { Decides result (IsParentFor ground.now p a k) }
+{
+    let parent = parent_at(ground, k);
+    if parent.heir.rank == p.rank {
+        is_member(ground, parent.proto, a)
+    } else {
+        false
+    }
+}
+
+/// A protocol that P is written to inherit, and of which A is a member name.
+fn parent_for(ground: &Ground, p: ProtoId, a: NameId) -> Parent
+    requires inherited { IsInherited ground.now }
+    requires member { IsMember ground.now p a }
+    requires undeclared { IsDeclared ground.now p a → ⊥ }
+    ensures parent { Contains ground.now.parents result }
+    ensures heir { result.heir ≡ p }
+    ensures member { IsMember ground.now result.proto a }
+{
+    for k in 0..ground.parents.items().len() {
+        if is_parent_for(ground, p, a, k) {
+            return parent_at(ground, k);
+        }
+    }
+    unreachable!()
+}
+
+/// From `[T : P]`: `[T : Q]` for a protocol Q that P is written to inherit, and of which A is a member name. Answers how it is written.
+fn step_up(
+    alloc: Global,
+    ground: &Ground,
+    sheet: &mut Sheet,
+    t: TermId,
+    p: ProtoId,
+    a: NameId,
+) -> Result<Parent, AllocError>
+    requires inherited { IsInherited ground.now }
+    requires member { IsMember ground.now p a }
+    requires undeclared { IsDeclared ground.now p a → ⊥ }
+    requires sheet { IsSheet sheet.old }
+    requires t { IsOf sheet.old.table t }
+    requires conforms { Says sheet.old (Requires (Conforms (term_at sheet.old.table t) p)) }
+    ensures table { OnOk result (sheet.new.table ≡ sheet.old.table) }
+    ensures parent { IfOk result (Contains ground.now.parents) }
+    ensures heir { IfOk result (λ e. e.heir ≡ p) }
+    ensures member { IfOk result (λ e. IsMember ground.now e.proto a) }
+    ensures conforms { IfOk result (λ e. Says sheet.new (Requires (Conforms (term_at sheet.old.table t) e.proto))) }
+    ensures grows { OnOk result (Grows sheet.old sheet.new) }
+    ensures derives { OnOk result ((b : Basis) → FitsBasis ground.now b → Keeps b sheet.old sheet.new) }
+{
+    let parent = parent_for(ground, p, a);
+    assoc_conf(alloc, sheet, t, (p, parent.number), t, parent.proto)?;
+    Ok(parent)
+}
+
+/// Where a line states `[T : P]`, and A is a member name of P, lines state `[T : Q]` for a protocol Q that declares A: for P, or up from
+/// P along written inheritance.
+pub fn inherit(
+    alloc: Global,
+    ground: &Ground,
+    sheet: &mut Sheet,
+    t: TermId,
+    p: ProtoId,
+    a: NameId,
+) -> Result<(), AllocError>
+    requires inherited { IsInherited ground.now }
+    requires member { IsMember ground.now p a }
+    requires sheet { IsSheet sheet.old }
+    requires t { IsOf sheet.old.table t }
+    requires conforms { Says sheet.old (Requires (Conforms (term_at sheet.old.table t) p)) }
+    ensures name { OnOk result (SaysName ground.now sheet.new (term_at sheet.old.table t) a) }
+    ensures grows { OnOk result (Grows sheet.old sheet.new) }
+    ensures derives { OnOk result ((b : Basis) → FitsBasis ground.now b → Keeps b sheet.old sheet.new) }
+{
+    let mut at = p;
+    for k in 0..ground.protocols {
+        if declares(ground, at, a) {
+            return Ok(());
+        }
+        let parent = step_up(alloc, ground, sheet, t, at, a)?;
+        at = parent.proto;
+    }
+    Ok(())
+}

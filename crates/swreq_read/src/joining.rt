@@ -1,0 +1,59 @@
+//! Words that are read as equal type parameters, one after the other.
+ghost use Rattle.std.specs.Prelude.{OnOk};
+ghost use Rattle.swreq_param.specs.Tables.{IsOf, term_at};
+ghost use Rattle.swreq_sheet.specs.Sheets.{Basis, Grows, IsSheet, Keeps};
+ghost use Rattle.swreq_read.specs.Readable.{SaysBoth};
+
+use crate::ground::Ground;
+use crate::reading::read;
+use std::alloc::{AllocError, Global};
+use swreq_param::TermId;
+use swreq_sheet::{Sheet, symm, trans};
+use swreq_word::Symbol;
+
+/// Two words that are read as equal type parameters, the other way round.
+pub fn turn(
+    alloc: Global,
+    ground: &Ground,
+    sheet: &mut Sheet,
+    t: TermId,
+    u: &[Symbol],
+    v: &[Symbol],
+) -> Result<(), AllocError>
+    requires sheet { IsSheet sheet.old }
+    requires t { IsOf sheet.old.table t }
+    requires both { SaysBoth ground.now sheet.old (term_at sheet.old.table t) u.now v.now }
+    ensures both { OnOk result (SaysBoth ground.now sheet.new (term_at sheet.old.table t) v.now u.now) }
+    ensures grows { OnOk result (Grows sheet.old sheet.new) }
+    ensures derives { OnOk result ((b : Basis) → Keeps b sheet.old sheet.new) }
+{
+    let first = read(ground, sheet, t, u)?;
+    let second = read(ground, sheet, t, v)?;
+    symm(alloc, sheet, first, second)?;
+    Ok(())
+}
+
+/// Where the first two words are read as equal type parameters, and so are the last two, the first and the last are.
+pub fn join(
+    alloc: Global,
+    ground: &Ground,
+    sheet: &mut Sheet,
+    t: TermId,
+    u: &[Symbol],
+    v: &[Symbol],
+    w: &[Symbol],
+) -> Result<(), AllocError>
+    requires sheet { IsSheet sheet.old }
+    requires t { IsOf sheet.old.table t }
+    requires first { SaysBoth ground.now sheet.old (term_at sheet.old.table t) u.now v.now }
+    requires second { SaysBoth ground.now sheet.old (term_at sheet.old.table t) v.now w.now }
+    ensures both { OnOk result (SaysBoth ground.now sheet.new (term_at sheet.old.table t) u.now w.now) }
+    ensures grows { OnOk result (Grows sheet.old sheet.new) }
+    ensures derives { OnOk result ((b : Basis) → Keeps b sheet.old sheet.new) }
+{
+    let first = read(ground, sheet, t, u)?;
+    let middle = read(ground, sheet, t, v)?;
+    let last = read(ground, sheet, t, w)?;
+    trans(alloc, sheet, first, middle, last)?;
+    Ok(())
+}

@@ -1,0 +1,97 @@
+//! One part of a word put in place of another.
+ghost use Rattle.std.specs.Prelude.{◌≡◌, ◌++◌, OnOk};
+ghost use Rattle.swreq_param.specs.Tables.{IsOf, term_at};
+ghost use Rattle.swreq_sheet.specs.Sheets.{AreSaidEqual, Basis, Grows, IsSheet, Keeps};
+ghost use Rattle.swreq_read.specs.Grounds.{FitsBasis};
+ghost use Rattle.swreq_read.specs.Readable.{SaysBoth, SaysWord, read};
+
+use crate::along::carry_all;
+use crate::ground::Ground;
+use crate::joining::turn;
+use crate::reading::read;
+use std::alloc::{AllocError, Global};
+use swreq_param::TermId;
+use swreq_sheet::Sheet;
+use swreq_word::Symbol;
+
+/// Two words, the second of which is put in place of the first.
+#[derive(Clone, Copy)]
+pub struct Sides<'a> {
+    pub from: &'a [Symbol],
+    pub to: &'a [Symbol],
+}
+
+/// Where two words are read alike behind V, and a word behind T has the first of them behind a part that is read as V, the word with
+/// the second one there is read behind T, and the two are equal.
+pub fn put_side(
+    alloc: Global,
+    ground: &Ground,
+    sheet: &mut Sheet,
+    v: TermId,
+    from: &[Symbol],
+    to: &[Symbol],
+    after: &[Symbol],
+) -> Result<(), AllocError>
+    requires sheet { IsSheet sheet.old }
+    requires v { IsOf sheet.old.table v }
+    requires both { SaysBoth ground.now sheet.old (term_at sheet.old.table v) from.now to.now }
+    requires word { SaysWord ground.now sheet.old (term_at sheet.old.table v) (from.now ++ after.now) }
+    ensures both { OnOk result (SaysBoth ground.now sheet.new (term_at sheet.old.table v) (from.now ++ after.now) (to.now ++ after.now)) }
+    ensures grows { OnOk result (Grows sheet.old sheet.new) }
+    ensures derives { OnOk result ((b : Basis) → FitsBasis ground.now b → Keeps b sheet.old sheet.new) }
+{
+    let first = read(ground, sheet, v, from)?;
+    let second = read(ground, sheet, v, to)?;
+    carry_all(alloc, ground, sheet, first, second, after)?;
+    Ok(())
+}
+
+/// Where two words are read alike behind what a part of a word is read as, and the word goes on with the first of them, the word with
+/// the second one there is read as an equal type parameter.
+pub fn replace(
+    alloc: Global,
+    ground: &Ground,
+    sheet: &mut Sheet,
+    t: TermId,
+    before: &[Symbol],
+    sides: Sides,
+    after: &[Symbol],
+) -> Result<(), AllocError>
+    requires sheet { IsSheet sheet.old }
+    requires t { IsOf sheet.old.table t }
+    requires both { SaysBoth ground.now sheet.old (read ground.now (term_at sheet.old.table t) before.now) sides.from.now sides.to.now }
+    requires word { SaysWord ground.now sheet.old (term_at sheet.old.table t) (before.now ++ (sides.from.now ++ after.now)) }
+    ensures both { OnOk result (SaysBoth ground.now sheet.new (term_at sheet.old.table t)
+        (before.now ++ (sides.entry.from.now ++ after.now)) (before.now ++ (sides.entry.to.now ++ after.now))) }
+    ensures grows { OnOk result (Grows sheet.old sheet.new) }
+    ensures derives { OnOk result ((b : Basis) → FitsBasis ground.now b → Keeps b sheet.old sheet.new) }
+{
+    let v = read(ground, sheet, t, before)?;
+    put_side(alloc, ground, sheet, v, sides.from, sides.to, after)?;
+    Ok(())
+}
+
+/// The same where the two words are known to be read alike the other way round.
+pub fn replace_back(
+    alloc: Global,
+    ground: &Ground,
+    sheet: &mut Sheet,
+    t: TermId,
+    before: &[Symbol],
+    sides: Sides,
+    after: &[Symbol],
+) -> Result<(), AllocError>
+    requires sheet { IsSheet sheet.old }
+    requires t { IsOf sheet.old.table t }
+    requires both { SaysBoth ground.now sheet.old (read ground.now (term_at sheet.old.table t) before.now) sides.to.now sides.from.now }
+    requires word { SaysWord ground.now sheet.old (term_at sheet.old.table t) (before.now ++ (sides.from.now ++ after.now)) }
+    ensures both { OnOk result (SaysBoth ground.now sheet.new (term_at sheet.old.table t)
+        (before.now ++ (sides.entry.from.now ++ after.now)) (before.now ++ (sides.entry.to.now ++ after.now))) }
+    ensures grows { OnOk result (Grows sheet.old sheet.new) }
+    ensures derives { OnOk result ((b : Basis) → FitsBasis ground.now b → Keeps b sheet.old sheet.new) }
+{
+    let v = read(ground, sheet, t, before)?;
+    turn(alloc, ground, sheet, v, sides.to, sides.from)?;
+    replace(alloc, ground, sheet, t, before, sides, after)?;
+    Ok(())
+}

@@ -1,0 +1,60 @@
+-- What lines state so far, over type parameters, and how it grows.
+use Rattle.std.specs.Prelude.{◌≡◌, ◌⊎◌, ℕ, List, Some, map, slice_get}
+use Rattle.swreq_param.specs.declared.ids.ParamId.{ParamId}
+use Rattle.swreq_param.specs.Terms.{Term}
+use Rattle.swreq_param.specs.Tables.{IsOf, Extends}
+use Rattle.swreq_derive.specs.declared.lines.Line.{Line}
+use Rattle.swreq_derive.specs.declared.requirements.Requirement.TheVariants.{Conf, Layout, Same}
+use Rattle.swreq_derive.specs.declared.requirements.Statement.{Statement}
+use Rattle.swreq_derive.specs.declared.requirements.Statement.TheVariants.{Valid, Holds}
+use Rattle.swreq_derive.specs.Derivation.{TermFacts, TermRequirement, TermStatement}
+use Rattle.swreq_derive.specs.Derivation.TermRequirement.{Equals}
+use Rattle.swreq_derive.specs.Derivation.TermStatement.{Requires}
+use Rattle.swreq_derive.specs.Facts.{statement_of}
+use Rattle.swreq_derive.specs.Instances.{HasNumber, IsDerivation}
+use Rattle.swreq_derive.specs.Lines.{line_of, stated_by}
+use Rattle.swreq_sheet.specs.declared.sheet.Sheet.{Sheet}
+
+-- From what lines are derived: the facts of a text, and a list of requirements with its generic parameters.
+pub record Basis : Type 0 where
+  pub facts : TermFacts
+  pub params : List ParamId
+  pub written : List TermRequirement
+
+-- The ids of the statement are of the table.
+abbrev pub AreIdsIn : List Term → Statement → Type 0
+AreIdsIn terms (Valid t) = IsOf terms t
+AreIdsIn terms (Holds (Conf t p)) = IsOf terms t
+AreIdsIn terms (Holds (Layout t)) = IsOf terms t
+AreIdsIn terms (Holds (Same t u)) = IsOf terms t × IsOf terms u
+
+-- The ids of what the lines state are of the table, and what they state is found by its place.
+pub record IsSheet (s : Sheet) : Type 0 where
+  pub ids : (k : ℕ) (l : Line) → slice_get s.lines.items k ≡ Some l → AreIdsIn s.table l.statement
+  pub stated : s.stated ≡ stated_by s.lines.items
+
+-- what the lines state, in order
+abbrev pub said : Sheet → List TermStatement
+said s = map (statement_of s.table) (stated_by s.lines.items)
+
+-- A line states it.
+abbrev pub Says : Sheet → TermStatement → Type 0
+Says s st = (n : ℕ) × HasNumber n (said s) st
+
+-- The lines are a derivation.
+abbrev pub IsDerivedFrom : Basis → Sheet → Type 0
+IsDerivedFrom b s = IsDerivation b.facts b.params b.written (map (line_of s.table) s.lines.items)
+
+-- The two are one, or a line states that they are equal.
+abbrev pub AreSaidEqual : Sheet → Term → Term → Type 0
+AreSaidEqual s t u = (t ≡ u) ⊎ Says s (Requires (Equals t u))
+
+-- Lines and type parameters were added: what was stated still is, and each id stands for what it stood for.
+pub record Grows (old new : Sheet) : Type 0 where
+  pub extends : Extends old.table new.table
+  pub sheet : IsSheet new
+  pub stays : (st : TermStatement) → Says old st → Says new st
+
+-- A derivation from it stays one.
+abbrev pub Keeps : Basis → Sheet → Sheet → Type 0
+Keeps b old new = IsDerivedFrom b old → IsDerivedFrom b new

@@ -1,0 +1,142 @@
+//! A line more, where its rule gives what it states.
+ghost use Rattle.std.specs.Prelude.{◌≡◌, ◌++◌, [], ◌∷◌, OnOk};
+ghost use Rattle.std.specs.Bool.{Decides};
+ghost use Rattle.swreq_derive.specs.Facts.{statement_of};
+ghost use Rattle.swreq_derive.specs.Instances.{HasNumber, IsInstance};
+ghost use Rattle.swreq_sheet.specs.Sheets.{AreIdsIn, Basis, Grows, IsSheet, Keeps, Says, said};
+
+use crate::sheet::{Sheet, number_of};
+use std::alloc::{AllocError, Global};
+use swreq_derive::{DerivRule, Line, Statement};
+use swreq_text::Seq;
+
+/// Puts a line last, whose statement none makes.
+fn add(
+    sheet: &mut Sheet,
+    rule: DerivRule,
+    premises: Vec<usize>,
+    statement: Statement,
+) -> Result<(), AllocError>
+    requires sheet { IsSheet sheet.old }
+    requires ids { AreIdsIn sheet.old.table statement }
+    requires unsaid { Says sheet.old (statement_of sheet.old.table statement) → ⊥ }
+    ensures table { OnOk result (sheet.new.table ≡ sheet.old.table) }
+    ensures stated { OnOk result (sheet.new.stated ≡ sheet.old.stated ++ statement ∷ []) }
+    ensures lines { OnOk result (sheet.new.lines.items ≡ sheet.old.lines.items
+        ++ record { rule = rule; premises = premises.items; statement = statement } ∷ []) }
+{
+    let premises = Seq::new(premises);
+    sheet.stated.push(statement)?;
+    sheet.lines.push(Line {
+        rule,
+        premises,
+        statement,
+    })?;
+    Ok(())
+}
+
+/// The number of the line that states this.
+fn premise(sheet: &Sheet, statement: Statement) -> usize
+    requires sheet { IsSheet sheet.now }
+    requires ids { AreIdsIn sheet.now.table statement }
+    requires said { Says sheet.now (statement_of sheet.now.table statement) }
+    ensures { HasNumber result (said sheet.now) (statement_of sheet.now.table statement) }
+{
+    match number_of(sheet, statement) {
+        Some(n) => n,
+        None => unreachable!(),
+    }
+}
+
+/// Whether a line states this.
+pub fn is_said(sheet: &Sheet, statement: Statement) -> bool
+    requires sheet { IsSheet sheet.now }
+    requires ids { AreIdsIn sheet.now.table statement }
+    ensures { Decides result (Says sheet.now (statement_of sheet.now.table statement)) }
+{
+    match number_of(sheet, statement) {
+        Some(_) => true,
+        None => false,
+    }
+}
+
+/// States what a rule gives without premises, unless a line states it.
+pub(crate) fn from_none(
+    alloc: Global,
+    sheet: &mut Sheet,
+    rule: DerivRule,
+    gives: Statement,
+) -> Result<(), AllocError>
+    requires sheet { IsSheet sheet.old }
+    requires gives { AreIdsIn sheet.old.table gives }
+    ensures table { OnOk result (sheet.new.table ≡ sheet.old.table) }
+    ensures says { OnOk result (Says sheet.new (statement_of sheet.old.table gives)) }
+    ensures grows { OnOk result (Grows sheet.old sheet.new) }
+    ensures derives { OnOk result ((b : Basis) → IsInstance b.facts b.params b.written rule [] (statement_of sheet.old.table gives)
+        → Keeps b sheet.old sheet.new) }
+{
+    if is_said(sheet, gives) {
+        return Ok(());
+    }
+    let premises = Vec::new(alloc);
+    add(sheet, rule, premises, gives)?;
+    Ok(())
+}
+
+/// States what a rule gives from this, unless a line states it.
+pub(crate) fn from_one(
+    alloc: Global,
+    sheet: &mut Sheet,
+    rule: DerivRule,
+    from: Statement,
+    gives: Statement,
+) -> Result<(), AllocError>
+    requires sheet { IsSheet sheet.old }
+    requires from { AreIdsIn sheet.old.table from }
+    requires said { Says sheet.old (statement_of sheet.old.table from) }
+    requires gives { AreIdsIn sheet.old.table gives }
+    ensures table { OnOk result (sheet.new.table ≡ sheet.old.table) }
+    ensures says { OnOk result (Says sheet.new (statement_of sheet.old.table gives)) }
+    ensures grows { OnOk result (Grows sheet.old sheet.new) }
+    ensures derives { OnOk result ((b : Basis) → IsInstance b.facts b.params b.written rule
+        (statement_of sheet.old.table from ∷ []) (statement_of sheet.old.table gives) → Keeps b sheet.old sheet.new) }
+{
+    if is_said(sheet, gives) {
+        return Ok(());
+    }
+    let first = premise(sheet, from);
+    let premises = vec![in alloc; first]?;
+    add(sheet, rule, premises, gives)?;
+    Ok(())
+}
+
+/// States what a rule gives from these two, unless a line states it.
+pub(crate) fn from_two(
+    alloc: Global,
+    sheet: &mut Sheet,
+    rule: DerivRule,
+    from: (Statement, Statement),
+    gives: Statement,
+) -> Result<(), AllocError>
+    requires sheet { IsSheet sheet.old }
+    requires first { AreIdsIn sheet.old.table from.0 }
+    requires second { AreIdsIn sheet.old.table from.1 }
+    requires first_said { Says sheet.old (statement_of sheet.old.table from.0) }
+    requires second_said { Says sheet.old (statement_of sheet.old.table from.1) }
+    requires gives { AreIdsIn sheet.old.table gives }
+    ensures table { OnOk result (sheet.new.table ≡ sheet.old.table) }
+    ensures says { OnOk result (Says sheet.new (statement_of sheet.old.table gives)) }
+    ensures grows { OnOk result (Grows sheet.old sheet.new) }
+    ensures derives { OnOk result ((b : Basis) → IsInstance b.facts b.params b.written rule
+        (statement_of sheet.old.table from.0 ∷ statement_of sheet.old.table from.1 ∷ [])
+        (statement_of sheet.old.table gives) → Keeps b sheet.old sheet.new) }
+{
+    if is_said(sheet, gives) {
+        return Ok(());
+    }
+    let first = premise(sheet, from.0);
+    let second = premise(sheet, from.1);
+    let premises = vec![in alloc; first, second]?;
+    add(sheet, rule, premises, gives)?;
+    Ok(())
+}

@@ -1,0 +1,116 @@
+-- The equations of rounds, where lines state what their left sides ask.
+use Rattle.std.proofs.Common.{◌≡◌, inl, ℕ, List, [], ◌∷◌, ◌++◌, Option, Some, None, slice_get, refl, sym, ap, subst, ◌∙◌}
+use Rattle.std.proofs.lemmas.Option.{get_or_from_slice_get, same_Some}
+use Rattle.swreq_param.specs.declared.ids.ProtoId.{ProtoId}
+use Rattle.swreq_param.specs.declared.ids.TermId.{TermId}
+use Rattle.swreq_param.specs.Tables.{IsOf, term_at}
+use Rattle.swreq_param.specs.Terms.{Term}
+use Rattle.swreq_derive.specs.Derivation.TermRequirement.{Conforms, IsAnyObject}
+use Rattle.swreq_derive.specs.Derivation.TermStatement.{Requires}
+use Rattle.swreq_word.specs.declared.symbols.Symbol.{Symbol}
+use Rattle.swreq_word.specs.declared.symbols.Symbol.TheVariants.{Layout as LayoutSymbol, Member, Name, Proto}
+use Rattle.swreq_rule.specs.declared.rules.Rule.{Rule}
+use Rattle.swreq_sheet.specs.declared.sheet.Sheet.{Sheet}
+use Rattle.swreq_sheet.specs.Sheets.{Grows, Says}
+use Rattle.swreq_read.specs.declared.ground.Ground.{Ground}
+use Rattle.swreq_read.specs.declared.ground.Named.{Named}
+use Rattle.swreq_read.specs.Grounds.{member_at}
+use Rattle.swreq_read.specs.Readable.{read, SaysBoth, SaysWord}
+use Rattle.swreq_read.proofs.ReadLemmas.{read_on, term_still, word_both, word_right}
+use Rattle.swreq_unfold.specs.declared.book.Book.{Book}
+use Rattle.swreq_unfold.specs.declared.book.Equation.{Equation}
+use Rattle.swreq_unfold.specs.declared.book.Reason.{Reason}
+use Rattle.swreq_unfold.specs.declared.book.Owned.{Owned}
+use Rattle.swreq_unfold.specs.declared.book.Owned.TheVariants.{Conf, Layout, Same}
+use Rattle.swreq_unfold.specs.Heads.{head_of, Allows, AllowsWord}
+use Rattle.swreq_unfold.specs.Systems.{HasShownSides, IsGivenBy}
+use Rattle.swreq_unfold.proofs.Headed.{shown_head}
+use Rattle.swreq_unfold.proofs.Alike.{both_as}
+use Rattle.swreq_unfold.proofs.Asking.{head_front}
+
+-- ---- what is asked, as a sheet grows
+
+pub asked_still : (s u : Sheet) → Grows s u → (t : Term) (h : Option ProtoId) → Allows s t h → Allows u t h
+asked_still s u grows t (Some p) a = grows.stays (Requires (Conforms t p)) a
+asked_still s u grows t None a = tt
+
+pub asked_now : (s u : Sheet) → Grows s u → (t : TermId) (h : Option ProtoId) → IsOf s.table t → Allows s (term_at s.table t) h
+    → Allows u (term_at u.table t) h
+asked_now s u grows t h i a = subst (λ z. Allows u z h) (sym (term_still s u grows t i)) (asked_still s u grows (term_at s.table t) h a)
+
+pub allows_now : (g : Ground) (s u : Sheet) → Grows s u → (t : TermId) (w : List Symbol) → IsOf s.table t
+    → AllowsWord g s (term_at s.table t) w
+    → AllowsWord g u (term_at u.table t) w
+allows_now g s u grows t w i a = (a.0, a.1, asked_now s u grows t a.0 i a.2)
+
+-- ---- what the left sides of equations ask
+
+pub asked_of : (g : Ground) (s : Sheet) (t : Term) (w : List Symbol) (h : Option ProtoId) → AllowsWord g s t w
+    → head_of g w ≡ Some h → Allows s t h
+asked_of g s t w h a e = subst (Allows s t) (same_Some a.0 h (sym a.1 ∙ e)) a.2
+
+-- the equation of a requirement asks that what stands for `Self` conforms to its owner
+pub sides_asked : (g : Ground) (owner : Option ProtoId) (rules : List Rule) (q : Owned) (left right : List Symbol)
+    → HasShownSides g owner rules q left right
+    → head_of g left ≡ Some owner
+sides_asked g owner rules (Conf t p) left right h = ap (head_of g) h.1 ∙ head_front g right _ owner (shown_head g owner rules _ right h.0)
+sides_asked g owner rules (Layout t) left right h = ap (head_of g) h.1 ∙ head_front g right _ owner (shown_head g owner rules _ right h.0)
+sides_asked g owner rules (Same t u) left right h = shown_head g owner rules _ left h.0
+
+-- ---- the basic equations
+
+module _ (g : Ground) (s : Sheet) (t : Term) (left right : List Symbol) where
+  -- a doubled protocol symbol
+  pub doubled_both : (p : ProtoId) → left ≡ Proto p.rank ∷ Proto p.rank ∷ [] → right ≡ Proto p.rank ∷ [] → AllowsWord g s t left
+      → SaysBoth g s t left right
+  doubled_both p e f a =
+      let says : Says s (Requires (Conforms t p)) = asked_of g s t left (Some p) a (ap (head_of g) e) in
+      both_as g s t t (Proto p.rank ∷ Proto p.rank ∷ []) left (Proto p.rank ∷ []) right refl (sym e) (sym f)
+      (record { left = (says, (says, tt)); right = (says, tt); equal = inl refl })
+
+  module _ (k : ℕ) (n : Named) (there : slice_get g.members k ≡ Some n) where
+    member_is : member_at g k ≡ n
+    member_is = get_or_from_slice_get g.members k n _ there
+
+    -- a member symbol
+    pub member_asks : left ≡ Proto n.proto.rank ∷ Name n.name.rank ∷ [] → AllowsWord g s t left
+        → Says s (Requires (Conforms t (member_at g k).proto))
+    member_asks e a = subst (λ (z : Named). Says s (Requires (Conforms t z.proto))) (sym member_is)
+        (asked_of g s t left (Some n.proto) a (ap (head_of g) e))
+
+    pub member_both : left ≡ Proto n.proto.rank ∷ Name n.name.rank ∷ [] → right ≡ Member k ∷ []
+        → SaysBoth g s t (Proto (member_at g k).proto.rank ∷ Name (member_at g k).name.rank ∷ []) (Member k ∷ [])
+        → SaysBoth g s t left right
+    member_both e f w =
+        both_as g s t t _ left (Member k ∷ []) right refl (ap (λ (z : Named). Proto z.proto.rank ∷ Name z.name.rank ∷ []) member_is
+        ∙ sym e) (sym f) w
+
+-- ---- the equations of requirements
+
+module _ (g : Ground) (s : Sheet) (t : Term) (w : List Symbol) where
+  -- one side is the other one with a symbol more, by which the same is read
+  pub conf_both : (q : ProtoId) → SaysWord g s t w → Says s (Requires (Conforms (read g t w) q)) → SaysBoth g s t (w ++ Proto q.rank ∷ []) w
+  conf_both q h says = record {
+    left = word_both g s t w (Proto q.rank ∷ []) h (says, tt);
+    right = h;
+    equal = inl
+        (read_on g t w (Proto q.rank ∷ []));
+  }
+
+  pub layout_both : SaysWord g s t w → Says s (Requires (IsAnyObject (read g t w))) → SaysBoth g s t (w ++ LayoutSymbol ∷ []) w
+  layout_both h says = record {
+    left = word_both g s t w (LayoutSymbol ∷ []) h (says, tt);
+    right = h;
+    equal = inl
+        (read_on g t w (LayoutSymbol ∷ []));
+  }
+
+-- a word with a protocol symbol behind it
+pub proto_said : (g : Ground) (s : Sheet) (t : Term) (w v : List Symbol) (p : ProtoId) → v ≡ w ++ Proto p.rank ∷ [] → SaysWord g s t v
+    → Says s (Requires (Conforms (read g t w) p))
+proto_said g s t w v p e h = (word_right g s t w (Proto p.rank ∷ []) (subst (SaysWord g s t) e h)).0
+
+-- an equation by its reason
+pub given_as : (b : Book) (r : ℕ) (e : Equation) (reason : Reason) → e.reason ≡ reason → IsGivenBy b r e.reason e.left e.right
+    → IsGivenBy b r reason e.left e.right
+given_as b r e reason same h = subst (λ z. IsGivenBy b r z e.left e.right) same h

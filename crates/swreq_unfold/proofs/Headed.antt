@@ -1,0 +1,208 @@
+-- Both sides of each rule ask the same.
+use Rattle.std.proofs.Common.{◌≡◌, inl, inr, ℕ, zero, suc, ◌+◌, ◌-◌, ◌<◌, ◌≤◌, List, [], ◌++◌, length, take, slice_get, Some, Option, None}
+use Rattle.std.proofs.Common.{refl, sym, ap, subst, ◌∙◌, arith, append_assoc}
+use Rattle.std.proofs.lemmas.Option.{get_or_from_slice_get}
+use Rattle.std.proofs.lemmas.Bool.{cases_lt}
+use Rattle.std.proofs.lemmas.List.{append-nil, get_or_past, take_all}
+use Rattle.swreq_param.specs.declared.ids.ProtoId.{ProtoId}
+use Rattle.swreq_word.specs.declared.symbols.Symbol.{Symbol}
+use Rattle.swreq_rule.specs.declared.rules.Birth.{Birth}
+use Rattle.swreq_rule.specs.declared.rules.Birth.TheVariants.{Given, Pair}
+use Rattle.swreq_rule.specs.declared.rules.Rule.{Rule}
+use Rattle.swreq_rule.specs.declared.rules.Place.{Place}
+use Rattle.swreq_pair.specs.Pairs.{IsPair}
+use Rattle.swreq_derive.proofs.LineLemmas.{get_take}
+use Rattle.swreq_read.specs.declared.ground.Ground.{Ground}
+use Rattle.swreq_unfold.specs.declared.book.At.{At}
+use Rattle.swreq_unfold.specs.declared.book.Book.{Book}
+use Rattle.swreq_unfold.specs.declared.book.Equation.{Equation}
+use Rattle.swreq_unfold.specs.declared.book.Owned.{Owned}
+use Rattle.swreq_unfold.specs.declared.book.Owned.TheVariants.{Conf, Layout, Same}
+use Rattle.swreq_unfold.specs.declared.book.Reason.{Reason}
+use Rattle.swreq_unfold.specs.declared.book.Reason.TheVariants.{Doubled, Named, Required}
+use Rattle.swreq_unfold.specs.declared.book.System.{System}
+use Rattle.swreq_unfold.specs.Heads.{head_of}
+use Rattle.swreq_unfold.proofs.Asking.{IsHeaded}
+use Rattle.swreq_unfold.specs.Systems.{HasShownSides, IsBook, IsGivenBy, IsShown, IsSystem, ReducesTo, rules_at, system_at}
+use Rattle.std.proofs.lemmas.Option.{same_Some}
+use Rattle.swreq_unfold.proofs.Asking.{AreHeaded, head_front, head_of_born, head_put, head_reduces}
+use Rattle.swreq_unfold.proofs.Births.{head_of_pair, born_of, GivenBy, PairedBy, given_by, paired_by}
+
+-- ---- equations
+
+-- what the word of a type parameter asks: that what stands for `Self` conforms to the owner, or nothing
+pub shown_head : (g : Ground) (owner : Option ProtoId) (rules : List Rule) (t : _) (w : List Symbol) → IsShown g owner rules t w
+    → head_of g w ≡ Some owner
+shown_head g (Some p) rules t w h = ap (head_of g) h.word
+shown_head g None rules t w h = ap (head_of g) h.word
+
+headed_by : (g : Ground) (u v : List Symbol) (h : Option ProtoId) → head_of g u ≡ Some h → head_of g v ≡ Some h → IsHeaded g u v
+headed_by g u v h e f = (h, e, f)
+
+sides_headed : (g : Ground) (owner : Option ProtoId) (rules : List Rule) (q : Owned) (left right : List Symbol)
+    → HasShownSides g owner rules q left right → IsHeaded g left right
+sides_headed g owner rules (Conf t p) left right h =
+    let e = shown_head g owner rules _ right h.0 in headed_by g left right owner (ap (head_of g) h.1 ∙ head_front g right _ owner e) e
+sides_headed g owner rules (Layout t) left right h =
+    let e = shown_head g owner rules _ right h.0 in headed_by g left right owner (ap (head_of g) h.1 ∙ head_front g right _ owner e) e
+sides_headed g owner rules (Same t u) left right h = headed_by g left right owner (shown_head g owner rules _ left h.0)
+    (shown_head g owner rules _ right h.1)
+
+pub given_headed : (b : Book) (r : ℕ) (reason : Reason) (left right : List Symbol) → IsGivenBy b r reason left right
+    → IsHeaded b.ground left right
+given_headed b r (Doubled p) left right h = headed_by b.ground left right (Some p) (ap (head_of b.ground) h.0) (ap (head_of b.ground) h.1)
+given_headed b r (Named k) left right h =
+    headed_by b.ground left right (Some h.0.proto) (ap (head_of b.ground) h.2)
+    (ap (head_of b.ground) h.3 ∙ ap (λ n. Some (Some n.proto)) (get_or_from_slice_get b.ground.members k h.0 _ h.1))
+given_headed b r (Required owner n q) left right h = sides_headed b.ground owner _ q left right h.1
+
+-- ---- pairs
+
+-- The right side of a pair asks what its first rule asks.
+right_of_pair : (g : Ground) (rules : List Rule) (place : Place) (left right : List Symbol) (p : IsPair rules place left right)
+    (h : Option ProtoId)
+    → IsHeaded g p.second.left p.second.right → head_of g p.first.left ≡ Some h → head_of g right ≡ Some h
+right_of_pair g rules place left right p h second e = elim p.kind [
+  | inl o ↦ (let c = o.overlap in
+      let w : p.first.left ++ c.after ≡ c.before ++ (p.second.left ++ []) = ap (λ z. z ++ c.after) c.first_is
+      ∙ append_assoc c.before c.common c.after
+      ∙ ap (λ z. c.before ++ z) (sym c.second_is ∙ sym (append-nil _)) in
+      ap (head_of g) (o.right_is ∙ ap (λ z. c.before ++ z) (sym (append-nil _)))
+      ∙ head_put g c.before p.second.left p.second.right [] h second (sym (ap (head_of g) w) ∙ head_front g p.first.left c.after h e))
+  | inr o ↦ (let c = o.1.containment in
+      ap (head_of g) o.1.right_is ∙ head_put g c.before p.second.left p.second.right c.after h second (sym (ap (head_of g) c.first_is) ∙ e))
+]
+
+pair_headed : (g : Ground) (rules : List Rule) (place : Place) (left right : List Symbol) (p : IsPair rules place left right)
+    → IsHeaded g p.first.left p.first.right → IsHeaded g p.second.left p.second.right → IsHeaded g left right
+pair_headed g rules place left right p first second =
+    headed_by g left right first.0 (head_of_pair g rules place left right p.first first.0 p p.first_at first.2)
+    (right_of_pair g rules place left right p first.0 second first.1)
+
+-- ---- rules
+
+-- A rule is headed where the words of which it is born are, and the rules before it.
+reduced_headed : (g : Ground) (rules : List Rule) (k : ℕ) (left right : List Symbol) (rule : Rule) → AreHeaded g (take k rules)
+    → IsHeaded g left right
+    → ReducesTo rules k left right rule → IsHeaded g rule.left rule.right
+reduced_headed g rules k left right rule all w r =
+    let first : head_of g r.first ≡ Some w.0 = head_reduces g (take k rules) left r.first w.0 all r.first_reduces w.1 in
+    let last : head_of g r.last ≡ Some w.0 = head_reduces g (take k rules) right r.last w.0 all r.last_reduces w.2 in
+    elim r.oriented [
+      | inl o ↦ headed_by g rule.left rule.right w.0 (ap (head_of g) o.0 ∙ first) (ap (head_of g) o.1 ∙ last)
+      | inr o ↦ headed_by g rule.left rule.right w.0 (ap (head_of g) o.0 ∙ last) (ap (head_of g) o.1 ∙ first)
+    ]
+
+module _ (b : Book) (r : ℕ) (v : System) (w : IsSystem b r v) where
+  -- the rules of the system before this place are headed
+  abbrev HeadedBelow : ℕ → Type 0
+  HeadedBelow n = (k : ℕ) (rule : Rule) → k < n → slice_get v.rules k ≡ Some rule → IsHeaded b.ground rule.left rule.right
+
+  of_birth : (k : ℕ) (rule : Rule) (moment : Birth) → rule.birth ≡ moment → v.base ≤ k → slice_get v.rules k ≡ Some rule → HeadedBelow k
+      → IsHeaded b.ground rule.left rule.right
+  of_birth k rule (Given n) birth past e below =
+      let f = given_by v k rule n (born_of v k rule (Given n) past e birth (w.born k rule past e)) in
+      reduced_headed b.ground v.rules k f.equation.left f.equation.right rule
+      (λ i x j. (let q = get_take k i v.rules x j in below i x q.0 q.1))
+      (given_headed b r f.equation.reason f.equation.left f.equation.right (w.given (n - 1) f.equation f.is_there)) f.reduces
+  of_birth k rule (Pair i j at) birth past e below =
+      let place : Place = record { i = i; j = j; at = at } in
+      let f = paired_by v k rule place (born_of v k rule (Pair i j at) past e birth (w.born k rule past e)) in
+      let p = f.pair in
+      let first : p.first_at.0 < k = (let n : i ≡ suc p.first_at.0 = p.first_at.1 in let m : i ≤ k = f.first_within in omega
+      (arith, n, m)) in
+      let second : p.second_at.0 < k = (let n : j ≡ suc p.second_at.0 = p.second_at.1 in let m : j ≤ k = f.second_within in omega
+      (arith, n, m)) in
+      reduced_headed b.ground v.rules k f.left f.right rule (λ i x j. (let q = get_take k i v.rules x j in below i x q.0 q.1))
+      (pair_headed b.ground v.rules place f.left f.right p (below p.first_at.0 p.first first p.first_at.2)
+      (below p.second_at.0 p.second second p.second_at.2)) f.reduces
+
+  module _ (lower : (q k : ℕ) (rule : Rule) → q < r → slice_get (rules_at b q) k ≡ Some rule → IsHeaded b.ground rule.left rule.right) where
+    one : (k : ℕ) (rule : Rule) → slice_get v.rules k ≡ Some rule → HeadedBelow k → IsHeaded b.ground rule.left rule.right
+    one k rule e below = elim (cases_lt k v.base) [
+      | inl h ↦ (let l = w.lower k rule h e in lower v.below k rule l.0 l.1)
+      | inr h ↦ of_birth k rule rule.birth refl h e below
+    ]
+
+    all_below : (n : ℕ) → HeadedBelow n
+    all_below zero k rule h e = absurd (omega arith)
+    all_below (suc n) k rule h e = one k rule e (λ i x j. all_below n i x (omega arith))
+
+    all_headed : AreHeaded b.ground v.rules
+    all_headed k rule e = one k rule e (all_below k)
+
+-- a system that is not there has no rules
+none_past : (b : Book) (r k : ℕ) (rule : Rule) → slice_get (rules_at b r) k ≡ Some rule → r < length b.systems
+none_past b r k rule e = elim (cases_lt r (length b.systems)) [
+  | inl h ↦ h
+  | inr h ↦ absurd (no_rule (sym (ap (λ (v : System). slice_get v.rules k) (get_or_past b.systems r _ h)) ∙ e))
+]
+  where
+    no_rule : {x : Rule} → None ≡ Some x → ⊥
+    no_rule e = cc
+
+below_systems : (b : Book) → IsBook b → (n r k : ℕ) (rule : Rule) → r < n → slice_get (rules_at b r) k ≡ Some rule
+    → IsHeaded b.ground rule.left rule.right
+below_systems b w zero r k rule h e = absurd (omega arith)
+below_systems b w (suc n) r k rule h e =
+    all_headed b r (system_at b r) (w.systems r (none_past b r k rule e)) (λ q i x j. below_systems b w n q i x (omega arith)) k rule e
+
+-- Both sides of each rule of a book ask the same.
+pub headed : (b : Book) → IsBook b → (r : ℕ) → AreHeaded b.ground (rules_at b r)
+headed b w r k rule e = below_systems b w (r + 1) r k rule (omega arith) e
+
+-- ---- what bore a rule of a book
+
+module _ (b : Book) (w : IsBook b) (r k : ℕ) (rule : Rule) where
+  pub given_at : (n : ℕ) → r < length b.systems → (system_at b r).base ≤ k → slice_get (rules_at b r) k ≡ Some rule → rule.birth ≡ Given n
+      → GivenBy (system_at b r) k rule n
+  given_at n within past e birth = given_by (system_at b r) k rule n
+      (born_of (system_at b r) k rule (Given n) past e birth ((w.systems r within).born k rule past e))
+
+  pub paired_at : (place : Place) → r < length b.systems → (system_at b r).base ≤ k → slice_get (rules_at b r) k ≡ Some rule
+      → rule.birth ≡ Pair place.i place.j place.at → PairedBy (system_at b r) k rule place
+  paired_at place within past e birth =
+      paired_by (system_at b r) k rule place (born_of (system_at b r) k rule (Pair place.i place.j place.at) past e birth
+      ((w.systems r within).born k rule past e))
+
+-- The left side of the equation that bore a rule asks what the rule asks.
+pub record AsksAlike (g : Ground) (u v : List Symbol) : Type 0 where
+  pub asked : Option ProtoId
+  pub first : head_of g u ≡ Some asked
+  pub second : head_of g v ≡ Some asked
+
+pub equation_asks : (b : Book) (w : IsBook b) (r k : ℕ) (rule : Rule) (n : ℕ) (e : Equation) → r < length b.systems
+    → (system_at b r).base ≤ k
+    → slice_get (rules_at b r) k ≡ Some rule → rule.birth ≡ Given n → slice_get (system_at b r).given (n - 1) ≡ Some e
+    → AsksAlike b.ground e.left rule.left
+equation_asks b w r k rule n e within past here birth there =
+    let f = given_at b w r k rule n within past here birth in
+    let same : f.equation ≡ e = same_Some _ _ (sym f.is_there ∙ there) in
+    let asks = given_headed b r f.equation.reason f.equation.left f.equation.right
+    ((w.systems r within).given (n - 1) f.equation f.is_there) in
+    subst (λ (z : Equation). AsksAlike b.ground z.left rule.left) same (record {
+      asked = asks.0;
+      first = asks.1;
+      second = head_of_born b.ground (rules_at b r) k f.equation.left f.equation.right rule asks.0 (headed b w r)
+          (headed b w r k rule here) f.reduces asks.1;
+    })
+
+-- ---- all rules of a system
+
+-- These are all rules of the system.
+pub record AreAll (b : Book) (at : At) (r : ℕ) : Type 0 where
+  pub same : at.system ≡ r
+  pub within : at.rule ≤ length (rules_at b at.system)
+  pub taken : take at.rule (rules_at b at.system) ≡ rules_at b r
+  pub few : at.rule < 4294967295
+
+pub all_at : (b : Book) → IsBook b → (at : At) (r : ℕ) (rules : List Rule) → r < length b.systems
+    → at ≡ record { system = r; rule = length rules }
+    → rules ≡ rules_at b r → AreAll b at r
+all_at b w at r rules within e f = subst (λ z. AreAll b z r) (sym e)
+    (subst (λ z. AreAll b (record { system = r; rule = length z }) r) (sym f) (record {
+      same = refl;
+      within = omega arith;
+      taken = take_all (length (rules_at b r)) (rules_at b r) (omega arith);
+      few = (w.systems r within).complete.few;
+    }))

@@ -1,0 +1,9 @@
+pub mod Alike
+pub mod Asking
+pub mod PathSteps
+pub mod PairParts
+pub mod Births
+pub mod Headed
+pub mod ShownSteps
+pub mod Ends
+pub mod Equations

@@ -1,0 +1,44 @@
+use Rattle.std.proofs.Common.{◌++◌, refl, sym, ap, ◌∙◌}
+use Rattle.swreq_param.specs.Tables.{term_at}
+use Rattle.swreq_sheet.proofs.SheetLemmas.{grows_then}
+use Rattle.swreq_read.proofs.ReadLemmas.{term_still}
+use Rattle.swreq_unfold.proofs.Alike.{both_as, both_now}
+use Rattle.swreq_unfold.proofs.pairs.meet_within.Goals as goal
+
+pub join_at-requires-clause-first : goal.join_at-requires-clause-first
+join_at-requires-clause-first c =
+    let g = c.args.ground.now in
+    let s = c.args.sheet.now in
+    let s1 = c.replace.new.sheet in
+    let e = c.deref-3.ensures.value ∙ c.in_ok-w.ensures ∙ ap (λ z. c.args.around.before.now ++ z)
+    (c.deref.ensures.value ∙ c.in_ok-from.ensures) in
+    both_as g s1 (term_at s1.table c.args.t) _
+    (c.args.around.before.now ++ (c.args.sides.from.now ++ c.args.around.after.now)) _ c.args.u.now _ refl (sym e) refl
+    (both_now g s s1 c.in_ok-replace.ensures.grows c.args.t _ _ c.requires.t c.requires.first)
+
+pub join_at-requires-clause-second : goal.join_at-requires-clause-second
+join_at-requires-clause-second c =
+    let g = c.args.ground.now in
+    let s = c.args.sheet.now in
+    let s1 = c.replace.new.sheet in
+    let e = c.deref-3.ensures.value ∙ c.in_ok-w.ensures ∙ ap (λ z. c.args.around.before.now ++ z)
+    (c.deref.ensures.value ∙ c.in_ok-from.ensures) in
+    let f = c.deref-4.ensures.value ∙ c.in_ok-v.ensures ∙ ap (λ z. c.args.around.before.now ++ z)
+    (c.deref-2.ensures.value ∙ c.in_ok-to.ensures) in
+    both_as g s1 (term_at s.table c.args.t) _ (c.args.around.before.now ++ (c.args.sides.from.now ++ c.args.around.after.now)) _
+    (c.args.around.before.now ++ (c.args.sides.to.now ++ c.args.around.after.now)) _
+    (sym (term_still s s1 c.in_ok-replace.ensures.grows c.args.t c.requires.t)) (sym e) (sym f) c.in_ok-replace.ensures.both
+
+pub returns-clause-both : goal.returns-clause-both
+returns-clause-both c =
+    let g = c.args.ground.now in
+    let s = c.args.sheet.now in
+    let s1 = c.replace.new.sheet in
+    let f = c.deref-4.ensures.value ∙ c.in_ok-v.ensures ∙ ap (λ z. c.args.around.before.now ++ z)
+    (c.deref-2.ensures.value ∙ c.in_ok-to.ensures) in
+    both_as g c.join_at.new.sheet _ _ c.args.u.now _ _ (c.args.around.before.now ++ (c.args.sides.to.now ++ c.args.around.after.now))
+    (term_still s s1 c.in_ok-replace.ensures.grows c.args.t c.requires.t) refl f c.in_ok-join_at.ensures.both
+
+pub returns-clause-grows : goal.returns-clause-grows
+returns-clause-grows c =
+    grows_then c.args.sheet.now c.replace.new.sheet c.join_at.new.sheet c.in_ok-replace.ensures.grows c.in_ok-join_at.ensures.grows

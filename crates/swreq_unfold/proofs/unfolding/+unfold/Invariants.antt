@@ -1,0 +1,62 @@
+use Rattle.std.proofs.Common.{◌≡◌, ◌+◌, ◌*◌, List, drop, take}
+use Rattle.swreq_param.specs.Tables.{IsOf, term_at}
+use Rattle.swreq_param.specs.Terms.{with_steps}
+use Rattle.swreq_param.specs.Terms.Term.{Generic}
+use Rattle.swreq_word.specs.declared.symbols.Symbol.{Symbol}
+use Rattle.swreq_path.specs.Paths.{StepsLead}
+use Rattle.swreq_sheet.specs.Sheets.{AreSaidEqual, Basis, Grows, Keeps}
+use Rattle.swreq_unfold.specs.Systems.{FitsBook}
+use Rattle.swreq_read.specs.Readable.{read, SaysBoth, SaysWord}
+use Rattle.swreq_unfold.specs.Types.{placed}
+use Rattle.swreq_unfold.proofs.unfolding.+unfold.Given as goal
+
+-- An earlier system goes down, and in a system an earlier rule.
+abbrev pub decreases-unfold : goal.decreases-unfold
+decreases-unfold l = l.at.system * 1099511627776 + (l.at.rule * 16 + 8)
+
+abbrev pub decreases-walk_along : goal.decreases-walk_along
+decreases-walk_along l = l.at.system * 1099511627776 + (l.at.rule * 16 + 2)
+
+abbrev pub invariant-walk_along-loop-k : goal.invariant-walk_along-loop-k
+invariant-walk_along-loop-k l = record {
+  both : SaysBoth l.book.ground l.sheet (term_at l.fn.sheet.table l.t) l.path.start l.word;
+  left : (b : List Symbol) → StepsLead l.rules l.path.steps l.path.start b → StepsLead l.rules (drop l.k l.path.steps) l.word b;
+  done : (b : List Symbol) → StepsLead l.rules (drop l.k l.path.steps) l.word b → StepsLead l.rules l.path.steps l.path.start b;
+  grows : Grows l.fn.sheet l.sheet;
+  derives : (b : Basis) → FitsBook l.book b → Keeps b l.fn.sheet l.sheet;
+}
+
+abbrev pub decreases-settle : goal.decreases-settle
+decreases-settle l = l.at.system * 1099511627776 + (l.at.rule * 16 + 4)
+
+abbrev pub decreases-from_equation : goal.decreases-from_equation
+decreases-from_equation l = l.at.system * 1099511627776 + (l.at.rule * 16 + 6)
+
+abbrev pub decreases-from_pair : goal.decreases-from_pair
+decreases-from_pair l = l.at.system * 1099511627776 + (l.at.rule * 16 + 6)
+
+abbrev pub decreases-give : goal.decreases-give
+decreases-give l = l.system * 1099511627776 + 4
+
+-- What is read by the rules of a system stands between that system and the next one.
+abbrev pub decreases-give_required : goal.decreases-give_required
+decreases-give_required l = (l.scope.system + 1) * 1099511627776 + 3
+
+abbrev pub decreases-read_type : goal.decreases-read_type
+decreases-read_type l = (l.scope.system + 1) * 1099511627776 + 2
+
+abbrev pub decreases-declare : goal.decreases-declare
+decreases-declare l = (l.scope.system + 1) * 1099511627776 + 1
+
+abbrev pub invariant-read_type-loop-k : goal.invariant-read_type-loop-k
+invariant-read_type-loop-k l = record {
+  is_of : IsOf l.sheet.table l.at;
+  stands : term_at l.sheet.table l.at ≡ placed l.scope.owner (term_at l.fn.sheet.table l.scope.t)
+      (with_steps (Generic l.param.head) (take l.k l.param.steps));
+  word : SaysWord l.book.ground l.sheet (term_at l.fn.sheet.table l.scope.t) (take (l.k + 1) l.word);
+  equal : AreSaidEqual l.sheet (placed l.scope.owner (term_at l.fn.sheet.table l.scope.t)
+      (with_steps (Generic l.param.head) (take l.k l.param.steps)))
+      (read l.book.ground (term_at l.fn.sheet.table l.scope.t) (take (l.k + 1) l.word));
+  grows : Grows l.fn.sheet l.sheet;
+  derives : (b : Basis) → FitsBook l.book b → Keeps b l.fn.sheet l.sheet;
+}

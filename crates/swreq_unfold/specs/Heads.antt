@@ -1,0 +1,30 @@
+-- Where the sides of rules may be read.
+use Rattle.std.specs.Prelude.{◌≡◌, List, [], ◌∷◌, Option, Some, None}
+use Rattle.swreq_param.specs.declared.ids.ProtoId.{ProtoId}
+use Rattle.swreq_param.specs.Terms.{Term}
+use Rattle.swreq_derive.specs.Derivation.TermRequirement.{Conforms}
+use Rattle.swreq_derive.specs.Derivation.TermStatement.{Requires}
+use Rattle.swreq_word.specs.declared.symbols.Symbol.{Symbol}
+use Rattle.swreq_word.specs.declared.symbols.Symbol.TheVariants.{Proto, Member, Param, Name, Layout}
+use Rattle.swreq_sheet.specs.declared.sheet.Sheet.{Sheet}
+use Rattle.swreq_sheet.specs.Sheets.{Says}
+use Rattle.swreq_read.specs.declared.ground.Ground.{Ground}
+use Rattle.swreq_read.specs.Grounds.{member_at}
+
+-- What a word asks of the type parameter behind which it is read: that it conforms to a protocol, or nothing where it begins with a generic
+-- parameter. Other words are none that rules rewrite.
+abbrev pub head_of : Ground → List Symbol → Option (Option ProtoId)
+head_of g [] = None
+head_of g (Proto q ∷ w) = Some (Some (record { rank = q }))
+head_of g (Member k ∷ w) = Some (Some (member_at g k).proto)
+head_of g (Param d i ∷ w) = Some None
+head_of g (Name a ∷ w) = None
+head_of g (Layout ∷ w) = None
+
+-- A line states what is asked.
+abbrev pub Allows : Sheet → Term → Option ProtoId → Type 0
+Allows s t None = Unit {0}
+Allows s t (Some p) = Says s (Requires (Conforms t p))
+
+abbrev pub AllowsWord : Ground → Sheet → Term → List Symbol → Type 0
+AllowsWord g s t w = (h : Option ProtoId) × (head_of g w ≡ Some h) × Allows s t h

@@ -1,0 +1,123 @@
+-- The systems of rules of all rounds, those of the protocols first.
+use Rattle.std.specs.Prelude.{◌≡◌, ℕ, ◌<◌, ◌≤◌, ◌-◌, List, [], ◌∷◌, ◌++◌, Option, Some, None, length, map, get_or, slice_get, take}
+use Rattle.swreq_param.specs.Owned.{as_term}
+use Rattle.swreq_param.specs.Terms.{Term}
+use Rattle.swreq_param.specs.declared.ids.AssocId.{AssocId}
+use Rattle.swreq_param.specs.declared.ids.NameId.{NameId}
+use Rattle.swreq_param.specs.declared.ids.ProtoId.{ProtoId}
+use Rattle.swreq_word.specs.declared.symbols.Symbol.{Symbol}
+use Rattle.swreq_word.specs.declared.symbols.Symbol.TheVariants.{Layout as LayoutSymbol, Member, Name, Proto}
+use Rattle.swreq_word.specs.Relations.{Linked}
+use Rattle.swreq_rule.specs.declared.rules.Rule.{Rule}
+use Rattle.swreq_rule.specs.Oriented.{IsOriented}
+use Rattle.swreq_rule.specs.Reduction.{Reduces}
+use Rattle.swreq_rule.specs.Steps.{Step}
+use Rattle.swreq_complete.specs.Complete.{IsComplete}
+use Rattle.swreq_complete.specs.Reached.{IsBorn}
+use Rattle.swreq_derive.specs.Derivation.{Declares, Source, TermFacts, TermRequirement}
+use Rattle.swreq_derive.specs.Derivation.Source.{SelfOf, Written}
+use Rattle.swreq_derive.specs.Derivation.TermRequirement.{Conforms, Equals, IsAnyObject}
+use Rattle.swreq_derive.specs.Facts.{generic_params}
+use Rattle.swreq_derive.specs.Instances.{HasNumber}
+use Rattle.swreq_correspondence.specs.Shown.{ShowsValid}
+use Rattle.swreq_correspondence.specs.Symbols.{Symbols, word_of}
+use Rattle.swreq_sheet.specs.Sheets.{Basis}
+use Rattle.swreq_read.specs.declared.ground.Ground.{Ground}
+use Rattle.swreq_read.specs.declared.ground.Named.{Named}
+use Rattle.swreq_read.specs.Grounds.{FitsBasis, IsInherited}
+use Rattle.swreq_unfold.specs.declared.book.Book.{Book}
+use Rattle.swreq_unfold.specs.declared.book.Equation.{Equation}
+use Rattle.swreq_unfold.specs.declared.book.Owned.{Owned}
+use Rattle.swreq_unfold.specs.declared.book.Owned.TheVariants.{Conf, Layout, Same}
+use Rattle.swreq_unfold.specs.declared.book.Reason.{Reason}
+use Rattle.swreq_unfold.specs.declared.book.Reason.TheVariants.{Doubled, Named as NamedBy, Required}
+use Rattle.swreq_unfold.specs.declared.book.System.{System}
+use Rattle.swreq_unfold.specs.Types.{written_by}
+
+-- the requirement that it is
+abbrev pub requirement_by : Owned → TermRequirement
+requirement_by (Conf t p) = Conforms (as_term t) p
+requirement_by (Layout t) = IsAnyObject (as_term t)
+requirement_by (Same t u) = Equals (as_term t) (as_term u)
+
+-- ---- type parameters that rules show
+
+-- over what a requirement of P is read, or over a list where there is no owner
+abbrev pub source_of : Ground → List TermRequirement → Option ProtoId → Source
+source_of g list (Some p) = SelfOf p
+source_of g list None = Written (generic_params g.params) list
+
+-- Each associated type of the facts has its name, and the symbol of its name.
+pub record AreSymbols (g : Ground) (m : Symbols) (f : TermFacts) : Type 0 where
+  pub associated : (p : ProtoId) (a : NameId) (d : AssocId) → Declares f p a d
+      → slice_get g.associated d.rank ≡ Some (record { proto = p; name = a })
+  pub members : (p : ProtoId) (a : NameId) (d : AssocId) → Declares f p a d
+      → slice_get g.members (m.rank_of d) ≡ Some (record { proto = p; name = a })
+
+-- The rules show that T is valid, and this is the word of T.
+pub record IsShown (g : Ground) (owner : Option ProtoId) (rules : List Rule) (t : Term) (w : List Symbol) : Type 0 where
+  pub symbols : Symbols
+  pub facts : TermFacts
+  pub list : List TermRequirement
+  pub are : AreSymbols g symbols facts
+  pub shown : ShowsValid symbols facts (source_of g list owner) (Linked (Step rules)) t
+  pub word : w ≡ word_of symbols (source_of g list owner) t
+
+-- ---- equations
+
+-- The two sides of a requirement, whose type parameters the rules show.
+abbrev pub HasShownSides : Ground → Option ProtoId → List Rule → Owned → List Symbol → List Symbol → Type 0
+HasShownSides g owner rules (Conf t p) left right = IsShown g owner rules (as_term t) right × (left ≡ right ++ Proto p.rank ∷ [])
+HasShownSides g owner rules (Layout t) left right = IsShown g owner rules (as_term t) right × (left ≡ right ++ LayoutSymbol ∷ [])
+HasShownSides g owner rules (Same t u) left right = IsShown g owner rules (as_term t) left × IsShown g owner rules (as_term u) right
+
+-- the equations of a system
+abbrev pub given_of : System → List (List Symbol × List Symbol)
+given_of v = map (λ (e : Equation). (e.left, e.right)) v.given
+
+abbrev pub system_at : Book → ℕ → System
+system_at b r = get_or b.systems r (record { base = 0; below = 0; rules = []; given = [] })
+
+abbrev pub rules_at : Book → ℕ → List Rule
+rules_at b r = (system_at b r).rules
+
+-- The equation of a reason, in the round r: that of a requirement is one since the rules of the round before it show its type parameters.
+abbrev pub IsGivenBy : Book → ℕ → Reason → List Symbol → List Symbol → Type 0
+IsGivenBy b r (Doubled p) left right = (left ≡ Proto p.rank ∷ Proto p.rank ∷ []) × (right ≡ Proto p.rank ∷ [])
+IsGivenBy b r (NamedBy k) left right =
+    (n : Named) × (slice_get b.ground.members k ≡ Some n) × (left ≡ Proto n.proto.rank ∷ Name n.name.rank ∷ []) × (right ≡ Member k ∷ [])
+IsGivenBy b r (Required owner n q) left right = (0 < r) × HasShownSides b.ground owner (rules_at b (r - 1)) q left right
+
+-- ---- systems
+
+-- The rules are complete. Each rule past the base is born of a settled moment, and each rule of the base is the same rule of an earlier
+-- system. Each equation has its reason.
+pub record IsSystem (b : Book) (r : ℕ) (v : System) : Type 0 where
+  pub complete : IsComplete v.rules
+  pub born : (k : ℕ) (rule : Rule) → v.base ≤ k → slice_get v.rules k ≡ Some rule → IsBorn v.base (given_of v) v.rules k rule.birth
+  pub lower : (k : ℕ) (rule : Rule) → k < v.base → slice_get v.rules k ≡ Some rule
+      → (v.below < r) × (slice_get (rules_at b v.below) k ≡ Some rule)
+  pub given : (k : ℕ) (e : Equation) → slice_get v.given k ≡ Some e → IsGivenBy b r e.reason e.left e.right
+
+-- The ground has its inheritance, and each system is one.
+pub record IsBook (b : Book) : Type 0 where
+  pub inherited : IsInherited b.ground
+  pub systems : (r : ℕ) → r < length b.systems → IsSystem b r (system_at b r)
+
+-- The requirement of the reason is written.
+abbrev pub IsWritten : Basis → Reason → Type 0
+IsWritten b (Required owner n q) = HasNumber n (written_by b owner) (requirement_by q)
+IsWritten b _ = Unit {0}
+
+-- The names and the reasons are those of the facts and of the list.
+pub record FitsBook (book : Book) (b : Basis) : Type 0 where
+  pub ground : FitsBasis book.ground b
+  pub written : (r k : ℕ) (e : Equation) → r < length book.systems → slice_get (system_at book r).given k ≡ Some e → IsWritten b e.reason
+
+-- The first rules, so many, reduce the two words to the sides of the rule, in one order or the other.
+pub record ReducesTo (rules : List Rule) (k : ℕ) (left right : List Symbol) (rule : Rule) : Type 0 where
+  pub first : List Symbol
+  pub last : List Symbol
+  pub first_reduces : Reduces (take k rules) left first
+  pub last_reduces : Reduces (take k rules) right last
+  pub oriented : IsOriented rule first last

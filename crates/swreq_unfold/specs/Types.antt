@@ -1,0 +1,45 @@
+-- Type parameters of requirements, behind a type parameter, and the steps that rules show.
+use Rattle.std.specs.Prelude.{◌≡◌, ℕ, List, [], ◌∷◌, ◌++◌, Option, Some, None, slice_get}
+use Rattle.swreq_param.specs.declared.ids.ProtoId.{ProtoId}
+use Rattle.swreq_param.specs.declared.ids.Step.{Step}
+use Rattle.swreq_param.specs.Terms.{Term}
+use Rattle.swreq_derive.specs.Derivation.{for_self, TermRequirement}
+use Rattle.swreq_word.specs.declared.symbols.Symbol.{Symbol}
+use Rattle.swreq_word.specs.declared.symbols.Symbol.TheVariants.{Proto}
+use Rattle.swreq_word.specs.Relations.{Linked}
+use Rattle.swreq_rule.specs.declared.rules.Rule.{Rule}
+use Rattle.swreq_rule.specs.Steps.{Step as RuleStep}
+use Rattle.swreq_path.specs.Paths.{HasTarget}
+use Rattle.swreq_sheet.specs.Sheets.{Basis}
+use Rattle.swreq_read.specs.declared.ground.Ground.{Ground}
+use Rattle.swreq_read.specs.declared.ground.Named.{Named}
+use Rattle.swreq_read.specs.Readable.{IsOfStep}
+use Rattle.swreq_unfold.specs.declared.types.Shown.{Shown}
+
+-- U with T for `Self` where it is of a requirement of a protocol, and else U itself
+abbrev pub placed : Option ProtoId → Term → Term → Term
+placed (Some p) t u = for_self t u
+placed None t u = u
+
+-- the requirements of the protocol, or those of the list where there is no owner
+abbrev pub written_by : Basis → Option ProtoId → List TermRequirement
+written_by b (Some p) = b.facts.of_protocol p
+written_by b None = b.written
+
+-- ---- steps that rules show
+
+-- The associated type with this rank is one that the step names, and the rules link the word to the word with its protocol behind it.
+abbrev pub IsShownAt : Ground → List Rule → List Symbol → Step → ℕ → Named → Type 0
+IsShownAt g rules w x k n =
+    (slice_get g.associated k ≡ Some n) × IsOfStep x k n × Linked (RuleStep rules) w (w ++ Proto n.proto.rank ∷ [])
+
+abbrev pub IsStepShown : Ground → List Rule → List Symbol → Step → Type 0
+IsStepShown g rules w x = (k : ℕ) × (n : Named) × IsShownAt g rules w x k n
+
+-- The same, with a path over the rules.
+pub record HasPath (g : Ground) (rules : List Rule) (w : List Symbol) (x : Step) (found : Shown) : Type 0 where
+  pub rank : ℕ
+  pub there : slice_get g.associated rank ≡ Some found.named
+  pub of_step : IsOfStep x rank found.named
+  pub start : found.path.start ≡ w
+  pub target : HasTarget rules found.path (w ++ Proto found.named.proto.rank ∷ [])

@@ -1,0 +1,208 @@
+//! The equations of rounds, behind a type parameter.
+ghost use Rattle.std.specs.Prelude.{◌≡◌, ◌++◌, [], ◌∷◌, OnOk, Some, slice_get};
+ghost use Rattle.swreq_param.specs.Tables.{IsOf, term_at};
+ghost use Rattle.swreq_param.specs.Terms.{Term};
+ghost use Rattle.swreq_derive.specs.Derivation.TermRequirement.{Conforms, Equals, IsAnyObject};
+ghost use Rattle.swreq_derive.specs.Derivation.TermStatement.{Requires};
+ghost use Rattle.swreq_derive.specs.Instances.{HasNumber};
+ghost use Rattle.swreq_word.specs.declared.symbols.Symbol.TheVariants.{Layout, Member, Name, Proto};
+ghost use Rattle.swreq_sheet.specs.Sheets.{AreSaidEqual, Basis, Grows, IsSheet, Keeps, Says};
+ghost use Rattle.swreq_read.specs.declared.ground.Named.{Named};
+ghost use Rattle.swreq_read.specs.Grounds.{FitsBasis, IsInherited, member_at};
+ghost use Rattle.swreq_read.specs.Readable.{SaysBoth, SaysWord, read};
+ghost use Rattle.swreq_unfold.specs.Heads.{Allows};
+ghost use Rattle.swreq_unfold.specs.Types.{placed, written_by};
+
+use std::alloc::{AllocError, Global};
+use swreq_param::{ProtoId, TermId};
+use swreq_read::{Ground, Sides, carry_conf, carry_layout, inherit, member_at, read};
+use swreq_sheet::{
+    Sheet, assoc_conf, assoc_layout, assoc_same, symm, trans, written_conf, written_layout,
+    written_same,
+};
+use swreq_word::Symbol;
+
+/// The requirement with this number, counted from 1, of a protocol, with T for `Self`, or of the list where there is no owner.
+#[derive(Clone, Copy, Debug)]
+pub(crate) struct Origin {
+    pub owner: Option<ProtoId>,
+    pub number: u32,
+    pub t: TermId,
+}
+
+/// The equation of a member symbol, `[P]·A = [P:A]`, where a line states `[T : P]`.
+pub(crate) fn give_member(
+    alloc: Global,
+    ground: &Ground,
+    sheet: &mut Sheet,
+    t: TermId,
+    rank: u64,
+) -> Result<(), AllocError>
+    requires inherited { IsInherited ground.now }
+    requires named { (n : Named) × (slice_get ground.now.members rank ≡ Some n) }
+    requires sheet { IsSheet sheet.old }
+    requires t { IsOf sheet.old.table t }
+    requires conforms { Says sheet.old (Requires (Conforms (term_at sheet.old.table t) (member_at ground.now rank).proto)) }
+    ensures both { OnOk result (SaysBoth ground.now sheet.new (term_at sheet.old.table t)
+        (Proto (member_at ground.now rank).proto.rank ∷ Name (member_at ground.now rank).name.rank ∷ []) (Member rank ∷ [])) }
+    ensures grows { OnOk result (Grows sheet.old sheet.new) }
+    ensures derives { OnOk result ((b : Basis) → FitsBasis ground.now b → Keeps b sheet.old sheet.new) }
+{
+    let named = member_at(ground, rank);
+    inherit(alloc, ground, sheet, t, named.proto, named.name)
+}
+
+/// A line for `[U : Q]`, of which it is the requirement. `u` is U where it is read.
+fn put_conf(
+    alloc: Global,
+    sheet: &mut Sheet,
+    origin: Origin,
+    u: TermId,
+    q: ProtoId,
+) -> Result<(), AllocError>
+    requires sheet { IsSheet sheet.old }
+    requires t { IsOf sheet.old.table origin.t }
+    requires owner { Allows sheet.old (term_at sheet.old.table origin.t) origin.owner }
+    requires u { IsOf sheet.old.table u }
+    ensures table { OnOk result (sheet.new.table ≡ sheet.old.table) }
+    ensures conforms { OnOk result (Says sheet.new (Requires (Conforms (term_at sheet.old.table u) q))) }
+    ensures grows { OnOk result (Grows sheet.old sheet.new) }
+    ensures derives { OnOk result ((b : Basis) (v : Term) → HasNumber origin.number (written_by b origin.owner) (Conforms v q)
+        → term_at sheet.old.table u ≡ placed origin.owner (term_at sheet.old.table origin.t) v → Keeps b sheet.old sheet.new) }
+{
+    match origin.owner {
+        Some(p) => assoc_conf(alloc, sheet, origin.t, (p, origin.number), u, q),
+        None => written_conf(alloc, sheet, origin.number, u, q),
+    }
+}
+
+/// The same of `[U : AnyObject]`.
+fn put_layout(alloc: Global, sheet: &mut Sheet, origin: Origin, u: TermId) -> Result<(), AllocError>
+    requires sheet { IsSheet sheet.old }
+    requires t { IsOf sheet.old.table origin.t }
+    requires owner { Allows sheet.old (term_at sheet.old.table origin.t) origin.owner }
+    requires u { IsOf sheet.old.table u }
+    ensures table { OnOk result (sheet.new.table ≡ sheet.old.table) }
+    ensures object { OnOk result (Says sheet.new (Requires (IsAnyObject (term_at sheet.old.table u)))) }
+    ensures grows { OnOk result (Grows sheet.old sheet.new) }
+    ensures derives { OnOk result ((b : Basis) (v : Term) → HasNumber origin.number (written_by b origin.owner) (IsAnyObject v)
+        → term_at sheet.old.table u ≡ placed origin.owner (term_at sheet.old.table origin.t) v → Keeps b sheet.old sheet.new) }
+{
+    match origin.owner {
+        Some(p) => assoc_layout(alloc, sheet, origin.t, (p, origin.number), u),
+        None => written_layout(alloc, sheet, origin.number, u),
+    }
+}
+
+/// The same of `[U == V]`. `sides` are U and V where they are read.
+fn put_same(
+    alloc: Global,
+    sheet: &mut Sheet,
+    origin: Origin,
+    sides: (TermId, TermId),
+) -> Result<(), AllocError>
+    requires sheet { IsSheet sheet.old }
+    requires t { IsOf sheet.old.table origin.t }
+    requires owner { Allows sheet.old (term_at sheet.old.table origin.t) origin.owner }
+    requires left { IsOf sheet.old.table sides.0 }
+    requires right { IsOf sheet.old.table sides.1 }
+    ensures table { OnOk result (sheet.new.table ≡ sheet.old.table) }
+    ensures equal { OnOk result (AreSaidEqual sheet.new (term_at sheet.old.table sides.0) (term_at sheet.old.table sides.1)) }
+    ensures grows { OnOk result (Grows sheet.old sheet.new) }
+    ensures derives { OnOk result ((b : Basis) (u v : Term) → HasNumber origin.number (written_by b origin.owner) (Equals u v)
+        → term_at sheet.old.table sides.0 ≡ placed origin.owner (term_at sheet.old.table origin.t) u
+        → term_at sheet.old.table sides.1 ≡ placed origin.owner (term_at sheet.old.table origin.t) v → Keeps b sheet.old sheet.new) }
+{
+    match origin.owner {
+        Some(p) => assoc_same(alloc, sheet, origin.t, (p, origin.number), sides),
+        None => written_same(alloc, sheet, origin.number, sides.0, sides.1),
+    }
+}
+
+/// The equation of a requirement `[U : Q]`, where lines state that U equals what its word is read as. `u` is U where it is read.
+pub(crate) fn give_conf(
+    alloc: Global,
+    ground: &Ground,
+    sheet: &mut Sheet,
+    origin: Origin,
+    u: TermId,
+    q: ProtoId,
+    word: &[Symbol],
+) -> Result<(), AllocError>
+    requires sheet { IsSheet sheet.old }
+    requires t { IsOf sheet.old.table origin.t }
+    requires owner { Allows sheet.old (term_at sheet.old.table origin.t) origin.owner }
+    requires u { IsOf sheet.old.table u }
+    requires word { SaysWord ground.now sheet.old (term_at sheet.old.table origin.t) word.now }
+    requires equal { AreSaidEqual sheet.old (term_at sheet.old.table u) (read ground.now (term_at sheet.old.table origin.t) word.now) }
+    ensures both { OnOk result (SaysBoth ground.now sheet.new (term_at sheet.old.table origin.t) (word.now ++ Proto q.rank ∷ []) word.now) }
+    ensures grows { OnOk result (Grows sheet.old sheet.new) }
+    ensures derives { OnOk result ((b : Basis) (v : Term) → HasNumber origin.number (written_by b origin.owner) (Conforms v q)
+        → term_at sheet.old.table u ≡ placed origin.owner (term_at sheet.old.table origin.t) v → Keeps b sheet.old sheet.new) }
+{
+    put_conf(alloc, sheet, origin, u, q)?;
+    let last = read(ground, sheet, origin.t, word)?;
+    carry_conf(alloc, sheet, u, last, q)?;
+    Ok(())
+}
+
+/// The equation of a requirement `[U : AnyObject]`, in the same way.
+pub(crate) fn give_layout(
+    alloc: Global,
+    ground: &Ground,
+    sheet: &mut Sheet,
+    origin: Origin,
+    u: TermId,
+    word: &[Symbol],
+) -> Result<(), AllocError>
+    requires sheet { IsSheet sheet.old }
+    requires t { IsOf sheet.old.table origin.t }
+    requires owner { Allows sheet.old (term_at sheet.old.table origin.t) origin.owner }
+    requires u { IsOf sheet.old.table u }
+    requires word { SaysWord ground.now sheet.old (term_at sheet.old.table origin.t) word.now }
+    requires equal { AreSaidEqual sheet.old (term_at sheet.old.table u) (read ground.now (term_at sheet.old.table origin.t) word.now) }
+    ensures both { OnOk result (SaysBoth ground.now sheet.new (term_at sheet.old.table origin.t) (word.now ++ Layout ∷ []) word.now) }
+    ensures grows { OnOk result (Grows sheet.old sheet.new) }
+    ensures derives { OnOk result ((b : Basis) (v : Term) → HasNumber origin.number (written_by b origin.owner) (IsAnyObject v)
+        → term_at sheet.old.table u ≡ placed origin.owner (term_at sheet.old.table origin.t) v → Keeps b sheet.old sheet.new) }
+{
+    put_layout(alloc, sheet, origin, u)?;
+    let last = read(ground, sheet, origin.t, word)?;
+    carry_layout(alloc, sheet, u, last)?;
+    Ok(())
+}
+
+/// The equation of a requirement `[U == V]`, in the same way of both sides.
+pub(crate) fn give_same(
+    alloc: Global,
+    ground: &Ground,
+    sheet: &mut Sheet,
+    origin: Origin,
+    ids: (TermId, TermId),
+    words: Sides,
+) -> Result<(), AllocError>
+    requires sheet { IsSheet sheet.old }
+    requires t { IsOf sheet.old.table origin.t }
+    requires owner { Allows sheet.old (term_at sheet.old.table origin.t) origin.owner }
+    requires first { IsOf sheet.old.table ids.0 }
+    requires second { IsOf sheet.old.table ids.1 }
+    requires left { SaysWord ground.now sheet.old (term_at sheet.old.table origin.t) words.from.now }
+    requires right { SaysWord ground.now sheet.old (term_at sheet.old.table origin.t) words.to.now }
+    requires left_equal { AreSaidEqual sheet.old (term_at sheet.old.table ids.0)
+        (read ground.now (term_at sheet.old.table origin.t) words.from.now) }
+    requires right_equal { AreSaidEqual sheet.old (term_at sheet.old.table ids.1)
+        (read ground.now (term_at sheet.old.table origin.t) words.to.now) }
+    ensures both { OnOk result (SaysBoth ground.now sheet.new (term_at sheet.old.table origin.t) words.entry.from.now words.entry.to.now) }
+    ensures grows { OnOk result (Grows sheet.old sheet.new) }
+    ensures derives { OnOk result ((b : Basis) (u v : Term) → HasNumber origin.number (written_by b origin.owner) (Equals u v)
+        → term_at sheet.old.table ids.0 ≡ placed origin.owner (term_at sheet.old.table origin.t) u
+        → term_at sheet.old.table ids.1 ≡ placed origin.owner (term_at sheet.old.table origin.t) v → Keeps b sheet.old sheet.new) }
+{
+    put_same(alloc, sheet, origin, ids)?;
+    let first = read(ground, sheet, origin.t, words.from)?;
+    let last = read(ground, sheet, origin.t, words.to)?;
+    symm(alloc, sheet, ids.0, first)?;
+    trans(alloc, sheet, first, ids.0, ids.1)?;
+    trans(alloc, sheet, first, ids.1, last)?;
+    Ok(())
+}

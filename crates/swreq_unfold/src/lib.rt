@@ -1,0 +1,19 @@
+//! What rules say of type parameters, unfolded along the births of the rules: lines of a derivation that say that the two sides of a rule
+//! are read alike behind a type parameter.
+//!
+//! A call fails for want of memory alone, and then nothing is said of the sheet.
+#![tactic(auto, using(crate::proofs::Alike::grown_by_none))]
+
+mod book;
+mod giving;
+mod kinds;
+mod linking;
+mod pairs;
+mod stepping;
+mod types;
+mod unfolding;
+
+pub use book::{At, Book, Equation, Owned, Reason, System, all_rules, system_at};
+pub use linking::link;
+pub use types::Scope;
+pub use unfolding::{declare, read_type, unfold};

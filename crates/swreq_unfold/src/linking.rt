@@ -1,0 +1,47 @@
+//! Words that rules link.
+ghost use Rattle.std.specs.Prelude.{◌<◌, OnOk, length};
+ghost use Rattle.swreq_param.specs.Tables.{IsOf, term_at};
+ghost use Rattle.swreq_word.specs.Relations.{Linked};
+ghost use Rattle.swreq_rule.specs.Steps.{Step as RuleStep};
+ghost use Rattle.swreq_sheet.specs.Sheets.{Basis, Grows, IsSheet, Keeps};
+ghost use Rattle.swreq_read.specs.Readable.{SaysBoth, SaysWord};
+ghost use Rattle.swreq_unfold.specs.Systems.{FitsBook, IsBook, rules_at};
+
+use crate::book::{Book, all_of, all_rules};
+use crate::types::path_between;
+use crate::unfolding::walk_along;
+use std::alloc::{AllocError, Global};
+use swreq_param::TermId;
+use swreq_sheet::Sheet;
+use swreq_word::Symbol;
+
+/// Where steps by the rules of a system link two words, and lines allow the first behind T, lines allow the second there too, and state
+/// that the two are read as equal type parameters.
+pub fn link(
+    alloc: Global,
+    book: &Book,
+    sheet: &mut Sheet,
+    system: usize,
+    t: TermId,
+    u: &[Symbol],
+    v: &[Symbol],
+) -> Result<(), AllocError>
+    requires book { IsBook book.now }
+    requires system { system < length book.now.systems }
+    requires sheet { IsSheet sheet.old }
+    requires t { IsOf sheet.old.table t }
+    requires word { SaysWord book.now.ground sheet.old (term_at sheet.old.table t) u.now }
+    requires linked { Linked (RuleStep (rules_at book.now system)) u.now v.now }
+    ensures both { OnOk result (SaysBoth book.now.ground sheet.new (term_at sheet.old.table t) u.now v.now) }
+    ensures grows { OnOk result (Grows sheet.old sheet.new) }
+    ensures derives { OnOk result ((b : Basis) → FitsBook book.now b → Keeps b sheet.old sheet.new) }
+{
+    let rules = all_rules(book, system);
+    match path_between(alloc, rules, u, v)? {
+        None => unreachable!(),
+        Some(path) => {
+            walk_along(alloc, book, sheet, all_of(system, rules), t, &path)?;
+            Ok(())
+        }
+    }
+}

@@ -1,0 +1,159 @@
+//! The two sides of a pair of rules, each of which is read alike on both sides.
+ghost use Rattle.std.specs.Prelude.{◌≡◌, ◌++◌, IfOk, OnOk};
+ghost use Rattle.swreq_param.specs.Tables.{IsOf, term_at};
+ghost use Rattle.swreq_rule.specs.Oriented.{IsOriented};
+ghost use Rattle.swreq_pair.specs.Pairs.{HasPair, IsPair};
+ghost use Rattle.swreq_sheet.specs.Sheets.{Basis, Grows, IsSheet, Keeps};
+ghost use Rattle.swreq_read.specs.Grounds.{FitsBasis};
+ghost use Rattle.swreq_read.specs.Readable.{SaysBoth, SaysWord, read};
+
+use std::alloc::{AllocError, Global};
+use swreq_pair::write_sides;
+use swreq_param::TermId;
+use swreq_read::{Ground, Sides, join, put_side, replace, turn};
+use swreq_rule::{Place, Rule};
+use swreq_sheet::Sheet;
+use swreq_word::Symbol;
+
+/// What stands around a part of a word.
+#[derive(Clone, Copy)]
+pub(crate) struct Around<'a> {
+    pub before: &'a [Symbol],
+    pub after: &'a [Symbol],
+}
+
+/// The two words, one after the other.
+fn joined(alloc: Global, a: &[Symbol], b: &[Symbol]) -> Result<Vec<Symbol>, AllocError>
+    ensures { IfOk result (λ v. v.items ≡ a.now ++ b.now) }
+{
+    let mut word = Vec::from_slice(alloc, a)?;
+    word.extend_from_slice(b)?;
+    Ok(word)
+}
+
+/// From two words that are read alike with a third, those two are read alike.
+fn join_at(
+    alloc: Global,
+    ground: &Ground,
+    sheet: &mut Sheet,
+    t: TermId,
+    w: &[Symbol],
+    u: &[Symbol],
+    v: &[Symbol],
+) -> Result<(), AllocError>
+    requires sheet { IsSheet sheet.old }
+    requires t { IsOf sheet.old.table t }
+    requires first { SaysBoth ground.now sheet.old (term_at sheet.old.table t) w.now u.now }
+    requires second { SaysBoth ground.now sheet.old (term_at sheet.old.table t) w.now v.now }
+    ensures both { OnOk result (SaysBoth ground.now sheet.new (term_at sheet.old.table t) u.now v.now) }
+    ensures grows { OnOk result (Grows sheet.old sheet.new) }
+    ensures derives { OnOk result ((b : Basis) → Keeps b sheet.old sheet.new) }
+{
+    turn(alloc, ground, sheet, t, w, u)?;
+    join(alloc, ground, sheet, t, u, w, v)?;
+    Ok(())
+}
+
+/// Where one left side stands in the other, `w`, which goes on as `u` by its own rule: the two sides are read alike. `v` is `w` with
+/// the other side there.
+pub(crate) fn meet_within(
+    alloc: Global,
+    ground: &Ground,
+    sheet: &mut Sheet,
+    t: TermId,
+    u: &[Symbol],
+    around: Around,
+    sides: Sides,
+) -> Result<(), AllocError>
+    requires sheet { IsSheet sheet.old }
+    requires t { IsOf sheet.old.table t }
+    requires first { SaysBoth ground.now sheet.old (term_at sheet.old.table t)
+        (around.before.now ++ (sides.from.now ++ around.after.now)) u.now }
+    requires second { SaysBoth ground.now sheet.old
+        (read ground.now (term_at sheet.old.table t) around.before.now) sides.from.now sides.to.now }
+    ensures both { OnOk result (SaysBoth ground.now sheet.new (term_at sheet.old.table t) u.now
+        (around.entry.before.now ++ (sides.entry.to.now ++ around.entry.after.now))) }
+    ensures grows { OnOk result (Grows sheet.old sheet.new) }
+    ensures derives { OnOk result ((b : Basis) → FitsBasis ground.now b → Keeps b sheet.old sheet.new) }
+{
+    replace(alloc, ground, sheet, t, around.before, sides, around.after)?;
+    let from = joined(alloc, sides.from, around.after)?;
+    let to = joined(alloc, sides.to, around.after)?;
+    let w = joined(alloc, around.before, &from)?;
+    let v = joined(alloc, around.before, &to)?;
+    join_at(alloc, ground, sheet, t, &w, u, &v)?;
+    Ok(())
+}
+
+/// Where two words are read alike, and each of them like the word to which it reduces, the sides of a rule that has these are read alike.
+pub(crate) fn close(
+    alloc: Global,
+    ground: &Ground,
+    sheet: &mut Sheet,
+    t: TermId,
+    words: Sides,
+    ends: Sides,
+    rule: &Rule,
+) -> Result<(), AllocError>
+    requires sheet { IsSheet sheet.old }
+    requires t { IsOf sheet.old.table t }
+    requires words { SaysBoth ground.now sheet.old (term_at sheet.old.table t) words.from.now words.to.now }
+    requires first { SaysBoth ground.now sheet.old (term_at sheet.old.table t) words.from.now ends.from.now }
+    requires last { SaysBoth ground.now sheet.old (term_at sheet.old.table t) words.to.now ends.to.now }
+    requires oriented { IsOriented rule.now ends.from.now ends.to.now }
+    ensures both { OnOk result (SaysBoth ground.now sheet.new (term_at sheet.old.table t) rule.now.left rule.now.right) }
+    ensures grows { OnOk result (Grows sheet.old sheet.new) }
+    ensures derives { OnOk result ((b : Basis) → Keeps b sheet.old sheet.new) }
+{
+    join_at(alloc, ground, sheet, t, words.from, ends.from, words.to)?;
+    join(alloc, ground, sheet, t, ends.from, words.to, ends.to)?;
+    turn(alloc, ground, sheet, t, ends.from, ends.to)?;
+    Ok(())
+}
+
+/// Where a left side goes on as the other begins, the two sides are read alike. The one is `before` and `common`, and goes as `u` by its
+/// own rule; the other is `common` and `after`, and goes as `v`.
+pub(crate) fn meet_across(
+    alloc: Global,
+    ground: &Ground,
+    sheet: &mut Sheet,
+    t: TermId,
+    first: Sides,
+    second: Sides,
+    around: Around,
+) -> Result<(), AllocError>
+    requires sheet { IsSheet sheet.old }
+    requires t { IsOf sheet.old.table t }
+    requires first { SaysBoth ground.now sheet.old (term_at sheet.old.table t) first.from.now first.to.now }
+    requires second { SaysBoth ground.now sheet.old (read ground.now (term_at sheet.old.table t) around.before.now)
+        second.from.now second.to.now }
+    requires before { SaysWord ground.now sheet.old (term_at sheet.old.table t) around.before.now }
+    requires word { first.from.now ++ around.after.now ≡ around.before.now ++ second.from.now }
+    ensures both { OnOk result (SaysBoth ground.now sheet.new (term_at sheet.old.table t) (first.entry.to.now ++ around.entry.after.now)
+        (around.entry.before.now ++ second.entry.to.now)) }
+    ensures grows { OnOk result (Grows sheet.old sheet.new) }
+    ensures derives { OnOk result ((b : Basis) → FitsBasis ground.now b → Keeps b sheet.old sheet.new) }
+{
+    put_side(alloc, ground, sheet, t, first.from, first.to, around.after)?;
+    let w = joined(alloc, first.from, around.after)?;
+    let u = joined(alloc, first.to, around.after)?;
+    let v = joined(alloc, around.before, second.to)?;
+    replace(alloc, ground, sheet, t, around.before, second, &[])?;
+    join_at(alloc, ground, sheet, t, &w, &u, &v)?;
+    Ok(())
+}
+
+/// The two sides of a pair.
+pub(crate) fn pair_sides(
+    alloc: Global,
+    rules: &[Rule],
+    place: Place,
+) -> Result<(Vec<Symbol>, Vec<Symbol>), AllocError>
+    requires { HasPair rules.now place }
+    ensures { IfOk result (λ r. IsPair rules.now place r.0.items r.1.items) }
+{
+    let mut left: Vec<Symbol> = Vec::new(alloc);
+    let mut right: Vec<Symbol> = Vec::new(alloc);
+    write_sides(rules, place, &mut left, &mut right)?;
+    Ok((left, right))
+}
