@@ -1,0 +1,64 @@
+/* Calls genreq over a text, the standard input: often, and with each of its allocations refused. Linked with --wrap for malloc, realloc and
+ * free, so that the blocks that are not given back are counted. */
+#include "genreq.h"
+
+#include <stdio.h>
+#include <stdlib.h>
+#include <string.h>
+
+void *__real_malloc(size_t length);
+void *__real_realloc(void *block, size_t length);
+void __real_free(void *block);
+
+static long blocks;        /* how many are not given back */
+static long wanted;        /* how often a call has asked for memory */
+static long refused = -1;  /* the number, from 0, of the time at which it gets none, and none from then on */
+
+static int is_refused(void) { return refused >= 0 && wanted++ >= refused; }
+
+void *__wrap_malloc(size_t length) {
+    void *block = is_refused() ? NULL : __real_malloc(length);
+    blocks += block != NULL;
+    return block;
+}
+
+void *__wrap_realloc(void *block, size_t length) {
+    void *moved = is_refused() ? NULL : __real_realloc(block, length);
+    blocks += moved && !block;
+    return moved;
+}
+
+void __wrap_free(void *block) {
+    blocks -= block != NULL;
+    __real_free(block);
+}
+
+static uint8_t text[1 << 16], out[1 << 16];
+static size_t length;
+
+static struct genreq_answer call(void) { return genreq_run((const uint8_t *)"answer", 6, text, length, out, sizeof out); }
+
+int main(void) {
+    static const char line[] = "error: out of memory\n";
+    struct genreq_answer answer;
+    int k;
+    length = fread(text, 1, sizeof text, stdin);
+    blocks = 0;
+    for (k = 0; k < 10000; k++)
+        if (call().status != GENREQ_ANSWERED)
+            return puts("a call is not answered"), 1;
+    if (blocks)
+        return printf("%ld blocks are not given back\n", blocks), 1;
+    do {
+        refused++;
+        wanted = 0;
+        answer = call();
+        if (answer.status == GENREQ_NO_MEMORY && (answer.count != sizeof line - 1 || memcmp(out, line, answer.count)))
+            return puts("without memory another line is printed"), 1;
+        if (answer.status != GENREQ_NO_MEMORY && answer.status != GENREQ_ANSWERED)
+            return printf("with the allocation %ld refused the status is %d\n", refused, answer.status), 1;
+        if (blocks)
+            return printf("%ld blocks are not given back where an allocation is refused\n", blocks), 1;
+    } while (wanted > refused);
+    return answer.status != GENREQ_ANSWERED;
+}
