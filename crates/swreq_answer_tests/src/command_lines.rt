@@ -53,6 +53,11 @@ gen --trace --max-length=9 1 | Gen { n: 1 } 4000 9 true
 answer --max-length=064 | Answer 4000 64 false
 answer --max-rules 04000 | Answer 4000 64 false
 answer --max-length 64 --max-rules=4000 | Answer 4000 64 false
+explain --max-rules=7 --trace | Explain 7 64 true
+verify | Verify 4000 64 false
+paths --max-length 9 --max-rules 70 --trace | Paths 70 9 true
+calls --trace --max-length=9 | Calls 4000 9 true
+requirements --max-length=255 | Requirements 4000 255 false
 ";
 
 #[test]
@@ -103,7 +108,61 @@ gen 101
 gen 5 5
 gen -5
 gen 5 answer
-gen --max-rules 5";
+gen --max-rules 5
+verify --max-rules 70
+verify --max-rules=70
+verify --max-length 9
+verify --max-length=9
+verify --trace
+verify 7
+verify verify
+verify --
+explain 7
+paths 7
+calls 7
+requirements 7
+paths --trace --trace
+requirement
+explains
+call
+verif
+Verify";
+
+/// Each command, with what it reads.
+const INPUTS: &str = "\
+answer | OnePart
+signatures | OnePart
+rules | OnePart
+gen 3 | Nothing
+explain | OnePart
+verify | TwoParts
+paths | OnePart
+calls | TwoParts
+requirements | OnePart
+";
+
+/// What the command of these words reads.
+fn input_of(alloc: Global, text: &str) -> Result<String, AllocError> {
+    let words = words(alloc, text)?;
+    match read(alloc, words.as_slice()) {
+        Ok(line) => format!(in alloc; "{:?}", line.command.input()),
+        Err(refusal) => format!(in alloc; "{refusal}"),
+    }
+}
+
+#[test]
+fn each_command_reads_its_parts(rt: HostRuntime) -> Result<(), Fail> {
+    for row in INPUTS.lines() {
+        match row.split_once(" | ") {
+            Some((text, wanted)) => {
+                let input = input_of(rt.alloc(), text)?;
+                assert_eq!(rt; input.as_str(), wanted, "{text}");
+            }
+            None => return Err("a row without a bar".into()),
+        }
+    }
+    Ok(())
+}
 
 #[test]
 fn all_other_words_are_refused(rt: HostRuntime) -> Result<(), Fail> {

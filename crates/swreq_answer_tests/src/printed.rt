@@ -356,7 +356,8 @@ error: more than 4000 rules
 error: rule longer than 64 symbols
 error: read fault
 error: out of memory
-usage: genreq (answer | signatures | rules | gen N) [--max-rules N] [--max-length N] [--trace]
+usage: genreq (answer | signatures | rules | gen N | explain | verify | paths | calls | requirements) \
+[--max-rules N] [--max-length N] [--trace]
 ";
 
 #[test]

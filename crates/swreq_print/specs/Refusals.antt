@@ -58,4 +58,5 @@ refusal_line (refusals.LimitLength max) = codes "error: rule longer than " ++ (d
 refusal_line refusals.ReadFault = codes "error: read fault\n"
 refusal_line refusals.OutOfMemory = codes "error: out of memory\n"
 refusal_line refusals.Usage =
-    codes "usage: genreq (answer | signatures | rules | gen N) [--max-rules N] [--max-length N] [--trace]\n"
+    codes "usage: genreq (answer | signatures | rules | gen N | explain | verify | paths | calls | requirements) "
+    ++ codes "[--max-rules N] [--max-length N] [--trace]\n"

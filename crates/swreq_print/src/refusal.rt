@@ -18,7 +18,8 @@ pub const OUT_OF_MEMORY: &[u8] = b"error: out of memory\n";
 
 /// The line for wrong words.
 pub const USAGE: &[u8] =
-    b"usage: genreq (answer | signatures | rules | gen N) [--max-rules N] [--max-length N] [--trace]\n";
+    b"usage: genreq (answer | signatures | rules | gen N | explain | verify | paths | calls | requirements) \
+    [--max-rules N] [--max-length N] [--trace]\n";
 
 /// Why an input, or a run, is not answered. `at` is an offset into the input, in bytes.
 #[derive(Clone, Copy, Debug, PartialEq, Eq)]

@@ -1,7 +1,7 @@
 -- With what a query is asked, and what comes of it.
 use Rattle.std.specs.Prelude.{◌≡◌, ℕ, ◌+◌, ◌*◌, ◌≤◌, List, ◌++◌, Bool, true, false, Option, Some, None}
 use Rattle.swreq_param.specs.Terms.{Term, member_count}
-use Rattle.swreq_derive.specs.Derivation.{TermStatement}
+use Rattle.swreq_derive.specs.Derivation.{TermRequirement, TermStatement}
 use Rattle.swreq_print.specs.Names.{Text}
 use Rattle.swreq_lexicon.specs.Views.{LexiconView}
 use Rattle.swreq_world.specs.ByTable.{world_by}
@@ -16,7 +16,7 @@ use Rattle.swreq_valid.specs.declared.having.Property.{Property}
 use Rattle.swreq_valid.specs.declared.having.Property.TheVariants.{Protocol, Layout}
 use Rattle.swreq_query.specs.declared.verdict.Verdict.{Verdict}
 use Rattle.swreq_query.specs.declared.verdict.Verdict.TheVariants as verdicts
-use Rattle.swreq_query.specs.Answers.{Answer, IsAnswerLine, IsSide}
+use Rattle.swreq_query.specs.Answers.{Answer, IsAnswerLine, IsSide, asked}
 use Rattle.swreq_query.specs.Answers.Answer.{Invalid, Yes, No}
 
 -- ---- what a query needs
@@ -28,6 +28,10 @@ IsQueryIn terms w q = HasQueryIdsOf terms q × IsQueryOf (world_by terms w) (que
 -- The query names type parameters: it does not ask for a signature.
 abbrev pub IsOfTypes : TermQuery → Type 0
 IsOfTypes q = (f : FuncId) → q ≡ AsksSignature f → ⊥
+
+-- It asks for a requirement.
+abbrev pub AsksRequirement : TermQuery → Type 0
+AsksRequirement q = (r : TermRequirement) × (asked q ≡ Some r)
 
 -- This is room for each side.
 abbrev pub IsRoomFor : TermQuery → ℕ → Type 0

@@ -11,13 +11,13 @@ ghost use Rattle.swreq_lowering.specs.ByTable.{query_by};
 ghost use Rattle.swreq_query.specs.Asked.{AppendsAnswer, IsOfTypes, IsQueryIn, IsRoomFor};
 
 use crate::reduced::reduced_line;
-use crate::verdict::{judge_equality, judge_property};
+use crate::verdict::judge;
 use std::alloc::{AllocError, Global};
 use swreq_lowering::Query;
 use swreq_map::PropertyMap;
 use swreq_param::ParamTable;
 use swreq_text::append_bytes;
-use swreq_valid::{Machine, Property, Scratch};
+use swreq_valid::{Machine, Scratch};
 use swreq_world::World;
 
 /// Appends the line that answers a query of a requirement or a type, from every list of which m is the machine.
@@ -47,16 +47,8 @@ pub fn answer(
     match *q {
         Query::Signature { .. } => unreachable!(),
         Query::Reduced { t, .. } => reduced_line(alloc, world, table, m, t, s, out),
-        Query::Conf { t, p, .. } => {
-            let verdict = judge_property(world, table, m, map, t, Property::Protocol(p), s);
-            append_bytes(out, verdict.line())
-        }
-        Query::Layout { t, .. } => {
-            let verdict = judge_property(world, table, m, map, t, Property::Layout, s);
-            append_bytes(out, verdict.line())
-        }
-        Query::Same { a, b, .. } => {
-            let verdict = judge_equality(world, table, m, a, b, s);
+        _ => {
+            let verdict = judge(world, table, m, map, q, s);
             append_bytes(out, verdict.line())
         }
     }

@@ -7,3 +7,4 @@ mod reduced;
 mod verdict;
 
 pub use answers::answer;
+pub use verdict::{Verdict, judge};

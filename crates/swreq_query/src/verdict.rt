@@ -1,5 +1,5 @@
 //! Whether the requirement that a query asks is derivable.
-ghost use Rattle.std.specs.Prelude.{◌≡◌, ◌+◌, ◌*◌, ◌≤◌, List};
+ghost use Rattle.std.specs.Prelude.{◌≡◌, ◌+◌, ◌*◌, ◌≤◌, List, length};
 ghost use Rattle.swreq_param.specs.Tables.{term_at};
 ghost use Rattle.swreq_param.specs.Terms.{member_count};
 ghost use Rattle.swreq_derive.specs.Derivation.{TermRequirement};
@@ -14,16 +14,18 @@ ghost use Rattle.swreq_world.specs.ByTable.{world_by};
 ghost use Rattle.swreq_lowering.specs.Queries.TermQuery.{AsksEquals};
 ghost use Rattle.swreq_lowering.specs.declared.ids.FuncId.{FuncId};
 ghost use Rattle.swreq_query.specs.Answers.{IsAnswer, answer_line};
-ghost use Rattle.swreq_query.specs.Asked.{answer_of, asks, verdict_of};
+ghost use Rattle.swreq_lowering.specs.ByTable.{query_by};
+ghost use Rattle.swreq_query.specs.Asked.{AsksRequirement, IsQueryIn, IsRoomFor, answer_of, asks, verdict_of};
 
+use swreq_lowering::Query;
 use swreq_map::PropertyMap;
 use swreq_param::{ParamTable, TermId};
 use swreq_valid::{Machine, Property, Scratch};
 use swreq_world::World;
 
 /// The answer to a query of a requirement.
-#[derive(Clone, Copy)]
-pub(crate) enum Verdict {
+#[derive(Clone, Copy, Debug, PartialEq, Eq)]
+pub enum Verdict {
     /// A side is not valid.
     Invalid,
     /// The requirement is derivable.
@@ -34,7 +36,7 @@ pub(crate) enum Verdict {
 
 impl Verdict {
     /// Its line, with the line feed.
-    pub(crate) fn line(self) -> &'static [u8]
+    pub fn line(self) -> &'static [u8]
         ensures { (x : LexiconView) → result.now ≡ answer_line x (answer_of self) }
     {
         match self {
@@ -57,7 +59,7 @@ fn verdict_of(derivable: Option<bool>) -> Verdict
 }
 
 /// Whether t is valid and has the property.
-pub(crate) fn judge_property(
+fn judge_property(
     world: &World,
     table: &ParamTable,
     m: &Machine,
@@ -79,7 +81,7 @@ pub(crate) fn judge_property(
 }
 
 /// Whether a and b are valid and equal.
-pub(crate) fn judge_equality(
+fn judge_equality(
     world: &World,
     table: &ParamTable,
     m: &Machine,
@@ -106,5 +108,36 @@ pub(crate) fn judge_equality(
         Verdict::Yes
     } else {
         Verdict::No
+    }
+}
+
+/// The verdict on a query of a requirement, from every list of which m is the machine.
+///
+/// The map is that of the rules of m, and the scratch has room for each side.
+pub fn judge(
+    world: &World,
+    table: &ParamTable,
+    m: &Machine,
+    map: &PropertyMap,
+    q: &Query,
+    s: &mut Scratch,
+) -> Verdict
+    requires text { IsTextOver table.now world.now }
+    requires query { IsQueryIn table.now world.now q.now }
+    requires asks { AsksRequirement (query_by table.now q.now) }
+    requires map { IsMapOf (last_rules m.now.rounds) map.now }
+    requires protocols { map.now.protocols ≡ length world.now.lexicon.protocols }
+    requires room { IsRoomFor (query_by table.now q.now) s.old.room }
+    ensures answer { (list : List TermRequirement) → IsMachineOf (world_by table.now world.now) list m.now
+        → IsAnswer (IsDerivable (world_by table.now world.now) m.now list) (query_by table.now q.now) (answer_of result) }
+    ensures room { s.new.room ≡ s.old.room }
+{
+    match *q {
+        Query::Conf { t, p, .. } => {
+            judge_property(world, table, m, map, t, Property::Protocol(p), s)
+        }
+        Query::Layout { t, .. } => judge_property(world, table, m, map, t, Property::Layout, s),
+        Query::Same { a, b, .. } => judge_equality(world, table, m, a, b, s),
+        Query::Signature { .. } | Query::Reduced { .. } => unreachable!(),
     }
 }

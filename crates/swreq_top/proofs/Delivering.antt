@@ -1,5 +1,5 @@
 -- What a run delivers.
-use Rattle.std.proofs.Common.{◌≡◌, ◌≢◌, ◌⊎◌, ◌∙◌, ℕ, ◌+◌, ◌<◌, ◌≤◌, List, [], ◌++◌, length, Option, Some, None, IfSome, Result, Ok, Err, refl, sym, ap, inl, inr, subst, arith, length-append, append-nil}
+use Rattle.std.proofs.Common.{◌≡◌, ◌≢◌, ◌⊎◌, ◌∙◌, ℕ, ◌<◌, ◌≤◌, List, [], ◌++◌, length, Option, Some, None, IfSome, Result, Ok, Err, refl, sym, ap, inl, inr, subst, arith, length-append, append-nil}
 use Rattle.std.specs.Io.KnownBytes.{Consumes, IsAtEnd}
 use Rattle.swreq_text.specs.Given.{GivesCount}
 use Rattle.swreq_text.specs.declared.whole.ReadErr.{ReadErr}
@@ -11,21 +11,26 @@ use Rattle.swreq_watch.specs.Told.{GrewBy}
 use Rattle.swreq_words.specs.declared.command.Command.{Command}
 use Rattle.swreq_words.specs.declared.command.Command.TheVariants as command
 use Rattle.swreq_words.specs.declared.command.CommandLine.{CommandLine}
-use Rattle.swreq_top.specs.declared.outcome.Outcome.{Outcome}
-use Rattle.swreq_top.specs.Replies.{IsOnlyRefusal, IsToldVerdict, WasToldPart}
+use Rattle.swreq_reply.specs.declared.outcome.Outcome.{Outcome}
+use Rattle.swreq_reply.specs.Replies.{IsOnlyRefusal, IsToldVerdict, WasToldPart}
 use Rattle.swreq_top.specs.Runs.{Answers, AnswersText, IsGen, IsRead, LeavesSource, known_text}
-use Rattle.swreq_top.specs.Verdict.{IsRefused, IsVerdict, answered_text, refused_with}
-use Rattle.swreq_top.specs.Verdict.IsRefused.{without_world, not_a_type_parameter, past_a_limit}
-use Rattle.swreq_top.specs.Verdict.IsVerdict.{answered as is_answered, cut_short as is_cut_short, refused as is_refused}
-use Rattle.swreq_top.proofs.OneRefusal.{long_refused}
+use Rattle.swreq_reply.specs.Verdict.{IsRefused, IsVerdict, answered_text, refused_with}
+use Rattle.swreq_reply.specs.Verdict.IsRefused.{bad_calls, in_one_part, misfit, not_a_type_parameter, past_a_limit, past_a_limit_of_families, too_long, without_world}
+use Rattle.swreq_reply.specs.Verdict.IsVerdict.{answered as is_answered, cut_short as is_cut_short, judged as is_judged, refused as is_refused}
+use Rattle.swreq_reply.proofs.OneRefusal.{long_refused}
 
 -- ---- statuses
 
 pub refused_status : (line : CommandLine) (text : Text) (o : Outcome) (told : List Event) → IsRefused line text o told
     → (o.status ≡ 1) ⊎ (o.status ≡ 3)
-refused_status line text o told (without_world refusal has is none) = inl (ap (λ (p : Outcome). p.status) is)
-refused_status line text o told (not_a_type_parameter w at has checked is) = inl (ap (λ (p : Outcome). p.status) is)
-refused_status line text o told (past_a_limit w which trace has checked is) = inr (ap (λ (p : Outcome). p.status) is)
+refused_status line text o told (too_long long is none) = inl (ap (λ (p : Outcome). p.status) is)
+refused_status line text o told (in_one_part within two lacks is none) = inl (ap (λ (p : Outcome). p.status) is)
+refused_status line text o told (without_world p are refusal has is none) = inl (ap (λ (p : Outcome). p.status) is)
+refused_status line text o told (not_a_type_parameter w at checks has checked is) = inl (ap (λ (p : Outcome). p.status) is)
+refused_status line text o told (past_a_limit w which trace checks has checked is) = inr (ap (λ (p : Outcome). p.status) is)
+refused_status line text o told (misfit w n judges has first is none) = inl (ap (λ (p : Outcome). p.status) is)
+refused_status line text o told (past_a_limit_of_families which trace c asked stops is) = inr (ap (λ (p : Outcome). p.status) is)
+refused_status line text o told (bad_calls refusal c asked refuses untold is) = inl (ap (λ (p : Outcome). p.status) is)
 
 -- the status of a verdict is 0, 1 or 3
 pub verdict_status : (line : CommandLine) (text : Text) (o : Outcome) (told : List Event) → IsVerdict line text o told
@@ -33,6 +38,7 @@ pub verdict_status : (line : CommandLine) (text : Text) (o : Outcome) (told : Li
 verdict_status line text o told (is_refused r) = inr (refused_status line text o told r)
 verdict_status line text o told (is_cut_short c) = inr (inr (ap (λ (p : Outcome). p.status) c.outcome))
 verdict_status line text o told (is_answered a) = inl a.status
+verdict_status line text o told (is_judged j) = inl j.status
 
 -- and so not that of a failed write
 pub not_five : (status : ℕ) → (status ≡ 0) ⊎ ((status ≡ 1) ⊎ (status ≡ 3)) → status ≢ 5
@@ -72,7 +78,7 @@ too_large line None rest old new came grew = tt
 too_large line (Some all) None old new came grew = absurd came.1
 too_large line (Some all) (Some rest) old new came grew =
     let long : 1048576 < length all = omega (arith, ap length came.1, length-append came.0 rest, came.2) in
-    (([], is_refused (without_world refusals.TooLarge long refl refl), grew), λ p told refused. sym (long_refused line all long refused))
+    (([], is_refused (too_long long refl refl), grew), λ p told refused. sym (long_refused line all long refused))
 
 -- nothing is told of a text before it is read
 pub told_nothing : (line : CommandLine) (known : Option Text) (old new : Option (List Event)) → GrewBy old new []
@@ -99,6 +105,11 @@ module _ (line : CommandLine) where
   generated_known command.Answer left P text (n, is) holds = absurd (let clash : command.Answer ≡ command.Gen n = is in cc)
   generated_known command.Signatures left P text (n, is) holds = absurd (let clash : command.Signatures ≡ command.Gen n = is in cc)
   generated_known command.Rules left P text (n, is) holds = absurd (let clash : command.Rules ≡ command.Gen n = is in cc)
+  generated_known command.Explain left P text (n, is) holds = absurd (let clash : command.Explain ≡ command.Gen n = is in cc)
+  generated_known command.Verify left P text (n, is) holds = absurd (let clash : command.Verify ≡ command.Gen n = is in cc)
+  generated_known command.Paths left P text (n, is) holds = absurd (let clash : command.Paths ≡ command.Gen n = is in cc)
+  generated_known command.Calls left P text (n, is) holds = absurd (let clash : command.Calls ≡ command.Gen n = is in cc)
+  generated_known command.Requirements left P text (n, is) holds = absurd (let clash : command.Requirements ≡ command.Gen n = is in cc)
   generated_known (command.Gen m) left P text is holds = holds
 
   -- and what holds of the text of a source holds of what it had left
@@ -107,6 +118,11 @@ module _ (line : CommandLine) where
   source_known command.Answer left rest P text reads came end holds = of_source P left rest text came end holds
   source_known command.Signatures left rest P text reads came end holds = of_source P left rest text came end holds
   source_known command.Rules left rest P text reads came end holds = of_source P left rest text came end holds
+  source_known command.Explain left rest P text reads came end holds = of_source P left rest text came end holds
+  source_known command.Verify left rest P text reads came end holds = of_source P left rest text came end holds
+  source_known command.Paths left rest P text reads came end holds = of_source P left rest text came end holds
+  source_known command.Calls left rest P text reads came end holds = of_source P left rest text came end holds
+  source_known command.Requirements left rest P text reads came end holds = of_source P left rest text came end holds
   source_known (command.Gen n) left rest P text reads came end holds = absurd (reads (n, refl))
 
   -- what holds of what a source has left holds of the text of a command that reads it
@@ -114,18 +130,33 @@ module _ (line : CommandLine) where
   known_left command.Answer left P reads h = h
   known_left command.Signatures left P reads h = h
   known_left command.Rules left P reads h = h
+  known_left command.Explain left P reads h = h
+  known_left command.Verify left P reads h = h
+  known_left command.Paths left P reads h = h
+  known_left command.Calls left P reads h = h
+  known_left command.Requirements left P reads h = h
   known_left (command.Gen n) left P reads h = absurd (reads (n, refl))
 
   pub leaves_read : (c : Command) (left rest : Option Text) → (IsGen c → ⊥) → IsRead left rest → LeavesSource c left rest
   leaves_read command.Answer left rest reads read = read
   leaves_read command.Signatures left rest reads read = read
   leaves_read command.Rules left rest reads read = read
+  leaves_read command.Explain left rest reads read = read
+  leaves_read command.Verify left rest reads read = read
+  leaves_read command.Paths left rest reads read = read
+  leaves_read command.Calls left rest reads read = read
+  leaves_read command.Requirements left rest reads read = read
   leaves_read (command.Gen n) left rest reads read = absurd (reads (n, refl))
 
   leaves_alone : (c : Command) (left : Option Text) → IsGen c → LeavesSource c left left
   leaves_alone command.Answer left (n, is) = absurd (let clash : command.Answer ≡ command.Gen n = is in cc)
   leaves_alone command.Signatures left (n, is) = absurd (let clash : command.Signatures ≡ command.Gen n = is in cc)
   leaves_alone command.Rules left (n, is) = absurd (let clash : command.Rules ≡ command.Gen n = is in cc)
+  leaves_alone command.Explain left (n, is) = absurd (let clash : command.Explain ≡ command.Gen n = is in cc)
+  leaves_alone command.Verify left (n, is) = absurd (let clash : command.Verify ≡ command.Gen n = is in cc)
+  leaves_alone command.Paths left (n, is) = absurd (let clash : command.Paths ≡ command.Gen n = is in cc)
+  leaves_alone command.Calls left (n, is) = absurd (let clash : command.Calls ≡ command.Gen n = is in cc)
+  leaves_alone command.Requirements left (n, is) = absurd (let clash : command.Requirements ≡ command.Gen n = is in cc)
   leaves_alone (command.Gen m) left is = refl
 
   -- the answer of `gen`

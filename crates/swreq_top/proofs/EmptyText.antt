@@ -1,5 +1,5 @@
 -- The empty text is answered: nothing refuses it, and no round of its machines passes a limit.
-use Rattle.std.proofs.Common.{◌≡◌, ◌≢◌, ◌∙◌, ◌⊎◌, refl, sym, ap, ap₂, subst, inl, inr, ℕ, ◌≤◌, arith, le_refl, List, [], ◌∷◌, ◌++◌, Option, Some, None, Err, map, Contains}
+use Rattle.std.proofs.Common.{◌≡◌, ◌≢◌, ◌∙◌, ◌⊎◌, refl, sym, ap, ap₂, subst, inl, inr, ℕ, ◌≤◌, arith, le_refl, Bool, length, List, [], ◌∷◌, ◌++◌, Option, Some, None, Err, map, Contains}
 use Rattle.std.proofs.lemmas.Option.{none-some}
 use Rattle.std.proofs.lemmas.Str.{IsUtf8-nil, chars-nil}
 use Rattle.swreq_lex.specs.declared.refusal.LexErr.TheVariants as lexical
@@ -42,22 +42,30 @@ use Rattle.swreq_valid.specs.Sides.{FailsFirst, IsValidSide, protocol_sides, sid
 use Rattle.swreq_words.specs.declared.command.Command.{Command}
 use Rattle.swreq_words.specs.declared.command.Command.TheVariants as command
 use Rattle.swreq_words.specs.declared.command.CommandLine.{CommandLine}
-use Rattle.swreq_words.specs.Form.{Says}
-use Rattle.swreq_words.proofs.Lines.{one_line}
+use Rattle.swreq_words.specs.declared.command.Input.{Input}
+use Rattle.swreq_words.specs.declared.command.Input.TheVariants.{OnePart, TwoParts}
+use Rattle.swreq_words.specs.Commands.{input as reads}
 use Rattle.swreq_world.specs.WorldOf.{IsWorldOf}
 use Rattle.swreq_world.specs.Worlds.{SignatureOver, TextWorld}
 use Rattle.swreq_lowering.specs.Queries.{TermQuery}
 use Rattle.swreq_lowering.specs.Queries.TermQuery.{AsksSignature}
 use Rattle.swreq_lowering.specs.Requirements.{PlacedRequirement}
-use Rattle.swreq_top.specs.declared.outcome.Outcome.{Outcome}
+use Rattle.swreq_reply.specs.declared.outcome.Outcome.{Outcome}
 use Rattle.swreq_output.specs.Ended.{IsWorldOfText}
-use Rattle.swreq_top.specs.Machines.{IsChecked, ProtocolsCome, SignaturesCome}
-use Rattle.swreq_top.specs.Machines.IsChecked.{protocols_built, protocols_refused}
-use Rattle.swreq_top.specs.Machines.SignaturesCome.{all}
-use Rattle.swreq_top.specs.Runs.{IsAnswerable, IsGen, SayGen, known_text}
-use Rattle.swreq_top.specs.Told.{IsMinimisedFor}
-use Rattle.swreq_top.specs.Verdict.{HasNoWorld, IsCutShort, IsRefused, RefusesNames, limits_of}
-use Rattle.swreq_top.specs.Verdict.IsRefused.{not_a_type_parameter, past_a_limit, without_world}
+use Rattle.swreq_reply.specs.Machines.{IsChecked, ProtocolsCome, SignaturesCome}
+use Rattle.swreq_reply.specs.Machines.IsChecked.{protocols_built, protocols_refused}
+use Rattle.swreq_reply.specs.Machines.SignaturesCome.{all}
+use Rattle.swreq_top.specs.Runs.{IsAnswerable, ReadOnePart, known_text}
+use Rattle.swreq_reply.specs.Told.{IsMinimisedFor}
+use Rattle.swreq_reqsig.specs.Families.{owned, owned_in}
+use Rattle.swreq_reqsig.specs.Told.{HasGone, IsStopped}
+use Rattle.swreq_reqsig.specs.Told.HasGone.{further, start}
+use Rattle.swreq_reply.specs.declared.content.Content.{Content}
+use Rattle.swreq_reply.specs.declared.content.Content.TheVariants.{Answers, Calls, Families, Judgements, Signatures, Systems}
+use Rattle.swreq_reply.specs.Contents.{content_of}
+use Rattle.swreq_reply.specs.Inputs.{AreParts, HasParts, Parts}
+use Rattle.swreq_reply.specs.Verdict.{HasNoWorld, HasWorld, IsCutShort, IsRefused, RefusesNames, limits_of}
+use Rattle.swreq_reply.specs.Verdict.IsRefused.{bad_calls, in_one_part, misfit, not_a_type_parameter, past_a_limit, past_a_limit_of_families, too_long, without_world}
 
 -- ---- lists that are empty
 
@@ -100,7 +108,7 @@ no_name_refused : (e : NameErr) → RefusesNames [] e → ⊥
 no_name_refused e (within, (s, stands, refuses)) = no_name_of_bare e (subst (λ (t : Skeleton). RefusesSkeleton [] t e) (only_bare s stands) refuses)
 
 never_without_world : (refusal : RefusalKind) → HasNoWorld [] refusal → ⊥
-never_without_world refusals.TooLarge long = omega (arith, long)
+never_without_world refusals.TooLarge has = has
 never_without_world refusals.MissingPart has = has
 never_without_world (refusals.NotUtf8 at) has = never_both [] [] (lexical.NotUtf8 at) has_no_tokens has.1
 never_without_world (refusals.BadCharacter at) has = never_both [] [] (lexical.BadCharacter at) has_no_tokens has.1
@@ -208,47 +216,108 @@ module _ (w : TextWorld) (bare : IsBare w) where
   no_query : (q : TermQuery) → Contains w.queries q → ⊥
   no_query q has = no_member q (subst (λ (qs : List TermQuery). Contains qs q) bare.queries has)
 
-  none_minimised : (c : Command) (g : SignatureOver PlacedRequirement) → IsMinimisedFor c w g → ⊥
-  none_minimised command.Answer g (f, has, is) = no_query (AsksSignature f) has
-  none_minimised command.Signatures g has =
-      no_member g (subst (λ (gs : List (SignatureOver PlacedRequirement)). Contains gs g) bare.signatures has)
-  none_minimised command.Rules g asked = asked
-  none_minimised (command.Gen n) g (f, has, is) = no_query (AsksSignature f) has
+  none_minimised : (c : Content) (g : SignatureOver PlacedRequirement) → IsMinimisedFor c w g → ⊥
+  none_minimised (Answers b) g (f, has, is) = no_query (AsksSignature f) has
+  none_minimised Signatures g has = no_member g (subst (λ (gs : List (SignatureOver PlacedRequirement)). Contains gs g) bare.signatures has)
+  none_minimised Systems g asked = asked
+  none_minimised Families g asked = asked
+  none_minimised Calls g asked = asked
+  none_minimised Judgements g asked = asked
+
+  -- ---- requirement signatures
+
+  nothing_owned : owned w ≡ []
+  nothing_owned = ap (owned_in w) bare.protocols
+
+  module _ (limits : Limits) where
+    gone_within : {n : ℕ} {flags : List Bool} {told : List Event} → HasGone limits w n flags told → n ≤ length (owned w)
+    gone_within (start e f untold) = omega (arith, e)
+    gone_within (further h m e) = omega (arith, gone_within h)
+
+    never_met : (which : Which) (trace : List Rule) (told : List Event) → IsStopped limits w which trace told → ⊥
+    never_met which trace told s = omega (arith, gone_within s.gone, ap length nothing_owned)
 
 -- ---- its verdict
 
--- nothing refuses the empty text
-pub empty_unrefused : (line : CommandLine) (o : Outcome) (told : List Event) → IsRefused line [] o told → ⊥
-empty_unrefused line o told (without_world refusal has is nothing) = never_without_world refusal has
-empty_unrefused line o told (not_a_type_parameter w at has checked is) =
-    never_refused w (bare_world w has) (limits_of line) (NotATypeParameter at) told checked
-empty_unrefused line o told (past_a_limit w which trace has checked is) =
-    never_refused w (bare_world w has) (limits_of line) (Limit which trace) told checked
+-- The command reads a text of one part, and the input has nothing.
+module _ (line : CommandLine) (one : reads line.command ≡ OnePart) where
+  nothing_in : (p : Parts) → AreParts line.command [] p → p.source ≡ []
+  nothing_in p are = (subst (λ (how : Input). HasParts how p) one are.divided).0 ∙ are.whole
 
--- and in minimising no round passes a limit
-pub empty_not_cut_short : (line : CommandLine) (o : Outcome) (told : List Event) → IsCutShort line [] o told → ⊥
-empty_not_cut_short line o told cut =
-    none_minimised cut.check.world (bare_world cut.check.world cut.check.has_world) line.command cut.fails.g cut.fails.asked
+  bare : (w : TextWorld) → HasWorld line [] w → IsBare w
+  bare w has = bare_world w (subst (λ (t : List ℕ). IsWorldOfText t w) (nothing_in has.parts has.are) has.of_text)
+
+  -- it judges no derivations
+  judges_none : content_of line.command ≢ Judgements
+  judges_none = by line.command one
+    where
+      by : (c : Command) → reads c ≡ OnePart → content_of c ≢ Judgements
+      by command.Answer r e = (cc)
+      by command.Signatures r e = (cc)
+      by command.Rules r e = (cc)
+      by (command.Gen n) r e = (cc)
+      by command.Explain r e = (cc)
+      by command.Verify r e = (cc)
+      by command.Paths r e = (cc)
+      by command.Calls r e = (cc)
+      by command.Requirements r e = (cc)
+
+  -- and answers no calls
+  calls_none : content_of line.command ≢ Calls
+  calls_none = by line.command one
+    where
+      by : (c : Command) → reads c ≡ OnePart → content_of c ≢ Calls
+      by command.Answer r e = (cc)
+      by command.Signatures r e = (cc)
+      by command.Rules r e = (cc)
+      by (command.Gen n) r e = (cc)
+      by command.Explain r e = (cc)
+      by command.Verify r e = (cc)
+      by command.Paths r e = (cc)
+      by command.Calls r e = (cc)
+      by command.Requirements r e = (cc)
+
+  two_or_one : reads line.command ≡ TwoParts → ⊥
+  two_or_one two = let clash : OnePart ≡ TwoParts = sym one ∙ two in cc
+
+  -- nothing refuses it
+  pub empty_unrefused : (o : Outcome) (told : List Event) → IsRefused line [] o told → ⊥
+  empty_unrefused o told (too_long long is untold) = omega (arith, long)
+  empty_unrefused o told (in_one_part within two lacks is untold) = two_or_one two
+  empty_unrefused o told (without_world p are refusal has is untold) =
+      never_without_world refusal (subst (λ (t : List ℕ). HasNoWorld t refusal) (nothing_in p are) has)
+  empty_unrefused o told (not_a_type_parameter w at checks has checked is) =
+      never_refused w (bare w has) (limits_of line) (NotATypeParameter at) told checked
+  empty_unrefused o told (past_a_limit w which trace checks has checked is) =
+      never_refused w (bare w has) (limits_of line) (Limit which trace) told checked
+  empty_unrefused o told (misfit w n judges has found is untold) = judges_none judges
+  empty_unrefused o told (past_a_limit_of_families which trace c asked stops is) =
+      never_met c.world (bare c.world c.has_world) (limits_of line) which trace c.more stops
+  empty_unrefused o told (bad_calls refusal c asked refuses untold is) = calls_none asked
+
+  -- and in minimising no round passes a limit
+  pub empty_not_cut_short : (o : Outcome) (told : List Event) → IsCutShort line [] o told → ⊥
+  empty_not_cut_short o told cut =
+      none_minimised cut.check.world (bare cut.check.world cut.check.has_world) (content_of line.command) cut.fails.g cut.fails.asked
 
 -- ---- runs over a source that has nothing left
 
--- the text of a command other than `gen` is that of the source
-is_source : (c : Command) → (IsGen c → ⊥) → known_text c (Some []) ≡ Some []
-is_source command.Answer not_gen = refl
-is_source command.Signatures not_gen = refl
-is_source command.Rules not_gen = refl
-is_source (command.Gen n) not_gen = absurd (not_gen (n, refl))
+-- the text of a command that reads one is that of the source
+is_source : (c : Command) → reads c ≡ OnePart → known_text c (Some []) ≡ Some []
+is_source command.Answer r = refl
+is_source command.Signatures r = refl
+is_source command.Rules r = refl
+is_source (command.Gen n) r = absurd (cc)
+is_source command.Explain r = refl
+is_source command.Verify r = refl
+is_source command.Paths r = refl
+is_source command.Calls r = refl
+is_source command.Requirements r = refl
 
--- Words that do not say `gen` are answered over such a source,
-pub empty_is_answerable : (words : List Text) → (SayGen words → ⊥) → IsAnswerable words (Some [])
-empty_is_answerable words not_gen line says = ([], is_source line.command (λ gen. not_gen (line, says, gen)), answered)
+-- Words that say such a command are answered over such a source.
+pub empty_is_answerable : (words : List Text) → ReadOnePart words → IsAnswerable words (Some [])
+empty_is_answerable words one line says = ([], is_source line.command (one line says), answered)
   where
     answered : (o : Outcome) (told : List Event) → IsRefused line [] o told ⊎ IsCutShort line [] o told → ⊥
-    answered o told (inl refused) = empty_unrefused line o told refused
-    answered o told (inr cut) = empty_not_cut_short line o told cut
-
--- and so are words that say another command.
-pub command_is_answerable : (words : List Text) (line : CommandLine) → Says words line → (IsGen line.command → ⊥)
-    → IsAnswerable words (Some [])
-command_is_answerable words line says not_gen =
-    empty_is_answerable words (λ gen. not_gen (subst (λ (l : CommandLine). IsGen l.command) (one_line words gen.0 line gen.1 says) gen.2))
+    answered o told (inl refused) = empty_unrefused line (one line says) o told refused
+    answered o told (inr cut) = empty_not_cut_short line (one line says) o told cut

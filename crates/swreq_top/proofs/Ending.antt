@@ -16,13 +16,13 @@ use Rattle.swreq_words.specs.declared.command.Command.{Command}
 use Rattle.swreq_words.specs.declared.command.Command.TheVariants as command
 use Rattle.swreq_words.specs.declared.command.CommandLine.{CommandLine}
 use Rattle.swreq_words.proofs.Lines.{one_line}
-use Rattle.swreq_top.specs.declared.outcome.Outcome.{Outcome}
-use Rattle.swreq_top.specs.Replies.{IsToldVerdict, WasToldPart}
+use Rattle.swreq_reply.specs.declared.outcome.Outcome.{Outcome}
+use Rattle.swreq_reply.specs.Replies.{IsToldVerdict, WasToldPart}
 use Rattle.swreq_top.specs.Runs.{Answers, AreWrong, Delivers, IsAnswerable, IsEnd, IsFinished, IsGen, IsPrinted, SayGen, Surroundings, TellsSome, known_text}
 use Rattle.swreq_top.specs.Runs.IsEnd.{delivered, no_memory, read_failed, write_failed, wrong_words}
-use Rattle.swreq_top.specs.Verdict.{IsCutShort, IsRefused, IsVerdict, refused_with}
-use Rattle.swreq_top.specs.Verdict.IsVerdict.{answered as is_answered, cut_short as is_cut_short, refused as is_refused}
-use Rattle.swreq_top.specs.Wanted.{HasCount}
+use Rattle.swreq_reply.specs.Verdict.{IsCutShort, IsRefused, IsVerdict, refused_with}
+use Rattle.swreq_reply.specs.Verdict.IsVerdict.{answered as is_answered, cut_short as is_cut_short, judged as is_judged, refused as is_refused}
+use Rattle.swreq_reply.specs.Wanted.{HasCount}
 use Rattle.swreq_top.proofs.Delivering.{known_left, leaves_read, read_too_large, told_nothing, too_large}
 
 -- what the source, the sink and the watcher show
@@ -148,6 +148,11 @@ pub has_count : (c : Command) → ((n : ℕ) → c ≡ command.Gen n → (1 ≤ 
 has_count command.Answer within = tt
 has_count command.Signatures within = tt
 has_count command.Rules within = tt
+has_count command.Explain within = tt
+has_count command.Verify within = tt
+has_count command.Paths within = tt
+has_count command.Calls within = tt
+has_count command.Requirements within = tt
 has_count (command.Gen n) within = within n refl
 
 -- an answer that is no failed read
@@ -263,6 +268,7 @@ module _ (words : List Text) (before after : Surroundings) where
       refuses line text told o is never (is_refused r) = never o told (inl r)
       refuses line text told o is never (is_cut_short c) = never o told (inr c)
       refuses line text told o is never (is_answered a) = elim some [ inl e ↦ omega (arith, a.status, is, e) | inr e ↦ omega (arith, a.status, is, e) ]
+      refuses line text told o is never (is_judged j) = elim some [ inl e ↦ omega (arith, j.status, is, e) | inr e ↦ omega (arith, j.status, is, e) ]
 
       by : Delivers words before.left after.left before.taken after.taken before.told after.told status → ⊥
       by d =

@@ -7,8 +7,6 @@ use Rattle.swreq_derive.specs.Derivation.TermStatement.{IsValid, Requires}
 use Rattle.swreq_derive.specs.Equivalence.{AreEquivalent}
 use Rattle.swreq_derive.specs.Facts.{generic_params}
 use Rattle.swreq_canonical.specs.Minimised.{IsIndependent}
-use Rattle.swreq_words.specs.declared.command.Command.{Command}
-use Rattle.swreq_words.specs.declared.command.Command.TheVariants as command
 use Rattle.swreq_words.specs.declared.command.CommandLine.{CommandLine}
 use Rattle.swreq_words.specs.Form.{Says}
 use Rattle.swreq_lowering.specs.declared.ids.FuncId.{FuncId}
@@ -23,9 +21,14 @@ use Rattle.swreq_print.specs.Types.{type_text}
 use Rattle.swreq_query.specs.Answers.{IsLeastEqual, asked}
 use Rattle.swreq_output.specs.Signatures.{full_name}
 use Rattle.swreq_world.specs.FactsAt.{source_of, written_list}
-use Rattle.swreq_top.specs.Lines.{AreLines}
+use Rattle.swreq_reply.specs.Lines.{AreLines}
 use Rattle.swreq_output.specs.Ended.{IsWorldOfText}
-use Rattle.swreq_top.specs.Outputs.{ArePrinted, printed_text, signature_of}
+use Rattle.swreq_reply.specs.declared.content.Backing.{Backing}
+use Rattle.swreq_reply.specs.declared.content.Content.{Content}
+use Rattle.swreq_reply.specs.declared.content.Content.TheVariants.{Answers, Calls, Families, Judgements, Signatures, Systems}
+use Rattle.swreq_reply.specs.Contents.{content_of}
+use Rattle.swreq_reply.specs.Inputs.{AreParts, Parts}
+use Rattle.swreq_reply.specs.Outputs.{ArePrinted, BacksYes, printed_text, signature_of}
 use Rattle.swreq_top.specs.Runs.{known_text}
 
 module _ (w : TextWorld) where
@@ -35,9 +38,14 @@ module _ (w : TextWorld) where
   abbrev pub IsImplied : TermQuery → TermStatement → Type 0
   IsImplied q = BookDerivable (facts_of w) (source_of (signature_at w (signature_of q)))
 
-  -- The line of a query for a requirement is `yes` exactly where the requirement is implied.
-  abbrev pub IsYesWhereImplied : TermQuery → Text → Type 0
-  IsYesWhereImplied q line = IfSome (asked q) (λ r. (line ≡ codes "yes\n") ↔ IsImplied q (Requires r))
+  -- The piece is the line `yes`, and behind it what backs it: where derivations are printed one that the checker accepts and that ends in what
+  -- is asked, and where paths are printed the one that is given for a conformance.
+  abbrev pub IsYes : Backing → TermQuery → Text → Type 0
+  IsYes b q piece = (behind : Text) × BacksYes w b q behind × (piece ≡ codes "yes\n" ++ behind)
+
+  -- The piece of a query for a requirement is that of a `yes` exactly where the requirement is implied.
+  abbrev pub IsYesWhereImplied : Backing → TermQuery → Text → Type 0
+  IsYesWhereImplied b q piece = IfSome (asked q) (λ r. IsYes b q piece ↔ IsImplied q (Requires r))
 
   -- The line of a query for a type parameter of the signature is the least one that is derivably equal to it.
   abbrev pub IsLeastWhereValid : TermQuery → Text → Type 0
@@ -60,41 +68,43 @@ module _ (w : TextWorld) where
   AreAlike g h = (g.params ≡ h.params) × AreEquivalent (facts_of w) (generic_params g.params) (written_list g) (written_list h)
 
   -- In these lines the k-th prints this of the signature: it answers a query for it, or stands behind its name.
-  abbrev pub PrintsOf : Command → List Text → ℕ → SignatureOver PlacedRequirement → Text → Type 0
-  PrintsOf command.Answer lines k g line =
+  abbrev pub PrintsOf : Content → List Text → ℕ → SignatureOver PlacedRequirement → Text → Type 0
+  PrintsOf (Answers b) lines k g line =
       (f : FuncId) × (slice_get w.queries k ≡ Some (AsksSignature f)) × (g ≡ signature_at w f) × (slice_get lines k ≡ Some line)
-  PrintsOf command.Signatures lines k g line =
+  PrintsOf Signatures lines k g line =
       (slice_get w.signatures k ≡ Some g) × (slice_get lines k ≡ Some (full_name w g ++ (codes ": " ++ line)))
-  PrintsOf command.Rules lines k g line = ⊥
-  PrintsOf (command.Gen n) lines k g line =
-      (f : FuncId) × (slice_get w.queries k ≡ Some (AsksSignature f)) × (g ≡ signature_at w f) × (slice_get lines k ≡ Some line)
+  PrintsOf Systems lines k g line = ⊥
+  PrintsOf Families lines k g line = ⊥
+  PrintsOf Calls lines k g line = ⊥
+  PrintsOf Judgements lines k g line = ⊥
 
   -- ---- the four sentences
 
   -- Each query prints yes exactly where the book's rules derive it from the written signature.
-  abbrev pub SayYesWhereImplied : Command → List Text → Type 0
-  SayYesWhereImplied command.Answer lines = AreLines IsYesWhereImplied w.queries lines
-  SayYesWhereImplied (command.Gen n) lines = AreLines IsYesWhereImplied w.queries lines
+  abbrev pub SayYesWhereImplied : Content → List Text → Type 0
+  SayYesWhereImplied (Answers b) lines = AreLines (IsYesWhereImplied b) w.queries lines
   SayYesWhereImplied _ lines = Unit {0}
 
   -- Each type parameter prints as the least one derivably equal to it.
-  abbrev pub SayTheLeast : Command → List Text → Type 0
-  SayTheLeast command.Answer lines = AreLines IsLeastWhereValid w.queries lines
-  SayTheLeast (command.Gen n) lines = AreLines IsLeastWhereValid w.queries lines
+  abbrev pub SayTheLeast : Content → List Text → Type 0
+  SayTheLeast (Answers b) lines = AreLines IsLeastWhereValid w.queries lines
   SayTheLeast _ lines = Unit {0}
 
   -- Each printed signature derives what was written and is derived from it, no requirement derivable from the others.
-  abbrev pub SayEqualLists : Command → List Text → Type 0
+  abbrev pub SayEqualLists : Content → List Text → Type 0
   SayEqualLists c lines = (k : ℕ) (g : SignatureOver PlacedRequirement) (line : Text) → PrintsOf c lines k g line → IsEqualAndIndependent g line
 
   -- Equivalent signatures print alike.
-  abbrev pub SayAlike : Command → List Text → Type 0
+  abbrev pub SayAlike : Content → List Text → Type 0
   SayAlike c lines = (k j : ℕ) (g h : SignatureOver PlacedRequirement) (line other : Text)
       → PrintsOf c lines k g line → PrintsOf c lines j h other → AreAlike g h → line ≡ other
 
--- The words say a command; its text, where that is known, has a world; and the bytes that were taken are lines, by what the command prints,
--- of which this is true.
-abbrev pub TakenSay : (TextWorld → Command → List Text → Type 0) → List Text → (left old new : Option Text) → Type 0
+-- The source text has a world, and the bytes that were taken are lines, by what the command prints, of which this is true.
+abbrev pub SaysOf : (TextWorld → Content → List Text → Type 0) → CommandLine → Parts → (old new : Option Text) → Type 0
+SaysOf Sentence line p old new = (w : TextWorld) × IsWorldOfText p.source w × ((lines : List Text) × ArePrinted w false (content_of line.command) p lines
+    × Appends old new (printed_text line.command lines) × Sentence w (content_of line.command) lines)
+
+-- The words say a command, and of its text, where that is known, so says what was taken.
+abbrev pub TakenSay : (TextWorld → Content → List Text → Type 0) → List Text → (left old new : Option Text) → Type 0
 TakenSay Sentence words left old new = (line : CommandLine) × Says words line
-    × IfSome (known_text line.command left) (λ text. (w : TextWorld) × IsWorldOfText text w × ((lines : List Text) × ArePrinted false w line.command lines
-    × Appends old new (printed_text line.command lines) × Sentence w line.command lines))
+    × IfSome (known_text line.command left) (λ text. (p : Parts) × AreParts line.command text p × SaysOf Sentence line p old new)

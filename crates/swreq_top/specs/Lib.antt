@@ -1,12 +1,2 @@
-pub mod Machines
-pub mod Checks
-pub mod Made
-pub mod Wanted
-pub mod Lines
-pub mod Outputs
 pub mod Headline
-pub mod Replies
-pub mod Reports
 pub mod Runs
-pub mod Told
-pub mod Verdict

@@ -15,9 +15,11 @@ use Rattle.swreq_words.specs.Form.{Says}
 use Rattle.swreq_words.specs.declared.command.Command.{Command}
 use Rattle.swreq_words.specs.declared.command.Command.TheVariants as command
 use Rattle.swreq_words.specs.declared.command.CommandLine.{CommandLine}
-use Rattle.swreq_top.specs.declared.outcome.Outcome.{Outcome}
-use Rattle.swreq_top.specs.Replies.{IsOnlyRefusal, IsToldVerdict, WasToldPart}
-use Rattle.swreq_top.specs.Verdict.{IsCutShort, IsRefused, IsVerdict}
+use Rattle.swreq_words.specs.declared.command.Input.TheVariants.{OnePart}
+use Rattle.swreq_words.specs.Commands.{input as reads}
+use Rattle.swreq_reply.specs.declared.outcome.Outcome.{Outcome}
+use Rattle.swreq_reply.specs.Replies.{IsOnlyRefusal, IsToldVerdict, WasToldPart}
+use Rattle.swreq_reply.specs.Verdict.{IsCutShort, IsRefused, IsVerdict}
 
 -- The words of the command line say no command.
 abbrev pub AreWrong : List Text → Type 0
@@ -31,12 +33,14 @@ IsGen c = (n : ℕ) × (c ≡ command.Gen n)
 abbrev pub SayGen : List Text → Type 0
 SayGen words = (line : CommandLine) × Says words line × IsGen line.command
 
+-- The words say no other command than one that reads a text of one part.
+abbrev pub ReadOnePart : List Text → Type 0
+ReadOnePart words = (line : CommandLine) → Says words line → reads line.command ≡ OnePart
+
 -- The text that the command answers, where it is known: that of the source, and of `gen` the generated one whatever the source has.
 abbrev pub known_text : Command → Option Text → Option Text
-known_text command.Answer left = left
-known_text command.Signatures left = left
-known_text command.Rules left = left
 known_text (command.Gen n) left = Some (generated n)
+known_text _ left = left
 
 -- What is left of the text that the source had, once it has a verdict: nothing, or all but the first bytes of one that is too long,
 -- one more than the limit.
@@ -46,10 +50,8 @@ IsRead left rest =
 
 -- Of a command that reads a source that is left; `gen` leaves it as it was.
 abbrev pub LeavesSource : Command → Option Text → Option Text → Type 0
-LeavesSource command.Answer left rest = IsRead left rest
-LeavesSource command.Signatures left rest = IsRead left rest
-LeavesSource command.Rules left rest = IsRead left rest
 LeavesSource (command.Gen n) left rest = rest ≡ left
+LeavesSource _ left rest = IsRead left rest
 
 -- With this status the output of a verdict on the text of the command was taken, and what is told with it was told. A text that is refused
 -- has no other verdict.

@@ -8,14 +8,14 @@ ghost use Rattle.swreq_text.specs.Faults.{HasRisen};
 ghost use Rattle.swreq_text.specs.Given.{AppendsPart, GivesCount};
 ghost use Rattle.swreq_watch.specs.Told.{GrewBy};
 ghost use Rattle.swreq_top.specs.Headline.{SayAlike, SayEqualLists, SayTheLeast, SayYesWhereImplied, TakenSay};
-ghost use Rattle.swreq_top.specs.Runs.{Answers, AnswersText, AreWrong, Delivers, IsAnswerable, IsEnd, IsFinished, IsGen, IsPrinted, SayGen, TellsSome};
-ghost use Rattle.swreq_top.specs.Verdict.{answered_text, limits_of};
+ghost use Rattle.swreq_top.specs.Runs.{Answers, AnswersText, AreWrong, Delivers, IsAnswerable, IsEnd, IsFinished, IsGen, IsPrinted, ReadOnePart, SayGen, TellsSome};
+ghost use Rattle.swreq_reply.specs.Verdict.{answered_text, limits_of};
 ghost use Rattle.swreq_text.specs.declared.whole.ReadErr.TheVariants.{Fault};
-ghost use Rattle.swreq_top.specs.Wanted.{HasCount};
+ghost use Rattle.swreq_reply.specs.Wanted.{HasCount};
 
-use crate::outcome::{Outcome, reply};
 use std::alloc::Global;
 use swreq_print::{OUT_OF_MEMORY, READ_FAULT, TOO_LARGE, USAGE};
+use swreq_reply::{Outcome, reply};
 use swreq_text::{ReadErr, Sink, Source, read_all, write_all};
 use swreq_watch::Watch;
 use swreq_words::laws::numbers_are_in_range;
@@ -56,9 +56,9 @@ pub fn run<S: Source, K: Sink, W: Watch>(
     // Equivalent signatures print alike.
     ensures alike { result ≡ 0 → TakenSay SayAlike (map string_bytes words.now) (S.left src.old) (K.taken out.old) (K.taken out.new) }
 
-    // A text that nothing refuses is answered, and so is the empty one, whatever the limits are.
+    // A text that nothing refuses is answered, and so is the empty one by a command that reads one part, whatever the limits are.
     ensures answered { IsAnswerable (map string_bytes words.now) (S.left src.old) → (result ≡ 1) ⊎ (result ≡ 3) → ⊥ }
-    ensures empty { (SayGen (map string_bytes words.now) → ⊥) → S.left src.old ≡ Some [] → (result ≡ 1) ⊎ (result ≡ 3) → ⊥ }
+    ensures empty { ReadOnePart (map string_bytes words.now) → S.left src.old ≡ Some [] → (result ≡ 1) ⊎ (result ≡ 3) → ⊥ }
 
     // The words.
     ensures wrong_words { AreWrong (map string_bytes words.now) → (result ≡ 2) ⊎ ((result ≡ 5) ⊎ (result ≡ 6)) }

@@ -26,7 +26,8 @@ fn reads_nothing(
 }
 
 const USAGE: &[u8] =
-    b"usage: genreq (answer | signatures | rules | gen N) [--max-rules N] [--max-length N] [--trace]\n";
+    b"usage: genreq (answer | signatures | rules | gen N | explain | verify | paths | calls | requirements) \
+    [--max-rules N] [--max-length N] [--trace]\n";
 
 /// Words that are refused, a line each.
 const WRONG: &str = "answer --max-rules 0

@@ -1,6 +1,6 @@
 //! Texts, and the words they are run with.
 use crate::running::{runs, undisturbed};
-use crate::texts::{ANSWERS, ENDLESS, LIMITS, REFUSALS};
+use crate::texts::{ANSWERS, ENDLESS, EVIDENCE, LIMITS, REFUSALS};
 use std::alloc::Global;
 use std::process::Abort;
 use std::test::Fail;
@@ -37,6 +37,11 @@ fn all_give(rt: &impl Abort, alloc: Global, rows: &str) -> Result<(), Fail> {
 #[test]
 fn texts_are_answered(rt: HostRuntime) -> Result<(), Fail> {
     all_give(&rt, rt.alloc(), ANSWERS)
+}
+
+#[test]
+fn derivations_paths_calls_and_signatures_are_given(rt: HostRuntime) -> Result<(), Fail> {
+    all_give(&rt, rt.alloc(), EVIDENCE)
 }
 
 #[test]

@@ -10,7 +10,7 @@ use Rattle.swreq_words.specs.declared.command.Command.{Command}
 use Rattle.swreq_words.specs.declared.command.Command.TheVariants as command
 use Rattle.swreq_words.specs.declared.command.CommandLine.{CommandLine}
 use Rattle.swreq_words.specs.declared.names.CommandName.{CommandName}
-use Rattle.swreq_words.specs.declared.names.CommandName.TheVariants.{Answer, Signatures, Rules, Gen}
+use Rattle.swreq_words.specs.declared.names.CommandName.TheVariants.{Answer, Signatures, Rules, Gen, Explain, Verify, Paths, Calls, Requirements}
 use Rattle.swreq_words.specs.declared.names.Limit.{Limit}
 use Rattle.swreq_words.specs.declared.names.Limit.TheVariants.{MaxRules, MaxLength}
 use Rattle.swreq_words.proofs.Fronts.{some_same}
@@ -70,6 +70,11 @@ gen_within : (name : CommandName) (found : Option (List ℕ)) (n : ℕ)
 gen_within Answer found n within e = absurd (let clash : command.Answer ≡ command.Gen n = some_same command.Answer (command.Gen n) e in cc)
 gen_within Signatures found n within e = absurd (let clash : command.Signatures ≡ command.Gen n = some_same command.Signatures (command.Gen n) e in cc)
 gen_within Rules found n within e = absurd (let clash : command.Rules ≡ command.Gen n = some_same command.Rules (command.Gen n) e in cc)
+gen_within Explain found n within e = absurd (let clash : command.Explain ≡ command.Gen n = some_same command.Explain (command.Gen n) e in cc)
+gen_within Verify found n within e = absurd (let clash : command.Verify ≡ command.Gen n = some_same command.Verify (command.Gen n) e in cc)
+gen_within Paths found n within e = absurd (let clash : command.Paths ≡ command.Gen n = some_same command.Paths (command.Gen n) e in cc)
+gen_within Calls found n within e = absurd (let clash : command.Calls ≡ command.Gen n = some_same command.Calls (command.Gen n) e in cc)
+gen_within Requirements found n within e = absurd (let clash : command.Requirements ≡ command.Gen n = some_same command.Requirements (command.Gen n) e in cc)
 gen_within Gen None n within e = absurd (let clash : (let o : Option Command = None in o) ≡ Some (command.Gen n) = e in cc)
 gen_within Gen (Some text) n within e = subst (IsFrom1 greatest_count) (inner (number_of text) n (some_same (command.Gen (number_of text)) (command.Gen n) e)) (within text refl)
   where

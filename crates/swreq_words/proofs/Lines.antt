@@ -2,15 +2,16 @@
 use Rattle.std.proofs.Common.{ap, ap₂, refl, sym, subst, codes, true, false, Bool, not, ◌&&◌, ◌||◌, if◌then◌else◌, option_map, option_and_then, true≢false, is_some, Result, Ok, Err, IfOk, List, Option, Some, None, [], ◌∷◌, ◌≡◌, ◌∙◌, ℕ}
 use Rattle.std.specs.Str.{bytes_eq}
 use Rattle.std.specs.Option.{option_map_or, ok_or}
-use Rattle.std.specs.List.{flat_map}
+use Rattle.std.specs.List.{find, flat_map}
 use Rattle.std.proofs.lemmas.Bool.{and_parts}
 use Rattle.clap.specs.Words.{takes, subcommand_of}
 use Rattle.swreq_words.specs.declared.command.Command.{Command}
 use Rattle.swreq_words.specs.declared.command.CommandLine.{CommandLine}
 use Rattle.swreq_words.specs.declared.reading.UsageErr.{UsageErr}
 use Rattle.swreq_words.specs.declared.reading.UsageErr.TheVariants.{Usage, Memory}
+use Rattle.swreq_words.specs.declared.names.TheConstants.{COMMANDS}
 use Rattle.swreq_words.specs.declared.names.CommandName.{CommandName}
-use Rattle.swreq_words.specs.declared.names.CommandName.TheVariants.{Answer, Signatures, Rules, Gen}
+use Rattle.swreq_words.specs.declared.names.CommandName.TheVariants.{Answer, Signatures, Rules, Gen, Explain, Verify, Paths, Calls, Requirements}
 use Rattle.swreq_words.specs.declared.names.Limit.{Limit}
 use Rattle.swreq_words.specs.declared.names.Limit.TheVariants.{MaxRules, MaxLength}
 use Rattle.swreq_words.specs.declared.seen.Seen.{Seen}
@@ -34,23 +35,27 @@ pub record Formed (words : List Text) : Type 0 where
 
 abbrev Names : Text → Option CommandName → Type 0
 Names w None = Unit {0}
-Names w (Some n) = w ≡ word_of n
+Names w (Some n) = word_of n ≡ w
 
-names_if : (w : Text) (b : Bool) (x y : Option CommandName) → (b ≡ true → Names w x) → Names w y → Names w (if b then x else y)
-names_if w true x y f other_name = f refl
-names_if w false x y f other_name = other_name
+names_if : (w : Text) (b : Bool) (n : CommandName) (rest : Option CommandName) → (b ≡ true → word_of n ≡ w) → Names w rest → Names w (if b then Some n else rest)
+names_if w true n rest is more = is refl
+names_if w false n rest is more = more
 
-its_name : (w : Text) → Names w (name_of w)
-its_name w = names_if w (bytes_eq w (codes "answer")) (Some Answer) _ (bytes_same w (codes "answer"))
-    (names_if w (bytes_eq w (codes "signatures")) (Some Signatures) _ (bytes_same w (codes "signatures"))
-    (names_if w (bytes_eq w (codes "rules")) (Some Rules) _ (bytes_same w (codes "rules"))
-    (names_if w (bytes_eq w (codes "gen")) (Some Gen) None (bytes_same w (codes "gen")) tt)))
+its_name : (w : Text) (names : List CommandName) → Names w (find (λ n. bytes_eq (word_of n) w) names)
+its_name w [] = tt
+its_name w (n ∷ names) = names_if w (bytes_eq (word_of n) w) n _ (bytes_same (word_of n) w) (its_name w names)
 
 name_is : (n : CommandName) → name_of (word_of n) ≡ Some n
+unfolding name_of
 name_is Answer = refl
 name_is Signatures = refl
 name_is Rules = refl
 name_is Gen = refl
+name_is Explain = refl
+name_is Verify = refl
+name_is Paths = refl
+name_is Calls = refl
+name_is Requirements = refl
 
 calm_of : {A : Type 0} (w : Option A) → not (is_some w) ≡ true → w ≡ None
 calm_of None e = refl
@@ -79,11 +84,12 @@ formed_after n ws (Some after) e is =
 
 formed_by : (w : Text) (ws : List Text) (o : Option CommandName) → Names w o → option_map_or (λ name. are_parts (follows name) ws) o false ≡ true → Formed (w ∷ ws)
 formed_by w ws None is e = absurd (true≢false (sym e))
-formed_by w ws (Some n) is e = subst (λ x. Formed (x ∷ ws)) (sym is) (formed_after n ws (read_on (follows n) nothing_seen ws) refl e)
+formed_by w ws (Some n) is e = subst (λ x. Formed (x ∷ ws)) is (formed_after n ws (read_on (follows n) nothing_seen ws) refl e)
 
 pub formed : (words : List Text) → has_form words ≡ true → Formed words
+unfolding name_of
 formed [] e = absurd (true≢false (sym e))
-formed (w ∷ ws) e = formed_by w ws (name_of w) (its_name w) e
+formed (w ∷ ws) e = formed_by w ws (name_of w) (its_name w COMMANDS) e
 
 done_if : (takes number : Bool) → (takes ≡ true → number ≡ true) → (not takes || number) ≡ true
 done_if false number e = refl
@@ -108,6 +114,11 @@ counts_of Signatures text ps c is e t = absurd (true≢false (sym t))
 counts_of Rules text ps c is e t = absurd (true≢false (sym t))
 counts_of Gen None ps c is e t = absurd (none_some c e)
 counts_of Gen (Some u) ps c is e t = text_is_set (codes "number") u ps is
+counts_of Explain text ps c is e t = absurd (true≢false (sym t))
+counts_of Verify text ps c is e t = absurd (true≢false (sym t))
+counts_of Paths text ps c is e t = absurd (true≢false (sym t))
+counts_of Calls text ps c is e t = absurd (true≢false (sym t))
+counts_of Requirements text ps c is e t = absurd (true≢false (sym t))
 
 pub formed_of : (words : List Text) (line : CommandLine) → Says words line → Formed words
 formed_of words line says = record {
@@ -190,6 +201,11 @@ command_there Answer ps e = (_, refl)
 command_there Signatures ps e = (_, refl)
 command_there Rules ps e = (_, refl)
 command_there Gen ps e = let t = set_text (codes "number") ps (e refl) in (_, ap (command_of Gen) t.1)
+command_there Explain ps e = (_, refl)
+command_there Verify ps e = (_, refl)
+command_there Paths ps e = (_, refl)
+command_there Calls ps e = (_, refl)
+command_there Requirements ps e = (_, refl)
 
 pub line_there : (words : List Text) → has_form words ≡ true → (line : CommandLine) × (line_found (subcommand_of genreq words) ≡ Some line)
 line_there words e =

@@ -15,7 +15,7 @@ use Rattle.clap.specs.declared.parser.matches.ValueSource.TheVariants.{DefaultVa
 use Rattle.clap.specs.Takes.{walk_passes, turn_passes, settle_passes, level_passes, entered_passes, default_passes, is_valid, is_given}
 use Rattle.clap.proofs.OnLiterals.{clap_on_literals}
 use Rattle.swreq_words.specs.declared.names.CommandName.{CommandName}
-use Rattle.swreq_words.specs.declared.names.CommandName.TheVariants.{Answer, Signatures, Rules, Gen}
+use Rattle.swreq_words.specs.declared.names.CommandName.TheVariants.{Answer, Signatures, Rules, Gen, Explain, Verify, Paths, Calls, Requirements}
 use Rattle.swreq_words.specs.declared.names.Follows.{Follows}
 use Rattle.swreq_words.specs.declared.names.Follows.TheVariants.{Nothing, Options, OptionsAndNumber}
 use Rattle.swreq_words.specs.Form.{Text, Part, words_of, word_of, follows}
@@ -150,6 +150,11 @@ step_of Answer = refl
 step_of Signatures = refl
 step_of Rules = refl
 step_of Gen = refl
+step_of Explain = refl
+step_of Verify = refl
+step_of Paths = refl
+step_of Calls = refl
+step_of Requirements = refl
 
 turn_of : (n : CommandName) → turn_passes top_shape top_names (between nothing_held 1) (word_of n) ≡ true
 unfolding clap_on_literals
@@ -157,12 +162,22 @@ turn_of Answer = refl
 turn_of Signatures = refl
 turn_of Rules = refl
 turn_of Gen = refl
+turn_of Explain = refl
+turn_of Verify = refl
+turn_of Paths = refl
+turn_of Calls = refl
+turn_of Requirements = refl
 
 found_of : (n : CommandName) → find (λ s. answers_to (word_of n) (label_of s)) (built genreq).subs ≡ Some (shape (follows n) (word_of n))
 found_of Answer = refl
 found_of Signatures = refl
 found_of Rules = refl
 found_of Gen = refl
+found_of Explain = refl
+found_of Verify = refl
+found_of Paths = refl
+found_of Calls = refl
+found_of Requirements = refl
 
 name_of_shape : (may : Follows) (name : Text) → (shape may name).name ≡ name
 name_of_shape Nothing name = refl

@@ -7,7 +7,7 @@ use Rattle.swreq_words.specs.declared.command.Command.{Command}
 use Rattle.swreq_words.specs.declared.command.Command.TheVariants as command
 use Rattle.swreq_words.specs.declared.command.CommandLine.{CommandLine}
 use Rattle.swreq_words.specs.declared.names.CommandName.{CommandName}
-use Rattle.swreq_words.specs.declared.names.CommandName.TheVariants.{Answer, Signatures, Rules, Gen}
+use Rattle.swreq_words.specs.declared.names.CommandName.TheVariants.{Answer, Signatures, Rules, Gen, Explain, Verify, Paths, Calls, Requirements}
 use Rattle.swreq_words.specs.declared.names.Follows.{Follows}
 use Rattle.swreq_words.specs.declared.names.Follows.TheVariants.{Nothing, Options, OptionsAndNumber}
 use Rattle.swreq_words.specs.declared.names.Limit.{Limit}
@@ -25,6 +25,11 @@ word_of Answer = codes "answer"
 word_of Signatures = codes "signatures"
 word_of Rules = codes "rules"
 word_of Gen = codes "gen"
+word_of Explain = codes "explain"
+word_of Verify = codes "verify"
+word_of Paths = codes "paths"
+word_of Calls = codes "calls"
+word_of Requirements = codes "requirements"
 
 -- what may follow it
 abbrev pub follows : CommandName → Follows
@@ -32,6 +37,11 @@ follows Answer = Options
 follows Signatures = Options
 follows Rules = Options
 follows Gen = OptionsAndNumber
+follows Explain = Options
+follows Verify = Nothing
+follows Paths = Options
+follows Calls = Options
+follows Requirements = Options
 
 -- how a limit is named
 abbrev pub limit_name : Limit → Text
@@ -124,6 +134,11 @@ command_of Signatures text = Some command.Signatures
 command_of Rules text = Some command.Rules
 command_of Gen None = None
 command_of Gen (Some text) = Some (command.Gen (number_of text))
+command_of Explain text = Some command.Explain
+command_of Verify text = Some command.Verify
+command_of Paths text = Some command.Paths
+command_of Calls text = Some command.Calls
+command_of Requirements text = Some command.Requirements
 
 -- the words are the name of a command and parts that may follow it, each with its number in its range, each setting what none before it sets
 pub record HasForm (words : List Text) : Type 0 where

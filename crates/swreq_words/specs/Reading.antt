@@ -1,24 +1,21 @@
 -- How the form is tested, word for word.
 use Rattle.std.specs.Prelude.{◌==◌, Bool, true, false, not, List, [], ◌∷◌, ◌++◌, ◌&&◌, ◌||◌, Option, Some, None, option_and_then, is_some, if◌then◌else◌, codes}
+use Rattle.std.specs.List.{find}
 use Rattle.std.specs.Str.{bytes_eq}
 use Rattle.std.specs.Option.{option_map_or}
 use Rattle.swreq_words.specs.declared.names.CommandName.{CommandName}
-use Rattle.swreq_words.specs.declared.names.CommandName.TheVariants.{Answer, Signatures, Rules, Gen}
+use Rattle.swreq_words.specs.declared.names.TheConstants.{COMMANDS}
 use Rattle.swreq_words.specs.declared.names.Follows.{Follows}
 use Rattle.swreq_words.specs.declared.names.Follows.TheVariants.{Nothing, Options, OptionsAndNumber}
 use Rattle.swreq_words.specs.declared.names.Limit.{Limit}
 use Rattle.swreq_words.specs.declared.names.Limit.TheVariants.{MaxRules, MaxLength}
 use Rattle.swreq_words.specs.declared.seen.Seen.{Seen}
 use Rattle.swreq_words.specs.Numbers.{is_number}
-use Rattle.swreq_words.specs.Form.{Text, follows, limit_name, greatest, greatest_count, option_word}
+use Rattle.swreq_words.specs.Form.{Text, follows, limit_name, greatest, greatest_count, option_word, word_of}
 
 -- the command that a word names
-abbrev pub name_of : Text → Option CommandName
-name_of word = if bytes_eq word (codes "answer") then Some Answer
-    else (if bytes_eq word (codes "signatures") then Some Signatures
-    else (if bytes_eq word (codes "rules") then Some Rules
-    else (if bytes_eq word (codes "gen") then Some Gen
-    else None)))
+unfoldable pub name_of : Text → Option CommandName
+name_of word = find (λ name. bytes_eq (word_of name) word) COMMANDS
 
 -- what follows this front in the text
 unfoldable pub after : Text → Text → Option Text

@@ -1,13 +1,14 @@
 -- The command of `clap`, as what its parse reads of it.
 use Rattle.std.specs.Prelude.{true, Some, codes}
+use Rattle.std.specs.List.{fold}
 use Rattle.clap.specs.Words.{App, Rule, new_app, new_rule, with_rule, with_subcommand}
 use Rattle.clap.specs.declared.builder.action.ArgAction.TheVariants.{SetTrue}
 use Rattle.swreq_words.specs.declared.names.CommandName.{CommandName}
-use Rattle.swreq_words.specs.declared.names.CommandName.TheVariants.{Answer, Signatures, Rules, Gen}
 use Rattle.swreq_words.specs.declared.names.Follows.{Follows}
 use Rattle.swreq_words.specs.declared.names.Follows.TheVariants.{Nothing, Options, OptionsAndNumber}
 use Rattle.swreq_words.specs.declared.names.Limit.{Limit}
 use Rattle.swreq_words.specs.declared.names.Limit.TheVariants.{MaxRules, MaxLength}
+use Rattle.swreq_words.specs.declared.names.TheConstants.{COMMANDS}
 use Rattle.swreq_words.specs.Form.{Text, follows, limit_name, word_of}
 
 abbrev pub limit_rule : Limit → Rule
@@ -41,4 +42,4 @@ abbrev pub with_leaf : App → CommandName → App
 with_leaf app name = with_subcommand app (leaf_of name).top
 
 abbrev pub genreq : App
-genreq = with_leaf (with_leaf (with_leaf (with_leaf bare Answer) Signatures) Rules) Gen
+genreq = fold with_leaf bare COMMANDS

@@ -1,5 +1,8 @@
 //! What the words say.
 
+ghost use Rattle.std.specs.Prelude.{◌≡◌};
+ghost use Rattle.swreq_words.specs.Commands.{input};
+
 /// What is to be done.
 #[derive(Clone, Copy, Debug, PartialEq, Eq)]
 pub enum Command {
@@ -14,6 +17,45 @@ pub enum Command {
         /// How many protocols it has.
         n: u32,
     },
+    /// The queries of a text are answered, each yes with a derivation.
+    Explain,
+    /// The derivations of a second part are checked against a text.
+    Verify,
+    /// The queries of a text are answered, each conformance with its shortest path.
+    Paths,
+    /// The calls of a second part are judged by the signatures of a text.
+    Calls,
+    /// The requirement signatures of a text's protocols are printed.
+    Requirements,
+}
+
+/// What a command reads.
+#[derive(Clone, Copy, Debug, PartialEq, Eq)]
+pub enum Input {
+    /// Nothing.
+    Nothing,
+    /// A text.
+    OnePart,
+    /// A text and a second part.
+    TwoParts,
+}
+
+impl Command {
+    /// What it reads.
+    pub fn input(self) -> Input
+        ensures { result ≡ input self }
+    {
+        match self {
+            Command::Gen { .. } => Input::Nothing,
+            Command::Verify | Command::Calls => Input::TwoParts,
+            Command::Answer
+            | Command::Signatures
+            | Command::Rules
+            | Command::Explain
+            | Command::Paths
+            | Command::Requirements => Input::OnePart,
+        }
+    }
 }
 
 /// A command and its options.

@@ -11,5 +11,5 @@ mod parse;
 mod reading;
 mod seen;
 
-pub use command::{Command, CommandLine};
+pub use command::{Command, CommandLine, Input};
 pub use reading::{UsageErr, read};

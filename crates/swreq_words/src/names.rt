@@ -1,6 +1,8 @@
 //! The tables: the commands and what may follow each, and the limits that options set.
 
 ghost use Rattle.std.specs.Prelude.{◌≡◌};
+ghost use Rattle.std.specs.List.{find};
+ghost use Rattle.std.specs.Str.{bytes_eq};
 ghost use Rattle.swreq_words.specs.Form.{follows, greatest, limit_name, option_word, preset, word_of};
 ghost use Rattle.swreq_words.specs.Reading.{front_of, name_of};
 
@@ -11,7 +13,25 @@ pub(crate) enum CommandName {
     Signatures,
     Rules,
     Gen,
+    Explain,
+    Verify,
+    Paths,
+    Calls,
+    Requirements,
 }
+
+/// The commands.
+pub(crate) const COMMANDS: [CommandName; 9] = [
+    CommandName::Answer,
+    CommandName::Signatures,
+    CommandName::Rules,
+    CommandName::Gen,
+    CommandName::Explain,
+    CommandName::Verify,
+    CommandName::Paths,
+    CommandName::Calls,
+    CommandName::Requirements,
+];
 
 /// What may follow a command's name.
 #[derive(Clone, Copy, Debug, PartialEq, Eq)]
@@ -28,18 +48,20 @@ pub(crate) enum Limit {
     MaxLength,
 }
 
+// The first of these that the word names.
+fn named_among(names: &[CommandName], word: &str) -> Option<CommandName>
+    ensures { result ≡ find (λ name. bytes_eq (word_of name) word.now) names.now }
+{
+    names.iter().copied().find(|name| name.word() == word)
+}
+
 impl CommandName {
     /// The command that the word names.
+    #[tactic(auto, unfolding(crate::specs::Reading::name_of))]
     pub(crate) fn of(word: &str) -> Option<CommandName>
         ensures { result ≡ name_of word.now }
     {
-        match word {
-            "answer" => Some(CommandName::Answer),
-            "signatures" => Some(CommandName::Signatures),
-            "rules" => Some(CommandName::Rules),
-            "gen" => Some(CommandName::Gen),
-            _ => None,
-        }
+        named_among(&COMMANDS, word)
     }
 
     /// How it is named.
@@ -51,6 +73,11 @@ impl CommandName {
             CommandName::Signatures => "signatures",
             CommandName::Rules => "rules",
             CommandName::Gen => "gen",
+            CommandName::Explain => "explain",
+            CommandName::Verify => "verify",
+            CommandName::Paths => "paths",
+            CommandName::Calls => "calls",
+            CommandName::Requirements => "requirements",
         }
     }
 
@@ -59,10 +86,15 @@ impl CommandName {
         ensures { result ≡ follows self }
     {
         match self {
-            CommandName::Answer => Follows::Options,
-            CommandName::Signatures => Follows::Options,
-            CommandName::Rules => Follows::Options,
+            CommandName::Verify => Follows::Nothing,
             CommandName::Gen => Follows::OptionsAndNumber,
+            CommandName::Answer
+            | CommandName::Signatures
+            | CommandName::Rules
+            | CommandName::Explain
+            | CommandName::Paths
+            | CommandName::Calls
+            | CommandName::Requirements => Follows::Options,
         }
     }
 }

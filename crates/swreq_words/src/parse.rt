@@ -4,11 +4,11 @@ ghost use Rattle.std.specs.Prelude.{◌≡◌, List, Option, Some, true, false, 
 ghost use Rattle.clap.specs.Words.{app_of, kind_of, takes, rows_of, found_of, first_of, one_of, subcommand_rows_of, subcommand_of, with_rule};
 ghost use Rattle.clap.specs.declared.builder.command.Command.TheViews.{out-Command};
 ghost use Rattle.swreq_words.specs.Form.{command_of};
-ghost use Rattle.swreq_words.specs.Taken.{genreq, leaf_of, number_rule, with_options, with_parts};
+ghost use Rattle.swreq_words.specs.Taken.{bare, genreq, leaf_of, number_rule, with_leaf, with_options, with_parts};
 ghost use Rattle.swreq_words.specs.Found.{is_true, limit_found, line_found, line_of};
 
 use crate::command::{Command, CommandLine};
-use crate::names::{CommandName, Follows, Limit};
+use crate::names::{COMMANDS, CommandName, Follows, Limit};
 use crate::numbers::number_of;
 use clap::error::ErrorKind;
 use clap::{Arg, ArgAction, ArgMatches};
@@ -67,21 +67,36 @@ fn leaf<'a>(alloc: Global, name: CommandName) -> Result<clap::Command<'a>, Alloc
     with_parts(alloc, command, name.follows())
 }
 
+// The command without its subcommands.
+fn bare<'a>(alloc: Global) -> clap::Command<'a>
+    ensures { app_of result ≡ bare }
+{
+    clap::Command::new(alloc, "genreq")
+        .subcommand_required(true)
+        .no_binary_name(true)
+}
+
+// With the subcommand of this name.
+fn with_leaf<'a>(
+    alloc: Global,
+    command: clap::Command<'a>,
+    name: CommandName,
+) -> Result<clap::Command<'a>, AllocError>
+    ensures { IfOk result (λ c. app_of c ≡ with_leaf (app_of command.entry) name) }
+{
+    let leaf = leaf(alloc, name)?;
+    command.subcommand(leaf)
+}
+
 // The whole command.
 fn genreq<'a>(alloc: Global) -> Result<clap::Command<'a>, AllocError>
     ensures { IfOk result (λ c. app_of c ≡ genreq) }
 {
-    let top = clap::Command::new(alloc, "genreq")
-        .subcommand_required(true)
-        .no_binary_name(true);
-    let answer = leaf(alloc, CommandName::Answer)?;
-    let signatures = leaf(alloc, CommandName::Signatures)?;
-    let rules = leaf(alloc, CommandName::Rules)?;
-    let generate = leaf(alloc, CommandName::Gen)?;
-    top.subcommand(answer)?
-        .subcommand(signatures)?
-        .subcommand(rules)?
-        .subcommand(generate)
+    let mut command = bare(alloc);
+    for name in COMMANDS {
+        command = with_leaf(alloc, command, name)?;
+    }
+    Ok(command)
 }
 
 /// What the command finds in the words. Where it takes them, it fails for want of memory alone.
@@ -134,6 +149,11 @@ fn command_of(name: CommandName, number: Option<&str>) -> Option<Command>
             Some(text) => Some(Command::Gen { n: number_of(text) }),
             None => None,
         },
+        CommandName::Explain => Some(Command::Explain),
+        CommandName::Verify => Some(Command::Verify),
+        CommandName::Paths => Some(Command::Paths),
+        CommandName::Calls => Some(Command::Calls),
+        CommandName::Requirements => Some(Command::Requirements),
     }
 }
 

@@ -1,0 +1,119 @@
+-- Of which signatures a command wants the minimised list.
+use Rattle.std.proofs.Common.{◌≡◌, ◌≢◌, ◌⊎◌, ◌∙◌, inl, inr, refl, sym, ap, subst, ℕ, ◌<◌, ◌||◌, Bool, true, false, List, [], ◌∷◌, ◌++◌, get_or, set, length, map, Contains, Option, Some, None, true≢false, arith, eq-eqb, ne_eqb}
+use Rattle.std.proofs.lemmas.Bool.{cases_eq, eqb-true}
+use Rattle.std.proofs.lemmas.Option.{same_Some}
+use Rattle.std.proofs.lemmas.List.{get_or-set_other, get_or-set_same, length-map, length-set}
+use Rattle.std.proofs.lemmas.List.Elements.{All-contains, Contains-get_or}
+use Rattle.std.proofs.lemmas.List.Folds.{list_any-append}
+use Rattle.std.proofs.Math.Bool.{or-false, or-true}
+use Rattle.swreq_param.specs.Terms.{Term}
+use Rattle.swreq_orders.proofs.Members.{contains_map}
+use Rattle.swreq_reply.specs.declared.content.Content.{Content}
+use Rattle.swreq_reply.specs.declared.content.Content.TheVariants.{Answers, Signatures, Systems, Calls, Families, Judgements}
+use Rattle.swreq_lowering.specs.declared.ids.FuncId.{FuncId}
+use Rattle.swreq_lowering.specs.declared.ids.Query.{Query}
+use Rattle.swreq_lowering.specs.declared.ids.Query.TheVariants as queries
+use Rattle.swreq_lowering.specs.ByTable.{query_by}
+use Rattle.swreq_lowering.specs.Queries.TermQuery.{AsksSignature}
+use Rattle.swreq_world.specs.ByTable.{signature_by, world_by}
+use Rattle.swreq_world.specs.Closed.{IsClosed, IsQueryOf}
+use Rattle.swreq_world.specs.Worlds.{IdWorld, no_signature, signature_at}
+use Rattle.swreq_reply.specs.Outputs.{signature_of}
+use Rattle.swreq_reply.specs.Told.{IsMinimisedFor}
+use Rattle.swreq_reply.specs.Wanted.{AreFlags, function_of, is_at, is_list_asked, list_asked, wants_list}
+use Rattle.swreq_reply.proofs.Lines.{query_signature}
+use Rattle.swreq_reply.proofs.OneWorld.{any_in, any_of}
+
+-- the query asks for the minimised list of the signature at this place
+abbrev lists_at : ℕ → Query → Bool
+lists_at k q = is_at k (list_asked q)
+
+-- one query more
+module _ (qs : List Query) (count : ℕ) (flags : List Bool) (q : Query) (h : AreFlags (is_list_asked qs) count flags) where
+  ends : (k : ℕ) → is_list_asked (qs ++ q ∷ []) k ≡ (is_list_asked qs k || (lists_at k q || false))
+  ends k = list_any-append (lists_at k) qs (q ∷ [])
+
+  unasked : (k : ℕ) → k < count → lists_at k q ≡ false → get_or flags k false ≡ is_list_asked (qs ++ q ∷ []) k
+  unasked k below other =
+      h.set k below
+      ∙ sym (ends k ∙ ap (λ (b : Bool). is_list_asked qs k || b) (or-false (lists_at k q) ∙ other) ∙ or-false (is_list_asked qs k))
+
+  module _ (f : FuncId) (asks : list_asked q ≡ Some f) (l : f.place < count) where
+    flag_of : (k : ℕ) → k < count → (k ≡ f.place) ⊎ (k ≢ f.place) → get_or (set flags f.place true) k false ≡ is_list_asked (qs ++ q ∷ []) k
+    flag_of k below (inl e) =
+        let same : lists_at k q ≡ true = ap (is_at k) asks ∙ eq-eqb f.place k (sym e) in
+        let within : f.place < length flags = omega (arith, h.counted, l) in
+        ap (λ (n : ℕ). get_or (set flags f.place true) n false) e ∙ get_or-set_same flags f.place true false within
+        ∙ sym (ends k ∙ ap (λ (b : Bool). is_list_asked qs k || b) (or-false (lists_at k q) ∙ same) ∙ or-true (is_list_asked qs k))
+    flag_of k below (inr n) =
+        get_or-set_other flags f.place k true false n ∙ unasked k below (ap (is_at k) asks ∙ ne_eqb f.place k (λ e. n (sym e)))
+
+    pub list_asked_more : AreFlags (is_list_asked (qs ++ q ∷ [])) count (set flags f.place true)
+    list_asked_more = record { counted = length-set flags f.place true ∙ h.counted; set = λ k below. flag_of k below (cases_eq k f.place) }
+
+  pub list_asked_same : list_asked q ≡ None → AreFlags (is_list_asked (qs ++ q ∷ [])) count flags
+  list_asked_same none = record { counted = h.counted; set = λ k below. unasked k below (ap (is_at k) none) }
+
+-- ---- what is asked
+
+pub asked_alike : (terms : List Term) (q : Query) → signature_of (query_by terms q) ≡ function_of q
+asked_alike terms (queries.Signature f) = refl
+asked_alike terms (queries.Reduced f t) = refl
+asked_alike terms (queries.Conf f t p) = refl
+asked_alike terms (queries.Layout f t) = refl
+asked_alike terms (queries.Same f t u) = refl
+
+-- each query asks a signature of the world
+pub asked_within : (w : IdWorld) (terms : List Term) → IsClosed (world_by terms w) → (q : Query) → Contains w.queries q
+    → (function_of q).place < length w.signatures
+asked_within w terms closed q c =
+    let of : IsQueryOf (world_by terms w) (query_by terms q) =
+    All-contains (IsQueryOf (world_by terms w)) (map (query_by terms) w.queries) (query_by terms q) closed.queries (contains_map (query_by terms) w.queries q c) in
+    let within : (signature_of (query_by terms q)).place < length (map (signature_by terms) w.signatures) = query_signature (world_by terms w) (query_by terms q) of in
+    subst (λ (f : FuncId). f.place < length w.signatures) (asked_alike terms q) (omega (arith, length-map w.signatures (signature_by terms), within))
+
+-- what a query for a list asks is the signature of the list
+pub listed_function : (q : Query) (f : FuncId) → list_asked q ≡ Some f → function_of q ≡ f
+listed_function (queries.Signature g) f is = same_Some g f is
+listed_function (queries.Reduced g t) f is = absurd (let clash : (let o : Option FuncId = None in o) ≡ Some f = is in cc)
+listed_function (queries.Conf g t p) f is = absurd (let clash : (let o : Option FuncId = None in o) ≡ Some f = is in cc)
+listed_function (queries.Layout g t) f is = absurd (let clash : (let o : Option FuncId = None in o) ≡ Some f = is in cc)
+listed_function (queries.Same g t u) f is = absurd (let clash : (let o : Option FuncId = None in o) ≡ Some f = is in cc)
+
+-- a query for a list asks for it
+pub is_listed : (qs : List Query) (f : FuncId) → Contains qs (queries.Signature f) → is_list_asked qs f.place ≡ true
+is_listed qs f c = any_in (lists_at f.place) qs (queries.Signature f) c (eq-eqb _ _ refl)
+
+-- and where one is asked, there is a query for it
+asking_list : (k : ℕ) (q : Query) → lists_at k q ≡ true → (f : FuncId) × (q ≡ queries.Signature f) × (f.place ≡ k)
+asking_list k (queries.Signature f) h = (f, refl, eqb-true f.place k h)
+asking_list k (queries.Reduced f t) h = absurd (true≢false (sym h))
+asking_list k (queries.Conf f t p) h = absurd (true≢false (sym h))
+asking_list k (queries.Layout f t) h = absurd (true≢false (sym h))
+asking_list k (queries.Same f t u) h = absurd (true≢false (sym h))
+
+any_list : (qs : List Query) (k : ℕ) → is_list_asked qs k ≡ true → (f : FuncId) × Contains qs (queries.Signature f) × (f.place ≡ k)
+any_list qs k h =
+    let q = any_of (lists_at k) qs h in
+    let f = asking_list k q.0 q.2 in (f.0, subst (Contains qs) f.1 q.1, f.2)
+
+module _ (w : IdWorld) (terms : List Term) (f : FuncId) where
+  for_query : is_list_asked w.queries f.place ≡ true
+      → (g : FuncId) × Contains (world_by terms w).queries (AsksSignature g) × (signature_at (world_by terms w) f ≡ signature_at (world_by terms w) g)
+  for_query h =
+      let g = any_list w.queries f.place h in (
+        g.0,
+        contains_map (query_by terms) w.queries (queries.Signature g.0) g.1,
+        ap (λ (n : ℕ). signature_at (world_by terms w) (record { place = n })) (sym g.2),
+      )
+
+  -- and so it is wanted
+  pub minimised_for : (c : Content) → f.place < length w.signatures → wants_list c w.queries f.place ≡ true
+      → IsMinimisedFor c (world_by terms w) (signature_at (world_by terms w) f)
+  minimised_for (Answers b) l h = for_query h
+  minimised_for Signatures l h =
+      Contains-get_or (map (signature_by terms) w.signatures) f.place no_signature (omega (arith, length-map w.signatures (signature_by terms), l))
+  minimised_for Systems l h = true≢false (sym h)
+  minimised_for Families l h = true≢false (sym h)
+  minimised_for Judgements l h = true≢false (sym h)
+  minimised_for Calls l h = true≢false (sym h)

@@ -1,0 +1,116 @@
+-- The lines of calls, and where a second part stands for none or a name of its calls is refused.
+use Rattle.std.proofs.Common.{◌≡◌, ◌≢◌, ◌∙◌, refl, sym, ap, subst, ℕ, ◌+◌, ◌<◌, List, [], ◌∷◌, ◌++◌, append-nil, append_assoc, Contains, get_or, length, map, take}
+use Rattle.std.proofs.lemmas.List.{map-append, take_more}
+use Rattle.std.specs.List.{concat}
+use Rattle.swreq_lex.specs.declared.refusal.LexErr.{LexErr}
+use Rattle.swreq_lex.specs.declared.token.Token as lexed
+use Rattle.swreq_lex.specs.Refusals.{HasRefusalFrom}
+use Rattle.swreq_lex.specs.Tokens.{HasTokensFrom}
+use Rattle.swreq_decl.specs.declared.refusal.ParseErr.{ParseErr}
+use Rattle.swreq_decl.specs.declared.refusal.ParseErr.TheVariants as grammar
+use Rattle.swreq_calls.specs.declared.decl.CallDecl.{CallDecl}
+use Rattle.swreq_calls.specs.Calls.{IsReason, RefusedAt, StandsFor}
+use Rattle.swreq_orders.proofs.Members.{no_member}
+use Rattle.swreq_resolve.specs.declared.refusal.NameErr.{NameErr}
+use Rattle.swreq_resolve.specs.declared.refusal.Refusal.{Refusal}
+use Rattle.swreq_resolve.specs.Errors.{error_of}
+use Rattle.swreq_resolve.proofs.Order.{one_first}
+use Rattle.swreq_print.specs.declared.refusal.RefusalKind.{RefusalKind}
+use Rattle.swreq_print.specs.Names.{Text}
+use Rattle.swreq_world.specs.Worlds.{TextWorld}
+use Rattle.swreq_subst.specs.Calls.{TermCall}
+use Rattle.swreq_subst.specs.Lines.{AppendsLine, IsLineOf}
+use Rattle.swreq_subst.specs.Refusals.{RefusesCalls, refusals}
+use Rattle.swreq_reply.specs.CallLines.{AnswersCalls}
+use Rattle.swreq_reply.specs.Inputs.{Parts, second_at}
+use Rattle.swreq_reply.specs.Lines.{AreLines}
+use Rattle.swreq_reply.specs.Lines.AreLines.{none}
+use Rattle.swreq_reply.specs.Reports.{name_refusal, refusal_of}
+use Rattle.swreq_reply.specs.Verdict.{RefusesSecond}
+use Rattle.swreq_reply.specs.Verdict.RefusesSecond.{bad_name, no_calls}
+use Rattle.swreq_reply.proofs.Lines.{lines_end}
+use Rattle.swreq_reply.proofs.OneWorld.{core_of}
+
+-- ---- lines
+
+concat_end : (ls : List Text) (l : Text) → concat (ls ++ l ∷ []) ≡ concat ls ++ l
+concat_end [] l = append-nil l
+concat_end (x ∷ ls) l = ap (λ (t : Text). x ++ t) (concat_end ls l) ∙ sym (append_assoc x (concat ls) l)
+
+module _ (w : TextWorld) where
+  pub no_call : AnswersCalls w [] []
+  no_call = ([], none, refl)
+
+  -- one call more
+  pub one_more : (cs all : List TermCall) (c : TermCall) (old new : Text) → AnswersCalls w cs old → AppendsLine w c old new → all ≡ cs ++ c ∷ []
+      → AnswersCalls w all new
+  one_more cs all c old new (pieces, are, is) (line, of_call, grown) every = (
+    pieces ++ line ∷ [],
+    subst (λ (ds : List TermCall). AreLines (IsLineOf w) ds (pieces ++ line ∷ [])) (sym every) (lines_end (IsLineOf w) are of_call),
+    grown ∙ ap (λ (t : Text). t ++ line) is ∙ sym (concat_end pieces line),
+  )
+
+-- with the call at the next place they are the calls up to and with it
+pub calls_next : {A B : Type 0} (f : A → B) (xs : List A) (k : ℕ) (x : A) → k < length xs → x ≡ get_or xs k x
+    → map f (take (k + 1) xs) ≡ map f (take k xs) ++ f x ∷ []
+calls_next f xs k x below at =
+    ap (map f) (take_more xs k x below ∙ ap (λ z. take k xs ++ z ∷ []) (sym at)) ∙ map-append f (take k xs) (x ∷ [])
+
+-- ---- one refusal
+
+-- what the crates below say of every part of a text
+pub record IsOnePart (text : List ℕ) (from : ℕ) : Type 0 where
+  pub refusal : (d e : LexErr) → HasRefusalFrom text from d → HasRefusalFrom text from e → d ≡ e
+  pub no_refusal : (ts : List lexed.Token) (e : LexErr) → HasTokensFrom text from ts → ¬ (HasRefusalFrom text from e)
+  pub calls : (a b : List CallDecl) → StandsFor text from a → StandsFor text from b → a ≡ b
+  pub token : (at place : ℕ) → RefusedAt text from at → RefusedAt text from place → at ≡ place
+  pub no_token : (a : List CallDecl) (at : ℕ) → StandsFor text from a → ¬ (RefusedAt text from at)
+
+module _ (text : List ℕ) (from : ℕ) (one : IsOnePart text from) where
+  -- a part has one reason
+  one_reason : (d e : ParseErr) → d ≢ grammar.Memory → e ≢ grammar.Memory → IsReason text from d → IsReason text from e → d ≡ e
+  one_reason grammar.Memory e real too h k = absurd (real refl)
+  one_reason (grammar.Unsupported at kind) e real too h k = absurd h
+  one_reason (grammar.Lex f) grammar.Memory real too h k = absurd (too refl)
+  one_reason (grammar.Lex f) (grammar.Unsupported at kind) real too h k = absurd k
+  one_reason (grammar.Lex f) (grammar.Lex g) real too h k = ap (λ (z : LexErr). grammar.Lex z) (one.refusal f g h k)
+  one_reason (grammar.Lex f) (grammar.Syntax at) real too h (ts, have, refused) = absurd (one.no_refusal ts f have h)
+  one_reason (grammar.Syntax at) grammar.Memory real too h k = absurd (too refl)
+  one_reason (grammar.Syntax at) (grammar.Unsupported place kind) real too h k = absurd k
+  one_reason (grammar.Syntax at) (grammar.Lex g) real too (ts, have, refused) k = absurd (one.no_refusal ts g have k)
+  one_reason (grammar.Syntax at) (grammar.Syntax place) real too h k = ap (λ (z : ℕ). grammar.Syntax z) (one.token at place h k)
+
+  -- and none where it stands for calls
+  no_reason : (ds : List CallDecl) (e : ParseErr) → e ≢ grammar.Memory → StandsFor text from ds → IsReason text from e → ⊥
+  no_reason ds grammar.Memory real stands h = real refl
+  no_reason ds (grammar.Lex f) real (ts, have, are) h = one.no_refusal ts f have h
+  no_reason ds (grammar.Syntax at) real stands h = one.no_token ds at stands h
+  no_reason ds (grammar.Unsupported at kind) real stands h = h
+
+-- worlds with the same names and signatures refuse the same
+pub refuses_there : (w v : TextWorld) → core_of w ≡ core_of v → (text : List ℕ) (ds : List CallDecl) (e : NameErr) → RefusesCalls w text ds e
+    → RefusesCalls v text ds e
+refuses_there w v same text ds e h = subst (λ (z : TextWorld). RefusesCalls z text ds e) same h
+
+one_name : (w : TextWorld) (text : List ℕ) (ds : List CallDecl) (e f : NameErr) → RefusesCalls w text ds e → RefusesCalls w text ds f → e ≡ f
+one_name w text ds e f (q, first, is) (r, too, same) = is ∙ ap error_of (one_first (refusals w text ds) q r first too) ∙ sym same
+
+module _ (w v : TextWorld) (same : core_of w ≡ core_of v) (p : Parts) (one : IsOnePart p.input (second_at p)) where
+  -- a second part is refused in one way
+  pub one_second : (a b : RefusalKind) → RefusesSecond w p a → RefusesSecond v p b → a ≡ b
+  one_second a b (no_calls d real h is) (no_calls e too k other) =
+      is ∙ ap refusal_of (one_reason p.input (second_at p) one d e real too h k) ∙ sym other
+  one_second a b (no_calls d real h is) (bad_name es f stands refuses other) = absurd (no_reason p.input (second_at p) one es d real stands h)
+  one_second a b (bad_name ds e stands refuses is) (no_calls d real h other) = absurd (no_reason p.input (second_at p) one ds d real stands h)
+  one_second a b (bad_name ds e stands refuses is) (bad_name es f also too other) =
+      is ∙ ap name_refusal (one_name v p.input es e f
+      (refuses_there w v same p.input es e (subst (λ (cs : List CallDecl). RefusesCalls w p.input cs e) (one.calls ds es stands also) refuses)) too) ∙ sym other
+
+  -- and not where no name of its calls is refused
+  pub never_second : (a : RefusalKind) (ds : List CallDecl) → RefusesSecond w p a → StandsFor p.input (second_at p) ds → refusals v p.input ds ≡ [] → ⊥
+  never_second a ds (no_calls d real h is) stands nothing = no_reason p.input (second_at p) one ds d real stands h
+  never_second a ds (bad_name es e also refuses is) stands empty = absent
+      (refuses_there w v same p.input ds e (subst (λ (cs : List CallDecl). RefusesCalls w p.input cs e) (one.calls es ds also stands) refuses))
+    where
+      absent : RefusesCalls v p.input ds e → ⊥
+      absent (r, first, of) = no_member r (subst (λ (rs : List Refusal). Contains rs r) empty first.is)

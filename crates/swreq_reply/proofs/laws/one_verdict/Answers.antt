@@ -1,0 +1,30 @@
+use Rattle.std.proofs.Common.{List, subst, sym, ℕ}
+use Rattle.swreq_reply.proofs.OfCalls.{IsOnePart}
+use Rattle.swreq_reply.proofs.OneRefusal.{AreOne, verdict_is_one}
+use Rattle.swreq_reply.proofs.laws.one_verdict.Goals as goal
+
+source : (c : goal.After-one_verdict-2) → AreOne c.args.source.now
+source c = record {
+  reading = c.one_reading.ensures.some;
+  refusal = c.one_reading.ensures.one_refusal;
+  no_refusal = c.one_reading.ensures.never_both;
+  skeleton = c.one_skeleton.ensures;
+  verdict = c.one_verdict.ensures.some;
+  token = c.one_verdict.ensures.one;
+  no_token = c.one_verdict.ensures.never_both;
+  closed = c.worlds_are_closed.ensures.closed;
+}
+
+part : (c : goal.After-one_verdict-2) → IsOnePart c.args.input.now c.args.from
+part c = record {
+  refusal = c.one_reading_from.ensures.one_refusal;
+  no_refusal = c.one_reading_from.ensures.never_both;
+  calls = c.one_list_of_calls.ensures;
+  token = c.one_verdict-2.ensures.one;
+  no_token = c.one_verdict-2.ensures.never_both;
+}
+
+pub returns : goal.returns
+returns c line p are same at o q told also refused verdict =
+    verdict_is_one line c.args.input.now p are (subst AreOne (sym same) (source c))
+    (subst (IsOnePart p.input) (sym at) (subst (λ (text : List ℕ). IsOnePart text c.args.from) (sym are.whole) (part c))) o q told also refused verdict

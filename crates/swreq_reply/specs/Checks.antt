@@ -1,0 +1,61 @@
+-- How the check of a text comes out.
+use Rattle.std.specs.Prelude.{◌⊎◌, List, Option, Some, None, Result, Ok, Err, length}
+use Rattle.swreq_rule.specs.declared.rules.Rule.{Rule}
+use Rattle.swreq_rounds.specs.Rounds.{ComesTo}
+use Rattle.swreq_complete.specs.declared.limit.Limits.{Limits}
+use Rattle.swreq_watch.specs.declared.events.Event.{Event}
+use Rattle.swreq_watch.specs.Told.{GrewBy}
+use Rattle.swreq_lowering.specs.Requirements.{PlacedRequirement}
+use Rattle.swreq_world.specs.Worlds.{IdWorld, SignatureOver, TextWorld}
+use Rattle.swreq_valid.specs.Machines.{AreRulesOf, list_of}
+use Rattle.swreq_valid.specs.Rounds.{last_rules}
+use Rattle.swreq_valid.specs.declared.refused.Refused.{Refused}
+use Rattle.swreq_valid.specs.declared.refused.Refused.TheVariants.{Limit, NotATypeParameter, Memory}
+use Rattle.swreq_world.specs.FactsAt.{written_list}
+use Rattle.swreq_reply.specs.declared.checking.Checked.{Checked}
+use Rattle.swreq_reply.specs.Machines.{IsBuiltOver, IsChecked, SignatureComes, SignaturesCome}
+use Rattle.swreq_reply.specs.declared.content.Content.{Content}
+use Rattle.swreq_reply.specs.Made.{AreMade, IsPiece}
+use Rattle.swreq_reply.specs.Wanted.{count_of, maker}
+use Rattle.swreq_reply.specs.Told.{CheckTells, SignaturesTell}
+
+module _ (limits : Limits) (w : TextWorld) where
+  -- The rules are those of the protocols, and each signature comes to rules over them.
+  pub record HavePassed (rules : List Rule) : Type 0 where
+    pub rules_are : AreRulesOf w rules
+    pub told : List Event
+    pub built : IsBuiltOver limits w rules told
+
+  -- What a check without a refusal gives: such rules, and the pieces that the machines of all signatures make.
+  pub record IsCheckedFor (ids : IdWorld) (c : Content) (checked : Checked) : Type 0 where
+    pub passed : HavePassed (last_rules checked.protocols.rounds)
+    pub pieces : AreMade (IsPiece w c) (maker ids c) (count_of ids c) (length ids.signatures) checked.pieces.items
+
+  -- The check of one signature comes out so, and the watcher was told what it tells, or for want of memory a part.
+  abbrev pub ChecksOne : List Rule → SignatureOver PlacedRequirement → Option (List Event) → Option (List Event) → Result (Unit {0}) Refused → Type 0
+  ChecksOne rules g old new (Ok done) =
+      (told : List Event) × ((own : List Rule) × SignatureComes limits w rules g (Ok own) told) × GrewBy old new told
+  ChecksOne rules g old new (Err (Limit which trace)) =
+      (told : List Event) × SignatureComes limits w rules g (Err (Limit which trace)) told × GrewBy old new told
+  ChecksOne rules g old new (Err (NotATypeParameter at)) =
+      (told : List Event) × SignatureComes limits w rules g (Err (NotATypeParameter at)) told × GrewBy old new told
+  ChecksOne rules g old new (Err Memory) =
+      (told : List Event)
+      × (ComesTo limits (list_of w rules g.params (written_list g)) told ⊎ ((own : List Rule) × SignatureComes limits w rules g (Ok own) told))
+      × GrewBy old new told
+
+  -- So does that of all signatures.
+  abbrev pub ChecksAll : List Rule → Option (List Event) → Option (List Event) → Result (Unit {0}) Refused → Type 0
+  ChecksAll rules old new (Ok done) = (told : List Event) × SignaturesCome limits w rules w.signatures None told × GrewBy old new told
+  ChecksAll rules old new (Err (Limit which trace)) =
+      (told : List Event) × SignaturesCome limits w rules w.signatures (Some (Limit which trace)) told × GrewBy old new told
+  ChecksAll rules old new (Err (NotATypeParameter at)) =
+      (told : List Event) × SignaturesCome limits w rules w.signatures (Some (NotATypeParameter at)) told × GrewBy old new told
+  ChecksAll rules old new (Err Memory) = (told : List Event) × SignaturesTell limits w rules w.signatures told × GrewBy old new told
+
+  -- And so does that of the text.
+  abbrev pub Checks : Option (List Event) → Option (List Event) → Result Checked Refused → Type 0
+  Checks old new (Ok checked) = (told : List Event) × IsBuiltOver limits w (last_rules checked.protocols.rounds) told × GrewBy old new told
+  Checks old new (Err (Limit which trace)) = (told : List Event) × IsChecked limits w (Some (Limit which trace)) told × GrewBy old new told
+  Checks old new (Err (NotATypeParameter at)) = (told : List Event) × IsChecked limits w (Some (NotATypeParameter at)) told × GrewBy old new told
+  Checks old new (Err Memory) = (told : List Event) × CheckTells limits w told × GrewBy old new told

@@ -1,0 +1,52 @@
+-- What is made of the machines of a text, and of its minimised lists.
+use Rattle.std.specs.Prelude.{◌≡◌, ◌<◌, ℕ, Bool, true, false, List, Vec, Option, Some, None, get_or, length, slice_get}
+use Rattle.std.specs.declared.alloc.Global.{Global}
+use Rattle.swreq_print.specs.Names.{Text}
+use Rattle.swreq_lowering.specs.declared.ids.FuncId.{FuncId}
+use Rattle.swreq_lowering.specs.Queries.{TermQuery}
+use Rattle.swreq_world.specs.Worlds.{TextWorld, signature_at}
+use Rattle.swreq_output.specs.Signatures.{IsMinimisedLine}
+use Rattle.swreq_output.specs.Systems.{IsSystemText}
+use Rattle.swreq_reply.specs.declared.content.Content.{Content}
+use Rattle.swreq_reply.specs.declared.content.Content.TheVariants.{Answers, Signatures, Systems, Calls, Families, Judgements}
+use Rattle.swreq_reply.specs.Outputs.{IsLineOf}
+
+-- ---- pieces at their places
+
+module _ (w : TextWorld) where
+  -- This is the piece at the place.
+  abbrev pub IsPiece : Content → ℕ → Text → Type 0
+  IsPiece (Answers b) k piece = (q : TermQuery) → slice_get w.queries k ≡ Some q → IsLineOf w true b q piece
+  IsPiece Signatures k piece = Unit {0}
+  IsPiece Systems k piece = IsSystemText w (signature_at w (record { place = k })) piece
+  IsPiece Families k piece = Unit {0}
+  IsPiece Judgements k piece = Unit {0}
+  IsPiece Calls k piece = Unit {0}
+
+-- There are so many places, none of them filled.
+abbrev pub AreNone : ℕ → Vec (Option Text) Global → Type 0
+AreNone count pieces = (length pieces.items ≡ count) × ((k : ℕ) → get_or pieces.items k None ≡ None)
+
+-- What stands at its place is the piece there, and the places are filled whose pieces the machines of the first signatures make, so many.
+pub record AreMade (Is : ℕ → Text → Type 0) (made_by : ℕ → Option FuncId) (count signatures : ℕ) (pieces : List (Option Text)) : Type 0 where
+  pub counted : length pieces ≡ count
+  pub right : (k : ℕ) (piece : Text) → get_or pieces k None ≡ Some piece → Is k piece
+  pub filled : (k : ℕ) (f : FuncId) → k < count → made_by k ≡ Some f → f.place < signatures → (piece : Text) × (get_or pieces k None ≡ Some piece)
+
+-- Of the next signature the first of these places are filled too, so many.
+pub record AreMadeTo (Is : ℕ → Text → Type 0) (made_by : ℕ → Option FuncId) (count signatures : ℕ) (places : List ℕ) (next : ℕ)
+    (pieces : List (Option Text)) : Type 0 where
+  pub before : AreMade Is made_by count signatures pieces
+  pub here : (j : ℕ) → j < next → (piece : Text) × (get_or pieces (get_or places j 0) None ≡ Some piece)
+
+module _ (w : TextWorld) where
+  -- ---- minimised lists
+
+  -- It is the line of the signature's minimised list, or that is not wanted.
+  abbrev pub IsLineKept : (ℕ → Bool) → FuncId → Option Text → Type 0
+  IsLineKept wants f (Some line) = IsMinimisedLine w (signature_at w f) line
+  IsLineKept wants f None = wants f.place ≡ false
+
+  -- These are those of the signatures, in order, as far as they go.
+  abbrev pub AreLinesKept : (ℕ → Bool) → List (Option Text) → Type 0
+  AreLinesKept wants all = (k : ℕ) (entry : Option Text) → slice_get all k ≡ Some entry → IsLineKept wants (record { place = k }) entry

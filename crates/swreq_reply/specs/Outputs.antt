@@ -1,0 +1,134 @@
+-- What a command prints of a text that is not refused.
+use Rattle.std.specs.Prelude.{◌≡◌, ℕ, ◌+◌, ◌*◌, Bool, List, [], ◌∷◌, ◌++◌, Some, codes, decimal}
+use Rattle.std.specs.List.{concat}
+use Rattle.swreq_param.specs.declared.ids.ProtoId.{ProtoId}
+use Rattle.swreq_param.specs.Terms.{Term}
+use Rattle.swreq_derive.specs.Derivation.{Derivable, Derives}
+use Rattle.swreq_derive.specs.Derivation.TermStatement.{Requires}
+use Rattle.swreq_derive.specs.Facts.{generic_params}
+use Rattle.swreq_derive.specs.Instances.{TermLine}
+use Rattle.swreq_derive.specs.Paths.{IsGivenPath}
+use Rattle.swreq_print.specs.Names.{Text}
+use Rattle.swreq_calls.specs.declared.decl.CallDecl.{CallDecl}
+use Rattle.swreq_calls.specs.Calls.{StandsFor}
+use Rattle.swreq_words.specs.declared.command.Command.{Command}
+use Rattle.swreq_words.specs.declared.command.Command.TheVariants as command
+use Rattle.swreq_lowering.specs.declared.ids.FuncId.{FuncId}
+use Rattle.swreq_lowering.specs.Queries.{TermQuery}
+use Rattle.swreq_lowering.specs.Queries.TermQuery.{AsksSignature, AsksReduced, AsksConforms, AsksAnyObject, AsksEquals}
+use Rattle.swreq_world.specs.Worlds.{TextWorld, signature_at}
+use Rattle.swreq_symbols.specs.Meaning.{facts_of}
+use Rattle.swreq_world.specs.FactsAt.{source_of, written_list}
+use Rattle.swreq_query.specs.Answers.{Answer, IsAnswer, answer_line}
+use Rattle.swreq_query.specs.Answers.Answer.{Invalid, Yes, No, Reduced}
+use Rattle.swreq_confpath.specs.Numbers.{path_text}
+use Rattle.swreq_lines.specs.LineTexts.{lines_text}
+use Rattle.swreq_verify.specs.Judgements.{Asked, EndsIn, IsDerivationFrom, asked}
+use Rattle.swreq_verify.specs.Outputs as verified
+use Rattle.swreq_reqsig.specs.Families.{IsGivenFamily}
+use Rattle.swreq_reqsig.specs.Texts.{family_text}
+use Rattle.swreq_subst.specs.Calls.{TermCall}
+use Rattle.swreq_subst.specs.Lines as calls
+use Rattle.swreq_subst.specs.Refusals.{refusals}
+use Rattle.swreq_subst.specs.Saying.{SayCalls}
+use Rattle.swreq_output.specs.Signatures.{IsMinimisedLine, IsNamedLine}
+use Rattle.swreq_output.specs.Systems.{IsSystemText}
+use Rattle.swreq_reply.specs.declared.content.Backing.{Backing}
+use Rattle.swreq_reply.specs.declared.content.Backing.TheVariants.{Nothing, Derivation, Path}
+use Rattle.swreq_reply.specs.declared.content.Content.{Content}
+use Rattle.swreq_reply.specs.declared.content.Content.TheVariants.{Answers, Signatures, Systems, Calls, Families, Judgements}
+use Rattle.swreq_reply.specs.Contents.{content_of}
+use Rattle.swreq_reply.specs.Inputs.{Parts, second_at}
+use Rattle.swreq_reply.specs.Lines.{AreLines, count_of, last_line}
+
+-- the signature that a query asks
+abbrev pub signature_of : TermQuery → FuncId
+signature_of (AsksSignature f) = f
+signature_of (AsksReduced f t) = f
+signature_of (AsksConforms f t p) = f
+signature_of (AsksAnyObject f t) = f
+signature_of (AsksEquals f t u) = f
+
+-- ---- the bytes of a command
+
+-- what `gen` prints of the generated text of n, by the lines that answer its queries: how much it has of what, and the last answer
+abbrev pub counts_text : ℕ → List Text → Text
+counts_text n lines =
+    codes "protocols " ++ (decimal n ++ (codes "\nfunctions 1\nqueries " ++ (decimal (4 * n + 1)
+    ++ (codes "\nyes " ++ (decimal (count_of (codes "yes\n") lines) ++ (codes "\nno " ++ (decimal (count_of (codes "no\n") lines)
+    ++ (codes "\ninvalid " ++ (decimal (count_of (codes "invalid\n") lines) ++ (codes "\n" ++ last_line lines))))))))))
+
+-- the bytes that a command makes of its pieces: one after the other, and of `gen` the counts
+abbrev pub printed_text : Command → List Text → Text
+printed_text (command.Gen n) pieces = counts_text n pieces
+printed_text _ pieces = concat pieces
+
+module _ (w : TextWorld) where
+  -- ---- what stands behind a yes
+
+  -- The lines of a derivation by the book's rules from the written list, which the checker of derivations accepts, and which ends in what
+  -- the query asks.
+  abbrev pub IsDerivationText : TermQuery → Text → Type 0
+  IsDerivationText q text = (a : Asked) × (asked q ≡ Some a) × (ls : List TermLine) × IsDerivationFrom w a.signature ls
+      × EndsIn ls (Requires a.requirement) × (text ≡ lines_text w.lexicon ls)
+
+  -- After two spaces, the conformance path that is given for [T : P]: of the shortest ones the one whose numbers are the least.
+  abbrev pub IsPathLine : FuncId → Term → ProtoId → Text → Type 0
+  IsPathLine f t p text = (first : ℕ) × (steps : List ℕ)
+      × IsGivenPath (facts_of w) (generic_params (signature_at w f).params) (written_list (signature_at w f)) first steps t p
+      × (text ≡ codes "  " ++ (path_text w.lexicon (facts_of w) (written_list (signature_at w f)) first steps ++ codes "\n"))
+
+  abbrev pub BacksYes : Backing → TermQuery → Text → Type 0
+  BacksYes Nothing q text = text ≡ []
+  BacksYes Derivation q text = IsDerivationText q text
+  BacksYes Path (AsksConforms f t p) text = IsPathLine f t p text
+  BacksYes Path _ text = text ≡ []
+
+  -- Behind a `yes` stands what backs it, and behind other answers nothing.
+  abbrev pub Backs : Backing → TermQuery → Answer → Text → Type 0
+  Backs b q Invalid text = text ≡ []
+  Backs b q Yes text = BacksYes b q text
+  Backs b q No text = text ≡ []
+  Backs b q (Reduced r) text = text ≡ []
+
+  -- By what is derivable from the written list of the signature that is asked, this is the answer to the query.
+  abbrev pub IsAnswered : TermQuery → Answer → Type 0
+  IsAnswered q a = IsAnswer (Derivable (facts_of w) (source_of (signature_at w (signature_of q)))) q a
+
+  -- ---- calls
+
+  -- The second part stands for calls of which no name is refused, and of each of them, in written order, this is its line.
+  abbrev pub AreCallLines : Parts → List Text → Type 0
+  AreCallLines parts pieces = (ds : List CallDecl) × StandsFor parts.input (second_at parts) ds × (refusals w parts.input ds ≡ [])
+      × ((cs : List TermCall) × SayCalls w parts.input cs ds × AreLines (calls.IsLineOf w) cs pieces)
+
+  -- ---- answers
+
+  module _ (guarded : Bool) where
+    -- The piece answers the query by what is derivable, with the guard or without it, from the written list of the signature that is asked.
+    abbrev pub AnswersByTypes : Backing → TermQuery → Text → Type 0
+    AnswersByTypes b q piece = (a : Answer) × (behind : Text) × IsAnswer (Derives (facts_of w) guarded (source_of (signature_at w (signature_of q)))) q a
+        × Backs b q a behind × (piece ≡ answer_line w.lexicon a ++ behind)
+
+    -- The piece answers the query; where it asks for a signature, by the minimised list.
+    abbrev pub IsLineOf : Backing → TermQuery → Text → Type 0
+    IsLineOf b (AsksSignature f) piece = IsMinimisedLine w (signature_at w f) piece
+    IsLineOf b (AsksReduced f t) piece = AnswersByTypes b (AsksReduced f t) piece
+    IsLineOf b (AsksConforms f t p) piece = AnswersByTypes b (AsksConforms f t p) piece
+    IsLineOf b (AsksAnyObject f t) piece = AnswersByTypes b (AsksAnyObject f t) piece
+    IsLineOf b (AsksEquals f t u) piece = AnswersByTypes b (AsksEquals f t u) piece
+
+    -- What is printed, piece for piece: the answer to each query in written order; of each signature its name and its minimised list, or its
+    -- reduced rewriting system; the requirement signatures of the protocols; what is said of the derivations in the second part; the line of
+    -- each call in it.
+    abbrev pub ArePrinted : Content → Parts → List Text → Type 0
+    ArePrinted (Answers b) parts pieces = AreLines (IsLineOf b) w.queries pieces
+    ArePrinted Signatures parts pieces = AreLines (IsNamedLine w) w.signatures pieces
+    ArePrinted Systems parts pieces = AreLines (IsSystemText w) w.signatures pieces
+    ArePrinted Families parts pieces = (kept : List (List ℕ)) × IsGivenFamily w kept × (pieces ≡ family_text w kept ∷ [])
+    ArePrinted Judgements parts pieces = (said : Text) × verified.IsOutput w parts.second said × (pieces ≡ said ∷ [])
+    ArePrinted Calls parts pieces = AreCallLines parts pieces
+
+    -- The output of the command is made of these.
+    abbrev pub IsOutput : Command → Parts → Text → Type 0
+    IsOutput c parts output = (pieces : List Text) × ArePrinted (content_of c) parts pieces × (output ≡ printed_text c pieces)

@@ -1,0 +1,50 @@
+-- What a reply is.
+use Rattle.std.specs.Prelude.{◌≡◌, ◌⊎◌, List, [], ◌++◌, Option, Result, Ok, Err}
+use Rattle.std.specs.declared.alloc.AllocError.{AllocError}
+use Rattle.swreq_watch.specs.declared.events.Event.{Event}
+use Rattle.swreq_watch.specs.Told.{GrewBy}
+use Rattle.swreq_print.specs.Names.{Text}
+use Rattle.swreq_rule.specs.declared.rules.Rule.{Rule}
+use Rattle.swreq_words.specs.declared.command.CommandLine.{CommandLine}
+use Rattle.swreq_world.specs.Worlds.{TextWorld}
+use Rattle.swreq_reply.specs.declared.outcome.Outcome.{Outcome}
+use Rattle.swreq_reply.specs.declared.content.Content.TheVariants.{Families}
+use Rattle.swreq_reply.specs.Contents.{content_of}
+use Rattle.swreq_reply.specs.Machines.{IsBuiltOver}
+use Rattle.swreq_reply.specs.Told.{CheckTells, FamiliesPartTell, MinimisingPartTells}
+use Rattle.swreq_reply.specs.Verdict.{HasWorld, IsRefused, IsVerdict, limits_of}
+
+-- So far as this an input tells where memory runs out: nothing, a part of what the check of its text tells, or that and a part of what is told
+-- behind it.
+abbrev pub TellsPart : CommandLine → Text → List Event → Type 0
+TellsPart line input told = (told ≡ []) ⊎ ((w : TextWorld) × HasWorld line input w × (CheckTells (limits_of line) w told
+    ⊎ (MinimisingPartTells (limits_of line) w (content_of line.command) told ⊎ ((content_of line.command ≡ Families) × FamiliesPartTell (limits_of line) w told))))
+
+-- The watcher was told so far.
+abbrev pub WasToldPart : CommandLine → Text → Option (List Event) → Option (List Event) → Type 0
+WasToldPart line input old new = (told : List Event) × TellsPart line input told × GrewBy old new told
+
+-- The outcome is a verdict on the input with which nothing is told.
+abbrev pub IsVerdictAlone : CommandLine → Text → Outcome → Type 0
+IsVerdictAlone line input o = IsVerdict line input o []
+
+-- The outcome is a verdict on the input, and the watcher was told what is told with it.
+abbrev pub IsToldVerdict : CommandLine → Text → Option (List Event) → Option (List Event) → Outcome → Type 0
+IsToldVerdict line input old new o = (told : List Event) × IsVerdict line input o told × GrewBy old new told
+
+-- Where the input is refused, it is so.
+abbrev pub IsOnlyRefusal : CommandLine → Text → Outcome → Type 0
+IsOnlyRefusal line input o = (p : Outcome) (told : List Event) → IsRefused line input p told → o ≡ p
+
+-- A verdict, with what is told with it; for want of memory a part of that.
+abbrev pub Replies : CommandLine → Text → Option (List Event) → Option (List Event) → Result Outcome AllocError → Type 0
+Replies line input old new (Ok o) = IsToldVerdict line input old new o
+Replies line input old new (Err e) = WasToldPart line input old new
+
+-- After a check of this world that came to these rules of the protocols: a verdict, and for want of memory a part of what is told.
+abbrev pub Finishes : CommandLine → Text → TextWorld → List Rule → Option (List Event) → Option (List Event) → Result Outcome AllocError → Type 0
+Finishes line input w rules old new (Ok o) =
+    (more : List Event) × ((first : List Event) → IsBuiltOver (limits_of line) w rules first → IsVerdict line input o (first ++ more)) × GrewBy old new more
+Finishes line input w rules old new (Err e) =
+    (more : List Event) × ((first : List Event) → IsBuiltOver (limits_of line) w rules first → TellsPart line input (first ++ more))
+    × GrewBy old new more

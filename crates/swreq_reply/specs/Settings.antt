@@ -1,0 +1,87 @@
+-- Over what the pieces of a command are made.
+use Rattle.std.specs.Prelude.{◌≡◌, ◌<◌, ℕ, List, Option, Some, Contains, length}
+use Rattle.std.specs.Option.{option_copied}
+use Rattle.swreq_param.specs.Terms.{Term}
+use Rattle.swreq_derive.specs.WellFormed.{AreProtocolsWellFormed, IsListWellFormed}
+use Rattle.swreq_complete.specs.Limits.{AreInRange}
+use Rattle.swreq_lowering.specs.declared.ids.FuncId.{FuncId}
+use Rattle.swreq_world.specs.ByTable.{world_by}
+use Rattle.swreq_world.specs.FactsAt.{source_of, written_list}
+use Rattle.swreq_world.specs.Short.{IsShort}
+use Rattle.swreq_world.specs.Worlds.{IdWorld, TextWorld, signature_at}
+use Rattle.swreq_symbols.specs.Known.{IsTextOver}
+use Rattle.swreq_symbols.specs.Meaning.{facts_of}
+use Rattle.swreq_valid.specs.Machines.{AreRulesOf, IsMachineOf, MachineView, list_of, protocols_of}
+use Rattle.swreq_valid.specs.Rounds.{AreRounds, last_rules}
+use Rattle.swreq_reply.specs.declared.checking.Asked.{Asked}
+use Rattle.swreq_reply.specs.declared.content.Backing.TheVariants.{Derivation}
+use Rattle.swreq_reply.specs.declared.setting.Means.{Means}
+use Rattle.swreq_reply.specs.declared.setting.Setting.{Setting}
+use Rattle.swreq_lowering.specs.declared.ids.Query.{Query}
+use Rattle.swreq_lowering.specs.Queries.{TermQuery}
+use Rattle.swreq_lowering.specs.Queries.TermQuery.{AsksReduced}
+use Rattle.swreq_map.specs.Follows.{IsMapOf, MapView}
+use Rattle.swreq_print.specs.Names.{Text}
+use Rattle.swreq_explain.specs.Books.{IsBookFor}
+use Rattle.swreq_unfold.specs.declared.book.Book.{Book}
+use Rattle.swreq_reply.specs.Contents.{backing_of}
+use Rattle.swreq_reply.specs.Made.{AreMade, IsPiece}
+use Rattle.swreq_reply.specs.Wanted.{ArePlaces, count_of, machine_asked, maker}
+
+-- the world of the text, by the table that has its ids
+abbrev pub world_in : List Term → Setting → TextWorld
+world_in terms s = world_by terms s.world.now
+
+-- The ids are of the table, the rules are those of the protocols, whose requirements are over type parameters, and each machine is asked for
+-- the pieces that it makes.
+pub record IsReady (terms : List Term) (s : Setting) : Type 0 where
+  pub text : IsTextOver terms s.world.now
+  pub short : IsShort s.world.now
+  pub formed : AreProtocolsWellFormed (facts_of (world_in terms s))
+  pub rules : AreRulesOf (world_in terms s) (last_rules s.protocols.now.rounds)
+  pub rounds : AreRounds s.limits (protocols_of (world_in terms s)) s.protocols.now.rounds
+  pub places : ArePlaces (maker s.world.now s.content) (length s.world.now.signatures) (count_of s.world.now s.content) s.places.now
+  pub limits : AreInRange s.limits
+
+-- The signature is of the text, its list is well formed, and this is its machine, over the rules of the protocols.
+pub record IsMachineFor (terms : List Term) (s : Setting) (f : FuncId) (m : MachineView) : Type 0 where
+  pub signature : f.place < length s.world.now.signatures
+  pub formed : IsListWellFormed (facts_of (world_in terms s)) (source_of (signature_at (world_in terms s) f))
+  pub machine : IsMachineOf (world_in terms s) (written_list (signature_at (world_in terms s) f)) m
+  pub params : m.params ≡ (signature_at (world_in terms s) f).params
+  pub rounds : AreRounds s.limits (list_of (world_in terms s) (last_rules s.protocols.now.rounds) m.params
+      (written_list (signature_at (world_in terms s) f))) m.rounds
+
+-- Of each signature of the text the places are those of the pieces that its machine makes.
+pub record IsAskedOf (w : IdWorld) (a : Asked) : Type 0 where
+  pub places : ArePlaces (maker w a.content) (length w.signatures) (count_of w a.content) a.places.now
+  pub limits : AreInRange a.limits
+
+-- The query is one of the text, and asks this signature.
+pub record IsQueryFor (terms : List Term) (s : Setting) (f : FuncId) (q : Query) : Type 0 where
+  pub is : Contains s.world.now.queries q
+  pub asks : machine_asked q ≡ Some f
+
+-- The query asks for a reduced type.
+abbrev pub AsksType : TermQuery → Type 0
+AsksType q = (f : FuncId) × (t : Term) × (q ≡ AsksReduced f t)
+
+-- The map is that of the rules of the machine.
+pub record IsMapFor (s : Setting) (m : MachineView) (map : MapView) : Type 0 where
+  pub rules : IsMapOf (last_rules m.rounds) map
+  pub protocols : map.protocols ≡ length s.world.now.lexicon.protocols
+
+-- Where derivations are printed there is a book, and it is one for the signature.
+abbrev pub HasBook : List Term → Setting → FuncId → Option Book → Type 0
+HasBook terms s f book = backing_of s.content ≡ Derivation → (b : Book) × (book ≡ Some b) × IsBookFor (world_in terms s) f b
+
+-- The machine is that of the signature, the map is that of its rules, and there is a book where one is read.
+pub record AreMeansFor (terms : List Term) (s : Setting) (m : Means) : Type 0 where
+  pub machine : IsMachineFor terms s m.own.f m.own.machine.now
+  pub map : IsMapFor s m.own.machine.now m.map.now
+  pub book : HasBook terms s m.own.f (option_copied m.book)
+
+-- The pieces that the machines of the first signatures make stand at their places, so many.
+abbrev pub AreMadeIn : List Term → Setting → ℕ → List (Option Text) → Type 0
+AreMadeIn terms s signatures pieces =
+    AreMade (IsPiece (world_in terms s) s.content) (maker s.world.now s.content) (count_of s.world.now s.content) signatures pieces

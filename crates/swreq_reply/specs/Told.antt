@@ -1,0 +1,104 @@
+-- What a watcher is told of a text.
+use Rattle.std.specs.Prelude.{◌≡◌, ◌⊎◌, Bool, List, [], ◌∷◌, ◌++◌, Contains, Ok}
+use Rattle.swreq_rule.specs.declared.rules.Rule.{Rule}
+use Rattle.swreq_rounds.specs.Rounds.{ComesTo}
+use Rattle.swreq_complete.specs.declared.limit.Failed.{Failed}
+use Rattle.swreq_complete.specs.declared.limit.Failed.TheVariants.{Limit, Memory}
+use Rattle.swreq_complete.specs.declared.limit.Limits.{Limits}
+use Rattle.swreq_watch.specs.declared.events.Event.{Event}
+use Rattle.swreq_reply.specs.declared.content.Content.{Content}
+use Rattle.swreq_reply.specs.declared.content.Content.TheVariants.{Answers, Signatures, Systems, Calls, Families, Judgements}
+use Rattle.swreq_lowering.specs.Queries.TermQuery.{AsksSignature}
+use Rattle.swreq_lowering.specs.Requirements.{PlacedRequirement}
+use Rattle.swreq_lowering.specs.declared.ids.FuncId.{FuncId}
+use Rattle.swreq_world.specs.Worlds.{SignatureOver, TextWorld, signature_at}
+use Rattle.swreq_valid.specs.Machines.{list_of, protocols_of}
+use Rattle.swreq_output.specs.Minimising.{MinimisingFails, MinimisingTells}
+use Rattle.swreq_world.specs.FactsAt.{written_list}
+use Rattle.swreq_reqsig.specs.Told.{ComesSoFar, HasGone}
+use Rattle.swreq_reply.specs.Machines.{IsBuiltOver, ProtocolsCome, SignatureComes}
+
+-- The minimised list of the signature is wanted: for answers where a query asks for it, for the signatures of each, and else of none.
+abbrev pub IsMinimisedFor : Content → TextWorld → SignatureOver PlacedRequirement → Type 0
+IsMinimisedFor (Answers b) w g = (f : FuncId) × Contains w.queries (AsksSignature f) × (g ≡ signature_at w f)
+IsMinimisedFor Signatures w g = Contains w.signatures g
+IsMinimisedFor Systems w g = ⊥
+IsMinimisedFor Families w g = ⊥
+IsMinimisedFor Judgements w g = ⊥
+IsMinimisedFor Calls w g = ⊥
+
+module _ (limits : Limits) (w : TextWorld) where
+  -- ---- minimising
+
+  module _ (wants : Content) (rules : List Rule) where
+    -- Of one signature minimising tells this where the command asks for it, and else nothing.
+    abbrev pub TellsOne : SignatureOver PlacedRequirement → List Event → Type 0
+    TellsOne g told = (told ≡ []) ⊎ (IsMinimisedFor wants w g × MinimisingTells limits w rules g told)
+
+    -- At one for which the command asks it fails so.
+    abbrev pub FailsAt : SignatureOver PlacedRequirement → Failed → List Event → Type 0
+    FailsAt g failed told = IsMinimisedFor wants w g × MinimisingFails limits w rules g failed told
+
+    -- Over these rules of the protocols minimising tells this: parts, one after the other, each of a signature that the command asks for.
+    pub data MinimisingAllTells : List Event → Type 0 where
+      nothing : MinimisingAllTells []
+      one_more : {before part told : List Event} (g : SignatureOver PlacedRequirement) → MinimisingAllTells before → IsMinimisedFor wants w g
+          → MinimisingTells limits w rules g part → told ≡ before ++ part → MinimisingAllTells told
+
+    -- It fails so at one of them, behind such parts.
+    pub record MinimisingAllFails (failed : Failed) (told : List Event) : Type 0 where
+      pub before : List Event
+      pub last : List Event
+      pub g : SignatureOver PlacedRequirement
+      pub parts : MinimisingAllTells before
+      pub asked : IsMinimisedFor wants w g
+      pub fails : MinimisingFails limits w rules g failed last
+      pub told_is : told ≡ before ++ last
+
+    -- It fails by a limit at one of them, or for want of memory behind such parts or at one of them.
+    abbrev pub MinimisingEndsIn : Failed → List Event → Type 0
+    MinimisingEndsIn (Limit which trace) told = MinimisingAllFails (Limit which trace) told
+    MinimisingEndsIn Memory told = MinimisingAllTells told ⊎ MinimisingAllFails Memory told
+
+  -- ---- where memory runs out
+
+  -- So far as this the signatures tell.
+  pub data SignaturesTell (rules : List Rule) : List (SignatureOver PlacedRequirement) → List Event → Type 0 where
+    nothing_yet : {gs : List (SignatureOver PlacedRequirement)} → SignaturesTell rules gs []
+    in_first : {g : SignatureOver PlacedRequirement} {gs : List (SignatureOver PlacedRequirement)} {told : List Event}
+        → ComesTo limits (list_of w rules g.params (written_list g)) told → SignaturesTell rules (g ∷ gs) told
+    past_first : {g : SignatureOver PlacedRequirement} {gs : List (SignatureOver PlacedRequirement)} {first more told : List Event}
+        (own : List Rule) → SignatureComes limits w rules g (Ok own) first → SignaturesTell rules gs more → told ≡ first ++ more
+        → SignaturesTell rules (g ∷ gs) told
+
+  -- So far as this the check tells.
+  pub data CheckTells : List Event → Type 0 where
+    in_protocols : {told : List Event} → ComesTo limits (protocols_of w) told → CheckTells told
+    past_protocols : {first more told : List Event} (rules : List Rule) → ProtocolsCome limits w (Ok rules) first
+        → SignaturesTell rules w.signatures more → told ≡ first ++ more → CheckTells told
+
+  -- So far as this minimising tells behind the check, which came to rules.
+  pub record MinimisingPartTells (wants : Content) (told : List Event) : Type 0 where
+    pub rules : List Rule
+    pub first : List Event
+    pub more : List Event
+    pub built : IsBuiltOver limits w rules first
+    pub failed : Failed
+    pub part : MinimisingEndsIn wants rules failed more
+    pub told_is : told ≡ first ++ more
+
+  -- So far as this the families of requirement signatures tell behind the check.
+  pub record FamiliesPartTell (told : List Event) : Type 0 where
+    pub rules : List Rule
+    pub first : List Event
+    pub more : List Event
+    pub built : IsBuiltOver limits w rules first
+    pub part : ComesSoFar limits w more
+    pub told_is : told ≡ first ++ more
+
+  -- What is told behind the check of a text that is answered: parts of minimising; of requirement signatures what the families tell that one
+  -- meets, going through all requirements; of calls nothing.
+  abbrev pub TellsBehind : Content → List Rule → List Event → Type 0
+  TellsBehind Families rules more = (flags : List Bool) × HasGone limits w 0 flags more
+  TellsBehind Calls rules more = more ≡ []
+  TellsBehind c rules more = MinimisingAllTells c rules more

@@ -1,0 +1,279 @@
+//! The pieces that answer queries of requirements and types, by the machine of the signature that they ask.
+ghost use Rattle.std.specs.Prelude.{◌≡◌, ◌+◌, ◌++◌, ℕ, List, Contains, IfOk, OnOk, true};
+ghost use Rattle.swreq_param.specs.Tables.{Extends, term_at};
+ghost use Rattle.swreq_derive.specs.Derivation.{Derivable};
+ghost use Rattle.swreq_derive.specs.Derivation.TermRequirement.{Conforms};
+ghost use Rattle.swreq_derive.specs.Derivation.TermStatement.{Requires};
+ghost use Rattle.swreq_derive.specs.declared.requirements.Requirement.TheVariants.{Conf};
+ghost use Rattle.swreq_explain.specs.Books.{IsBookFor};
+ghost use Rattle.swreq_query.specs.Answers.Answer.{Yes};
+ghost use Rattle.swreq_query.specs.Asked.{AsksRequirement, IsRoomFor, answer_of};
+ghost use Rattle.swreq_symbols.specs.Known.{IsRequirementIn, IsTextOver};
+ghost use Rattle.swreq_symbols.specs.Meaning.{facts_of};
+ghost use Rattle.swreq_world.specs.FactsAt.{source_of};
+ghost use Rattle.swreq_world.specs.Worlds.{signature_at};
+ghost use Rattle.swreq_lowering.specs.ByTable.{query_by};
+ghost use Rattle.swreq_reply.specs.Contents.{AreAnswers, backing_of};
+ghost use Rattle.swreq_reply.specs.Outputs.{AnswersByTypes, Backs, BacksYes, IsAnswered, IsDerivationText, IsLineOf, IsPathLine, signature_of};
+ghost use Rattle.swreq_reply.specs.Settings.{AreMadeIn, AreMeansFor, AsksType, HasBook, IsMachineFor, IsQueryFor, IsReady, world_in};
+
+use crate::content::{Backing, backing_of};
+use crate::setting::{Means, Own, Setting};
+use crate::wanted::members;
+use std::alloc::{AllocError, Global};
+use swreq_confpath::laws::paths_have_texts;
+use swreq_confpath::{path_text, shortest};
+use swreq_explain::{book_of, explain_by};
+use swreq_lines::lines_text;
+use swreq_lowering::Query;
+use swreq_map::PropertyMap;
+use swreq_param::{ParamTable, ProtoId, TermId};
+use swreq_query::{Verdict, answer, judge};
+use swreq_text::{Seq, append_bytes};
+use swreq_unfold::Book;
+use swreq_valid::Scratch;
+use swreq_world::World;
+
+/// Room for the type parameters that a query of the text names.
+fn scratch(
+    alloc: Global,
+    world: &World,
+    table: &ParamTable,
+    query: &Query,
+) -> Result<Scratch, AllocError>
+    requires text { IsTextOver table.now world.now }
+    requires query { Contains world.now.queries query.now }
+    ensures { IfOk result (λ s. IsRoomFor (query_by table.now query.now) s.room) }
+{
+    let longest = members(table, query).checked_add(2).ok_or(AllocError)?;
+    let room = longest.checked_mul(4).ok_or(AllocError)?;
+    Scratch::with_room(alloc, room)
+}
+
+/// Appends the line of the conformance path that is given for `[t : p]`, which is derivable.
+fn put_path(
+    s: &Setting<'_>,
+    table: &ParamTable,
+    own: &Own<'_>,
+    t: TermId,
+    p: ProtoId,
+    out: &mut Vec<u8>,
+) -> Result<(), AllocError>
+    requires ready { IsReady table.now s.now }
+    requires machine { IsMachineFor table.now s.now own.now.f own.now.machine.now }
+    requires asked { IsRequirementIn table.now s.now.world.now.lexicon (Conf t p) }
+    requires derivable { Derivable (facts_of (world_in table.now s.now)) (source_of (signature_at (world_in table.now s.now) own.now.f))
+        (Requires (Conforms (term_at table.now t) p)) }
+    ensures { OnOk result ((text : List ℕ) × IsPathLine (world_in table.now s.now) own.now.f (term_at table.now t) p text
+        × (out.new.items ≡ out.old.items ++ text)) }
+{
+    paths_have_texts();
+    let path = shortest(s.alloc, s.world, table, own.machine, own.f, t, p)?;
+    append_bytes(out, b"  ")?;
+    path_text(s.alloc, s.world, table, own.f, &path, out)?;
+    append_bytes(out, b"\n")
+}
+
+/// Appends the lines of a derivation of what a query asks, which is derivable, by the book of its signature.
+fn put_derivation(
+    s: &Setting<'_>,
+    table: &mut ParamTable,
+    book: &Book,
+    query: &Query,
+    out: &mut Vec<u8>,
+) -> Result<(), AllocError>
+    requires ready { IsReady table.old s.now }
+    requires book { IsBookFor (world_in table.old s.now) (signature_of (query_by table.old query.now)) book.now }
+    requires query { Contains s.now.world.now.queries query.now }
+    requires yes { IsAnswered (world_in table.old s.now) (query_by table.old query.now) Yes }
+    ensures backing { OnOk result ((text : List ℕ) × IsDerivationText (world_in table.old s.now) (query_by table.old query.now) text
+        × (out.new.items ≡ out.old.items ++ text)) }
+    ensures extends { OnOk result (Extends table.old table.new) }
+{
+    let lines = explain_by(s.alloc, s.world, table, book, query)?;
+    lines_text(s.alloc, s.world.lexicon(), table, &lines, out)
+}
+
+/// Appends what backs the `yes` to a query.
+fn put_backing(
+    s: &Setting<'_>,
+    table: &mut ParamTable,
+    means: &Means<'_>,
+    query: &Query,
+    out: &mut Vec<u8>,
+) -> Result<(), AllocError>
+    requires ready { IsReady table.old s.now }
+    requires means { AreMeansFor table.old s.now means.now }
+    requires query { Contains s.now.world.now.queries query.now }
+    requires asks { signature_of (query_by table.old query.now) ≡ means.now.own.f }
+    requires yes { IsAnswered (world_in table.old s.now) (query_by table.old query.now) Yes }
+    ensures backing { OnOk result ((text : List ℕ)
+        × BacksYes (world_in table.old s.now) (backing_of s.now.content) (query_by table.old query.now) text
+        × (out.new.items ≡ out.old.items ++ text)) }
+    ensures extends { OnOk result (Extends table.old table.new) }
+{
+    match backing_of(s.content) {
+        Backing::Nothing => Ok(()),
+        Backing::Derivation => match means.book {
+            Some(book) => put_derivation(s, table, book, query, out),
+            None => unreachable!(),
+        },
+        Backing::Path => match *query {
+            Query::Conf { t, p, .. } => put_path(s, table, &means.own, t, p, out),
+            _ => Ok(()),
+        },
+    }
+}
+
+/// Appends what stands behind this answer to a query.
+fn put_behind(
+    s: &Setting<'_>,
+    table: &mut ParamTable,
+    means: &Means<'_>,
+    query: &Query,
+    verdict: Verdict,
+    out: &mut Vec<u8>,
+) -> Result<(), AllocError>
+    requires ready { IsReady table.old s.now }
+    requires means { AreMeansFor table.old s.now means.now }
+    requires query { Contains s.now.world.now.queries query.now }
+    requires asks { signature_of (query_by table.old query.now) ≡ means.now.own.f }
+    requires answer { IsAnswered (world_in table.old s.now) (query_by table.old query.now) (answer_of verdict) }
+    ensures backing { OnOk result ((text : List ℕ)
+        × Backs (world_in table.old s.now) (backing_of s.now.content) (query_by table.old query.now) (answer_of verdict) text
+        × (out.new.items ≡ out.old.items ++ text)) }
+    ensures extends { OnOk result (Extends table.old table.new) }
+{
+    match verdict {
+        Verdict::Yes => put_backing(s, table, means, query, out),
+        Verdict::Invalid | Verdict::No => Ok(()),
+    }
+}
+
+/// The piece that answers a query of a requirement.
+fn requirement_piece(
+    s: &Setting<'_>,
+    table: &mut ParamTable,
+    means: &Means<'_>,
+    query: &Query,
+) -> Result<Seq<u8>, AllocError>
+    requires ready { IsReady table.old s.now }
+    requires means { AreMeansFor table.old s.now means.now }
+    requires query { IsQueryFor table.old s.now means.now.own.f query.now }
+    requires asks { AsksRequirement (query_by table.old query.now) }
+    ensures piece { IfOk result (AnswersByTypes (world_in table.old s.now) true (backing_of s.now.content) (query_by table.old query.now)) }
+    ensures extends { OnOk result (Extends table.old table.new) }
+{
+    let mut scratch = scratch(s.alloc, s.world, table, query)?;
+    let verdict = judge(
+        s.world,
+        table,
+        means.own.machine,
+        means.map,
+        query,
+        &mut scratch,
+    );
+    let mut piece = Vec::new(s.alloc);
+    append_bytes(&mut piece, verdict.line())?;
+    put_behind(s, table, means, query, verdict, &mut piece)?;
+    Ok(Seq::new(piece))
+}
+
+/// The piece that answers a query of a type.
+fn type_piece(
+    s: &Setting<'_>,
+    table: &ParamTable,
+    means: &Means<'_>,
+    query: &Query,
+) -> Result<Seq<u8>, AllocError>
+    requires ready { IsReady table.now s.now }
+    requires means { AreMeansFor table.now s.now means.now }
+    requires query { IsQueryFor table.now s.now means.now.own.f query.now }
+    requires asks { AsksType (query_by table.now query.now) }
+    ensures { IfOk result (AnswersByTypes (world_in table.now s.now) true (backing_of s.now.content) (query_by table.now query.now)) }
+{
+    let mut scratch = scratch(s.alloc, s.world, table, query)?;
+    let mut piece = Vec::new(s.alloc);
+    answer(
+        s.alloc,
+        s.world,
+        table,
+        means.own.machine,
+        means.map,
+        query,
+        &mut scratch,
+        &mut piece,
+    )?;
+    Ok(Seq::new(piece))
+}
+
+/// The piece that answers a query by the machine of the signature that it asks.
+fn piece(
+    s: &Setting<'_>,
+    table: &mut ParamTable,
+    means: &Means<'_>,
+    query: &Query,
+) -> Result<Seq<u8>, AllocError>
+    requires ready { IsReady table.old s.now }
+    requires means { AreMeansFor table.old s.now means.now }
+    requires query { IsQueryFor table.old s.now means.now.own.f query.now }
+    ensures piece { IfOk result (IsLineOf (world_in table.old s.now) true (backing_of s.now.content) (query_by table.old query.now)) }
+    ensures extends { OnOk result (Extends table.old table.new) }
+{
+    match *query {
+        Query::Signature { .. } => unreachable!(),
+        Query::Reduced { .. } => type_piece(s, table, means, query),
+        Query::Conf { .. } | Query::Layout { .. } | Query::Same { .. } => {
+            requirement_piece(s, table, means, query)
+        }
+    }
+}
+
+/// The book of the machine of a signature, where derivations are printed.
+fn book_for(s: &Setting<'_>, table: &ParamTable, own: &Own<'_>) -> Result<Option<Book>, AllocError>
+    requires ready { IsReady table.now s.now }
+    requires machine { IsMachineFor table.now s.now own.now.f own.now.machine.now }
+    ensures { IfOk result (HasBook table.now s.now own.now.f) }
+{
+    match backing_of(s.content) {
+        Backing::Derivation => {
+            let book = book_of(s.alloc, s.world, table, s.protocols, own.machine, own.f)?;
+            Ok(Some(book))
+        }
+        Backing::Nothing | Backing::Path => Ok(None),
+    }
+}
+
+/// Answers the queries of requirements and types on a signature, by its machine, at their places.
+pub(crate) fn answer_queries(
+    s: &Setting<'_>,
+    table: &mut ParamTable,
+    own: &Own<'_>,
+    pieces: &mut Vec<Option<Seq<u8>>>,
+) -> Result<(), AllocError>
+    requires ready { IsReady table.old s.now }
+    requires answers { AreAnswers s.now.content }
+    requires machine { IsMachineFor table.old s.now own.now.f own.now.machine.now }
+    requires pieces { AreMadeIn table.old s.now own.now.f.place pieces.old.items }
+    ensures pieces { OnOk result (AreMadeIn table.old s.now (own.now.f.place + 1) pieces.new.items) }
+    ensures extends { OnOk result (Extends table.old table.new) }
+{
+    let places = &s.places[own.f.place as usize];
+    if places.is_empty() {
+        return Ok(());
+    }
+    let map = PropertyMap::build(s.alloc, own.machine.rules(), s.world.protocols())?;
+    let book = book_for(s, table, own)?;
+    let means = Means {
+        own: *own,
+        map: &map,
+        book: book.as_ref(),
+    };
+    for j in 0..places.len() {
+        let place = places[j];
+        let query = &s.world.queries()[place];
+        let made = piece(s, table, &means, query)?;
+        pieces[place] = Some(made);
+    }
+    Ok(())
+}

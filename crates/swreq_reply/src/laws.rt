@@ -1,0 +1,23 @@
+//! What holds of the verdicts on inputs.
+ghost use Rattle.std.specs.Prelude.{◌≡◌, ◌≤◌, List, length};
+ghost use Rattle.swreq_watch.specs.declared.events.Event.{Event};
+ghost use Rattle.swreq_print.specs.Names.{Text};
+ghost use Rattle.swreq_words.specs.declared.command.CommandLine.{CommandLine};
+ghost use Rattle.swreq_reply.specs.declared.outcome.Outcome.{Outcome};
+ghost use Rattle.swreq_reply.specs.Inputs.{AreParts, Parts, second_at};
+ghost use Rattle.swreq_reply.specs.Verdict.{IsRefused, IsVerdict};
+
+/// An input with this source text, and with its second part from this offset on, that is refused has no other verdict.
+pub fn one_verdict(input: &[u8], source: &[u8], from: u32)
+    requires { from ≤ length input.now }
+    ensures { (line : CommandLine) (p : Parts) → AreParts line.command input.now p → p.source ≡ source.now → second_at p ≡ from
+        → (o q : Outcome) (told also : List Event) → IsRefused line input.now o told → IsVerdict line input.now q also → q ≡ o }
+{
+    swreq_lex::laws::one_reading(source);
+    swreq_decl::laws::one_skeleton(source);
+    swreq_decl::laws::one_verdict(source);
+    swreq_world::laws::worlds_are_closed(source);
+    swreq_lex::laws::one_reading_from(input, from);
+    swreq_calls::laws::one_list_of_calls(input, from);
+    swreq_calls::laws::one_verdict(input, from);
+}

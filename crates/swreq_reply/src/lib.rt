@@ -1,0 +1,21 @@
+//! What a command answers of an input, and with which status.
+#![tactic(auto)]
+
+mod answering;
+mod calling;
+mod checking;
+mod content;
+pub mod laws;
+mod making;
+mod minimising;
+mod outcome;
+mod passed;
+mod places;
+mod printing;
+mod refusal;
+mod request;
+mod setting;
+mod wanted;
+
+pub use content::{Backing, Content};
+pub use outcome::{Outcome, reply};

@@ -1,0 +1,52 @@
+//! What is made of each machine while it stands.
+ghost use Rattle.std.specs.Prelude.{◌+◌, OnOk};
+ghost use Rattle.swreq_param.specs.Tables.{Extends};
+ghost use Rattle.swreq_reply.specs.Contents.{AreSystems};
+ghost use Rattle.swreq_reply.specs.Settings.{AreMadeIn, IsMachineFor, IsReady};
+
+use crate::answering::answer_queries;
+use crate::content::Content;
+use crate::setting::{Own, Setting};
+use std::alloc::AllocError;
+use swreq_output::system_text;
+use swreq_param::ParamTable;
+use swreq_text::Seq;
+
+/// Puts the reduced rewriting system of a signature to its place.
+fn put_system(
+    s: &Setting<'_>,
+    table: &ParamTable,
+    own: &Own<'_>,
+    pieces: &mut Vec<Option<Seq<u8>>>,
+) -> Result<(), AllocError>
+    requires ready { IsReady table.now s.now }
+    requires systems { AreSystems s.now.content }
+    requires machine { IsMachineFor table.now s.now own.now.f own.now.machine.now }
+    requires pieces { AreMadeIn table.now s.now own.now.f.place pieces.old.items }
+    ensures { OnOk result (AreMadeIn table.now s.now (own.now.f.place + 1) pieces.new.items) }
+{
+    let mut piece = Vec::new(s.alloc);
+    system_text(s.alloc, s.world, table, own.machine, own.f, &mut piece)?;
+    pieces[own.f.place as usize] = Some(Seq::new(piece));
+    Ok(())
+}
+
+/// Makes the pieces that the machine of the next signature makes.
+pub(crate) fn make(
+    s: &Setting<'_>,
+    table: &mut ParamTable,
+    own: &Own<'_>,
+    pieces: &mut Vec<Option<Seq<u8>>>,
+) -> Result<(), AllocError>
+    requires ready { IsReady table.old s.now }
+    requires machine { IsMachineFor table.old s.now own.now.f own.now.machine.now }
+    requires pieces { AreMadeIn table.old s.now own.now.f.place pieces.old.items }
+    ensures pieces { OnOk result (AreMadeIn table.old s.now (own.now.f.place + 1) pieces.new.items) }
+    ensures extends { OnOk result (Extends table.old table.new) }
+{
+    match s.content {
+        Content::Answers { .. } => answer_queries(s, table, own, pieces),
+        Content::Systems => put_system(s, table, own, pieces),
+        Content::Signatures | Content::Families | Content::Judgements | Content::Calls => Ok(()),
+    }
+}

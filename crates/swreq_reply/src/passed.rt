@@ -1,0 +1,61 @@
+//! The machines of a text that has passed its check.
+ghost use Rattle.std.specs.Prelude.{◌≡◌, ◌<◌, length, IfOk};
+ghost use Rattle.swreq_symbols.specs.Known.{IsTextOver};
+ghost use Rattle.swreq_valid.specs.Machines.{IsMachineOf};
+ghost use Rattle.swreq_valid.specs.declared.refused.Refused.TheVariants.{Memory};
+ghost use Rattle.swreq_world.specs.FactsAt.{written_list};
+ghost use Rattle.swreq_world.specs.Worlds.{signature_at};
+ghost use Rattle.swreq_reply.specs.Passed.{HasPassed, world_of};
+
+use std::alloc::{AllocError, Global};
+use swreq_complete::Limits;
+use swreq_lowering::FuncId;
+use swreq_param::ParamTable;
+use swreq_valid::{Machine, Protocols, Refused};
+use swreq_watch::Quiet;
+use swreq_world::World;
+
+/// A text that has passed its check.
+#[derive(Clone, Copy)]
+pub(crate) struct Passed<'a> {
+    pub alloc: Global,
+    pub world: &'a World,
+    /// The rules of the protocols.
+    pub protocols: &'a Protocols,
+    pub limits: Limits,
+}
+
+/// The want of memory for which alone a list that has passed the check is refused.
+fn lost(_refused: &Refused) -> AllocError
+    requires { _refused.now ≡ Memory }
+{
+    AllocError
+}
+
+/// The machine of a signature, built anew, which is told to nobody.
+pub(crate) fn machine_of<'b>(
+    p: &Passed<'b>,
+    table: &ParamTable,
+    f: FuncId,
+) -> Result<Machine<'b>, AllocError>
+    requires text { IsTextOver table.now p.now.world.now }
+    requires passed { HasPassed table.now p.now }
+    requires f { f.place < length p.now.world.now.signatures }
+    ensures machine { IfOk result (IsMachineOf (world_of table.now p.now) (written_list (signature_at (world_of table.now p.now) f))) }
+    ensures params { IfOk result (λ m. m.params ≡ (signature_at (world_of table.now p.now) f).params) }
+{
+    let list = p.world.signature(p.alloc, f)?;
+    match Machine::build(
+        p.alloc,
+        p.world,
+        table,
+        p.protocols,
+        p.world.params(f),
+        &list,
+        p.limits,
+        &mut Quiet,
+    ) {
+        Ok(machine) => Ok(machine),
+        Err(refused) => Err(lost(&refused)),
+    }
+}

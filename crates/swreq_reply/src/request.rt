@@ -1,0 +1,61 @@
+//! What is to be answered.
+ghost use Rattle.std.specs.Prelude.{◌≡◌, ◌≤◌, Contains, MatchOption, length};
+ghost use Rattle.swreq_parts.specs.Lines.{lines};
+ghost use Rattle.swreq_parts.specs.Parts.{divider};
+ghost use Rattle.swreq_words.specs.declared.command.Input.TheVariants.{TwoParts};
+ghost use Rattle.swreq_words.specs.Commands.{input as reads};
+ghost use Rattle.swreq_reply.specs.Inputs.{HasParts, second_at};
+ghost use Rattle.swreq_reply.specs.Requests.{view_of};
+
+use std::alloc::Global;
+use swreq_parts::parts;
+use swreq_words::{Command, CommandLine, Input};
+
+/// An input, the source text in it, and what stands behind the line that divides it.
+#[derive(Clone, Copy)]
+pub(crate) struct Divided<'a> {
+    pub input: &'a [u8],
+    pub source: &'a [u8],
+    pub second: &'a [u8],
+}
+
+/// A command, and the parts of the input that it reads.
+#[derive(Clone, Copy)]
+pub(crate) struct Request<'a> {
+    pub alloc: Global,
+    pub line: &'a CommandLine,
+    pub parts: Divided<'a>,
+}
+
+/// The parts of an input that the command reads, or None where it reads a second part and there is none.
+pub(crate) fn parts_of(command: Command, input: &[u8]) -> Option<Divided<'_>>
+    ensures parts { MatchOption result
+        ((reads command ≡ TwoParts) × (Contains (lines input.now) divider → ⊥))
+        (λ p. HasParts (reads command) (view_of p)) }
+    ensures input { MatchOption result (Unit {0}) (λ p. p.input.now ≡ input.now) }
+{
+    match command.input() {
+        Input::Nothing | Input::OnePart => Some(Divided {
+            input,
+            source: input,
+            second: &[],
+        }),
+        Input::TwoParts => match parts(input) {
+            None => None,
+            Some(found) => Some(Divided {
+                input,
+                source: found.first,
+                second: found.second,
+            }),
+        },
+    }
+}
+
+/// The offset of the second part in the input.
+pub(crate) fn second_at(parts: Divided<'_>) -> u32
+    requires input { length parts.input.now ≤ 1048576 }
+    requires second { length parts.second.now ≤ length parts.input.now }
+    ensures { result ≡ second_at (view_of parts.entry) }
+{
+    (parts.input.len() - parts.second.len()) as u32
+}

@@ -1,0 +1,40 @@
+//! Over what the pieces that a command prints are made.
+use crate::content::Content;
+use std::alloc::Global;
+use swreq_complete::Limits;
+use swreq_lowering::FuncId;
+use swreq_map::PropertyMap;
+use swreq_unfold::Book;
+use swreq_valid::{Machine, Protocols};
+use swreq_world::World;
+
+/// A text whose protocols are checked, and what is asked of the machines of its signatures.
+#[derive(Clone, Copy)]
+pub(crate) struct Setting<'a> {
+    pub alloc: Global,
+    pub world: &'a World,
+    /// The rules of the protocols, within the limits.
+    pub protocols: &'a Protocols,
+    pub limits: Limits,
+    /// What the command prints.
+    pub content: Content,
+    /// Of each signature the places of the pieces that its machine makes.
+    pub places: &'a [Vec<usize>],
+}
+
+/// A signature with its machine.
+#[derive(Clone, Copy)]
+pub(crate) struct Own<'a> {
+    pub f: FuncId,
+    pub machine: &'a Machine<'a>,
+}
+
+/// With what the queries of a signature are answered.
+#[derive(Clone, Copy)]
+pub(crate) struct Means<'a> {
+    pub own: Own<'a>,
+    /// The map of the machine's rules.
+    pub map: &'a PropertyMap,
+    /// The book of the machine, where derivations are printed.
+    pub book: Option<&'a Book>,
+}

@@ -1,0 +1,86 @@
+//! Of which signatures the minimised list is wanted, and what a query names.
+ghost use Rattle.std.specs.Prelude.{◌≡◌, ◌<◌, length, Contains, IfOk};
+ghost use Rattle.swreq_lowering.specs.ByTable.{HasQueryIdsOf, query_by};
+ghost use Rattle.swreq_reply.specs.Wanted.{AreFlags, HasShortSides, function_of, is_list_asked, list_asked, wants_list};
+
+use crate::content::Content;
+use std::alloc::{AllocError, Global};
+use swreq_lowering::{FuncId, Query};
+use swreq_param::ParamTable;
+use swreq_world::World;
+
+/// The signature that a query asks.
+pub(crate) fn function_of(query: &Query) -> FuncId
+    ensures { result ≡ function_of query.now }
+{
+    match *query {
+        Query::Signature { f }
+        | Query::Reduced { f, .. }
+        | Query::Conf { f, .. }
+        | Query::Layout { f, .. }
+        | Query::Same { f, .. } => f,
+    }
+}
+
+/// The signature for whose minimised list a query asks, or None where it asks something else.
+pub(crate) fn list_asked(query: &Query) -> Option<FuncId>
+    ensures { result ≡ list_asked query.now }
+{
+    match *query {
+        Query::Signature { f } => Some(f),
+        _ => None,
+    }
+}
+
+/// So many flags, all of them alike.
+fn flags(alloc: Global, count: usize, flag: bool) -> Result<Vec<bool>, AllocError>
+    ensures { IfOk result (λ v. AreFlags (λ k. flag) count v.items) }
+{
+    vec![in alloc; flag; count]
+}
+
+/// Of each signature, whether some query asks for its minimised list.
+fn lists_asked(alloc: Global, world: &World) -> Result<Vec<bool>, AllocError>
+    requires { (q : Query) → Contains world.now.queries q → (function_of q).place < length world.now.signatures }
+    ensures { IfOk result (λ v. AreFlags (is_list_asked world.now.queries) (length world.now.signatures) v.items) }
+{
+    let mut flags = flags(alloc, world.functions() as usize, false)?;
+    for k in 0..world.queries().len() {
+        if let Some(f) = list_asked(&world.queries()[k]) {
+            flags[f.place as usize] = true;
+        }
+    }
+    Ok(flags)
+}
+
+/// Of each signature, whether its minimised list is wanted.
+pub(crate) fn lists_wanted(
+    alloc: Global,
+    world: &World,
+    content: Content,
+) -> Result<Vec<bool>, AllocError>
+    requires { (q : Query) → Contains world.now.queries q → (function_of q).place < length world.now.signatures }
+    ensures { IfOk result (λ v. AreFlags (wants_list content world.now.queries) (length world.now.signatures) v.items) }
+{
+    match content {
+        Content::Answers { .. } => lists_asked(alloc, world),
+        Content::Signatures => flags(alloc, world.functions() as usize, true),
+        Content::Systems | Content::Families | Content::Judgements | Content::Calls => {
+            flags(alloc, world.functions() as usize, false)
+        }
+    }
+}
+
+/// The most members of a type parameter that the query names.
+pub(crate) fn members(table: &ParamTable, query: &Query) -> usize
+    requires { HasQueryIdsOf table.now query.now }
+    ensures { HasShortSides (query_by table.now query.now) result }
+{
+    match *query {
+        Query::Signature { .. } => 0,
+        Query::Reduced { t, .. } | Query::Conf { t, .. } | Query::Layout { t, .. } => {
+            table.members(t)
+        }
+        Query::Same { a, b, .. } => table.members(a).max(table.members(b)),
+    }
+}

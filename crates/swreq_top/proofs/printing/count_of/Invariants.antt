@@ -1,6 +1,0 @@
-use Rattle.std.proofs.Common.{◌≡◌, ◌≤◌, take}
-use Rattle.swreq_top.specs.Lines.{count_of}
-use Rattle.swreq_top.proofs.printing.count_of.Given as goal
-
-abbrev pub invariant-loop-k : goal.invariant-loop-k
-invariant-loop-k l = (l.count ≡ count_of l.line (take l.k l.lines)) × (l.count ≤ l.k)
