@@ -2,6 +2,8 @@
 #![tactic(auto)]
 
 #[cfg(test)]
+mod evidence;
+#[cfg(test)]
 mod large;
 #[cfg(test)]
 mod running;

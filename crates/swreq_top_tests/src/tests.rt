@@ -1,6 +1,7 @@
 //! Texts, and the words they are run with.
+use crate::evidence::EVIDENCE;
 use crate::running::{runs, undisturbed};
-use crate::texts::{ANSWERS, ENDLESS, EVIDENCE, LIMITS, REFUSALS};
+use crate::texts::{ANSWERS, ENDLESS, LIMITS, REFUSALS};
 use std::alloc::Global;
 use std::process::Abort;
 use std::test::Fail;
