@@ -1,5 +1,5 @@
-/* Calls genreq over a text, the standard input: often, and with each of its allocations refused. Linked with --wrap for malloc, realloc and
- * free, so that the blocks that are not given back are counted. */
+/* Calls genreq with a word over a text, the standard input: so often as the second word says, and with each of its allocations refused. Linked
+ * with --wrap for malloc, realloc and free, so that the blocks that are not given back are counted. */
 #include "genreq.h"
 
 #include <stdio.h>
@@ -33,29 +33,38 @@ void __wrap_free(void *block) {
     __real_free(block);
 }
 
-static uint8_t text[1 << 16], out[1 << 16];
+static uint8_t text[1 << 16], out[1 << 16], answered[1 << 16];
 static size_t length;
 
-static struct genreq_answer call(void) { return genreq_run((const uint8_t *)"answer", 6, text, length, out, sizeof out); }
+static struct genreq_answer call(const char *word) {
+    return genreq_run((const uint8_t *)word, strlen(word), text, length, out, sizeof out);
+}
 
-int main(void) {
+int main(int count, char **words) {
     static const char line[] = "error: out of memory\n";
-    struct genreq_answer answer;
-    int k;
+    struct genreq_answer answer, whole;
+    long k;
+    if (count != 3)
+        return 2;
     length = fread(text, 1, sizeof text, stdin);
     blocks = 0;
-    for (k = 0; k < 10000; k++)
-        if (call().status != GENREQ_ANSWERED)
+    whole = call(words[1]);
+    memcpy(answered, out, sizeof out);
+    for (k = 1; k < atol(words[2]); k++)
+        if (call(words[1]).status != GENREQ_ANSWERED)
             return puts("a call is not answered"), 1;
+    if (whole.status != GENREQ_ANSWERED)
+        return puts("the first call is not answered"), 1;
     if (blocks)
         return printf("%ld blocks are not given back\n", blocks), 1;
     do {
         refused++;
         wanted = 0;
-        answer = call();
+        answer = call(words[1]);
         if (answer.status == GENREQ_NO_MEMORY && (answer.count != sizeof line - 1 || memcmp(out, line, answer.count)))
             return puts("without memory another line is printed"), 1;
-        if (answer.status != GENREQ_NO_MEMORY && answer.status != GENREQ_ANSWERED)
+        if (answer.status != GENREQ_NO_MEMORY
+            && (answer.status != GENREQ_ANSWERED || answer.count != whole.count || memcmp(out, answered, whole.count)))
             return printf("with the allocation %ld refused the status is %d\n", refused, answer.status), 1;
         if (blocks)
             return printf("%ld blocks are not given back where an allocation is refused\n", blocks), 1;

@@ -3,10 +3,8 @@ use Rattle.std.specs.Prelude.{◌≡◌, ◌≢◌, ◌==◌, ◌⊎◌, ◌≤�
 use Rattle.std.specs.List.{slice_split}
 use Rattle.std.specs.Str.{IsUtf8}
 use Rattle.swreq_print.specs.Names.{Text}
-use Rattle.swreq_print.specs.Refusals.{refusal_line}
-use Rattle.swreq_print.specs.declared.refusal.RefusalKind.TheVariants as refusals
-use Rattle.swreq_top.specs.Headline.{SayAlike, SayEqualLists, SayTheLeast, SayYesWhereImplied, TakenSay}
-use Rattle.swreq_top.specs.Runs.{AreWrong, Delivers, IsAnswerable, ReadOnePart}
+use Rattle.swreq_top.specs.Contract.{IsRun}
+use Rattle.swreq_top.specs.Run.{Run}
 
 -- what stands between zero bytes
 abbrev pub pieces : Text → List Text
@@ -16,20 +14,21 @@ pieces bytes = slice_split (λ b. b == 0) bytes
 abbrev pub AreWords : Text → List Text → Type 0
 AreWords bytes words = (IsUtf8 bytes × (words ≡ pieces bytes)) ⊎ ((IsUtf8 bytes → ⊥) × (words ≡ []))
 
--- The program, run with these words over this text, ends with this status and has printed this. No stream of it fails.
+-- The run of the program with these words over this text, of which that is left, which has printed this and ends with this status. No stream
+-- of it fails, and nothing watches it.
+abbrev pub run_in_memory : (words : List Text) (text : Text) (rest : Option Text) (printed : Text) → ℕ → Run
+run_in_memory words text rest printed status = record {
+  words = words;
+  before = record { left = Some text; read_faults = 0; taken = Some []; write_faults = 0; told = None };
+  after = record { left = rest; read_faults = 0; taken = Some printed; write_faults = 0; told = None };
+  status = status;
+}
+
+-- The program, run with these words over this text, ends with this status and has printed this.
 pub record HasRun (words : List Text) (text : Text) (status : ℕ) (printed : Text) : Type 0 where
-  pub verdict : (status ≡ 0) ⊎ ((status ≡ 1) ⊎ (status ≡ 3))
-      → (rest : Option Text) × Delivers words (Some text) rest (Some []) (Some printed) None None status
-  pub yes : status ≡ 0 → TakenSay SayYesWhereImplied words (Some text) (Some []) (Some printed)
-  pub least : status ≡ 0 → TakenSay SayTheLeast words (Some text) (Some []) (Some printed)
-  pub equal : status ≡ 0 → TakenSay SayEqualLists words (Some text) (Some []) (Some printed)
-  pub alike : status ≡ 0 → TakenSay SayAlike words (Some text) (Some []) (Some printed)
-  pub answered : IsAnswerable words (Some text) → (status ≡ 1) ⊎ (status ≡ 3) → ⊥
-  pub empty : ReadOnePart words → text ≡ [] → (status ≡ 1) ⊎ (status ≡ 3) → ⊥
-  pub wrong_words : AreWrong words → (status ≡ 2) ⊎ (status ≡ 6)
-  pub usage : status ≡ 2 → AreWrong words × (printed ≡ refusal_line refusals.Usage)
-  pub no_memory : status ≡ 6 → printed ≡ refusal_line refusals.OutOfMemory
-  pub statuses : (status ≤ 6) × (status ≢ 4) × (status ≢ 5)
+  pub rest : Option Text
+  pub run : IsRun (run_in_memory words text rest printed status)
+  pub no_fault : (status ≢ 4) × (status ≢ 5)
 
 -- A buffer once bytes are put into it: as many of the first ones as it has room for, and after them what stood there.
 abbrev pub put_into : Text → Text → Text

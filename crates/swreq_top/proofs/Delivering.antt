@@ -13,7 +13,8 @@ use Rattle.swreq_words.specs.declared.command.Command.TheVariants as command
 use Rattle.swreq_words.specs.declared.command.CommandLine.{CommandLine}
 use Rattle.swreq_reply.specs.declared.outcome.Outcome.{Outcome}
 use Rattle.swreq_reply.specs.Replies.{IsOnlyRefusal, IsToldVerdict, WasToldPart}
-use Rattle.swreq_top.specs.Runs.{Answers, AnswersText, IsGen, IsRead, LeavesSource, known_text}
+use Rattle.swreq_top.specs.Run.{IsGen, IsOfVerdict, IsRead, LeavesSource, known_text}
+use Rattle.swreq_top.specs.Steps.{Answers, AnswersText}
 use Rattle.swreq_reply.specs.Verdict.{IsRefused, IsVerdict, answered_text, refused_with}
 use Rattle.swreq_reply.specs.Verdict.IsRefused.{bad_calls, in_one_part, misfit, not_a_type_parameter, past_a_limit, past_a_limit_of_families, too_long, without_world}
 use Rattle.swreq_reply.specs.Verdict.IsVerdict.{answered as is_answered, cut_short as is_cut_short, judged as is_judged, refused as is_refused}
@@ -33,18 +34,11 @@ refused_status line text o told (past_a_limit_of_families which trace c asked st
 refused_status line text o told (bad_calls refusal c asked refuses untold is) = inl (ap (λ (p : Outcome). p.status) is)
 
 -- the status of a verdict is 0, 1 or 3
-pub verdict_status : (line : CommandLine) (text : Text) (o : Outcome) (told : List Event) → IsVerdict line text o told
-    → (o.status ≡ 0) ⊎ ((o.status ≡ 1) ⊎ (o.status ≡ 3))
+pub verdict_status : (line : CommandLine) (text : Text) (o : Outcome) (told : List Event) → IsVerdict line text o told → IsOfVerdict o.status
 verdict_status line text o told (is_refused r) = inr (refused_status line text o told r)
 verdict_status line text o told (is_cut_short c) = inr (inr (ap (λ (p : Outcome). p.status) c.outcome))
 verdict_status line text o told (is_answered a) = inl a.status
 verdict_status line text o told (is_judged j) = inl j.status
-
--- and so not that of a failed write
-pub not_five : (status : ℕ) → (status ≡ 0) ⊎ ((status ≡ 1) ⊎ (status ≡ 3)) → status ≢ 5
-not_five status (inl zero) five = absurd (omega (arith, zero, five))
-not_five status (inr (inl one)) five = absurd (omega (arith, one, five))
-not_five status (inr (inr three)) five = absurd (omega (arith, three, five))
 
 -- ---- sources
 
@@ -91,79 +85,55 @@ pub none_given : (left : Option Text) → GivesCount left left 0
 none_given None = ([], tt, refl)
 none_given (Some all) = ([], refl, refl)
 
+-- ---- commands
+
+-- what holds of a command that reads a source: its text is that of the source
+pub record ReadsSource (c : Command) : Type 0 where
+  pub known : (left : Option Text) → known_text c left ≡ left
+  pub answered : (text : Text) → answered_text c text ≡ text
+  pub leaves : (left rest : Option Text) → IsRead left rest → LeavesSource c left rest
+
+as_it_is : {c : Command} → ((left : Option Text) → known_text c left ≡ left) → ((text : Text) → answered_text c text ≡ text)
+    → ((left rest : Option Text) → IsRead left rest → LeavesSource c left rest) → ReadsSource c
+as_it_is known answered leaves = record { known = known; answered = answered; leaves = leaves }
+
+pub reads_source : (c : Command) → (IsGen c → ⊥) → ReadsSource c
+reads_source command.Answer reads = as_it_is (λ left. refl) (λ text. refl) (λ left rest read. read)
+reads_source command.Signatures reads = as_it_is (λ left. refl) (λ text. refl) (λ left rest read. read)
+reads_source command.Rules reads = as_it_is (λ left. refl) (λ text. refl) (λ left rest read. read)
+reads_source (command.Gen n) reads = absurd (reads (n, refl))
+reads_source command.Explain reads = as_it_is (λ left. refl) (λ text. refl) (λ left rest read. read)
+reads_source command.Verify reads = as_it_is (λ left. refl) (λ text. refl) (λ left rest read. read)
+reads_source command.Paths reads = as_it_is (λ left. refl) (λ text. refl) (λ left rest read. read)
+reads_source command.Calls reads = as_it_is (λ left. refl) (λ text. refl) (λ left rest read. read)
+reads_source command.Requirements reads = as_it_is (λ left. refl) (λ text. refl) (λ left rest read. read)
+
+-- what holds of what a source has left holds of the text of a command that reads it
+pub known_left : (c : Command) (left : Option Text) (P : Text → Type 0) → (IsGen c → ⊥) → IfSome left P → IfSome (known_text c left) P
+known_left c left P reads h = subst (λ (t : Option Text). IfSome t P) (sym ((reads_source c reads).known left)) h
+
+-- and what was read of it is what is left
+pub leaves_read : (c : Command) (left rest : Option Text) → (IsGen c → ⊥) → IsRead left rest → LeavesSource c left rest
+leaves_read c left rest reads h = (reads_source c reads).leaves left rest h
+
+-- what holds of the text of `gen` holds whatever the source has
+generated_known : (c : Command) (left : Option Text) (P : Text → Type 0) (text : Text) → IsGen c → P (answered_text c text)
+    → IfSome (known_text c left) P
+generated_known c left P text (n, is) =
+    subst (λ (d : Command). P (answered_text d text) → IfSome (known_text d left) P) (sym is) (λ h. h)
+
 -- ---- what is answered
 
 module _ (line : CommandLine) where
   -- a text that was read
-  pub replied : (text : Text) (old new : Option (List Event)) (o : Outcome) → IsToldVerdict line text old new o
-      → (o.status ≡ 0) ⊎ ((o.status ≡ 1) ⊎ (o.status ≡ 3))
+  pub replied : (text : Text) (old new : Option (List Event)) (o : Outcome) → IsToldVerdict line text old new o → IsOfVerdict o.status
   replied text old new o (told, verdict, grew) = verdict_status line text o told verdict
-
-  -- what holds of the text of `gen` holds whatever the source has
-  generated_known : (c : Command) (left : Option Text) (P : Text → Type 0) (text : Text) → IsGen c → P (answered_text c text)
-      → IfSome (known_text c left) P
-  generated_known command.Answer left P text (n, is) holds = absurd (let clash : command.Answer ≡ command.Gen n = is in cc)
-  generated_known command.Signatures left P text (n, is) holds = absurd (let clash : command.Signatures ≡ command.Gen n = is in cc)
-  generated_known command.Rules left P text (n, is) holds = absurd (let clash : command.Rules ≡ command.Gen n = is in cc)
-  generated_known command.Explain left P text (n, is) holds = absurd (let clash : command.Explain ≡ command.Gen n = is in cc)
-  generated_known command.Verify left P text (n, is) holds = absurd (let clash : command.Verify ≡ command.Gen n = is in cc)
-  generated_known command.Paths left P text (n, is) holds = absurd (let clash : command.Paths ≡ command.Gen n = is in cc)
-  generated_known command.Calls left P text (n, is) holds = absurd (let clash : command.Calls ≡ command.Gen n = is in cc)
-  generated_known command.Requirements left P text (n, is) holds = absurd (let clash : command.Requirements ≡ command.Gen n = is in cc)
-  generated_known (command.Gen m) left P text is holds = holds
-
-  -- and what holds of the text of a source holds of what it had left
-  source_known : (c : Command) (left rest : Option Text) (P : Text → Type 0) (text : Text) → (IsGen c → ⊥) → Consumes left rest text → IsAtEnd rest
-      → P (answered_text c text) → IfSome (known_text c left) P
-  source_known command.Answer left rest P text reads came end holds = of_source P left rest text came end holds
-  source_known command.Signatures left rest P text reads came end holds = of_source P left rest text came end holds
-  source_known command.Rules left rest P text reads came end holds = of_source P left rest text came end holds
-  source_known command.Explain left rest P text reads came end holds = of_source P left rest text came end holds
-  source_known command.Verify left rest P text reads came end holds = of_source P left rest text came end holds
-  source_known command.Paths left rest P text reads came end holds = of_source P left rest text came end holds
-  source_known command.Calls left rest P text reads came end holds = of_source P left rest text came end holds
-  source_known command.Requirements left rest P text reads came end holds = of_source P left rest text came end holds
-  source_known (command.Gen n) left rest P text reads came end holds = absurd (reads (n, refl))
-
-  -- what holds of what a source has left holds of the text of a command that reads it
-  pub known_left : (c : Command) (left : Option Text) (P : Text → Type 0) → (IsGen c → ⊥) → IfSome left P → IfSome (known_text c left) P
-  known_left command.Answer left P reads h = h
-  known_left command.Signatures left P reads h = h
-  known_left command.Rules left P reads h = h
-  known_left command.Explain left P reads h = h
-  known_left command.Verify left P reads h = h
-  known_left command.Paths left P reads h = h
-  known_left command.Calls left P reads h = h
-  known_left command.Requirements left P reads h = h
-  known_left (command.Gen n) left P reads h = absurd (reads (n, refl))
-
-  pub leaves_read : (c : Command) (left rest : Option Text) → (IsGen c → ⊥) → IsRead left rest → LeavesSource c left rest
-  leaves_read command.Answer left rest reads read = read
-  leaves_read command.Signatures left rest reads read = read
-  leaves_read command.Rules left rest reads read = read
-  leaves_read command.Explain left rest reads read = read
-  leaves_read command.Verify left rest reads read = read
-  leaves_read command.Paths left rest reads read = read
-  leaves_read command.Calls left rest reads read = read
-  leaves_read command.Requirements left rest reads read = read
-  leaves_read (command.Gen n) left rest reads read = absurd (reads (n, refl))
-
-  leaves_alone : (c : Command) (left : Option Text) → IsGen c → LeavesSource c left left
-  leaves_alone command.Answer left (n, is) = absurd (let clash : command.Answer ≡ command.Gen n = is in cc)
-  leaves_alone command.Signatures left (n, is) = absurd (let clash : command.Signatures ≡ command.Gen n = is in cc)
-  leaves_alone command.Rules left (n, is) = absurd (let clash : command.Rules ≡ command.Gen n = is in cc)
-  leaves_alone command.Explain left (n, is) = absurd (let clash : command.Explain ≡ command.Gen n = is in cc)
-  leaves_alone command.Verify left (n, is) = absurd (let clash : command.Verify ≡ command.Gen n = is in cc)
-  leaves_alone command.Paths left (n, is) = absurd (let clash : command.Paths ≡ command.Gen n = is in cc)
-  leaves_alone command.Calls left (n, is) = absurd (let clash : command.Calls ≡ command.Gen n = is in cc)
-  leaves_alone command.Requirements left (n, is) = absurd (let clash : command.Requirements ≡ command.Gen n = is in cc)
-  leaves_alone (command.Gen m) left is = refl
 
   -- the answer of `gen`
   pub answers_generated : (left : Option Text) (old new : Option (List Event)) (text : Text) (result : Result Outcome ReadErr) → IsGen line.command
       → AnswersText line (answered_text line.command text) old new result → Answers line left left old new result
   answers_generated left old new text (Ok o) is h = (
-    leaves_alone line.command left is,
+    subst (λ (c : Command). LeavesSource c left left) (sym is.1) refl,
     generated_known line.command left (λ t. IsToldVerdict line t old new o × IsOnlyRefusal line t o) text is h,
     replied (answered_text line.command text) old new o h.0,
   )
@@ -172,15 +142,19 @@ module _ (line : CommandLine) where
   answers_generated left old new text (Err Memory) is h = generated_known line.command left (λ t. WasToldPart line t old new) text is h
 
   -- and of a text that was read to its end
-  pub answers_read : (left rest : Option Text) (old new : Option (List Event)) (text : Text) (result : Result Outcome ReadErr)
-      → (IsGen line.command → ⊥) → Consumes left rest text → IsAtEnd rest → length text ≤ 1048576
-      → AnswersText line (answered_text line.command text) old new result → Answers line left rest old new result
-  answers_read left rest old new text (Ok o) reads came end within h = (
-    leaves_read line.command left rest reads (read_whole left rest text came end within),
-    source_known line.command left rest (λ t. IsToldVerdict line t old new o × IsOnlyRefusal line t o) text reads came end h,
-    replied (answered_text line.command text) old new o h.0,
-  )
-  answers_read left rest old new text (Err TooLarge) reads came end within h = absurd h
-  answers_read left rest old new text (Err Fault) reads came end within h = absurd h
-  answers_read left rest old new text (Err Memory) reads came end within h =
-      source_known line.command left rest (λ t. WasToldPart line t old new) text reads came end h
+  module _ (left rest : Option Text) (old new : Option (List Event)) (text : Text) (reads : IsGen line.command → ⊥)
+      (came : Consumes left rest text) (end : IsAtEnd rest) (within : length text ≤ 1048576) where
+    of_text : (P : Text → Type 0) → P (answered_text line.command text) → IfSome (known_text line.command left) P
+    of_text P h = known_left line.command left P reads
+        (of_source P left rest text came end (subst P ((reads_source line.command reads).answered text) h))
+
+    pub answers_read : (result : Result Outcome ReadErr) → AnswersText line (answered_text line.command text) old new result
+        → Answers line left rest old new result
+    answers_read (Ok o) h = (
+      leaves_read line.command left rest reads (read_whole left rest text came end within),
+      of_text (λ t. IsToldVerdict line t old new o × IsOnlyRefusal line t o) h,
+      replied (answered_text line.command text) old new o h.0,
+    )
+    answers_read (Err TooLarge) h = absurd h
+    answers_read (Err Fault) h = absurd h
+    answers_read (Err Memory) h = of_text (λ t. WasToldPart line t old new) h

@@ -55,7 +55,8 @@ use Rattle.swreq_output.specs.Ended.{IsWorldOfText}
 use Rattle.swreq_reply.specs.Machines.{IsChecked, ProtocolsCome, SignaturesCome}
 use Rattle.swreq_reply.specs.Machines.IsChecked.{protocols_built, protocols_refused}
 use Rattle.swreq_reply.specs.Machines.SignaturesCome.{all}
-use Rattle.swreq_top.specs.Runs.{IsAnswerable, ReadOnePart, known_text}
+use Rattle.swreq_top.specs.Run.{IsAnswerable, Run, known_text}
+use Rattle.swreq_words.specs.Form.{Says}
 use Rattle.swreq_reply.specs.Told.{IsMinimisedFor}
 use Rattle.swreq_reqsig.specs.Families.{owned, owned_in}
 use Rattle.swreq_reqsig.specs.Told.{HasGone, IsStopped}
@@ -314,10 +315,11 @@ is_source command.Paths r = refl
 is_source command.Calls r = refl
 is_source command.Requirements r = refl
 
--- Words that say such a command are answered over such a source.
-pub empty_is_answerable : (words : List Text) → ReadOnePart words → IsAnswerable words (Some [])
-empty_is_answerable words one line says = ([], is_source line.command (one line says), answered)
+-- Such a command is answered over such a source.
+pub empty_is_answerable : (r : Run) (line : CommandLine) → Says r.words line → reads line.command ≡ OnePart → r.before.left ≡ Some [] → IsAnswerable r
+empty_is_answerable r line says one empty =
+    (line, says, ([], ap (known_text line.command) empty ∙ is_source line.command one, answered))
   where
     answered : (o : Outcome) (told : List Event) → IsRefused line [] o told ⊎ IsCutShort line [] o told → ⊥
-    answered o told (inl refused) = empty_unrefused line (one line says) o told refused
-    answered o told (inr cut) = empty_not_cut_short line (one line says) o told cut
+    answered o told (inl refused) = empty_unrefused line one o told refused
+    answered o told (inr cut) = empty_not_cut_short line one o told cut

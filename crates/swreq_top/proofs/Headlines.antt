@@ -1,10 +1,12 @@
--- What is printed with status 0 says the four sentences of the headline.
+-- What is printed with status 0 says the sentences of the headline.
 use Rattle.std.proofs.Common.{◌≡◌, ◌⊎◌, ◌∙◌, append-nil, ℕ, refl, sym, ap, subst, inl, inr, zero, suc, false, List, ◌++◌, Option, Some, None, IfSome, map, arith}
 use Rattle.std.specs.Prelude.{◌↔◌, codes, slice_get}
 use Rattle.std.specs.Io.KnownBytes.{Appends}
 use Rattle.std.specs.Str.{chars}
 use Rattle.std.proofs.lemmas.List.{append_cancel_left}
-use Rattle.std.proofs.lemmas.List.Elements.{All-contains}
+use Rattle.std.proofs.lemmas.List.Elements.{All-contains, Contains-get_or}
+use Rattle.std.proofs.lemmas.Option.{IfSome_then}
+use Rattle.swreq_orders.proofs.Elements.{get_contains}
 use Rattle.swreq_lex.specs.Tokens.{first_offset}
 use Rattle.swreq_lex.proofs.SliceLemmas.{are_slices}
 use Rattle.swreq_param.specs.Terms.{Term}
@@ -18,13 +20,14 @@ use Rattle.swreq_derive.proofs.Guard.{from_function}
 use Rattle.swreq_derive.proofs.Substitution.{valid_sides}
 use Rattle.swreq_canonical.proofs.Agreement.{minimised_independent}
 use Rattle.swreq_watch.specs.declared.events.Event.{Event}
+use Rattle.swreq_words.specs.Form.{Says}
 use Rattle.swreq_words.specs.declared.command.CommandLine.{CommandLine}
 use Rattle.swreq_lowering.specs.declared.ids.FuncId.{FuncId}
 use Rattle.swreq_lowering.specs.Queries.{TermQuery}
 use Rattle.swreq_lowering.specs.Queries.TermQuery.{AsksSignature, AsksReduced, AsksConforms, AsksAnyObject, AsksEquals}
 use Rattle.swreq_lowering.specs.Requirements.{PlacedRequirement}
 use Rattle.swreq_world.specs.Closed.{IsClosed, IsQueryOf}
-use Rattle.swreq_world.specs.Worlds.{SignatureOver, TextWorld, signature_at}
+use Rattle.swreq_world.specs.Worlds.{SignatureOver, TextWorld, no_signature, signature_at}
 use Rattle.swreq_world.proofs.Closing.{closed}
 use Rattle.swreq_world.proofs.Offsets.{protocols_rising}
 use Rattle.swreq_symbols.specs.Meaning.{facts_of}
@@ -36,28 +39,25 @@ use Rattle.swreq_output.specs.Signatures.{IsMinimisedLine, full_name}
 use Rattle.swreq_world.specs.FactsAt.{source_of, written_list}
 use Rattle.swreq_output.proofs.PrintingAlike.{lines_alike}
 use Rattle.swreq_reply.specs.declared.outcome.Outcome.{Outcome}
-use Rattle.swreq_top.specs.Headline.{IsEqualAndIndependent, IsImplied, IsLeastWhereValid, IsYes, IsYesWhereImplied, PrintsOf, SayAlike, SayEqualLists, SayTheLeast, SayYesWhereImplied, SaysOf, TakenSay}
+use Rattle.swreq_top.specs.Headline.{AreAlike, HasPathWhereImplied, IsDerivedWhereImplied, IsEqualAndIndependent, IsImplied, IsLeastWhereValid, IsYes, IsYesWhereImplied, PrintsOf, SayAlike, SayDerivations, SayEqualLists, SayFailing, SayFamily, SayPaths, SayTheLeast, SayYesWhereImplied, SaysOf}
 use Rattle.swreq_reply.specs.Lines.{AreLines}
 use Rattle.swreq_reply.specs.Lines.AreLines.{none, more}
 use Rattle.swreq_output.specs.Ended.{IsWorldOfText}
 use Rattle.swreq_reply.specs.declared.content.Backing.{Backing}
+use Rattle.swreq_reply.specs.declared.content.Backing.TheVariants.{Derivation, Nothing, Path}
 use Rattle.swreq_reply.specs.declared.content.Content.{Content}
 use Rattle.swreq_reply.specs.declared.content.Content.TheVariants.{Answers, Calls, Families, Judgements, Signatures, Systems}
 use Rattle.swreq_reply.specs.Contents.{content_of}
 use Rattle.swreq_reply.specs.Inputs.{AreParts, Parts}
 use Rattle.swreq_reply.specs.Outputs.{AnswersByTypes, ArePrinted, Backs, IsLineOf, signature_of}
-use Rattle.swreq_top.specs.Runs.{Delivers, known_text}
+use Rattle.swreq_top.specs.Run.{HasVerdict, Run, known_text}
 use Rattle.swreq_reply.specs.Replies.{IsToldVerdict}
 use Rattle.swreq_reply.specs.Verdict.{IsAnswered, IsJudged, IsVerdict, limits_of}
 use Rattle.swreq_reply.specs.Verdict.IsVerdict.{answered as is_answered, cut_short as is_cut_short, judged as is_judged, refused as is_refused}
-use Rattle.swreq_reply.proofs.Checked.{is_formed}
+use Rattle.swreq_reqsig.proofs.Signatures.{numbered_signatures}
 use Rattle.swreq_top.proofs.Delivering.{refused_status}
+use Rattle.swreq_top.proofs.Passed.{HasPassed, formed, is_closed, print_alike}
 use Rattle.swreq_reply.proofs.Lines.{asked_list, lines_by}
-
--- the world of a text is closed
-world_closed : (text : Text) (w : TextWorld) → IsWorldOfText text w → IsClosed w
-world_closed text w has =
-    closed text has.skeleton w (first_offset (chars text)) (protocols_rising text has.skeleton (are_slices text) has.stands) has.world has.resolve
 
 -- ---- answers of one query
 
@@ -187,14 +187,28 @@ module _ (w : TextWorld) where
   minimised_at Calls p lines k g line are h = absurd h
   minimised_at Judgements p lines k g line are h = absurd h
 
-  say_equal_lists : (c : Content) (p : Parts) (lines : List Text) → ArePrinted w false c p lines → SayEqualLists w c lines
+  -- the signature of what is printed is one of the text
+  is_signature : IsClosed w → (c : Content) (lines : List Text) (k : ℕ) (g : SignatureOver PlacedRequirement) (line : Text) → PrintsOf w c lines k g line
+      → Contains w.signatures g
+  is_signature is (Answers b) lines k g line (f, asks, e, at) =
+      let within = All-contains (IsQueryOf w) w.queries (AsksSignature f) is.queries (get_contains w.queries k (AsksSignature f) asks) in
+      subst (Contains w.signatures) (sym e) (Contains-get_or w.signatures f.place no_signature within)
+  is_signature is Signatures lines k g line (at_g, at) = get_contains w.signatures k g at_g
+  is_signature is Systems lines k g line h = absurd h
+  is_signature is Families lines k g line h = absurd h
+  is_signature is Calls lines k g line h = absurd h
+  is_signature is Judgements lines k g line h = absurd h
+
+  -- ---- the sentences, of what is printed
+
+  -- The sentence is true of what is printed of this world.
+  abbrev Holds : (TextWorld → Content → Parts → List Text → Type 0) → Type 0
+  Holds Sentence = (c : Content) (p : Parts) (lines : List Text) → ArePrinted w false c p lines → Sentence w c p lines
+
+  say_equal_lists : Holds SayEqualLists
   say_equal_lists c p lines are k g line at = equal_and_independent w g line (minimised_at c p lines k g line are at)
 
-  say_alike : (c : Content) (p : Parts) (lines : List Text) → ArePrinted w false c p lines → SayAlike w c lines
-  say_alike c p lines are k j g h line other at also alike =
-      lines_alike w g h line other alike.0 alike.1 (minimised_at c p lines k g line are at) (minimised_at c p lines j h other are also)
-
-  say_least : (c : Content) (p : Parts) (lines : List Text) → ArePrinted w false c p lines → SayTheLeast w c lines
+  say_least : Holds SayTheLeast
   say_least (Answers b) p lines are = lines_by (IsLineOf w false b) (IsLeastWhereValid w) (λ q line c is. least_where_valid w b q line is) are
   say_least Signatures p lines are = tt
   say_least Systems p lines are = tt
@@ -202,16 +216,78 @@ module _ (w : TextWorld) where
   say_least Calls p lines are = tt
   say_least Judgements p lines are = tt
 
-  module _ (is : IsClosed w) (formed : IsWellFormed (facts_of w) (map source_of w.signatures)) where
-    say_yes : (c : Content) (p : Parts) (lines : List Text) → ArePrinted w false c p lines → SayYesWhereImplied w c lines
-    say_yes (Answers b) p lines are =
-        lines_by (IsLineOf w false b) (IsYesWhereImplied w b)
-        (λ q line c of. yes_where_implied w formed b q line (All-contains (IsQueryOf w) w.queries q is.queries c) of) are
+  say_failing : Holds SayFailing
+  say_failing (Answers b) p lines are = tt
+  say_failing Signatures p lines are = tt
+  say_failing Systems p lines are = tt
+  say_failing Families p lines are = tt
+  say_failing Calls p lines are = are
+  say_failing Judgements p lines are = tt
+
+  module _ (has : HasPassed w) where
+    say_alike : Holds SayAlike
+    say_alike c p lines are k j g h line other at also =
+        let a : IsMinimisedLine w g line = minimised_at c p lines k g line are at in
+        let b : IsMinimisedLine w h other = minimised_at c p lines j h other are also in
+        let is : IsClosed w = is_closed w has in (
+          λ same. print_alike w has g h other (is_signature is c lines k g line at) (is_signature is c lines j h other also)
+              (subst (IsMinimisedLine w g) same a) b,
+          λ alike. lines_alike w g h line other alike.0 alike.1 a b,
+        )
+
+    -- the answers to the queries of the text, each by a sentence on its query
+    of_queries : (b : Backing) (Sentence : TermQuery → Text → Type 0)
+        → ((q : TermQuery) (piece : Text) → IsQueryOf w q → IsLineOf w false b q piece → Sentence q piece)
+        → (lines : List Text) → AreLines (IsLineOf w false b) w.queries lines → AreLines Sentence w.queries lines
+    of_queries b Sentence each lines are =
+        lines_by (IsLineOf w false b) Sentence (λ q line c of. each q line (All-contains (IsQueryOf w) w.queries q (is_closed w has).queries c) of) are
+
+    say_yes : Holds SayYesWhereImplied
+    say_yes (Answers b) p lines are = of_queries b (IsYesWhereImplied w b) (yes_where_implied w (formed w has) b) lines are
     say_yes Signatures p lines are = tt
     say_yes Systems p lines are = tt
     say_yes Families p lines are = tt
     say_yes Calls p lines are = tt
     say_yes Judgements p lines are = tt
+
+    derived_where_implied : (q : TermQuery) (piece : Text) → IsQueryOf w q → IsLineOf w false Derivation q piece → IsDerivedWhereImplied w q piece
+    derived_where_implied q piece is of = IfSome_then (asked q) (yes_where_implied w (formed w has) Derivation q piece is of) (λ r both. both.1)
+
+    say_derivations : Holds SayDerivations
+    say_derivations (Answers Derivation) p lines are = of_queries Derivation (IsDerivedWhereImplied w) derived_where_implied lines are
+    say_derivations (Answers Nothing) p lines are = tt
+    say_derivations (Answers Path) p lines are = tt
+    say_derivations Signatures p lines are = tt
+    say_derivations Systems p lines are = tt
+    say_derivations Families p lines are = tt
+    say_derivations Calls p lines are = tt
+    say_derivations Judgements p lines are = tt
+
+    path_where_implied : (q : TermQuery) (piece : Text) → IsQueryOf w q → IsLineOf w false Path q piece → HasPathWhereImplied w q piece
+    path_where_implied (AsksSignature f) piece is of = tt
+    path_where_implied (AsksReduced f t) piece is of = tt
+    path_where_implied (AsksConforms f t p) piece is of = (yes_where_implied w (formed w has) Path (AsksConforms f t p) piece is of).1
+    path_where_implied (AsksAnyObject f t) piece is of = tt
+    path_where_implied (AsksEquals f t u) piece is of = tt
+
+    say_paths : Holds SayPaths
+    say_paths (Answers Path) p lines are = of_queries Path (HasPathWhereImplied w) path_where_implied lines are
+    say_paths (Answers Nothing) p lines are = tt
+    say_paths (Answers Derivation) p lines are = tt
+    say_paths Signatures p lines are = tt
+    say_paths Systems p lines are = tt
+    say_paths Families p lines are = tt
+    say_paths Calls p lines are = tt
+    say_paths Judgements p lines are = tt
+
+    say_family : Holds SayFamily
+    say_family Families p lines (kept, (flags, given, is), e) =
+        (kept, numbered_signatures w (is_closed w has) (formed w has).protocols flags kept given is, e)
+    say_family (Answers b) p lines are = tt
+    say_family Signatures p lines are = tt
+    say_family Systems p lines are = tt
+    say_family Calls p lines are = tt
+    say_family Judgements p lines are = tt
 
 -- ---- what a run prints with status 0
 
@@ -222,42 +298,48 @@ answers_all line text o told nought (is_refused r) = absurd (elim (refused_statu
   | inl one ↦ omega (arith, nought, one)
   | inr three ↦ omega (arith, nought, three)
 ])
-answers_all line text o told nought (is_cut_short c) = absurd (let three : o.status ≡ 3 = ap (λ (p : Outcome). p.status) c.outcome in omega (arith, nought, three))
+answers_all line text o told nought (is_cut_short c) =
+    absurd (let three : o.status ≡ 3 = ap (λ (p : Outcome). p.status) c.outcome in omega (arith, nought, three))
 answers_all line text o told nought (is_answered a) = inl a
 answers_all line text o told nought (is_judged j) = inr j
 
-module _ (Sentence : TextWorld → Content → List Text → Type 0)
-    (holds : (w : TextWorld) → IsClosed w → IsWellFormed (facts_of w) (map source_of w.signatures) → (c : Content) (p : Parts) (lines : List Text)
-    → ArePrinted w false c p lines → Sentence w c lines)
-    (judged : (w : TextWorld) (p : Parts) (lines : List Text) → ArePrinted w false Judgements p lines → Sentence w Judgements lines) where
-  of_answer : (line : CommandLine) (text output : Text) (old new : Option Text) (told : List Event) → Appends old new output
-      → IsAnswered line text false (record { status = 0; output = output }) told
-      → (p : Parts) × AreParts line.command text p × SaysOf Sentence line p old new
-  of_answer line text output old new told taken a =
+-- What was printed with status 0: the output of a verdict.
+abbrev pub IsAnsweredRun : Run → Type 0
+IsAnsweredRun r = (bytes : Text) × Appends r.before.taken r.after.taken bytes
+    × ((line : CommandLine) × Says r.words line × HasVerdict r line (record { status = 0; output = bytes }))
+
+module _ (Sentence : TextWorld → Content → Parts → List Text → Type 0)
+    (passed : (w : TextWorld) → HasPassed w → Holds w Sentence)
+    (judged : (w : TextWorld) (p : Parts) (lines : List Text) → ArePrinted w false Judgements p lines → Sentence w Judgements p lines) (r : Run) where
+  -- What is printed of the text.
+  abbrev SaysOfText : CommandLine → Text → Type 0
+  SaysOfText line text = (p : Parts) × AreParts line.command text p × SaysOf Sentence line p r.before.taken r.after.taken
+
+  of_answer : (line : CommandLine) (text output : Text) (told : List Event) → Appends r.before.taken r.after.taken output
+      → IsAnswered line text false (record { status = 0; output = output }) told → SaysOfText line text
+  of_answer line text output told taken a =
       let w : TextWorld = a.check.world in
       let p : Parts = a.check.has_world.parts in
-      let is : IsClosed w = world_closed p.source w a.check.has_world.of_text in
+      let has : HasPassed w = record {
+        text = p.source;
+        of_text = a.check.has_world.of_text;
+        limits = limits_of line;
+        rules = a.check.rules;
+        told = a.check.first;
+        built = a.check.built;
+      } in
       let (lines, are, e) = a.output in (
         p,
         a.check.has_world.are,
-        (
-          w,
-          a.check.has_world.of_text,
-          (
-            lines,
-            are,
-            subst (Appends old new) e taken,
-            holds w is (is_formed (limits_of line) w is a.check.built) (content_of line.command) p lines are,
-          ),
-        ),
+        (w, a.check.has_world.of_text, (lines, are, subst (Appends r.before.taken r.after.taken) e taken, passed w has (content_of line.command) p lines are)),
       )
 
-  of_judged : (line : CommandLine) (text output : Text) (old new : Option Text) (told : List Event) → Appends old new output
-      → IsJudged line text (record { status = 0; output = output }) told
-      → (p : Parts) × AreParts line.command text p × SaysOf Sentence line p old new
-  of_judged line text output old new told taken j =
+  of_judged : (line : CommandLine) (text output : Text) (told : List Event) → Appends r.before.taken r.after.taken output
+      → IsJudged line text (record { status = 0; output = output }) told → SaysOfText line text
+  of_judged line text output told taken j =
       let p : Parts = j.has_world.parts in
-      let (lines, are, e) = j.output in (
+      let (lines, are, e) = j.output in
+      let says = judged j.world p lines (subst (λ (c : Content). ArePrinted j.world false c p lines) j.judges are) in (
         p,
         j.has_world.are,
         (
@@ -266,46 +348,51 @@ module _ (Sentence : TextWorld → Content → List Text → Type 0)
           (
             lines,
             are,
-            subst (Appends old new) e taken,
-            subst (λ (c : Content). Sentence j.world c lines) (sym j.judges)
-                (judged j.world p lines (subst (λ (c : Content). ArePrinted j.world false c p lines) j.judges are)),
+            subst (Appends r.before.taken r.after.taken) e taken,
+            subst (λ (c : Content). Sentence j.world c p lines) (sym j.judges) says,
           ),
         ),
       )
 
-  -- what is delivered with status 0 says so
-  pub taken_say : (words : List Text) (left rest old new : Option Text) (old_told new_told : Option (List Event)) (status : ℕ) → status ≡ 0
-      → Delivers words left rest old new old_told new_told status → TakenSay Sentence words left old new
-  taken_say words left rest old new old_told new_told status nought d = (
-    d.line,
-    d.says,
-    of_text (known_text d.line.command left) (subst (λ n. IfSome (known_text d.line.command left)
-        (λ text. IsToldVerdict d.line text old_told new_told (record { status = n; output = d.output }))) nought d.verdict),
-  )
+  -- what is printed with status 0 says so
+  taken_say : IsAnsweredRun r → (line : CommandLine) × Says r.words line × IfSome (known_text line.command r.before.left) (SaysOfText line)
+  taken_say (output, taken, (line, says, has)) =
+      (line, says, IfSome_then (known_text line.command r.before.left) has.verdict (λ text told. of_text text told.0 told.1.0))
     where
-      of_text : (known : Option Text) → IfSome known (λ text. IsToldVerdict d.line text old_told new_told (record { status = 0; output = d.output }))
-          → IfSome known (λ text. (p : Parts) × AreParts d.line.command text p × SaysOf Sentence d.line p old new)
-      of_text None h = tt
-      of_text (Some text) (told, verdict, grew) = elim (answers_all d.line text (record { status = 0; output = d.output }) told refl verdict) [
-        | inl a ↦ of_answer d.line text d.output old new told d.taken a
-        | inr j ↦ of_judged d.line text d.output old new told d.taken j
+      of_text : (text : Text) (told : List Event) → IsVerdict line text (record { status = 0; output = output }) told → SaysOfText line text
+      of_text text told verdict = elim (answers_all line text (record { status = 0; output = output }) told refl verdict) [
+        | inl a ↦ of_answer line text output told taken a
+        | inr j ↦ of_judged line text output told taken j
       ]
 
--- ---- the four sentences
+-- ---- the sentences
 
-pub yes_taken : (words : List Text) (left rest old new : Option Text) (old_told new_told : Option (List Event)) (status : ℕ) → status ≡ 0
-    → Delivers words left rest old new old_told new_told status → TakenSay SayYesWhereImplied words left old new
-yes_taken = taken_say SayYesWhereImplied (λ w is formed c p lines are. say_yes w is formed c p lines are) (λ w p lines are. tt)
+-- A run that is answered says so.
+abbrev SaysAnswered : (TextWorld → Content → Parts → List Text → Type 0) → Type 0
+SaysAnswered Sentence = (r : Run) → IsAnsweredRun r → (line : CommandLine) × Says r.words line
+    × IfSome (known_text line.command r.before.left)
+    (λ text. (p : Parts) × AreParts line.command text p × SaysOf Sentence line p r.before.taken r.after.taken)
 
-pub least_taken : (words : List Text) (left rest old new : Option Text) (old_told new_told : Option (List Event)) (status : ℕ) → status ≡ 0
-    → Delivers words left rest old new old_told new_told status → TakenSay SayTheLeast words left old new
-least_taken = taken_say SayTheLeast (λ w is formed c p lines are. say_least w c p lines are) (λ w p lines are. tt)
+pub yes_taken : SaysAnswered SayYesWhereImplied
+yes_taken = taken_say SayYesWhereImplied (λ w has. say_yes w has) (λ w p lines are. tt)
 
-pub lists_taken : (words : List Text) (left rest old new : Option Text) (old_told new_told : Option (List Event)) (status : ℕ) → status ≡ 0
-    → Delivers words left rest old new old_told new_told status → TakenSay SayEqualLists words left old new
-lists_taken =
-    taken_say SayEqualLists (λ w is formed c p lines are. say_equal_lists w c p lines are) (λ w p lines are. say_equal_lists w Judgements p lines are)
+pub least_taken : SaysAnswered SayTheLeast
+least_taken = taken_say SayTheLeast (λ w has. say_least w) (λ w p lines are. tt)
 
-pub alike_taken : (words : List Text) (left rest old new : Option Text) (old_told new_told : Option (List Event)) (status : ℕ) → status ≡ 0
-    → Delivers words left rest old new old_told new_told status → TakenSay SayAlike words left old new
-alike_taken = taken_say SayAlike (λ w is formed c p lines are. say_alike w c p lines are) (λ w p lines are. say_alike w Judgements p lines are)
+pub lists_taken : SaysAnswered SayEqualLists
+lists_taken = taken_say SayEqualLists (λ w has. say_equal_lists w) (λ w. say_equal_lists w Judgements)
+
+pub alike_taken : SaysAnswered SayAlike
+alike_taken = taken_say SayAlike (λ w has. say_alike w has) (λ w p lines are k j g h line other none. absurd none)
+
+pub derivations_taken : SaysAnswered SayDerivations
+derivations_taken = taken_say SayDerivations (λ w has. say_derivations w has) (λ w p lines are. tt)
+
+pub paths_taken : SaysAnswered SayPaths
+paths_taken = taken_say SayPaths (λ w has. say_paths w has) (λ w p lines are. tt)
+
+pub failing_taken : SaysAnswered SayFailing
+failing_taken = taken_say SayFailing (λ w has. say_failing w) (λ w p lines are. tt)
+
+pub family_taken : SaysAnswered SayFamily
+family_taken = taken_say SayFamily (λ w has. say_family w has) (λ w p lines are. tt)

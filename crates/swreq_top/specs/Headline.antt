@@ -1,8 +1,9 @@
 -- What the lines say that a run with status 0 prints, in terms of the written signatures and of the book's rules.
-use Rattle.std.specs.Prelude.{◌≡◌, ◌↔◌, ℕ, false, List, ◌++◌, Option, Some, IfSome, codes, slice_get}
+use Rattle.std.specs.Prelude.{◌≡◌, ◌↔◌, ℕ, false, List, [], ◌∷◌, ◌++◌, Option, Some, IfSome, codes, slice_get}
 use Rattle.std.specs.Io.KnownBytes.{Appends}
 use Rattle.swreq_param.specs.Terms.{Term}
 use Rattle.swreq_derive.specs.Derivation.{BookDerivable, TermRequirement, TermStatement}
+use Rattle.swreq_derive.specs.Derivation.TermRequirement.{Conforms}
 use Rattle.swreq_derive.specs.Derivation.TermStatement.{IsValid, Requires}
 use Rattle.swreq_derive.specs.Equivalence.{AreEquivalent}
 use Rattle.swreq_derive.specs.Facts.{generic_params}
@@ -11,7 +12,7 @@ use Rattle.swreq_words.specs.declared.command.CommandLine.{CommandLine}
 use Rattle.swreq_words.specs.Form.{Says}
 use Rattle.swreq_lowering.specs.declared.ids.FuncId.{FuncId}
 use Rattle.swreq_lowering.specs.Queries.{TermQuery}
-use Rattle.swreq_lowering.specs.Queries.TermQuery.{AsksReduced, AsksSignature}
+use Rattle.swreq_lowering.specs.Queries.TermQuery.{AsksConforms, AsksReduced, AsksSignature}
 use Rattle.swreq_lowering.specs.Requirements.{PlacedRequirement}
 use Rattle.swreq_world.specs.Worlds.{SignatureOver, TextWorld, signature_at}
 use Rattle.swreq_symbols.specs.Meaning.{facts_of}
@@ -26,10 +27,13 @@ use Rattle.swreq_output.specs.Ended.{IsWorldOfText}
 use Rattle.swreq_reply.specs.declared.content.Backing.{Backing}
 use Rattle.swreq_reply.specs.declared.content.Content.{Content}
 use Rattle.swreq_reply.specs.declared.content.Content.TheVariants.{Answers, Calls, Families, Judgements, Signatures, Systems}
+use Rattle.swreq_reply.specs.declared.content.Backing.TheVariants.{Derivation, Path}
 use Rattle.swreq_reply.specs.Contents.{content_of}
 use Rattle.swreq_reply.specs.Inputs.{AreParts, Parts}
-use Rattle.swreq_reply.specs.Outputs.{ArePrinted, BacksYes, printed_text, signature_of}
-use Rattle.swreq_top.specs.Runs.{known_text}
+use Rattle.swreq_reply.specs.Outputs.{AreCallLines, ArePrinted, BacksYes, IsDerivationText, IsPathLine, printed_text, signature_of}
+use Rattle.swreq_reqsig.specs.Families.{AreRequirementSignatures, members}
+use Rattle.swreq_reqsig.specs.Texts.{family_text}
+use Rattle.swreq_top.specs.Run.{Run, known_text}
 
 module _ (w : TextWorld) where
   -- ---- queries of requirements and of types
@@ -78,33 +82,69 @@ module _ (w : TextWorld) where
   PrintsOf Calls lines k g line = ⊥
   PrintsOf Judgements lines k g line = ⊥
 
-  -- ---- the four sentences
+  -- ---- what stands behind a yes
 
-  -- Each query prints yes exactly where the book's rules derive it from the written signature.
-  abbrev pub SayYesWhereImplied : Content → List Text → Type 0
-  SayYesWhereImplied (Answers b) lines = AreLines (IsYesWhereImplied b) w.queries lines
-  SayYesWhereImplied _ lines = Unit {0}
+  -- Where the requirement that a query asks is implied, its piece is the line `yes` and a derivation of the requirement, in lines that the
+  -- checker of derivations accepts.
+  abbrev pub IsDerivedWhereImplied : TermQuery → Text → Type 0
+  IsDerivedWhereImplied q piece = IfSome (asked q)
+      (λ r. IsImplied q (Requires r) → (lines : Text) × IsDerivationText w q lines × (piece ≡ codes "yes\n" ++ lines))
+
+  -- Where the conformance that a query asks is implied, its piece is the line `yes` and the line of a conformance path: none is shorter, and
+  -- of those as long as it none has numbers that come before its own.
+  abbrev pub HasPathWhereImplied : TermQuery → Text → Type 0
+  HasPathWhereImplied (AsksConforms f t p) piece = IsImplied (AsksConforms f t p) (Requires (Conforms t p))
+      → (line : Text) × IsPathLine w f t p line × (piece ≡ codes "yes\n" ++ line)
+  HasPathWhereImplied _ piece = Unit {0}
+
+  -- ---- the sentences
+
+  -- Each query prints yes if and only if the book's rules derive it from the written signature.
+  abbrev pub SayYesWhereImplied : Content → Parts → List Text → Type 0
+  SayYesWhereImplied (Answers b) p lines = AreLines (IsYesWhereImplied b) w.queries lines
+  SayYesWhereImplied _ p lines = Unit {0}
 
   -- Each type parameter prints as the least one derivably equal to it.
-  abbrev pub SayTheLeast : Content → List Text → Type 0
-  SayTheLeast (Answers b) lines = AreLines IsLeastWhereValid w.queries lines
-  SayTheLeast _ lines = Unit {0}
+  abbrev pub SayTheLeast : Content → Parts → List Text → Type 0
+  SayTheLeast (Answers b) p lines = AreLines IsLeastWhereValid w.queries lines
+  SayTheLeast _ p lines = Unit {0}
 
   -- Each printed signature derives what was written and is derived from it, no requirement derivable from the others.
-  abbrev pub SayEqualLists : Content → List Text → Type 0
-  SayEqualLists c lines = (k : ℕ) (g : SignatureOver PlacedRequirement) (line : Text) → PrintsOf c lines k g line → IsEqualAndIndependent g line
+  abbrev pub SayEqualLists : Content → Parts → List Text → Type 0
+  SayEqualLists c p lines = (k : ℕ) (g : SignatureOver PlacedRequirement) (line : Text) → PrintsOf c lines k g line → IsEqualAndIndependent g line
 
-  -- Equivalent signatures print alike.
-  abbrev pub SayAlike : Content → List Text → Type 0
-  SayAlike c lines = (k j : ℕ) (g h : SignatureOver PlacedRequirement) (line other : Text)
-      → PrintsOf c lines k g line → PrintsOf c lines j h other → AreAlike g h → line ≡ other
+  -- Signatures print alike if and only if they are equivalent.
+  abbrev pub SayAlike : Content → Parts → List Text → Type 0
+  SayAlike c p lines = (k j : ℕ) (g h : SignatureOver PlacedRequirement) (line other : Text)
+      → PrintsOf c lines k g line → PrintsOf c lines j h other → (line ≡ other) ↔ AreAlike g h
+
+  -- After each yes of `explain` stands a derivation that the checker accepts and that ends in what is asked.
+  abbrev pub SayDerivations : Content → Parts → List Text → Type 0
+  SayDerivations (Answers Derivation) p lines = AreLines IsDerivedWhereImplied w.queries lines
+  SayDerivations _ p lines = Unit {0}
+
+  -- After each yes of `paths` to a conformance stands its conformance path, the shortest and of these the least.
+  abbrev pub SayPaths : Content → Parts → List Text → Type 0
+  SayPaths (Answers Path) p lines = AreLines HasPathWhereImplied w.queries lines
+  SayPaths _ p lines = Unit {0}
+
+  -- Of each call exactly the requirements of the callee are named that fail for its types; or one of these is no type parameter.
+  abbrev pub SayFailing : Content → Parts → List Text → Type 0
+  SayFailing Calls p lines = AreCallLines w p lines
+  SayFailing _ p lines = Unit {0}
+
+  -- The printed requirement lists of the protocols are requirement signatures: the same is derivable with them, and none can go.
+  abbrev pub SayFamily : Content → Parts → List Text → Type 0
+  SayFamily Families p lines = (kept : List (List ℕ)) × AreRequirementSignatures w (members w kept) × (lines ≡ family_text w kept ∷ [])
+  SayFamily _ p lines = Unit {0}
 
 -- The source text has a world, and the bytes that were taken are lines, by what the command prints, of which this is true.
-abbrev pub SaysOf : (TextWorld → Content → List Text → Type 0) → CommandLine → Parts → (old new : Option Text) → Type 0
+abbrev pub SaysOf : (TextWorld → Content → Parts → List Text → Type 0) → CommandLine → Parts → (old new : Option Text) → Type 0
 SaysOf Sentence line p old new = (w : TextWorld) × IsWorldOfText p.source w × ((lines : List Text) × ArePrinted w false (content_of line.command) p lines
-    × Appends old new (printed_text line.command lines) × Sentence w (content_of line.command) lines)
+    × Appends old new (printed_text line.command lines) × Sentence w (content_of line.command) p lines)
 
--- The words say a command, and of its text, where that is known, so says what was taken.
-abbrev pub TakenSay : (TextWorld → Content → List Text → Type 0) → List Text → (left old new : Option Text) → Type 0
-TakenSay Sentence words left old new = (line : CommandLine) × Says words line
-    × IfSome (known_text line.command left) (λ text. (p : Parts) × AreParts line.command text p × SaysOf Sentence line p old new)
+-- The status is 0 only where the words say a command, and where its text is known, so says what was taken.
+abbrev pub Prints : Run → (TextWorld → Content → Parts → List Text → Type 0) → Type 0
+Prints r Sentence = r.status ≡ 0 → (line : CommandLine) × Says r.words line
+    × IfSome (known_text line.command r.before.left)
+    (λ text. (p : Parts) × AreParts line.command text p × SaysOf Sentence line p r.before.taken r.after.taken)

@@ -1,2 +1,4 @@
+pub mod Contract
 pub mod Headline
-pub mod Runs
+pub mod Run
+pub mod Steps

@@ -1,14 +1,51 @@
-//! What holds of the verdicts on texts.
-ghost use Rattle.std.specs.Prelude.{◌≡◌, List, []};
+//! What holds of runs and of verdicts on texts, over the definitions alone.
+ghost use Rattle.std.specs.Prelude.{◌≡◌, ◌≢◌, ℕ, List, Some, [], map};
+ghost use Rattle.swreq_complete.specs.declared.limit.Limits.{Limits};
+ghost use Rattle.swreq_derive.specs.WellFormed.{IsWellFormed};
+ghost use Rattle.swreq_rule.specs.declared.rules.Rule.{Rule};
 ghost use Rattle.swreq_watch.specs.declared.events.Event.{Event};
 ghost use Rattle.swreq_words.specs.declared.command.CommandLine.{CommandLine};
 ghost use Rattle.swreq_words.specs.declared.command.Input.TheVariants.{OnePart};
 ghost use Rattle.swreq_words.specs.Commands.{input as reads};
-ghost use Rattle.swreq_reply.specs.declared.outcome.Outcome.{Outcome};
-ghost use Rattle.swreq_reply.specs.Verdict.{IsCutShort, IsRefused};
+ghost use Rattle.swreq_words.specs.Form.{Says};
+ghost use Rattle.swreq_world.specs.FactsAt.{source_of};
+ghost use Rattle.swreq_world.specs.Worlds.{TextWorld};
+ghost use Rattle.swreq_symbols.specs.Meaning.{facts_of};
+ghost use Rattle.swreq_valid.specs.declared.refused.Refused.TheVariants.{NotATypeParameter};
+ghost use Rattle.swreq_print.specs.Names.{Text};
+ghost use Rattle.swreq_output.specs.Ended.{IsWorldOfText};
+ghost use Rattle.swreq_reply.specs.Machines.{IsBuiltOver, IsChecked};
+ghost use Rattle.swreq_top.specs.Contract.{IsRun};
+ghost use Rattle.swreq_top.specs.Run.{IsAnswerable, Run};
 
-/// Nothing refuses the empty text, and no limit is passed for it, where the command reads a text of one part.
-pub fn empty_text_is_answered()
-    ensures refused { (line : CommandLine) → reads line.command ≡ OnePart → (o : Outcome) (told : List Event) → IsRefused line [] o told → ⊥ }
-    ensures cut_short { (line : CommandLine) → reads line.command ≡ OnePart → (o : Outcome) (told : List Event) → IsCutShort line [] o told → ⊥ }
+use swreq_text::laws::some_streams_never_fail;
+use swreq_text::{CountSink, Sink, Source, SureSource};
+
+/// A run over the empty text is answerable, whatever the limits are, where its command reads a text of one part.
+pub fn empty_text_is_answerable()
+    ensures { (r : Run) (line : CommandLine) → Says r.words line → reads line.command ≡ OnePart
+        → r.before.left ≡ Some [] → IsAnswerable r }
 {}
+
+/// A text whose check refuses nothing is well formed: each side of each requirement is a type parameter. And no check refuses a side of a text
+/// that is well formed.
+pub fn checked_texts_are_well_formed()
+    ensures formed { (text : Text) (w : TextWorld) (limits : Limits) (rules : List Rule) (told : List Event)
+        → IsWorldOfText text w → IsBuiltOver limits w rules told
+        → IsWellFormed (facts_of w) (map source_of w.signatures) }
+    ensures unrefused { (w : TextWorld) (limits : Limits) (at : ℕ) (told : List Event)
+        → IsWellFormed (facts_of w) (map source_of w.signatures)
+        → IsChecked limits w (Some (NotATypeParameter at)) told → ⊥ }
+{}
+
+/// A run over a source and a sink in memory that never fail ends with neither status 4 nor status 5.
+pub fn runs_in_memory_never_fail()
+    ensures read { (r : Run) (left rest : List ℕ) → IsRun r
+        → r.before.read_faults ≡ ⟦<SureSource as Source>⟧.faults left
+        → r.after.read_faults ≡ ⟦<SureSource as Source>⟧.faults rest → r.status ≢ 4 }
+    ensures write { (r : Run) (old new : ℕ) → IsRun r
+        → r.before.write_faults ≡ ⟦<CountSink as Sink>⟧.faults old
+        → r.after.write_faults ≡ ⟦<CountSink as Sink>⟧.faults new → r.status ≢ 5 }
+{
+    some_streams_never_fail();
+}

@@ -1,17 +1,14 @@
 // From the words and the source to the sink and the status.
-ghost use Rattle.std.specs.Prelude.{◌≡◌, ◌≢◌, ◌+◌, ◌≤◌, ◌⊎◌, ℕ, Err, List, Some, [], map, string_bytes};
-ghost use Rattle.std.specs.Io.KnownBytes.{Appends};
+ghost use Rattle.std.specs.Prelude.{◌≡◌, ◌≤◌, ◌⊎◌, ℕ, Err, map, string_bytes};
 ghost use Rattle.swreq_complete.specs.Limits.{AreInRange};
-ghost use Rattle.swreq_print.specs.Refusals.{refusal_line};
-ghost use Rattle.swreq_print.specs.declared.refusal.RefusalKind.TheVariants as refusals;
 ghost use Rattle.swreq_text.specs.Faults.{HasRisen};
-ghost use Rattle.swreq_text.specs.Given.{AppendsPart, GivesCount};
-ghost use Rattle.swreq_watch.specs.Told.{GrewBy};
-ghost use Rattle.swreq_top.specs.Headline.{SayAlike, SayEqualLists, SayTheLeast, SayYesWhereImplied, TakenSay};
-ghost use Rattle.swreq_top.specs.Runs.{Answers, AnswersText, AreWrong, Delivers, IsAnswerable, IsEnd, IsFinished, IsGen, IsPrinted, ReadOnePart, SayGen, TellsSome};
-ghost use Rattle.swreq_reply.specs.Verdict.{answered_text, limits_of};
+ghost use Rattle.swreq_text.specs.Given.{GivesCount};
 ghost use Rattle.swreq_text.specs.declared.whole.ReadErr.TheVariants.{Fault};
+ghost use Rattle.swreq_reply.specs.Verdict.{answered_text, limits_of};
 ghost use Rattle.swreq_reply.specs.Wanted.{HasCount};
+ghost use Rattle.swreq_top.specs.Contract.{IsRun};
+ghost use Rattle.swreq_top.specs.Run.{AreWrong, IsEnd, IsGen, SayGen};
+ghost use Rattle.swreq_top.specs.Steps.{Answers, AnswersText, IsFinished};
 
 use std::alloc::Global;
 use swreq_print::{OUT_OF_MEMORY, READ_FAULT, TOO_LARGE, USAGE};
@@ -43,47 +40,19 @@ pub fn run<S: Source, K: Sink, W: Watch>(
     out: &mut K,
     watch: &mut W,
 ) -> u8
-    // What the text is answered with, and what the watcher is told of it.
-    ensures verdict { (result ≡ 0) ⊎ ((result ≡ 1) ⊎ (result ≡ 3)) → Delivers (map string_bytes words.now) (S.left src.old) (S.left src.new)
-        (K.taken out.old) (K.taken out.new) (W.told watch.old) (W.told watch.new) result }
-
-    // The headline. With status 0 each query prints yes exactly where the book's rules derive it from the written signature.
-    ensures yes { result ≡ 0 → TakenSay SayYesWhereImplied (map string_bytes words.now) (S.left src.old) (K.taken out.old) (K.taken out.new) }
-    // Each type parameter prints as the least one derivably equal to it.
-    ensures least { result ≡ 0 → TakenSay SayTheLeast (map string_bytes words.now) (S.left src.old) (K.taken out.old) (K.taken out.new) }
-    // Each printed signature derives what was written and is derived from it, no requirement derivable from the others.
-    ensures equal { result ≡ 0 → TakenSay SayEqualLists (map string_bytes words.now) (S.left src.old) (K.taken out.old) (K.taken out.new) }
-    // Equivalent signatures print alike.
-    ensures alike { result ≡ 0 → TakenSay SayAlike (map string_bytes words.now) (S.left src.old) (K.taken out.old) (K.taken out.new) }
-
-    // A text that nothing refuses is answered, and so is the empty one by a command that reads one part, whatever the limits are.
-    ensures answered { IsAnswerable (map string_bytes words.now) (S.left src.old) → (result ≡ 1) ⊎ (result ≡ 3) → ⊥ }
-    ensures empty { ReadOnePart (map string_bytes words.now) → S.left src.old ≡ Some [] → (result ≡ 1) ⊎ (result ≡ 3) → ⊥ }
-
-    // The words.
-    ensures wrong_words { AreWrong (map string_bytes words.now) → (result ≡ 2) ⊎ ((result ≡ 5) ⊎ (result ≡ 6)) }
-    ensures usage { result ≡ 2 → AreWrong (map string_bytes words.now) }
-    ensures usage_line { result ≡ 2 → Appends (K.taken out.old) (K.taken out.new) (refusal_line refusals.Usage) }
-
-    // What is left of the source.
-    ensures unread { AreWrong (map string_bytes words.now) ⊎ SayGen (map string_bytes words.now) → src.new ≡ src.old }
-    ensures no_more { (n : ℕ) × (n ≤ 1048577) × GivesCount (S.left src.old) (S.left src.new) n }
-
-    // What the watcher is told.
-    ensures untold { AreWrong (map string_bytes words.now) ⊎ (result ≡ 4) → GrewBy (W.told watch.old) (W.told watch.new) [] }
-    ensures told_part { TellsSome (map string_bytes words.now) (S.left src.old) (W.told watch.old) (W.told watch.new) }
-
-    // The faults of the streams, and memory.
-    ensures read_fault { result ≡ 4 → HasRisen (S.faults src.old) (S.faults src.new) }
-    ensures read_fault_line { result ≡ 4 → Appends (K.taken out.old) (K.taken out.new) (refusal_line refusals.ReadFault) }
-    ensures no_read_fault { (result ≡ 4) ⊎ ((result ≡ 5) ⊎ (S.faults src.new ≡ S.faults src.old)) }
-    ensures write_fault { result ≡ 5 → HasRisen (K.faults out.old) (K.faults out.new) }
-    ensures write_part { result ≡ 5 → (printed : List ℕ)
-        × IsPrinted (map string_bytes words.now) (HasRisen (S.faults src.old) (S.faults src.new)) (S.left src.old) printed
-        × AppendsPart (K.taken out.old) (K.taken out.new) printed }
-    ensures no_write_fault { (result ≡ 5) ⊎ (K.faults out.new ≡ K.faults out.old) }
-    ensures memory_line { result ≡ 6 → Appends (K.taken out.old) (K.taken out.new) (refusal_line refusals.OutOfMemory) }
-    ensures statuses { result ≤ 6 }
+    // The headline and all causes, a sentence each: `IsRun` in specs/Contract.antt.
+    ensures run { IsRun (record {
+        words = map string_bytes words.now;
+        before = record { left = S.left src.old; read_faults = S.faults src.old;
+            taken = K.taken out.old; write_faults = K.faults out.old; told = W.told watch.old };
+        after = record { left = S.left src.new; read_faults = S.faults src.new;
+            taken = K.taken out.new; write_faults = K.faults out.new; told = W.told watch.new };
+        status = result }) }
+    // At most 1,048,577 bytes are read, one more than a text may have.
+    ensures reads { (n : ℕ) × (n ≤ 1048577) × GivesCount (S.left src.old) (S.left src.new) n }
+    // Where the words are wrong, or say `gen`, the source is unchanged.
+    ensures unread { AreWrong (map string_bytes words.now) ⊎ SayGen (map string_bytes words.now)
+        → src.new ≡ src.old }
 {
     carry_out(alloc, words, src, out, watch)
 }
@@ -96,13 +65,16 @@ fn carry_out<S: Source, K: Sink, W: Watch>(
     out: &mut K,
     watch: &mut W,
 ) -> u8
-    ensures end { IsEnd (map string_bytes words.now)
-        (record { left = S.left src.old; read_faults = S.faults src.old; taken = K.taken out.old; write_faults = K.faults out.old; told = W.told watch.old })
-        (record { left = S.left src.new; read_faults = S.faults src.new; taken = K.taken out.new; write_faults = K.faults out.new; told = W.told watch.new })
-        result }
-    ensures unread { AreWrong (map string_bytes words.now) ⊎ SayGen (map string_bytes words.now) → src.new ≡ src.old }
-    ensures no_more { (n : ℕ) × (n ≤ 1048577) × GivesCount (S.left src.old) (S.left src.new) n }
-    ensures untold { AreWrong (map string_bytes words.now) → W.told watch.new ≡ W.told watch.old }
+    ensures end { IsEnd (record {
+        words = map string_bytes words.now;
+        before = record { left = S.left src.old; read_faults = S.faults src.old;
+            taken = K.taken out.old; write_faults = K.faults out.old; told = W.told watch.old };
+        after = record { left = S.left src.new; read_faults = S.faults src.new;
+            taken = K.taken out.new; write_faults = K.faults out.new; told = W.told watch.new };
+        status = result }) }
+    ensures reads { (n : ℕ) × (n ≤ 1048577) × GivesCount (S.left src.old) (S.left src.new) n }
+    ensures unread { AreWrong (map string_bytes words.now) ⊎ SayGen (map string_bytes words.now)
+        → src.new ≡ src.old }
 {
     numbers_are_in_range();
     match swreq_words::read(alloc, words) {
@@ -128,7 +100,7 @@ fn answer<S: Source, W: Watch>(
     requires count { HasCount line.now.command }
     ensures answer { Answers line.now (S.left src.old) (S.left src.new) (W.told watch.old) (W.told watch.new) result }
     ensures unread { IsGen line.now.command → src.new ≡ src.old }
-    ensures no_more { (n : ℕ) × (n ≤ 1048577) × GivesCount (S.left src.old) (S.left src.new) n }
+    ensures reads { (n : ℕ) × (n ≤ 1048577) × GivesCount (S.left src.old) (S.left src.new) n }
     ensures fault { result ≡ Err Fault → HasRisen (S.faults src.old) (S.faults src.new) }
     ensures no_fault { (result ≡ Err Fault) ⊎ (S.faults src.new ≡ S.faults src.old) }
 {

@@ -205,3 +205,71 @@ error: more than 1 rules
 $ paths
 ---- 0
 ";
+
+/// A short text for each command that reads one.
+pub(crate) const COMMANDS: &str = "\
+$ answer
+protocol N { associatedtype Next: N }
+func f<T: N>()
+query f(T.Next : N)
+query f(T.Next)
+---- 0
+yes
+τ_0_0.Next
+====
+$ signatures
+protocol N { associatedtype Next: N }
+func f<T: N>() where T.Next: N
+---- 0
+f: <τ_0_0 where τ_0_0 : N>
+====
+$ rules
+protocol P { }
+func f<T: P>()
+---- 0
+f: 2 rules
+  [P].[P] => [P]
+  τ_0_0.[P] => τ_0_0
+====
+$ explain
+protocol N { associatedtype Next: N }
+func f<T: N>()
+query f(T : N)
+---- 0
+yes
+  1. τ_0_0 : N by CONF 1
+====
+$ verify
+protocol N { associatedtype Next: N }
+func f<T: N>()
+query f(T : N)
+%%
+yes
+  1. τ_0_0 : N by CONF 1
+---- 0
+ok
+====
+$ paths
+protocol N { associatedtype Next: N }
+func f<T: N>()
+query f(T.Next : N)
+---- 0
+yes
+  [τ_0_0 : N][Self.Next : N]
+====
+$ calls
+protocol P { }
+func f<T>()
+func g<U: P>()
+%%
+f: g(T)
+---- 0
+no: τ_0_0 : P
+====
+$ requirements
+protocol P { }
+protocol Q: P, P { }
+---- 0
+P: <Self>
+Q: <Self where Self : P>
+";

@@ -1,5 +1,7 @@
 //! What the words and the streams do to a run.
+use crate::evidence::COMMANDS;
 use crate::running::{Setting, runs, status_of, undisturbed, words_of};
+use crate::tests::row;
 use crate::texts::{ENDLESS, ENDLESS_ANSWERS};
 use std::alloc::Global;
 use std::process::Abort;
@@ -85,14 +87,55 @@ fn a_write_may_fail(rt: HostRuntime) -> Result<(), Fail> {
 
 #[test]
 fn room_may_be_short_by_any_part_of_the_answers(rt: HostRuntime) -> Result<(), Fail> {
-    let answers = ENDLESS_ANSWERS.as_bytes();
     let all = undisturbed("answer", ENDLESS.as_bytes());
-    for room in 0..answers.len() {
+    room_is_short(&rt, rt.alloc(), all, ENDLESS_ANSWERS.as_bytes())
+}
+
+/// Each read of a row's text may fail, and the sink may have room for any part of its output.
+fn is_disturbed(rt: &impl Abort, alloc: Global, written: &str) -> Result<(), Fail> {
+    match row(written) {
+        Some((words, text, status, output)) => {
+            let all = undisturbed(words, text.as_bytes());
+            runs(rt, alloc, all, status, output.as_bytes())?;
+            reads_fail(rt, alloc, all)?;
+            room_is_short(rt, alloc, all, output.as_bytes())
+        }
+        None => Err("a row without words or a status".into()),
+    }
+}
+
+/// The text comes in pieces of 10, and one read more finds its end.
+fn reads_fail(rt: &impl Abort, alloc: Global, all: Setting<'_>) -> Result<(), Fail> {
+    for (before, _) in all.text.chunks(10).enumerate() {
+        let setting = Setting {
+            failing_read: u32::try_from(before + 1)?,
+            ..all
+        };
+        runs(rt, alloc, setting, "4", b"error: read fault\n")?;
+    }
+    Ok(())
+}
+
+fn room_is_short(
+    rt: &impl Abort,
+    alloc: Global,
+    all: Setting<'_>,
+    output: &[u8],
+) -> Result<(), Fail> {
+    for room in 0..output.len() {
         let setting = Setting {
             room: u32::try_from(room)?,
             ..all
         };
-        runs(&rt, rt.alloc(), setting, "5", &answers[..room])?;
+        runs(rt, alloc, setting, "5", &output[..room])?;
+    }
+    Ok(())
+}
+
+#[test]
+fn a_read_and_a_write_of_each_command_may_fail(rt: HostRuntime) -> Result<(), Fail> {
+    for written in COMMANDS.split("====\n") {
+        is_disturbed(&rt, rt.alloc(), written)?;
     }
     Ok(())
 }

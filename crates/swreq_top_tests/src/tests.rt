@@ -8,7 +8,7 @@ use std::test::Fail;
 use swreq_samples::with_collections;
 
 /// The words of a row, its text, its status and its output.
-fn row(written: &str) -> Option<(&str, &str, &str, &str)> {
+pub(crate) fn row(written: &str) -> Option<(&str, &str, &str, &str)> {
     let (words, rest) = written.strip_prefix("$ ")?.split_once("\n")?;
     let (text, rest) = rest.split_once("---- ")?;
     let (status, output) = rest.split_once("\n")?;

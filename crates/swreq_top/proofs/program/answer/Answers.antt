@@ -1,5 +1,6 @@
 use Rattle.std.proofs.Common.{List, inl, inr, subst, ℕ}
-use Rattle.swreq_top.specs.Runs.{AnswersText, IsGen}
+use Rattle.swreq_top.specs.Run.{IsGen}
+use Rattle.swreq_top.specs.Steps.{AnswersText}
 use Rattle.swreq_reply.specs.Verdict.{answered_text}
 use Rattle.swreq_top.proofs.Delivering.{answers_read}
 use Rattle.swreq_top.proofs.program.answer.Goals as goal
@@ -10,12 +11,12 @@ returns-in-Ok g c =
     let old = g.W.Watch.told c.args.watch.now in
     let new = g.W.Watch.told c.replied-in-Ok.new.watch in
     let reads : IsGen line.command → ⊥ = λ gen. c.in_default.not-Gen gen.0 gen.1 in record {
-      answer = answers_read line (g.S.Source.left c.args.src.now) (g.S.Source.left c.read_all.new.src) old new c.in-Ok.text.items c.replied-in-Ok.result reads
-          c.in-Ok.ensures.all c.in-Ok.ensures.end c.in-Ok.ensures.within
+      answer = answers_read line (g.S.Source.left c.args.src.now) (g.S.Source.left c.read_all.new.src) old new c.in-Ok.text.items reads
+          c.in-Ok.ensures.all c.in-Ok.ensures.end c.in-Ok.ensures.within c.replied-in-Ok.result
           (subst (λ (t : List ℕ). AnswersText line (answered_text line.command t) old new c.replied-in-Ok.result) c.deref.ensures.value
           c.replied-in-Ok.ensures);
       unread = λ gen. absurd (reads gen);
-      no_more = c.in-Ok.ensures.rest;
+      reads = c.in-Ok.ensures.rest;
       fault = λ is. absurd (subst (AnswersText line (answered_text line.command c.deref.result.now) old new) is c.replied-in-Ok.ensures);
       no_fault = elim c.in-Ok.ensures.uncounted [ inl is ↦ absurd (cc) | inr same ↦ inr same ];
     }
