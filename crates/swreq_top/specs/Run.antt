@@ -105,7 +105,7 @@ module _ (r : Run) where
     pub refusal : HoldsOfText line (λ text. IsOnlyRefusal line text o)
 
   -- The watcher was told a part of what is told with a verdict, and nothing where the words are wrong.
-  pub record TellsPart : Type 0 where
+  pub record HasToldPart : Type 0 where
     pub part : (line : CommandLine) → Says r.words line → HoldsOfText line (λ text. WasToldPart line text r.before.told r.after.told)
     pub untold : AreWrong r.words → Tells []
 
@@ -120,7 +120,7 @@ module _ (r : Run) where
     read_fault : (line : CommandLine) → Says r.words line → (IsGen line.command → ⊥) → Tells [] → ReadFailed
         → HasToPrint 4 (refusal_line refusals.ReadFault)
     -- 6: memory ran out.
-    no_memory : TellsPart → NoReadFailed → HasToPrint 6 (refusal_line refusals.OutOfMemory)
+    no_memory : HasToldPart → NoReadFailed → HasToPrint 6 (refusal_line refusals.OutOfMemory)
 
   -- How a run ends.
   pub data IsEnd : Type 0 where
