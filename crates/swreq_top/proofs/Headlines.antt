@@ -4,9 +4,8 @@ use Rattle.std.specs.Prelude.{◌↔◌, codes, slice_get}
 use Rattle.std.specs.Io.KnownBytes.{Appends}
 use Rattle.std.specs.Str.{chars}
 use Rattle.std.proofs.lemmas.List.{append_cancel_left}
-use Rattle.std.proofs.lemmas.List.Elements.{All-contains, Contains-get_or}
+use Rattle.std.proofs.lemmas.List.Elements.{All-contains}
 use Rattle.std.proofs.lemmas.Option.{IfSome_then}
-use Rattle.swreq_orders.proofs.Elements.{get_contains}
 use Rattle.swreq_lex.specs.Tokens.{first_offset}
 use Rattle.swreq_lex.proofs.SliceLemmas.{are_slices}
 use Rattle.swreq_param.specs.Terms.{Term}
@@ -27,7 +26,7 @@ use Rattle.swreq_lowering.specs.Queries.{TermQuery}
 use Rattle.swreq_lowering.specs.Queries.TermQuery.{AsksSignature, AsksReduced, AsksConforms, AsksAnyObject, AsksEquals}
 use Rattle.swreq_lowering.specs.Requirements.{PlacedRequirement}
 use Rattle.swreq_world.specs.Closed.{IsClosed, IsQueryOf}
-use Rattle.swreq_world.specs.Worlds.{SignatureOver, TextWorld, no_signature, signature_at}
+use Rattle.swreq_world.specs.Worlds.{SignatureOver, TextWorld, signature_at}
 use Rattle.swreq_world.proofs.Closing.{closed}
 use Rattle.swreq_world.proofs.Offsets.{protocols_rising}
 use Rattle.swreq_symbols.specs.Meaning.{facts_of}
@@ -56,7 +55,7 @@ use Rattle.swreq_reply.specs.Verdict.{IsAnswered, IsJudged, IsVerdict, limits_of
 use Rattle.swreq_reply.specs.Verdict.IsVerdict.{answered as is_answered, cut_short as is_cut_short, judged as is_judged, refused as is_refused}
 use Rattle.swreq_reqsig.proofs.Signatures.{numbered_signatures}
 use Rattle.swreq_top.proofs.Delivering.{refused_status}
-use Rattle.swreq_top.proofs.Passed.{HasPassed, formed, is_closed, print_alike}
+use Rattle.swreq_top.proofs.Passed.{HasPassed, formed, is_closed}
 use Rattle.swreq_reply.proofs.Lines.{asked_list, lines_by}
 
 -- ---- answers of one query
@@ -187,18 +186,6 @@ module _ (w : TextWorld) where
   minimised_at Calls p lines k g line are h = absurd h
   minimised_at Judgements p lines k g line are h = absurd h
 
-  -- the signature of what is printed is one of the text
-  is_signature : IsClosed w → (c : Content) (lines : List Text) (k : ℕ) (g : SignatureOver PlacedRequirement) (line : Text) → PrintsOf w c lines k g line
-      → Contains w.signatures g
-  is_signature is (Answers b) lines k g line (f, asks, e, at) =
-      let within = All-contains (IsQueryOf w) w.queries (AsksSignature f) is.queries (get_contains w.queries k (AsksSignature f) asks) in
-      subst (Contains w.signatures) (sym e) (Contains-get_or w.signatures f.place no_signature within)
-  is_signature is Signatures lines k g line (at_g, at) = get_contains w.signatures k g at_g
-  is_signature is Systems lines k g line h = absurd h
-  is_signature is Families lines k g line h = absurd h
-  is_signature is Calls lines k g line h = absurd h
-  is_signature is Judgements lines k g line h = absurd h
-
   -- ---- the sentences, of what is printed
 
   -- The sentence is true of what is printed of this world.
@@ -224,17 +211,11 @@ module _ (w : TextWorld) where
   say_failing Calls p lines are = are
   say_failing Judgements p lines are = tt
 
-  module _ (has : HasPassed w) where
-    say_alike : Holds SayAlike
-    say_alike c p lines are k j g h line other at also =
-        let a : IsMinimisedLine w g line = minimised_at c p lines k g line are at in
-        let b : IsMinimisedLine w h other = minimised_at c p lines j h other are also in
-        let is : IsClosed w = is_closed w has in (
-          λ same. print_alike w has g h other (is_signature is c lines k g line at) (is_signature is c lines j h other also)
-              (subst (IsMinimisedLine w g) same a) b,
-          λ alike. lines_alike w g h line other alike.0 alike.1 a b,
-        )
+  say_alike : Holds SayAlike
+  say_alike c p lines are k j g h line other at also alike =
+      lines_alike w g h line other alike.0 alike.1 (minimised_at c p lines k g line are at) (minimised_at c p lines j h other are also)
 
+  module _ (has : HasPassed w) where
     -- the answers to the queries of the text, each by a sentence on its query
     of_queries : (b : Backing) (Sentence : TermQuery → Text → Type 0)
         → ((q : TermQuery) (piece : Text) → IsQueryOf w q → IsLineOf w false b q piece → Sentence q piece)
@@ -383,7 +364,7 @@ pub lists_taken : SaysAnswered SayEqualLists
 lists_taken = taken_say SayEqualLists (λ w has. say_equal_lists w) (λ w. say_equal_lists w Judgements)
 
 pub alike_taken : SaysAnswered SayAlike
-alike_taken = taken_say SayAlike (λ w has. say_alike w has) (λ w p lines are k j g h line other none. absurd none)
+alike_taken = taken_say SayAlike (λ w has. say_alike w) (λ w. say_alike w Judgements)
 
 pub derivations_taken : SaysAnswered SayDerivations
 derivations_taken = taken_say SayDerivations (λ w has. say_derivations w has) (λ w p lines are. tt)

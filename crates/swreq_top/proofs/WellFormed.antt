@@ -24,12 +24,15 @@ use Rattle.swreq_reply.specs.Machines.SignaturesCome.{all, next, stopped}
 -- ---- the sides of what is usable
 
 valid_at : (f : TermFacts) (s : Source) (r : TermRequirement) (left right : ℕ) → HasValidSides f s r → HoldsOfEach (IsValidSide f) (sides_at s r left right)
-valid_at f s (Conforms t p) left right h x c = subst (IsValidSide f) (sym (only_member _ x c)) h
-valid_at f s (IsAnyObject t) left right h x c = subst (IsValidSide f) (sym (only_member _ x c)) h
-valid_at f s (Equals t u) left right h x c = elim (member_cases _ x _ c) [
-  | inl e ↦ subst (IsValidSide f) (sym e) h.0
-  | inr d ↦ subst (IsValidSide f) (sym (only_member _ x d)) h.1
-]
+valid_at f s (Conforms t p) left right h x c = subst (IsValidSide f) (sym (only_member (record { source = s; term = t; at = left }) x c)) h
+valid_at f s (IsAnyObject t) left right h x c = subst (IsValidSide f) (sym (only_member (record { source = s; term = t; at = left }) x c)) h
+valid_at f s (Equals t u) left right h x c =
+    let first : Side = record { source = s; term = t; at = left } in
+    let second : Side = record { source = s; term = u; at = right } in
+    elim (member_cases first x (second ∷ []) c) [
+      | inl e ↦ subst (IsValidSide f) (sym e) h.0
+      | inr d ↦ subst (IsValidSide f) (sym (only_member second x d)) h.1
+    ]
 
 -- the sides of the requirements of a list, where each of these is usable
 valid_in : (f : TermFacts) (s : Source) (rs : List PlacedRequirement)

@@ -18,7 +18,7 @@ pub record IsRun (r : Run) : Type 0 where
   -- Each printed signature derives what was written and is derived from it, no requirement derivable from the others.
   pub equal : Prints r SayEqualLists
 
-  -- Signatures print alike if and only if they are equivalent.
+  -- Equivalent signatures print alike.
   pub alike : Prints r SayAlike
 
   -- After each yes of `explain` stands a derivation that the checker accepts and that ends in what is asked.

@@ -113,10 +113,10 @@ module _ (w : TextWorld) where
   abbrev pub SayEqualLists : Content → Parts → List Text → Type 0
   SayEqualLists c p lines = (k : ℕ) (g : SignatureOver PlacedRequirement) (line : Text) → PrintsOf c lines k g line → IsEqualAndIndependent g line
 
-  -- Signatures print alike if and only if they are equivalent.
+  -- Equivalent signatures print alike.
   abbrev pub SayAlike : Content → Parts → List Text → Type 0
   SayAlike c p lines = (k j : ℕ) (g h : SignatureOver PlacedRequirement) (line other : Text)
-      → PrintsOf c lines k g line → PrintsOf c lines j h other → (line ≡ other) ↔ AreAlike g h
+      → PrintsOf c lines k g line → PrintsOf c lines j h other → AreAlike g h → line ≡ other
 
   -- After each yes of `explain` stands a derivation that the checker accepts and that ends in what is asked.
   abbrev pub SayDerivations : Content → Parts → List Text → Type 0
