@@ -1,5 +1,5 @@
 -- How a run ends says all of its contract.
-use Rattle.std.proofs.Common.{◌≡◌, ◌≢◌, ◌⊎◌, ◌∙◌, ℕ, ◌≤◌, Option, Some, IfSome, refl, sym, ap, subst, inl, inr, arith}
+use Rattle.std.proofs.Common.{◌≡◌, ◌≢◌, ◌⊎◌, ◌∙◌, ℕ, ◌≤◌, List, Option, Some, IfSome, refl, sym, ap, subst, inl, inr, arith}
 use Rattle.std.specs.Io.KnownBytes.{Appends}
 use Rattle.swreq_print.specs.Names.{Text}
 use Rattle.swreq_text.specs.Faults.{HasRisen}

@@ -338,7 +338,7 @@ module _ (Sentence : TextWorld → Content → Parts → List Text → Type 0)
   -- what is printed with status 0 says so
   taken_say : IsAnsweredRun r → (line : CommandLine) × Says r.words line × IfSome (known_text line.command r.before.left) (SaysOfText line)
   taken_say (output, taken, (line, says, has)) =
-      (line, says, IfSome_then (known_text line.command r.before.left) has.verdict (λ text told. of_text text told.0 told.1.0))
+      (line, says, IfSome_then (known_text line.command r.before.left) has.verdict (λ text told. of_text text told.0 told.1))
     where
       of_text : (text : Text) (told : List Event) → IsVerdict line text (record { status = 0; output = output }) told → SaysOfText line text
       of_text text told verdict = elim (answers_all line text (record { status = 0; output = output }) told refl verdict) [
