@@ -42,12 +42,23 @@ pub fn run<S: Source, K: Sink, W: Watch>(
 ) -> u8
     // The headline and all causes, a sentence each: `IsRun` in specs/Contract.antt.
     ensures run { IsRun (record {
-        words = map string_bytes words.now;
-        before = record { left = S.left src.old; read_faults = S.faults src.old;
-            taken = K.taken out.old; write_faults = K.faults out.old; told = W.told watch.old };
-        after = record { left = S.left src.new; read_faults = S.faults src.new;
-            taken = K.taken out.new; write_faults = K.faults out.new; told = W.told watch.new };
-        status = result }) }
+      words = map string_bytes words.now;
+      before = record {
+        left = S.left src.old;
+        read_faults = S.faults src.old;
+        taken = K.taken out.old;
+        write_faults = K.faults out.old;
+        told = W.told watch.old;
+      };
+      after = record {
+        left = S.left src.new;
+        read_faults = S.faults src.new;
+        taken = K.taken out.new;
+        write_faults = K.faults out.new;
+        told = W.told watch.new;
+      };
+      status = result;
+    }) }
     // At most 1,048,577 bytes are read, one more than a text may have.
     ensures reads { (n : ℕ) × (n ≤ 1048577) × GivesCount (S.left src.old) (S.left src.new) n }
     // Where the words are wrong, or say `gen`, the source is unchanged.
@@ -66,12 +77,23 @@ fn carry_out<S: Source, K: Sink, W: Watch>(
     watch: &mut W,
 ) -> u8
     ensures end { IsEnd (record {
-        words = map string_bytes words.now;
-        before = record { left = S.left src.old; read_faults = S.faults src.old;
-            taken = K.taken out.old; write_faults = K.faults out.old; told = W.told watch.old };
-        after = record { left = S.left src.new; read_faults = S.faults src.new;
-            taken = K.taken out.new; write_faults = K.faults out.new; told = W.told watch.new };
-        status = result }) }
+      words = map string_bytes words.now;
+      before = record {
+        left = S.left src.old;
+        read_faults = S.faults src.old;
+        taken = K.taken out.old;
+        write_faults = K.faults out.old;
+        told = W.told watch.old;
+      };
+      after = record {
+        left = S.left src.new;
+        read_faults = S.faults src.new;
+        taken = K.taken out.new;
+        write_faults = K.faults out.new;
+        told = W.told watch.new;
+      };
+      status = result;
+    }) }
     ensures reads { (n : ℕ) × (n ≤ 1048577) × GivesCount (S.left src.old) (S.left src.new) n }
     ensures unread { AreWrong (map string_bytes words.now) ⊎ SayGen (map string_bytes words.now)
         → src.new ≡ src.old }
