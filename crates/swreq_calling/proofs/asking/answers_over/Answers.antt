@@ -5,8 +5,8 @@ use Rattle.swreq_calling.proofs.asking.answers_over.Goals as goal
 
 pub put_asked-requires-clause-query : goal.put_asked-requires-clause-query
 put_asked-requires-clause-query c =
-    query_at c.loop-k.table c.args.world.now c.loop-k.invariant.text c.queries-queries.result.now c.loop-k.k (Signature (record { place = 0 }))
-    c.queries-queries.ensures c.loop-k-test.true
+    query_at c.loop-k.table c.args.world.now c.loop-k.invariant.text c.queries-queries.result.now c.loop-k.k
+    (Signature (record { place = 0 })) c.queries-queries.ensures c.loop-k-test.true
 
 pub loop-k-preserved : goal.loop-k-preserved
 loop-k-preserved c =
