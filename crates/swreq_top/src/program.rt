@@ -59,11 +59,10 @@ pub fn run<S: Source, K: Sink, W: Watch>(
       };
       status = result;
     }) }
-    // At most 1,048,577 bytes are read, one more than a text may have.
-    ensures reads { (n : ℕ) × (n ≤ 1048577) × GivesCount (S.left src.old) (S.left src.new) n }
-    // Where the words are wrong, or say `gen`, the source is unchanged.
-    ensures unread { AreWrong (map string_bytes words.now) ⊎ SayGen (map string_bytes words.now)
-        → src.new ≡ src.old }
+    // At most 1,048,577 bytes are read, one more than a text may have, and none where the words are wrong or say `gen`.
+    ensures source { ((n : ℕ) × (n ≤ 1048577) × GivesCount (S.left src.old) (S.left src.new) n)
+        × (AreWrong (map string_bytes words.now) ⊎ SayGen (map string_bytes words.now)
+        → src.new ≡ src.old) }
 {
     carry_out(alloc, words, src, out, watch)
 }

@@ -16,6 +16,5 @@ returns g c =
       status = c.carry_out.result;
     } in record {
       run = is_run r c.carry_out.ensures.end;
-      reads = c.carry_out.ensures.reads;
-      unread = c.carry_out.ensures.unread;
+      source = (c.carry_out.ensures.reads, c.carry_out.ensures.unread);
     }
