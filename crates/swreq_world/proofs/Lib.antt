@@ -35,3 +35,4 @@ pub mod Unrefused
 pub mod Saying
 pub mod SayingQueries
 pub mod Counting
+pub mod Adding

@@ -16,3 +16,4 @@ pub mod Ready
 pub mod Closed
 pub mod ReadBack
 pub mod Short
+pub mod Additions

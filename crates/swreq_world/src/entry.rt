@@ -1,5 +1,6 @@
 // A signature of a text.
-ghost use Rattle.std.specs.Prelude.{◌≡◌, ◌≤◌, ◌++◌, ◌-◌, IfOk, IsTrue, length, map, take};
+ghost use Rattle.std.specs.Prelude.{◌≡◌, ◌↔◌, ◌<◌, ◌≤◌, ◌++◌, ◌-◌, [], Some, IfOk, IsTrue, length, map, take};
+ghost use Rattle.swreq_world.specs.Additions.{AddsNothing};
 ghost use Rattle.swreq_world.specs.Entries.{around, entry_view};
 
 use crate::listed::bare_of;
@@ -85,5 +86,36 @@ pub fn whole_after(
         with_end(list, last.own.items().len(), entry.own.items())
     } else {
         bare_of(alloc, &whole(alloc, entries, entry)?)
+    }
+}
+
+/// Whether a signature is a function of the struct at this place.
+fn is_inside(entry: &Entry, outer: FuncId) -> bool
+    ensures { IsTrue result ↔ (entry.now.outer ≡ Some outer) }
+{
+    match entry.outer {
+        Some(f) => f == outer,
+        None => false,
+    }
+}
+
+/// Whether a signature has as many generic parameters as another, and no requirement is written in itself.
+fn has_no_own(entry: &Entry, outer: &Entry) -> bool
+    ensures { IsTrue result ↔ ((entry.now.params ≡ outer.now.params) × (entry.now.own ≡ [])) }
+{
+    entry.params == outer.params && entry.own.items().is_empty()
+}
+
+/// Whether the signature at f among these is a function of the struct at `outer` in which nothing of its own is written.
+pub fn adds_nothing(entries: &[Entry], outer: FuncId, f: FuncId) -> bool
+    requires outer { outer.place < length entries.now }
+    requires f { f.place < length entries.now }
+    ensures { IsTrue result ↔ AddsNothing (map (entry_view entries.now) entries.now) outer f }
+{
+    let around = &entries[outer.place as usize];
+    let entry = &entries[f.place as usize];
+    match around.outer {
+        Some(_) => false,
+        None => is_inside(entry, outer) && has_no_own(entry, around),
     }
 }

@@ -4,12 +4,13 @@ ghost use Rattle.std.specs.Option.{option_map};
 ghost use Rattle.swreq_derive.specs.Facts.{AreOneToOne};
 ghost use Rattle.swreq_lexicon.specs.Lexicons.{associated_types, pair};
 ghost use Rattle.swreq_lexicon.specs.Views.{inherits, depth, HasMember};
+ghost use Rattle.swreq_world.specs.Additions.{AddsNothing};
 ghost use Rattle.swreq_world.specs.Entries.{entry_view};
 ghost use Rattle.swreq_world.specs.Lookups.{func_named, is_struct, outer_name, param_of_signature};
 ghost use Rattle.swreq_world.specs.Ready.{IsReady};
 ghost use Rattle.swreq_world.specs.Worlds.{requirements_of, signature_at};
 
-use crate::entry::{Entry, whole, whole_after};
+use crate::entry::{Entry, adds_nothing, whole, whole_after};
 use crate::listed::{Listed, bare_of};
 use crate::made::Lists;
 use crate::order::Order;
@@ -221,6 +222,16 @@ impl World {
         ensures { result ≡ (signature_at self.now f).params }
     {
         self.entry(f).params
+    }
+
+    /// Whether a signature is a function of the struct `outer` in which nothing of its own is written: it has the generic parameters
+    /// and the list of the struct.
+    pub fn adds_nothing(&self, outer: FuncId, f: FuncId) -> bool
+        requires outer { outer.place < length self.now.signatures }
+        requires f { f.place < length self.now.signatures }
+        ensures { IsTrue result ↔ AddsNothing self.now.signatures outer f }
+    {
+        adds_nothing(self.signatures.items(), outer, f)
     }
 
     /// The queries, in written order.
