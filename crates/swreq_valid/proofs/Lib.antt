@@ -20,3 +20,4 @@ pub mod Telling
 pub mod Early
 pub mod Naming
 pub mod OneList
+pub mod Retold

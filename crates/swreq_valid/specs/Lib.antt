@@ -11,3 +11,4 @@ pub mod Keeping
 pub mod Having
 pub mod Early
 pub mod Named
+pub mod Again

@@ -1,6 +1,7 @@
 //! Machines: the rules of a list and of the protocols, found by rounds, and what they answer.
 #![tactic(auto)]
 
+mod again;
 mod answers;
 mod basic;
 mod build;

@@ -1,0 +1,28 @@
+-- What is told once more of rounds that came to their end.
+use Rattle.std.specs.Prelude.{◌≡◌, ◌⊎◌, ℕ, ◌≤◌, List, [], ◌∷◌, ◌++◌, take, Option, Result, Ok, Err}
+use Rattle.std.specs.declared.alloc.AllocError.{AllocError}
+use Rattle.swreq_rule.specs.declared.rules.Rule.{Rule}
+use Rattle.swreq_watch.specs.declared.events.Event.{Event}
+use Rattle.swreq_watch.specs.Told.{GrewBy}
+use Rattle.swreq_complete.specs.declared.limit.Failed.{Failed}
+use Rattle.swreq_complete.specs.declared.limit.Failed.TheVariants.{Memory}
+use Rattle.swreq_complete.specs.Events.{events}
+use Rattle.swreq_valid.specs.Rounds.{RoundView, last_rules}
+
+-- the events of these rounds, each over a base of so many rules
+abbrev pub events_of : ℕ → List RoundView → List Event
+events_of base [] = []
+events_of base (r ∷ rounds) = events base r.rules ++ events_of base rounds
+
+-- They are none of the events of a round, or those of a front of its rules, not less than the base.
+abbrev pub IsFront : ℕ → List Rule → List Event → Type 0
+IsFront base rules part = (part ≡ []) ⊎ ((n : ℕ) × (base ≤ n) × (part ≡ events base (take n rules)))
+
+-- The watcher was told such a front.
+abbrev pub TellsFront : ℕ → List Rule → Option (List Event) → Option (List Event) → Type 0
+TellsFront base rules old new = (part : List Event) × IsFront base rules part × GrewBy old new part
+
+-- the rules of the last round, or want of memory
+abbrev pub rules_again : List RoundView → Result (Unit {0}) AllocError → Result (List Rule) Failed
+rules_again rounds (Ok done) = Ok (last_rules rounds)
+rules_again rounds (Err e) = Err Memory

@@ -1,0 +1,71 @@
+//! The events of the rounds of a machine, told once more.
+ghost use Rattle.std.specs.Prelude.{◌≡◌, ◌∷◌, [], length, OnOk, OnErr};
+ghost use Rattle.swreq_rounds.specs.Plan.{Plan};
+ghost use Rattle.swreq_complete.specs.declared.limit.Limits.{Limits};
+ghost use Rattle.swreq_complete.specs.Events.{events};
+ghost use Rattle.swreq_watch.specs.Told.{GrewBy};
+ghost use Rattle.swreq_watch.specs.declared.events.Event.TheVariants.{Born};
+ghost use Rattle.swreq_valid.specs.Again.{TellsFront, rules_again};
+ghost use Rattle.swreq_valid.specs.Answers.{Answers};
+ghost use Rattle.swreq_valid.specs.Rounds.{AreRounds, last_rules};
+
+use crate::machine::Machine;
+use crate::protocols::Protocols;
+use std::alloc::AllocError;
+use swreq_complete::CompleteRules;
+use swreq_rule::Rule;
+use swreq_watch::{Event, Watch};
+
+/// Tells the birth of the rule.
+fn tell_birth<W: Watch>(rule: &Rule, watch: &mut W) -> Result<(), AllocError>
+    ensures ok { OnOk result (GrewBy (W.told watch.old) (W.told watch.new) (Born rule.now ∷ [])) }
+    ensures err { OnErr result (W.told watch.new ≡ W.told watch.old) }
+{
+    let rule = rule.clone()?;
+    let event = Event::Born { rule };
+    watch.tell(&event)
+}
+
+/// Tells the events of a round with these rules, over the first so many.
+fn tell_round<W: Watch>(
+    base: u32,
+    rules: &CompleteRules<'_>,
+    watch: &mut W,
+) -> Result<(), AllocError>
+    ensures ok { OnOk result (GrewBy (W.told watch.old) (W.told watch.new) (events base rules.now)) }
+    ensures err { OnErr result (TellsFront base rules.now (W.told watch.old) (W.told watch.new)) }
+{
+    let start = Event::Start { base };
+    watch.tell(&start)?;
+    for k in base as usize..rules.count() {
+        tell_birth(rules.rule(k), watch)?;
+    }
+    Ok(())
+}
+
+/// How many rules the protocols have.
+fn count_of(protocols: &Protocols) -> u32
+    ensures { result ≡ length (last_rules protocols.now.rounds) }
+{
+    protocols.rules().count() as u32
+}
+
+impl<'b> Machine<'b> {
+    /// Tells the watcher the events of its rounds once more, where they are rounds over the rules of these protocols: just what it was
+    /// told when they ran.
+    pub fn tell_again<W: Watch>(
+        &self,
+        protocols: &Protocols,
+        watch: &mut W,
+    ) -> Result<(), AllocError>
+        ensures { (limits : Limits) (plan : Plan) → plan.base ≡ last_rules protocols.now.rounds → AreRounds limits plan self.now.rounds
+            → Answers limits plan (W.told watch.old) (W.told watch.new) (rules_again self.now.rounds result) }
+    {
+        let base = count_of(protocols);
+        for k in 0..self.rounds().len() {
+            let round = &self.rounds()[k];
+            tell_round(base, round.rules(), watch)?;
+        }
+        Ok(())
+    }
+}
