@@ -4,7 +4,7 @@ use Rattle.swreq_print.specs.Names.{Text}
 use Rattle.swreq_print.specs.Refusals.{refusal_line}
 use Rattle.swreq_print.specs.declared.refusal.RefusalKind.TheVariants as refusals
 use Rattle.swreq_top.specs.Contract.{IsRun}
-use Rattle.swreq_top.specs.Run.{HasToPrint, Run, known_text}
+use Rattle.swreq_top.specs.Run.{Run, known_text}
 use Rattle.swreq_top.specs.Run.HasToPrint.{no_memory as memory_ran_out}
 use Rattle.swreq_top.specs.Run.IsEnd.{printed}
 use Rattle.swreq_top.proofs.Contracts.{four_read_failed, is_run, never_risen, others_wrote}

@@ -20,3 +20,4 @@ pub mod Rankings
 pub mod Settled
 pub mod Verdicts
 pub mod Written
+pub mod Inside

@@ -60,7 +60,7 @@ module _ (w : IdWorld) (terms : List Term) (base : List Rule) (f : FuncId) where
       ∙ sym (ap (λ (g : SignatureOver PlacedRequirement). sides (source_of g) g.requirements) (signature_is w terms f))
 
 module _ (limits : Limits) (w : TextWorld) (base : List Rule) (g : SignatureOver PlacedRequirement) (old new : Option (List Event)) where
-  abbrev BuildsIt : Result (List Rule) Refused → Type 0
+  abbrev pub BuildsIt : Result (List Rule) Refused → Type 0
   BuildsIt = Builds limits (list_of w base g.params (written_list g)) (facts_of w) (sides (source_of g) g.requirements) old new
 
   pub one_refused : (e : Refused) → BuildsIt (Err e) → ChecksOne limits w base g old new (Err e)

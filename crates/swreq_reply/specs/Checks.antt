@@ -1,12 +1,14 @@
 -- How the check of a text comes out.
 use Rattle.std.specs.Prelude.{◌⊎◌, List, Option, Some, None, Result, Ok, Err, length}
+use Rattle.swreq_param.specs.Terms.{Term}
 use Rattle.swreq_rule.specs.declared.rules.Rule.{Rule}
 use Rattle.swreq_rounds.specs.Rounds.{ComesTo}
 use Rattle.swreq_complete.specs.declared.limit.Limits.{Limits}
 use Rattle.swreq_watch.specs.declared.events.Event.{Event}
 use Rattle.swreq_watch.specs.Told.{GrewBy}
+use Rattle.swreq_lowering.specs.declared.ids.FuncId.{FuncId}
 use Rattle.swreq_lowering.specs.Requirements.{PlacedRequirement}
-use Rattle.swreq_world.specs.Worlds.{IdWorld, SignatureOver, TextWorld}
+use Rattle.swreq_world.specs.Worlds.{IdWorld, SignatureOver, TextWorld, signature_at}
 use Rattle.swreq_valid.specs.Machines.{AreRulesOf, list_of}
 use Rattle.swreq_valid.specs.Rounds.{last_rules}
 use Rattle.swreq_valid.specs.declared.refused.Refused.{Refused}
@@ -15,9 +17,16 @@ use Rattle.swreq_world.specs.FactsAt.{written_list}
 use Rattle.swreq_reply.specs.declared.checking.Checked.{Checked}
 use Rattle.swreq_reply.specs.Machines.{IsBuiltOver, IsChecked, SignatureComes, SignaturesCome}
 use Rattle.swreq_reply.specs.declared.content.Content.{Content}
+use Rattle.swreq_reply.specs.Settings.{world_in}
+use Rattle.swreq_reply.specs.declared.setting.Setting.{Setting}
 use Rattle.swreq_reply.specs.Made.{AreMade, IsPiece}
 use Rattle.swreq_reply.specs.Wanted.{count_of, maker}
 use Rattle.swreq_reply.specs.Told.{CheckTells, SignaturesTell}
+
+-- how it comes out, without what it gives
+abbrev pub ending : {A : Type 0} → Result A Refused → Result (Unit {0}) Refused
+ending (Ok x) = Ok tt
+ending (Err refused) = Err refused
 
 module _ (limits : Limits) (w : TextWorld) where
   -- The rules are those of the protocols, and each signature comes to rules over them.
@@ -59,3 +68,7 @@ module _ (limits : Limits) (w : TextWorld) where
   Checks old new (Err (Limit which trace)) = (told : List Event) × IsChecked limits w (Some (Limit which trace)) told × GrewBy old new told
   Checks old new (Err (NotATypeParameter at)) = (told : List Event) × IsChecked limits w (Some (NotATypeParameter at)) told × GrewBy old new told
   Checks old new (Err Memory) = (told : List Event) × CheckTells limits w told × GrewBy old new told
+
+-- So does that of the signature at f, over the rules of the protocols that were checked.
+abbrev pub ChecksAt : List Term → Setting → FuncId → Option (List Event) → Option (List Event) → Result (Unit {0}) Refused → Type 0
+ChecksAt terms s f = ChecksOne s.limits (world_in terms s) (last_rules s.protocols.now.rounds) (signature_at (world_in terms s) f)

@@ -1,5 +1,5 @@
 -- Over what the pieces of a command are made.
-use Rattle.std.specs.Prelude.{◌≡◌, ◌<◌, ℕ, List, Option, Some, Contains, length}
+use Rattle.std.specs.Prelude.{◌≡◌, ◌<◌, ℕ, List, Option, Some, None, Contains, length}
 use Rattle.std.specs.Option.{option_copied}
 use Rattle.swreq_param.specs.Terms.{Term}
 use Rattle.swreq_derive.specs.WellFormed.{AreProtocolsWellFormed, IsListWellFormed}
@@ -15,6 +15,7 @@ use Rattle.swreq_valid.specs.Machines.{AreRulesOf, IsMachineOf, MachineView, lis
 use Rattle.swreq_valid.specs.Rounds.{AreRounds, last_rules}
 use Rattle.swreq_reply.specs.declared.checking.Asked.{Asked}
 use Rattle.swreq_reply.specs.declared.content.Backing.TheVariants.{Derivation}
+use Rattle.swreq_reply.specs.declared.setting.Kept.{Kept}
 use Rattle.swreq_reply.specs.declared.setting.Means.{Means}
 use Rattle.swreq_reply.specs.declared.setting.Setting.{Setting}
 use Rattle.swreq_lowering.specs.declared.ids.Query.{Query}
@@ -51,6 +52,15 @@ pub record IsMachineFor (terms : List Term) (s : Setting) (f : FuncId) (m : Mach
   pub params : m.params ≡ (signature_at (world_in terms s) f).params
   pub rounds : AreRounds s.limits (list_of (world_in terms s) (last_rules s.protocols.now.rounds) m.params
       (written_list (signature_at (world_in terms s) f))) m.rounds
+
+-- The machine is that of the signature with which it is kept.
+abbrev pub IsKeptFor : List Term → Setting → Kept → Type 0
+IsKeptFor terms s kept = IsMachineFor terms s kept.f kept.machine
+
+-- So is that which is kept, if one is.
+abbrev pub IsLast : List Term → Setting → Option Kept → Type 0
+IsLast terms s None = Unit {0}
+IsLast terms s (Some kept) = IsKeptFor terms s kept
 
 -- Of each signature of the text the places are those of the pieces that its machine makes.
 pub record IsAskedOf (w : IdWorld) (a : Asked) : Type 0 where

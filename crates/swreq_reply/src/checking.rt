@@ -3,17 +3,17 @@ ghost use Rattle.std.specs.Prelude.{◌+◌, ◌<◌, length, IfOk, OnOk};
 ghost use Rattle.swreq_param.specs.Tables.{Extends};
 ghost use Rattle.swreq_symbols.specs.Known.{IsTextOver};
 ghost use Rattle.swreq_valid.specs.Rounds.{last_rules};
+ghost use Rattle.swreq_world.specs.Additions.{AddsNothing};
 ghost use Rattle.swreq_world.specs.ByTable.{world_by};
 ghost use Rattle.swreq_world.specs.Short.{IsShort};
-ghost use Rattle.swreq_world.specs.Worlds.{signature_at};
-ghost use Rattle.swreq_reply.specs.Checks.{Checks, ChecksAll, ChecksOne, IsCheckedFor};
+ghost use Rattle.swreq_reply.specs.Checks.{Checks, ChecksAll, ChecksAt, IsCheckedFor, ending};
 ghost use Rattle.swreq_reply.specs.Made.{AreNone};
-ghost use Rattle.swreq_reply.specs.Settings.{AreMadeIn, IsAskedOf, IsReady, world_in};
+ghost use Rattle.swreq_reply.specs.Settings.{AreMadeIn, IsAskedOf, IsKeptFor, IsLast, IsMachineFor, IsReady, world_in};
 
 use crate::content::Content;
 use crate::making::make;
 use crate::places::count_of;
-use crate::setting::{Own, Setting};
+use crate::setting::{Kept, Own, Setting};
 use std::alloc::{AllocError, Global};
 use swreq_complete::Limits;
 use swreq_lowering::FuncId;
@@ -41,19 +41,19 @@ pub(crate) struct Asked<'a> {
     pub limits: Limits,
 }
 
-/// Checks one signature, and makes of its machine what is asked.
-fn check_one<W: Watch>(
-    s: &Setting<'_>,
+/// Checks one signature by the machine of its list, and makes of it what is asked.
+fn check_anew<'a, W: Watch>(
+    s: &Setting<'a>,
     table: &mut ParamTable,
     f: FuncId,
     watch: &mut W,
     pieces: &mut Vec<Option<Seq<u8>>>,
-) -> Result<(), Refused>
+) -> Result<Kept<'a>, Refused>
     requires ready { IsReady table.old s.now }
     requires f { f.place < length s.now.world.now.signatures }
     requires pieces { AreMadeIn table.old s.now f.place pieces.old.items }
-    ensures check { ChecksOne s.now.limits (world_in table.old s.now) (last_rules s.now.protocols.now.rounds)
-        (signature_at (world_in table.old s.now) f) (W.told watch.old) (W.told watch.new) result }
+    ensures check { ChecksAt table.old s.now f (W.told watch.old) (W.told watch.new) (ending result) }
+    ensures kept { IfOk result (IsKeptFor table.new s.now) }
     ensures pieces { OnOk result (AreMadeIn table.old s.now (f.place + 1) pieces.new.items) }
     ensures extends { OnOk result (Extends table.old table.new) }
 {
@@ -72,7 +72,131 @@ fn check_one<W: Watch>(
         f,
         machine: &machine,
     };
-    make(s, table, &own, pieces).map_err(|_| Refused::Memory)
+    match make(s, table, &own, pieces) {
+        Ok(()) => Ok(Kept { f, machine }),
+        Err(_) => Err(Refused::Memory),
+    }
+}
+
+/// Checks one signature by a machine that it has already, and makes of it what is asked.
+fn check_again<W: Watch>(
+    s: &Setting<'_>,
+    table: &mut ParamTable,
+    own: &Own<'_>,
+    watch: &mut W,
+    pieces: &mut Vec<Option<Seq<u8>>>,
+) -> Result<(), Refused>
+    requires ready { IsReady table.old s.now }
+    requires machine { IsMachineFor table.old s.now own.now.f own.now.machine.now }
+    requires pieces { AreMadeIn table.old s.now own.now.f.place pieces.old.items }
+    ensures check { ChecksAt table.old s.now own.now.f (W.told watch.old) (W.told watch.new) result }
+    ensures pieces { OnOk result (AreMadeIn table.old s.now (own.now.f.place + 1) pieces.new.items) }
+    ensures extends { OnOk result (Extends table.old table.new) }
+{
+    own.machine.tell_again(s.protocols, watch)?;
+    make(s, table, own, pieces).map_err(|_| Refused::Memory)
+}
+
+/// Checks a function that adds nothing to the struct whose machine is kept.
+fn check_inside<'a, W: Watch>(
+    s: &Setting<'a>,
+    table: &mut ParamTable,
+    f: FuncId,
+    kept: Kept<'a>,
+    watch: &mut W,
+    pieces: &mut Vec<Option<Seq<u8>>>,
+) -> Result<Kept<'a>, Refused>
+    requires ready { IsReady table.old s.now }
+    requires f { f.place < length s.now.world.now.signatures }
+    requires kept { IsKeptFor table.old s.now kept }
+    requires inside { AddsNothing s.now.world.now.signatures kept.f f }
+    requires pieces { AreMadeIn table.old s.now f.place pieces.old.items }
+    ensures check { ChecksAt table.old s.now f (W.told watch.old) (W.told watch.new) (ending result) }
+    ensures kept { IfOk result (IsKeptFor table.new s.now) }
+    ensures pieces { OnOk result (AreMadeIn table.old s.now (f.place + 1) pieces.new.items) }
+    ensures extends { OnOk result (Extends table.old table.new) }
+{
+    let own = Own {
+        f,
+        machine: &kept.machine,
+    };
+    check_again(s, table, &own, watch, pieces)?;
+    Ok(kept)
+}
+
+/// Checks another signature. Its machine is kept where it is a struct, and else the one before.
+fn check_beside<'a, W: Watch>(
+    s: &Setting<'a>,
+    table: &mut ParamTable,
+    f: FuncId,
+    kept: Kept<'a>,
+    watch: &mut W,
+    pieces: &mut Vec<Option<Seq<u8>>>,
+) -> Result<Kept<'a>, Refused>
+    requires ready { IsReady table.old s.now }
+    requires f { f.place < length s.now.world.now.signatures }
+    requires kept { IsKeptFor table.old s.now kept }
+    requires pieces { AreMadeIn table.old s.now f.place pieces.old.items }
+    ensures check { ChecksAt table.old s.now f (W.told watch.old) (W.told watch.new) (ending result) }
+    ensures kept { IfOk result (IsKeptFor table.new s.now) }
+    ensures pieces { OnOk result (AreMadeIn table.old s.now (f.place + 1) pieces.new.items) }
+    ensures extends { OnOk result (Extends table.old table.new) }
+{
+    let next = check_anew(s, table, f, watch, pieces)?;
+    if s.world.is_struct(f) {
+        Ok(next)
+    } else {
+        Ok(kept)
+    }
+}
+
+/// Checks the signature after one whose machine is kept. The machine of a struct serves its functions that add nothing to it.
+fn check_after<'a, W: Watch>(
+    s: &Setting<'a>,
+    table: &mut ParamTable,
+    f: FuncId,
+    kept: Kept<'a>,
+    watch: &mut W,
+    pieces: &mut Vec<Option<Seq<u8>>>,
+) -> Result<Kept<'a>, Refused>
+    requires ready { IsReady table.old s.now }
+    requires f { f.place < length s.now.world.now.signatures }
+    requires kept { IsKeptFor table.old s.now kept }
+    requires pieces { AreMadeIn table.old s.now f.place pieces.old.items }
+    ensures check { ChecksAt table.old s.now f (W.told watch.old) (W.told watch.new) (ending result) }
+    ensures kept { IfOk result (IsKeptFor table.new s.now) }
+    ensures pieces { OnOk result (AreMadeIn table.old s.now (f.place + 1) pieces.new.items) }
+    ensures extends { OnOk result (Extends table.old table.new) }
+{
+    if s.world.adds_nothing(kept.f, f) {
+        check_inside(s, table, f, kept, watch, pieces)
+    } else {
+        check_beside(s, table, f, kept, watch, pieces)
+    }
+}
+
+/// Checks one signature, with the machine of the last struct at hand, if one is kept.
+fn check_one<'a, W: Watch>(
+    s: &Setting<'a>,
+    table: &mut ParamTable,
+    f: FuncId,
+    last: Option<Kept<'a>>,
+    watch: &mut W,
+    pieces: &mut Vec<Option<Seq<u8>>>,
+) -> Result<Kept<'a>, Refused>
+    requires ready { IsReady table.old s.now }
+    requires f { f.place < length s.now.world.now.signatures }
+    requires last { IsLast table.old s.now last }
+    requires pieces { AreMadeIn table.old s.now f.place pieces.old.items }
+    ensures check { ChecksAt table.old s.now f (W.told watch.old) (W.told watch.new) (ending result) }
+    ensures kept { IfOk result (IsKeptFor table.new s.now) }
+    ensures pieces { OnOk result (AreMadeIn table.old s.now (f.place + 1) pieces.new.items) }
+    ensures extends { OnOk result (Extends table.old table.new) }
+{
+    match last {
+        Some(kept) => check_after(s, table, f, kept, watch, pieces),
+        None => check_anew(s, table, f, watch, pieces),
+    }
 }
 
 /// Checks the signatures, in order.
@@ -88,8 +212,10 @@ fn check_all<W: Watch>(
     ensures pieces { OnOk result (AreMadeIn table.old s.now (length s.now.world.now.signatures) pieces.new.items) }
     ensures extends { OnOk result (Extends table.old table.new) }
 {
+    let mut last = None;
     for k in 0..s.world.functions() {
-        check_one(s, table, FuncId { place: k }, watch, pieces)?;
+        let kept = check_one(s, table, FuncId { place: k }, last, watch, pieces)?;
+        last = Some(kept);
     }
     Ok(())
 }

@@ -29,6 +29,13 @@ pub(crate) struct Own<'a> {
     pub machine: &'a Machine<'a>,
 }
 
+/// A signature with its machine, kept for the functions that add nothing to it.
+#[derive(Drop)]
+pub(crate) struct Kept<'b> {
+    pub f: FuncId,
+    pub machine: Machine<'b>,
+}
+
 /// With what the queries of a signature are answered.
 #[derive(Clone, Copy)]
 pub(crate) struct Means<'a> {

@@ -1,5 +1,5 @@
 -- How a run ends says all of its contract.
-use Rattle.std.proofs.Common.{◌≡◌, ◌≢◌, ◌⊎◌, ◌∙◌, ℕ, ◌≤◌, List, Option, Some, IfSome, refl, sym, ap, subst, inl, inr, arith}
+use Rattle.std.proofs.Common.{◌≡◌, ◌≢◌, ◌⊎◌, ℕ, List, Option, Some, IfSome, refl, ap, subst, inl, inr, arith}
 use Rattle.std.specs.Io.KnownBytes.{Appends}
 use Rattle.swreq_print.specs.Names.{Text}
 use Rattle.swreq_text.specs.Faults.{HasRisen}
@@ -15,7 +15,6 @@ use Rattle.swreq_top.specs.Contract.{IsRun}
 use Rattle.swreq_top.specs.Run.{HasToPrint, HasVerdict, HoldsOfText, IsAnswerable, IsEnd, IsOfVerdict, IsRefusedRun, NoWriteFailed, NothingFailed, ReadFailed, Run, WriteFailed, known_text}
 use Rattle.swreq_top.specs.Run.HasToPrint.{no_memory, read_fault, verdict, wrong_words}
 use Rattle.swreq_top.specs.Run.IsEnd.{cut_off, printed}
-use Rattle.swreq_top.proofs.Delivering.{refused_status}
 use Rattle.swreq_top.proofs.Headlines.{alike_taken, derivations_taken, failing_taken, family_taken, least_taken, lists_taken, paths_taken, yes_taken}
 
 not_four : {status : ℕ} → IsOfVerdict status → status ≢ 4

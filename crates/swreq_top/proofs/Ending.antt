@@ -18,7 +18,7 @@ use Rattle.swreq_reply.specs.declared.outcome.Outcome.{Outcome}
 use Rattle.swreq_reply.specs.Replies.{WasToldPart}
 use Rattle.swreq_reply.specs.Verdict.{refused_with}
 use Rattle.swreq_reply.specs.Wanted.{HasCount}
-use Rattle.swreq_top.specs.Run.{AreWrong, HasToPrint, HasVerdict, HoldsOfText, IsEnd, IsGen, Run, SayGen, Streams, HasToldPart, known_text}
+use Rattle.swreq_top.specs.Run.{AreWrong, HasToPrint, HoldsOfText, IsEnd, IsGen, Run, SayGen, Streams, known_text}
 use Rattle.swreq_top.specs.Run.HasToPrint.{no_memory, read_fault, verdict, wrong_words}
 use Rattle.swreq_top.specs.Run.IsEnd.{cut_off, printed}
 use Rattle.swreq_top.specs.Steps.{Answers, IsFinished}

@@ -2,12 +2,9 @@
 use Rattle.std.proofs.Common.{◌≡◌, ◌⊎◌, ◌∙◌, append-nil, ℕ, refl, sym, ap, subst, inl, inr, zero, suc, false, List, ◌++◌, Option, Some, None, IfSome, map, arith}
 use Rattle.std.specs.Prelude.{◌↔◌, codes, slice_get}
 use Rattle.std.specs.Io.KnownBytes.{Appends}
-use Rattle.std.specs.Str.{chars}
 use Rattle.std.proofs.lemmas.List.{append_cancel_left}
 use Rattle.std.proofs.lemmas.List.Elements.{All-contains}
 use Rattle.std.proofs.lemmas.Option.{IfSome_then}
-use Rattle.swreq_lex.specs.Tokens.{first_offset}
-use Rattle.swreq_lex.proofs.SliceLemmas.{are_slices}
 use Rattle.swreq_param.specs.Terms.{Term}
 use Rattle.swreq_derive.specs.Derivation.{BookDerivable, Derivable, Source, TermRequirement, TermStatement}
 use Rattle.swreq_derive.specs.Derivation.TermRequirement.{Conforms, IsAnyObject, Equals}
@@ -25,10 +22,8 @@ use Rattle.swreq_lowering.specs.declared.ids.FuncId.{FuncId}
 use Rattle.swreq_lowering.specs.Queries.{TermQuery}
 use Rattle.swreq_lowering.specs.Queries.TermQuery.{AsksSignature, AsksReduced, AsksConforms, AsksAnyObject, AsksEquals}
 use Rattle.swreq_lowering.specs.Requirements.{PlacedRequirement}
-use Rattle.swreq_world.specs.Closed.{IsClosed, IsQueryOf}
+use Rattle.swreq_world.specs.Closed.{IsQueryOf}
 use Rattle.swreq_world.specs.Worlds.{SignatureOver, TextWorld, signature_at}
-use Rattle.swreq_world.proofs.Closing.{closed}
-use Rattle.swreq_world.proofs.Offsets.{protocols_rising}
 use Rattle.swreq_symbols.specs.Meaning.{facts_of}
 use Rattle.swreq_print.specs.Names.{Text}
 use Rattle.swreq_query.specs.Answers.{Answer, HasOnlyValidSides, IsAnswer, IsLeastEqual, answer_line, asked}
@@ -38,10 +33,9 @@ use Rattle.swreq_output.specs.Signatures.{IsMinimisedLine, full_name}
 use Rattle.swreq_world.specs.FactsAt.{source_of, written_list}
 use Rattle.swreq_output.proofs.PrintingAlike.{lines_alike}
 use Rattle.swreq_reply.specs.declared.outcome.Outcome.{Outcome}
-use Rattle.swreq_top.specs.Headline.{AreAlike, HasPathWhereImplied, IsDerivedWhereImplied, IsEqualAndIndependent, IsImplied, IsLeastWhereValid, IsYes, IsYesWhereImplied, PrintsOf, SayAlike, SayDerivations, SayEqualLists, SayFailing, SayFamily, SayPaths, SayTheLeast, SayYesWhereImplied, SaysOf}
+use Rattle.swreq_top.specs.Headline.{HasPathWhereImplied, IsDerivedWhereImplied, IsEqualAndIndependent, IsImplied, IsLeastWhereValid, IsYes, IsYesWhereImplied, PrintsOf, SayAlike, SayDerivations, SayEqualLists, SayFailing, SayFamily, SayPaths, SayTheLeast, SayYesWhereImplied, SaysOf}
 use Rattle.swreq_reply.specs.Lines.{AreLines}
 use Rattle.swreq_reply.specs.Lines.AreLines.{none, more}
-use Rattle.swreq_output.specs.Ended.{IsWorldOfText}
 use Rattle.swreq_reply.specs.declared.content.Backing.{Backing}
 use Rattle.swreq_reply.specs.declared.content.Backing.TheVariants.{Derivation, Nothing, Path}
 use Rattle.swreq_reply.specs.declared.content.Content.{Content}
@@ -50,7 +44,6 @@ use Rattle.swreq_reply.specs.Contents.{content_of}
 use Rattle.swreq_reply.specs.Inputs.{AreParts, Parts}
 use Rattle.swreq_reply.specs.Outputs.{AnswersByTypes, ArePrinted, Backs, IsLineOf, signature_of}
 use Rattle.swreq_top.specs.Run.{HasVerdict, Run, known_text}
-use Rattle.swreq_reply.specs.Replies.{IsToldVerdict}
 use Rattle.swreq_reply.specs.Verdict.{IsAnswered, IsJudged, IsVerdict, limits_of}
 use Rattle.swreq_reply.specs.Verdict.IsVerdict.{answered as is_answered, cut_short as is_cut_short, judged as is_judged, refused as is_refused}
 use Rattle.swreq_reqsig.proofs.Signatures.{numbered_signatures}

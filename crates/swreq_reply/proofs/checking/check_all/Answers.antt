@@ -17,20 +17,21 @@ loop-k-init g c =
       came_none s.limits (world_in c.args.table.now s) (last_rules s.protocols.now.rounds) (g.W.Watch.told c.args.watch.now),
       c.requires.pieces,
       c.requires.ready,
+      tt,
       unchanged c.args.table.now,
     )
 
-pub returns-in_err-check_one-clause-check : goal.returns-in_err-check_one-clause-check
-returns-in_err-check_one-clause-check g c =
+pub returns-in_err-kept-clause-check : goal.returns-in_err-kept-clause-check
+returns-in_err-kept-clause-check g c =
     let s = c.args.s.now in
     let p = err_from_is_err_and c.from_residual.result c.from_residual.ensures.1 in
     rw (p.1, p.2)
     (stopped_at s.limits (world_in c.args.table.now s) (last_rules s.protocols.now.rounds) (g.W.Watch.told c.args.watch.now) c.loop-k.k _ _
     (omega (arith, length-map s.world.now.signatures (signature_by c.args.table.now), c.functions-k-end.ensures, c.loop-k-test.true))
-    c.loop-k.invariant.0 c.in_err-check_one.field-0.0
+    c.loop-k.invariant.0 c.in_err-kept.field-0.0
     (subst (λ (w : TextWorld). ChecksOne s.limits w (last_rules s.protocols.now.rounds) (signature_at w (record { place = c.loop-k.k }))
-    (g.W.Watch.told c.loop-k.watch) (g.W.Watch.told c.check_one.new.watch) (Err c.in_err-check_one.field-0.0))
-    (world_on c.args.table.now c.loop-k.table s c.loop-k.invariant.3 c.requires.ready) c.in_err-check_one.ensures.check))
+    (g.W.Watch.told c.loop-k.watch) (g.W.Watch.told c.check_one.new.watch) (Err c.in_err-kept.field-0.0))
+    (world_on c.args.table.now c.loop-k.table s c.loop-k.invariant.4 c.requires.ready) c.in_err-kept.ensures.check))
 
 pub loop-k-preserved : goal.loop-k-preserved
 loop-k-preserved g c =
@@ -41,15 +42,16 @@ loop-k-preserved g c =
           c.loop-k.invariant.0
           (subst (λ (w : TextWorld). ChecksOne s.limits w (last_rules s.protocols.now.rounds) (signature_at w (record { place = c.loop-k.k }))
           (g.W.Watch.told c.loop-k.watch) (g.W.Watch.told c.check_one.new.watch) (Ok tt))
-          (world_on c.args.table.now c.loop-k.table s c.loop-k.invariant.3 c.requires.ready) c.in_ok-check_one.ensures.check),
-      made_on c.loop-k.table c.check_one.new.table s c.in_ok-check_one.ensures.extends c.loop-k.invariant.2 _ _ c.in_ok-check_one.ensures.pieces,
-      ready_on c.loop-k.table c.check_one.new.table s c.in_ok-check_one.ensures.extends c.loop-k.invariant.2,
-      onward c.args.table.now c.loop-k.table c.check_one.new.table c.loop-k.invariant.3 c.in_ok-check_one.ensures.extends,
+          (world_on c.args.table.now c.loop-k.table s c.loop-k.invariant.4 c.requires.ready) c.in_ok-kept.ensures.check),
+      made_on c.loop-k.table c.check_one.new.table s c.in_ok-kept.ensures.extends c.loop-k.invariant.2 _ _ c.in_ok-kept.ensures.pieces,
+      ready_on c.loop-k.table c.check_one.new.table s c.in_ok-kept.ensures.extends c.loop-k.invariant.2,
+      c.in_ok-kept.ensures.kept,
+      onward c.args.table.now c.loop-k.table c.check_one.new.table c.loop-k.invariant.4 c.in_ok-kept.ensures.extends,
     )
 
 pub returns-clause-pieces : goal.returns-clause-pieces
 returns-clause-pieces g c =
     let s = c.args.s.now in
     let all : c.loop-k.k ≡ length s.world.now.signatures = omega (arith, c.functions-k-end.ensures, c.loop-k-test.false, c.loop-k.auto.k-end) in
-    made_back c.args.table.now c.loop-k.table s c.loop-k.invariant.3 c.requires.ready _ _
+    made_back c.args.table.now c.loop-k.table s c.loop-k.invariant.4 c.requires.ready _ _
     (subst (λ n. AreMadeIn c.loop-k.table s n c.loop-k.pieces.items) all c.loop-k.invariant.1)

@@ -1,6 +1,6 @@
 use Rattle.swreq_param.specs.Tables.{Extends}
 use Rattle.swreq_valid.specs.Rounds.{last_rules}
-use Rattle.swreq_reply.specs.Settings.{AreMadeIn, IsReady, world_in}
+use Rattle.swreq_reply.specs.Settings.{AreMadeIn, IsLast, IsReady, world_in}
 use Rattle.swreq_reply.proofs.OfSignatures.{CameFirst}
 use Rattle.swreq_reply.proofs.checking.check_all.Given as goal
 
@@ -9,4 +9,5 @@ invariant-loop-k g l =
     CameFirst l.s.limits (world_in l.initial.table l.s) (last_rules l.s.protocols.now.rounds) l.k (g.W.Watch.told l.initial.watch) (g.W.Watch.told l.watch)
     × AreMadeIn l.table l.s l.k l.pieces.items
     × IsReady l.table l.s
+    × IsLast l.table l.s l.last
     × Extends l.initial.table l.table
