@@ -1,0 +1,37 @@
+//! A worked caller of the library. It reads a text from the standard input, and prints to each of its queries for a requirement `no`, or
+//! `yes` with the lines of a derivation.
+#![tactic(auto)]
+
+mod asking;
+mod failing;
+mod machines;
+
+use std::alloc::Global;
+use std::process::ExitCode;
+use swreq_text::{Source, StdSink, StdSource, read_all, write_all};
+
+use crate::asking::answers;
+use crate::failing::Failed;
+
+/// The most bytes that a text may have.
+const TEXT_LIMIT: u32 = 1_048_576;
+
+fn main(rt: HostRuntime) -> ExitCode {
+    let mut src = StdSource::new(rt.stdin());
+    let mut out = StdSink::new(rt.stdout());
+    match answered(rt.alloc(), &mut src) {
+        Ok(text) => match write_all(&mut out, &text) {
+            Ok(()) => ExitCode::from(0),
+            Err(_) => ExitCode::from(5),
+        },
+        Err(failed) => ExitCode::from(failed.status()),
+    }
+}
+
+/// What is printed of the text that the source has.
+fn answered<S: Source>(alloc: Global, src: &mut S) -> Result<Vec<u8>, Failed> {
+    match read_all(alloc, src, TEXT_LIMIT) {
+        Ok(text) => answers(alloc, &text),
+        Err(_) => Err(Failed::Read),
+    }
+}
