@@ -50,7 +50,7 @@ module _ (terms : List Term) (w : IdWorld) where
       → HasQueryIdsOf terms (get_or list k d) × IsQueryOf (world_by terms w) (query_by terms (get_or list k d))
   query_at text list k d e l =
       query_known text (get_or list k d)
-          (subst (λ (qs : List Query). Contains qs (get_or list k d)) e (Contains-get_or list k d l))
+      (subst (λ (qs : List Query). Contains qs (get_or list k d)) e (Contains-get_or list k d l))
 
   within : (f : FuncId) → f.place < length (map (signature_by terms) w.signatures) → f.place < length w.signatures
   within f l = omega (arith, length-map w.signatures (signature_by terms), l)
@@ -89,7 +89,7 @@ module _ (terms : List Term) (w : IdWorld) where
   answered f p m r q e h d =
       let source = source_of (signature_at (world_by terms w) f) in
       subst (λ (z : Requirement). Derivable (facts_of (world_by terms w)) source (Requires (requirement_of terms z))) (sym e)
-          (from_machine f p m (Requires (requirement_of terms q)) h d)
+      (from_machine f p m (Requires (requirement_of terms q)) h d)
 
   -- the rounds of the machine of the signature
   pub rounds_for : (f : FuncId) (p : ProtocolsView) (m : MachineView) (params : Params) (written : List Written) {limits : Limits}

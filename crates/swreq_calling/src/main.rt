@@ -6,12 +6,11 @@ mod asking;
 mod failing;
 mod machines;
 
+use crate::asking::answers;
+use crate::failing::Failed;
 use std::alloc::Global;
 use std::process::ExitCode;
 use swreq_text::{Source, StdSink, StdSource, read_all, write_all};
-
-use crate::asking::answers;
-use crate::failing::Failed;
 
 /// The most bytes that a text may have.
 const TEXT_LIMIT: u32 = 1_048_576;

@@ -12,7 +12,7 @@ pub loop-k-preserved : goal.loop-k-preserved
 loop-k-preserved c =
     let old = c.loop-k.table in
     let new = c.put_asked.new.table in
-    let more = c.in_ok-text.ensures.extends in
+    let more = c.in_ok-put_asked.ensures.extends in
     let w = c.args.world.now in
     let p = c.args.protocols.now in
     let h = c.loop-k.invariant in

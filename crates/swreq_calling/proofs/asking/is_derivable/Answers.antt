@@ -10,7 +10,7 @@ returns-in_ok-s-in-Conf c = λ e.
     let w = c.args.world.now in
     let list = listed terms (bare (signature_at w c.args.f).requirements) in
     answered terms w c.args.f c.args.protocols.now c.args.m.now c.args.r (Conf c.in-Conf.subject c.in-Conf.proto) c.in-Conf.is
-        c.requires.rounds ((c.conforms.ensures.answer list c.requires.rounds.machine).0 e)
+    c.requires.rounds ((c.conforms.ensures.answer list c.requires.rounds.machine).0 e)
 
 pub returns-in_ok-s-in-Layout : goal.returns-in_ok-s-in-Layout
 returns-in_ok-s-in-Layout c = λ e.
@@ -18,7 +18,7 @@ returns-in_ok-s-in-Layout c = λ e.
     let w = c.args.world.now in
     let list = listed terms (bare (signature_at w c.args.f).requirements) in
     answered terms w c.args.f c.args.protocols.now c.args.m.now c.args.r (Layout c.in-Layout.subject) c.in-Layout.is
-        c.requires.rounds ((c.any_object.ensures.answer list c.requires.rounds.machine).0 e)
+    c.requires.rounds ((c.any_object.ensures.answer list c.requires.rounds.machine).0 e)
 
 pub returns-in_ok-s-in-Same : goal.returns-in_ok-s-in-Same
 returns-in_ok-s-in-Same c = λ e.
@@ -26,4 +26,4 @@ returns-in_ok-s-in-Same c = λ e.
     let w = c.args.world.now in
     let list = listed terms (bare (signature_at w c.args.f).requirements) in
     answered terms w c.args.f c.args.protocols.now c.args.m.now c.args.r (Same c.in-Same.left c.in-Same.right) c.in-Same.is
-        c.requires.rounds ((c.equal.ensures.answer list c.requires.rounds.machine).0 e)
+    c.requires.rounds ((c.equal.ensures.answer list c.requires.rounds.machine).0 e)

@@ -12,4 +12,4 @@ returns-in-Ok-clause-text c = record {
 pub returns-in-Ok-clause-short : goal.returns-in-Ok-clause-short
 returns-in-Ok-clause-short c =
     c.worlds_are_short.ensures.by_table c.requires.limit c.resolve.new.table c.args.skeleton.now c.in-Ok.world c.requires.stands
-        c.in-Ok.ensures.world
+    c.in-Ok.ensures.world
