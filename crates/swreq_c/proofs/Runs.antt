@@ -30,27 +30,23 @@ no_memory words text =
       no_fault = (λ e. omega (arith, e), λ e. omega (arith, e));
     }
 
--- a run that does not end for a fault has none
-pub in_memory : (words : List Text) (text : Text) (rest : Option Text) (before bytes : Text) (faults status : ℕ) → before ≡ []
-    → IsRun (record {
-      words = words;
-      before = record { left = Some text; read_faults = 0; taken = Some before; write_faults = 0; told = None };
-      after = record { left = rest; read_faults = 0; taken = Some bytes; write_faults = faults; told = None };
-      status = status;
-    }) → status ≢ 5 → HasRun words text status bytes
-in_memory words text rest before bytes faults status nothing ran wrote =
-    let none : faults ≡ 0 = others_wrote _ ran.end wrote in record {
+-- a run over streams in memory
+abbrev run_between : (words : List Text) (text : Text) (rest : Option Text) (before bytes : Text) (was faults status : ℕ) → Run
+run_between words text rest before bytes was faults status = record {
+  words = words;
+  before = record { left = Some text; read_faults = 0; taken = Some before; write_faults = was; told = None };
+  after = record { left = rest; read_faults = 0; taken = Some bytes; write_faults = faults; told = None };
+  status = status;
+}
+
+-- one over a sink that has taken nothing and has not failed, which does not end for a fault
+pub in_memory : (words : List Text) (text : Text) (rest : Option Text) (before bytes : Text) (was faults status : ℕ) → before ≡ [] → was ≡ 0
+    → IsRun (run_between words text rest before bytes was faults status) → status ≢ 5 → HasRun words text status bytes
+in_memory words text rest before bytes was faults status nothing never ran wrote =
+    let none : faults ≡ 0 = others_wrote (run_between words text rest before bytes was faults status) ran.end wrote ∙ never in record {
       rest = rest;
-      run = subst (λ n. IsRun (record {
-        words = words;
-        before = record { left = Some text; read_faults = 0; taken = Some []; write_faults = 0; told = None };
-        after = record { left = rest; read_faults = 0; taken = Some bytes; write_faults = n; told = None };
-        status = status;
-      })) none (subst (λ t. IsRun (record {
-        words = words;
-        before = record { left = Some text; read_faults = 0; taken = Some t; write_faults = 0; told = None };
-        after = record { left = rest; read_faults = 0; taken = Some bytes; write_faults = faults; told = None };
-        status = status;
-      })) nothing ran);
-      no_fault = (λ four. never_risen 0 0 refl refl (four_read_failed _ ran.end four), wrote);
+      run = subst (λ n. IsRun (run_between words text rest [] bytes 0 n status)) none
+          (subst (λ n. IsRun (run_between words text rest [] bytes n faults status)) never
+          (subst (λ t. IsRun (run_between words text rest t bytes was faults status)) nothing ran));
+      no_fault = (λ four. never_risen 0 0 refl refl (four_read_failed (run_between words text rest before bytes was faults status) ran.end four), wrote);
     }

@@ -13,5 +13,6 @@ returns c = λ said are.
     let read = sym (ap (map string_bytes) c.deref.ensures.value) in
     let same = same_words c.args.words.now words said (subst (AreWords c.args.words.now) read c.in_ok-words.ensures) are in
     subst (λ ws. HasRun ws text status sink.bytes.items) same
-    (in_memory words text (Some c.run-status.new.src.left.now) _ sink.bytes.items sink.faults status c.nothing-sink.ensures.bytes c.run-status.ensures.run
+    (in_memory words text (Some c.run-status.new.src.left.now) _ sink.bytes.items _ sink.faults status c.nothing-sink.ensures.bytes
+    c.nothing-sink.ensures.faults c.run-status.ensures.run
     c.if-status-eq-WRITE_FAULT.false)
