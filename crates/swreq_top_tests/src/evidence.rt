@@ -215,7 +215,7 @@ query f(T.Next : N)
 query f(T.Next)
 ---- 0
 yes
-τ_0_0.Next
+τ_0_0.[N]Next
 ====
 $ signatures
 protocol N { associatedtype Next: N }
