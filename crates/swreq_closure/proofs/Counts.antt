@@ -101,7 +101,7 @@ one_of_each (suc zero) (suc zero) h g = refl
 one_of_each (suc zero) (suc (suc y)) h g = absurd (omega arith)
 one_of_each (suc (suc x)) y h g = absurd (omega arith)
 
-and_has : (a b i : ℕ) → (nat_eq (bit_at a i) 1 && nat_eq (bit_at b i) 1) ≡ nat_eq (bit_at (bit_and a b) i) 1
+pub and_has : (a b i : ℕ) → (nat_eq (bit_at a i) 1 && nat_eq (bit_at b i) 1) ≡ nat_eq (bit_at (bit_and a b) i) 1
 and_has a b i = one_of_each (bit_at a i) (bit_at b i) (bit_at-lt a i) (bit_at-lt b i) ∙ ap (λ c. nat_eq c 1) (sym (bit_at_and a b i))
 
 module _ (words other : List ℕ) where

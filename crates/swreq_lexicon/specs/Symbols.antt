@@ -2,6 +2,7 @@
 use Rattle.std.specs.Prelude.{◌≡◌, ◌↔◌, ◌<◌, ◌≤◌, ◌+◌, ◌/◌, ◌%◌, ◌&&◌, ◌||◌, ℕ, zero, suc, Bool, false, nat_eq, List, [], ◌++◌, Some, length, map, filter, slice_get, slice_index, slice_index_or, Contains}
 use Rattle.std.specs.List.{list_any}
 use Rattle.swreq_closure.specs.Bits as sets
+use Rattle.swreq_closure.specs.Columns.{in_column}
 use Rattle.swreq_param.specs.declared.ids.NameId.{NameId}
 use Rattle.swreq_param.specs.declared.ids.ProtoId.{ProtoId}
 use Rattle.swreq_lexicon.specs.declared.pair.ProtocolName.{ProtocolName}
@@ -71,10 +72,10 @@ module _ (inherits : ProtoId → ProtoId → Bool) (order : List ProtoId) where
   abbrev pub AreNoHeirs : ℕ → Type 0
   AreNoHeirs from = (k : ℕ) (p q : ProtoId) → from ≤ k → slice_get order k ≡ Some p → inherits p q ≡ false
 
-  -- Each word has, as its bits, which of 64 protocols the one at its place in order inherits, from 64 times the index on by place in the text.
+  -- Each column has the places in order of the protocols that inherit one of 64, from 64 times the index on by place in the text.
   abbrev pub AreInherited : List ℕ → ℕ → List ℕ → Type 0
-  AreInherited places index words = (k : ℕ) (p q : ProtoId) → slice_get order k ≡ Some p → place_by places q / 64 ≡ index
-      → sets.has_bit (slice_index words k) (place_by places q % 64) ≡ inherits p q
+  AreInherited places index columns = (k : ℕ) (p q : ProtoId) → slice_get order k ≡ Some p → place_by places q / 64 ≡ index
+      → in_column columns (place_by places q % 64) k ≡ inherits p q
 
 -- The protocols in their order, where the member symbols of each name begin, and for each name the places of those that have it.
 pub record SymbolsView : Type 0 where

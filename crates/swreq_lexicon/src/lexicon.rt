@@ -285,7 +285,7 @@ fn declared_in(
     Ok(pairs)
 }
 
-/// The same of a text, whose names have ranks.
+/// The pairs of a protocol and an associated type that the text declares, by the ranks of its names.
 fn pairs_of(
     alloc: Global,
     text: &[u8],

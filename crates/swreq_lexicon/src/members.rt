@@ -1,5 +1,5 @@
 // Which protocol has which member name.
-ghost use Rattle.std.specs.Prelude.{◌≡◌, ◌<◌, ◌≤◌, ◌/◌, ◌%◌, ◌||◌, ◌&&◌, ℕ, false, nat_eq, [], length, slice_get, slice_index, Some, MatchOption, IfOk, OnOk, Contains};
+ghost use Rattle.std.specs.Prelude.{◌≡◌, ◌<◌, ◌≤◌, ◌+◌, ◌*◌, ◌/◌, ◌%◌, ◌||◌, ◌&&◌, ℕ, false, nat_eq, [], length, slice_get, slice_index, Some, MatchOption, IfOk, OnOk, Contains};
 ghost use Rattle.swreq_closure.specs.Bits.{count_below, has, has_bit, room};
 ghost use Rattle.swreq_lexicon.specs.Symbols.{has_member, row_of, AreHeirs, AreInherited, AreNoHeirs, AreRows};
 ghost use Rattle.swreq_lexicon.specs.Views.{inherits_by, place_by};
@@ -11,7 +11,7 @@ use crate::pair::ProtocolName;
 use crate::protocols::Protocols;
 use std::alloc::{AllocError, Global};
 use std::marker::Model;
-use swreq_closure::Bits;
+use swreq_closure::{Bits, Columns};
 use swreq_param::{NameId, ProtoId};
 
 /// For each name, by rank, the set of the places in order of the protocols that have it.
@@ -84,11 +84,11 @@ impl Members {
 }
 
 /// What each protocol of an order inherits of 64 protocols, from 64 times the index on by place in written order: a word for each, whose
-/// bits these are.
+/// bits these are. They are kept as columns: the places of those that inherit each of the 64.
 #[derive(Drop)]
 struct Group {
     index: usize,
-    words: Vec<u64>,
+    columns: Columns,
 }
 
 /// A protocol, and the places in order of those that are it or inherit it.
@@ -181,14 +181,15 @@ fn group_of(
     requires end { end ≤ length ordered.now }
     requires none { AreNoHeirs (inherits_by protocols.now.places protocols.now.resolved.inherits) ordered.now end }
     ensures here { IfOk result (λ g. place_by protocols.now.places q / 64 ≡ g.index) }
-    ensures short { IfOk result (λ g. length g.words.items ≤ length ordered.now) }
+    ensures short { IfOk result (λ g. length g.columns ≤ 64 * ((length ordered.now + 63) / 64)) }
     ensures each { IfOk result (λ g. AreInherited (inherits_by protocols.now.places protocols.now.resolved.inherits) ordered.now
-        protocols.now.places g.index g.words.items) }
+        protocols.now.places g.index g.columns) }
 {
     let index = protocols.place(q) / 64;
     let last = group_end(protocols, ordered.protos(), end, index);
     let words = inherited(alloc, protocols, ordered.protos(), last, index)?;
-    Ok(Group { index, words })
+    let columns = Columns::of(alloc, &words)?;
+    Ok(Group { index, columns })
 }
 
 /// The same of the protocol that comes next, which is found anew only where that is not among these.
@@ -202,13 +203,13 @@ fn next_group(
 ) -> Result<Group, AllocError>
     requires end { end ≤ length ordered.now }
     requires none { AreNoHeirs (inherits_by protocols.now.places protocols.now.resolved.inherits) ordered.now end }
-    requires short { length group.words.items ≤ length ordered.now }
+    requires short { length group.columns ≤ 64 * ((length ordered.now + 63) / 64) }
     requires each { AreInherited (inherits_by protocols.now.places protocols.now.resolved.inherits) ordered.now
-        protocols.now.places group.index group.words.items }
+        protocols.now.places group.index group.columns }
     ensures here { IfOk result (λ g. place_by protocols.now.places q / 64 ≡ g.index) }
-    ensures short { IfOk result (λ g. length g.words.items ≤ length ordered.now) }
+    ensures short { IfOk result (λ g. length g.columns ≤ 64 * ((length ordered.now + 63) / 64)) }
     ensures each { IfOk result (λ g. AreInherited (inherits_by protocols.now.places protocols.now.resolved.inherits) ordered.now
-        protocols.now.places g.index g.words.items) }
+        protocols.now.places g.index g.columns) }
 {
     if protocols.place(q) / 64 == group.index {
         Ok(group)
@@ -226,18 +227,18 @@ fn heirs(
     q: ProtoId,
 ) -> Result<Bits, AllocError>
     requires here { place_by protocols.now.places q / 64 ≡ group.now.index }
-    requires short { length group.now.words.items ≤ length ordered.now }
+    requires short { length group.now.columns ≤ 64 * ((length ordered.now + 63) / 64) }
     requires each { AreInherited (inherits_by protocols.now.places protocols.now.resolved.inherits) ordered.now
-        protocols.now.places group.now.index group.now.words.items }
+        protocols.now.places group.now.index group.now.columns }
     ensures { IfOk result (AreHeirs (inherits_by protocols.now.places protocols.now.resolved.inherits) ordered.now q) }
 {
     let mut set = itself(alloc, ordered, q)?;
-    set.insert_column(&group.words, protocols.place(q) % 64);
+    set.insert_column(&group.columns, protocols.place(q) % 64);
     let short = set.trimmed(alloc)?;
     Ok(short)
 }
 
-/// So many rows without a place.
+/// A row without a place for each of `names` names.
 fn no_rows(alloc: Global, names: usize) -> Result<Vec<Bits>, AllocError>
     ensures len { IfOk result (λ rows. length rows.items ≡ names) }
     ensures none { IfOk result (λ rows. (a : NameId) (k : ℕ) → has (row_of rows.items a) k ≡ false) }
@@ -271,9 +272,9 @@ fn next_heirs(
     q: ProtoId,
 ) -> Result<Column, AllocError>
     requires here { place_by protocols.now.places q / 64 ≡ group.now.index }
-    requires short { length group.now.words.items ≤ length ordered.now }
+    requires short { length group.now.columns ≤ 64 * ((length ordered.now + 63) / 64) }
     requires each { AreInherited (inherits_by protocols.now.places protocols.now.resolved.inherits) ordered.now
-        protocols.now.places group.now.index group.now.words.items }
+        protocols.now.places group.now.index group.now.columns }
     requires found { AreHeirs (inherits_by protocols.now.places protocols.now.resolved.inherits) ordered.now found.proto found.places }
     ensures proto { IfOk result (λ h. h.proto ≡ q) }
     ensures heirs { IfOk result (λ h. AreHeirs (inherits_by protocols.now.places protocols.now.resolved.inherits) ordered.now q h.places) }
