@@ -4,9 +4,11 @@ ghost use Rattle.std.specs.Prelude.{◌↔◌, ◌<◌, [], ◌∷◌, IsTrue};
 ghost use Rattle.swreq_param.specs.Tables.{AreDistinct};
 ghost use Rattle.swreq_derive.specs.declared.lines.DerivRule.TheVariants as Rule;
 ghost use Rattle.swreq_derive.specs.Facts.{IsStatementOver};
+ghost use Rattle.swreq_derive.specs.Inferences.{IsInferenceOver};
 ghost use Rattle.swreq_derive.specs.Lines.{IsGiven};
 
-use crate::comparing::{are_members, is_member};
+use crate::comparing::{Sides, are_members, is_member};
+use crate::instances::Inference;
 use crate::known::Facts;
 use crate::requirements::Statement;
 use crate::shapes::is_conformance;
@@ -88,7 +90,14 @@ pub(crate) fn assoc_bind<F: Facts>(
             Some((left, right)) => match facts.declared(p, a) {
                 None => false,
                 Some(d) => {
-                    q == p && are_members(table, left, t, Step::Bound(d), right, t, Step::Name(a))
+                    q == p
+                        && are_members(
+                            table,
+                            Sides { left, right },
+                            Sides { left: t, right: t },
+                            Step::Bound(d),
+                            Step::Name(a),
+                        )
                 }
             },
         },
@@ -100,27 +109,29 @@ pub(crate) fn same_name<F: Facts>(
     table: &ParamTable,
     p: ProtoId,
     a: NameId,
-    first: Statement,
-    second: Statement,
-    conclusion: Statement,
+    i: Inference,
 ) -> bool
     requires distinct { AreDistinct table.now }
     requires proto { p.rank < (F.meaning facts.now).protocols }
     requires name { a.rank < (F.meaning facts.now).names }
-    requires first { IsStatementOver table.now (F.meaning facts.now) first }
-    requires second { IsStatementOver table.now (F.meaning facts.now) second }
-    requires conclusion { IsStatementOver table.now (F.meaning facts.now) conclusion }
-    ensures { IsTrue result ↔ IsGiven table.now (F.meaning facts.now) (Rule.SameName p a) (first ∷ second ∷ []) conclusion }
+    requires inference { IsInferenceOver table.now (F.meaning facts.now) i }
+    ensures { IsTrue result ↔ IsGiven table.now (F.meaning facts.now) (Rule.SameName p a) (i.first ∷ i.second ∷ []) i.conclusion }
 {
-    match second.as_same() {
+    match i.second.as_same() {
         None => false,
-        Some((t, u)) => match conclusion.as_same() {
+        Some((t, u)) => match i.conclusion.as_same() {
             None => false,
             Some((left, right)) => match facts.declared(p, a) {
                 None => false,
                 Some(_) => {
-                    is_conformance(first, u, p)
-                        && are_members(table, left, t, Step::Name(a), right, u, Step::Name(a))
+                    is_conformance(i.first, u, p)
+                        && are_members(
+                            table,
+                            Sides { left, right },
+                            Sides { left: t, right: u },
+                            Step::Name(a),
+                            Step::Name(a),
+                        )
                 }
             },
         },
@@ -132,27 +143,29 @@ pub(crate) fn same_decl<F: Facts>(
     table: &ParamTable,
     p: ProtoId,
     a: NameId,
-    first: Statement,
-    second: Statement,
-    conclusion: Statement,
+    i: Inference,
 ) -> bool
     requires distinct { AreDistinct table.now }
     requires proto { p.rank < (F.meaning facts.now).protocols }
     requires name { a.rank < (F.meaning facts.now).names }
-    requires first { IsStatementOver table.now (F.meaning facts.now) first }
-    requires second { IsStatementOver table.now (F.meaning facts.now) second }
-    requires conclusion { IsStatementOver table.now (F.meaning facts.now) conclusion }
-    ensures { IsTrue result ↔ IsGiven table.now (F.meaning facts.now) (Rule.SameDecl p a) (first ∷ second ∷ []) conclusion }
+    requires inference { IsInferenceOver table.now (F.meaning facts.now) i }
+    ensures { IsTrue result ↔ IsGiven table.now (F.meaning facts.now) (Rule.SameDecl p a) (i.first ∷ i.second ∷ []) i.conclusion }
 {
-    match second.as_same() {
+    match i.second.as_same() {
         None => false,
-        Some((v, w)) => match conclusion.as_same() {
+        Some((v, w)) => match i.conclusion.as_same() {
             None => false,
             Some((left, right)) => match facts.declared(p, a) {
                 None => false,
                 Some(d) => {
-                    is_conformance(first, w, p)
-                        && are_members(table, left, v, Step::Bound(d), right, w, Step::Bound(d))
+                    is_conformance(i.first, w, p)
+                        && are_members(
+                            table,
+                            Sides { left, right },
+                            Sides { left: v, right: w },
+                            Step::Bound(d),
+                            Step::Bound(d),
+                        )
                 }
             },
         },

@@ -6,7 +6,7 @@ ghost use Rattle.swreq_derive.specs.Derivation.{BookDerivable};
 ghost use Rattle.swreq_derive.specs.Facts.{statement_of, term_facts, term_source, AreFactsOf};
 ghost use Rattle.swreq_derive.specs.Lines.{AreDerived, IsFirstNotDerived, IsNext, stated_by, AreLinesOf, IsLineOf};
 
-use crate::instances::{gives_from_none, gives_from_one, gives_from_two};
+use crate::instances::{Inference, gives_from_none, gives_from_one, gives_from_two};
 use crate::known::Facts;
 use crate::lines::{BadLine, Line};
 use crate::premises::{Premises, read_premises};
@@ -47,7 +47,12 @@ fn follows<F: Facts>(facts: &F, table: &ParamTable, earlier: &[Line], line: &Lin
         Premises::Zero => gives_from_none(facts, table, line.rule, line.statement),
         Premises::One(first) => gives_from_one(facts, table, line.rule, first, line.statement),
         Premises::Two(first, second) => {
-            gives_from_two(facts, table, line.rule, first, second, line.statement)
+            let i = Inference {
+                first,
+                second,
+                conclusion: line.statement,
+            };
+            gives_from_two(facts, table, line.rule, i)
         }
         Premises::Other => false,
     }

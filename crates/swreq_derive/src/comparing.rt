@@ -3,8 +3,16 @@ ghost use Rattle.std.specs.Prelude.{◌≡◌, ◌↔◌, IsTrue};
 ghost use Rattle.swreq_param.specs.Terms.Term.{Member};
 ghost use Rattle.swreq_param.specs.Tables.{IsOf, term_at, AreDistinct};
 ghost use Rattle.swreq_derive.specs.Derivation.{for_self};
+ghost use Rattle.swreq_derive.specs.Inferences.{AreSidesOf};
 
 use swreq_param::{ParamTable, Step, TermId};
+
+/// The two sides of an equality.
+#[derive(Clone, Copy, Debug)]
+pub(crate) struct Sides {
+    pub left: TermId,
+    pub right: TermId,
+}
 
 /// Whether v is the member of t with this step.
 pub(crate) fn is_member(table: &ParamTable, v: TermId, t: TermId, step: Step) -> bool
@@ -46,44 +54,32 @@ pub(crate) fn is_for_self(table: &ParamTable, t: TermId, u: TermId, v: TermId) -
     }
 }
 
-/// Whether left and right are the members of t and u with these steps.
+/// Whether the sides are the members of these bases, the left with the first step and the right with the second.
 pub(crate) fn are_members(
     table: &ParamTable,
-    left: TermId,
-    t: TermId,
+    sides: Sides,
+    bases: Sides,
     first: Step,
-    right: TermId,
-    u: TermId,
     second: Step,
 ) -> bool
     requires distinct { AreDistinct table.now }
-    requires left { IsOf table.now left }
-    requires left_base { IsOf table.now t }
-    requires right { IsOf table.now right }
-    requires right_base { IsOf table.now u }
-    ensures { IsTrue result ↔ ((term_at table.now left ≡ Member (term_at table.now t) first)
-        × (term_at table.now right ≡ Member (term_at table.now u) second)) }
+    requires sides { AreSidesOf table.now sides }
+    requires bases { AreSidesOf table.now bases }
+    ensures { IsTrue result ↔ ((term_at table.now sides.left ≡ Member (term_at table.now bases.left) first)
+        × (term_at table.now sides.right ≡ Member (term_at table.now bases.right) second)) }
 {
-    is_member(table, left, t, first) && is_member(table, right, u, second)
+    is_member(table, sides.left, bases.left, first)
+        && is_member(table, sides.right, bases.right, second)
 }
 
-/// Whether left and right are u and v with t for `Self`.
-pub(crate) fn are_for_self(
-    table: &ParamTable,
-    t: TermId,
-    u: TermId,
-    left: TermId,
-    v: TermId,
-    right: TermId,
-) -> bool
+/// Whether the sides are those of a protocol's equality with t for `Self`.
+pub(crate) fn are_for_self(table: &ParamTable, t: TermId, from: Sides, to: Sides) -> bool
     requires distinct { AreDistinct table.now }
     requires for_self { IsOf table.now t }
-    requires from_left { IsOf table.now u }
-    requires to_left { IsOf table.now left }
-    requires from_right { IsOf table.now v }
-    requires to_right { IsOf table.now right }
-    ensures { IsTrue result ↔ ((term_at table.now left ≡ for_self (term_at table.now t) (term_at table.now u))
-        × (term_at table.now right ≡ for_self (term_at table.now t) (term_at table.now v))) }
+    requires from { AreSidesOf table.now from }
+    requires to { AreSidesOf table.now to }
+    ensures { IsTrue result ↔ ((term_at table.now to.left ≡ for_self (term_at table.now t) (term_at table.now from.left))
+        × (term_at table.now to.right ≡ for_self (term_at table.now t) (term_at table.now from.right))) }
 {
-    is_for_self(table, t, u, left) && is_for_self(table, t, v, right)
+    is_for_self(table, t, from.left, to.left) && is_for_self(table, t, from.right, to.right)
 }

@@ -2,6 +2,7 @@
 ghost use Rattle.std.specs.Prelude.{◌↔◌, [], ◌∷◌, IsTrue};
 ghost use Rattle.swreq_param.specs.Tables.{AreDistinct};
 ghost use Rattle.swreq_derive.specs.Facts.{IsStatementOver, AreFactsOf};
+ghost use Rattle.swreq_derive.specs.Inferences.{IsInferenceOver};
 ghost use Rattle.swreq_derive.specs.Lines.{IsGiven, IsRuleOf};
 
 use crate::associated::{assoc_bind, assoc_decl, assoc_name, same_decl, same_name};
@@ -12,6 +13,14 @@ use crate::required::{assoc_conf, assoc_layout, assoc_same};
 use crate::requirements::Statement;
 use crate::written::{conf, generic, layout, same};
 use swreq_param::ParamTable;
+
+/// A statement and the two from which a rule is to give it.
+#[derive(Clone, Copy, Debug)]
+pub(crate) struct Inference {
+    pub first: Statement,
+    pub second: Statement,
+    pub conclusion: Statement,
+}
 
 /// Whether the rule gives the conclusion from nothing.
 pub(crate) fn gives_from_none<F: Facts>(
@@ -63,29 +72,25 @@ pub(crate) fn gives_from_one<F: Facts>(
     }
 }
 
-/// Whether the rule gives the conclusion from two premises.
+/// Whether the rule gives the conclusion from the two premises.
 pub(crate) fn gives_from_two<F: Facts>(
     facts: &F,
     table: &ParamTable,
     rule: DerivRule,
-    first: Statement,
-    second: Statement,
-    conclusion: Statement,
+    i: Inference,
 ) -> bool
     requires distinct { AreDistinct table.now }
     requires facts { AreFactsOf table.now (F.meaning facts.now) }
     requires rule { IsRuleOf (F.meaning facts.now) rule }
-    requires first { IsStatementOver table.now (F.meaning facts.now) first }
-    requires second { IsStatementOver table.now (F.meaning facts.now) second }
-    requires conclusion { IsStatementOver table.now (F.meaning facts.now) conclusion }
-    ensures { IsTrue result ↔ IsGiven table.now (F.meaning facts.now) rule (first ∷ second ∷ []) conclusion }
+    requires inference { IsInferenceOver table.now (F.meaning facts.now) i }
+    ensures { IsTrue result ↔ IsGiven table.now (F.meaning facts.now) rule (i.first ∷ i.second ∷ []) i.conclusion }
 {
     match rule {
-        DerivRule::Trans => trans(first, second, conclusion),
-        DerivRule::SameConf { p } => same_conf(p, first, second, conclusion),
-        DerivRule::SameLayout => same_layout(first, second, conclusion),
-        DerivRule::SameName { p, a } => same_name(facts, table, p, a, first, second, conclusion),
-        DerivRule::SameDecl { p, a } => same_decl(facts, table, p, a, first, second, conclusion),
+        DerivRule::Trans => trans(i.first, i.second, i.conclusion),
+        DerivRule::SameConf { p } => same_conf(p, i.first, i.second, i.conclusion),
+        DerivRule::SameLayout => same_layout(i.first, i.second, i.conclusion),
+        DerivRule::SameName { p, a } => same_name(facts, table, p, a, i),
+        DerivRule::SameDecl { p, a } => same_decl(facts, table, p, a, i),
         _ => false,
     }
 }

@@ -6,7 +6,7 @@ ghost use Rattle.swreq_derive.specs.declared.lines.DerivRule.TheVariants as Rule
 ghost use Rattle.swreq_derive.specs.Facts.{IsStatementOver, AreFactsOf};
 ghost use Rattle.swreq_derive.specs.Lines.{IsGiven};
 
-use crate::comparing::{are_for_self, is_for_self};
+use crate::comparing::{Sides, are_for_self, is_for_self};
 use crate::known::Facts;
 use crate::requirements::Statement;
 use crate::shapes::{are_same_protocols, requirement_at};
@@ -65,7 +65,15 @@ pub(crate) fn assoc_same<F: Facts>(
                 None => false,
                 Some(r) => match (Statement::Holds { r }).as_same() {
                     None => false,
-                    Some((u, v)) => { q == p && are_for_self(table, t, u, left, v, right) }
+                    Some((u, v)) => {
+                        q == p
+                            && are_for_self(
+                                table,
+                                t,
+                                Sides { left: u, right: v },
+                                Sides { left, right },
+                            )
+                    }
                 },
             },
         },

@@ -8,13 +8,10 @@ pub gives_from_one-requires-clause-first : goal.gives_from_one-requires-clause-f
 gives_from_one-requires-clause-first g c =
     (stated_of c.args.table.now (g.F.Facts.meaning c.args.facts.now) c.args.earlier.now c.items.result.now (c.in-One.first ∷ []) c.requires.earlier c.in-One.ensures).0
 
-pub gives_from_two-requires-clause-first : goal.gives_from_two-requires-clause-first
-gives_from_two-requires-clause-first g c =
-    (stated_of c.args.table.now (g.F.Facts.meaning c.args.facts.now) c.args.earlier.now c.items.result.now (c.in-Two.first ∷ c.in-Two.second ∷ []) c.requires.earlier c.in-Two.ensures).0
-
-pub gives_from_two-requires-clause-second : goal.gives_from_two-requires-clause-second
-gives_from_two-requires-clause-second g c =
-    (stated_of c.args.table.now (g.F.Facts.meaning c.args.facts.now) c.args.earlier.now c.items.result.now (c.in-Two.first ∷ c.in-Two.second ∷ []) c.requires.earlier c.in-Two.ensures).1.0
+pub gives_from_two-requires-clause-inference : goal.gives_from_two-requires-clause-inference
+gives_from_two-requires-clause-inference g c =
+    let stated = stated_of c.args.table.now (g.F.Facts.meaning c.args.facts.now) c.args.earlier.now c.items.result.now (c.in-Two.first ∷ c.in-Two.second ∷ []) c.requires.earlier c.in-Two.ensures in
+    record { first = stated.0; second = stated.1.0; conclusion = c.requires.line.1 }
 
 pub returns-in-Zero : goal.returns-in-Zero
 returns-in-Zero g c =

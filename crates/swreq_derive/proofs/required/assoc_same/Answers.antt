@@ -19,13 +19,9 @@ returns-in-None-as_same-2 g c = (
       (subst (λ z. HasNumber c.args.n z c.in-Some-requirement_at.r) c.of_protocol.ensures c.in-Some-requirement_at.ensures) c.in-None-as_same-2.ensures w),
 )
 
-pub are_for_self-requires-clause-from_left : goal.are_for_self-requires-clause-from_left
-are_for_self-requires-clause-from_left g c = (used_is_of c.args.table.now (g.F.Facts.meaning c.args.facts.now) c.args.p c.args.n c.in-Some-requirement_at.r (Same c.in-Some-as_same-2.u c.in-Some-as_same-2.v) c.requires.facts c.requires.proto
-    (subst (λ z. HasNumber c.args.n z c.in-Some-requirement_at.r) c.of_protocol.ensures c.in-Some-requirement_at.ensures) c.in-Some-as_same-2.ensures).0
-
-pub are_for_self-requires-clause-from_right : goal.are_for_self-requires-clause-from_right
-are_for_self-requires-clause-from_right g c = (used_is_of c.args.table.now (g.F.Facts.meaning c.args.facts.now) c.args.p c.args.n c.in-Some-requirement_at.r (Same c.in-Some-as_same-2.u c.in-Some-as_same-2.v) c.requires.facts c.requires.proto
-    (subst (λ z. HasNumber c.args.n z c.in-Some-requirement_at.r) c.of_protocol.ensures c.in-Some-requirement_at.ensures) c.in-Some-as_same-2.ensures).1
+pub are_for_self-requires-clause-from : goal.are_for_self-requires-clause-from
+are_for_self-requires-clause-from g c = used_is_of c.args.table.now (g.F.Facts.meaning c.args.facts.now) c.args.p c.args.n c.in-Some-requirement_at.r (Same c.in-Some-as_same-2.u c.in-Some-as_same-2.v) c.requires.facts c.requires.proto
+    (subst (λ z. HasNumber c.args.n z c.in-Some-requirement_at.r) c.of_protocol.ensures c.in-Some-requirement_at.ensures) c.in-Some-as_same-2.ensures
 
 pub returns-then-eq : goal.returns-then-eq
 returns-then-eq g c =
