@@ -11,7 +11,7 @@ use crate::lengths::Lengths;
 use crate::ordered::write_places;
 use crate::overlaps::Key;
 use crate::spots::{Spot, copy_lists, forget};
-use crate::walk::{Met, find, make_way};
+use crate::walk::{Met, Side, find, make_way};
 use std::alloc::{AllocError, Global};
 use std::marker::Model;
 use swreq_rule::Place;
@@ -124,7 +124,7 @@ impl Trie {
         ensures ok { OnOk result (self.new ≡ self.old ++ (record { left = left.now; number = number }) ∷ []) }
         ensures err { OnErr result (self.new ≡ self.old) }
     {
-        let side = self.entries.len();
+        let index = self.entries.len();
         let word = Word::new(Vec::from_slice(self.alloc, left)?);
         self.entries.push(Entry { left: word, number })?;
         match make_way(
@@ -133,9 +133,11 @@ impl Trie {
             &mut self.ends,
             &mut self.passing,
             &mut self.inside,
-            side,
-            number,
-            left,
+            &Side {
+                index,
+                number,
+                left,
+            },
         ) {
             Ok(node) => {
                 mark(&mut self.ends, node, number);
@@ -144,8 +146,8 @@ impl Trie {
             }
             Err(_) => {
                 let _entry = self.entries.pop();
-                forget(&mut self.passing, side);
-                forget(&mut self.inside, side);
+                forget(&mut self.passing, index);
+                forget(&mut self.inside, index);
                 Err(AllocError)
             }
         }

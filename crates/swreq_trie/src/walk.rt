@@ -21,6 +21,14 @@ pub(crate) struct Met {
     pub depth: usize,
 }
 
+/// A side that is to be stored: its index among those that are, the number of its rule, and its symbols.
+#[derive(Clone, Copy)]
+pub(crate) struct Side<'a> {
+    pub index: usize,
+    pub number: u32,
+    pub left: &'a [Symbol],
+}
+
 // The number of the shortest side that begins the word: the one that ends at the first node on its way where one does.
 pub(crate) fn find(edges: &Edges, ends: &[Option<u32>], w: &[Symbol]) -> Option<u32>
     requires { IsForked edges.now }
@@ -203,19 +211,17 @@ pub(crate) fn make_way(
     ends: &mut Vec<Option<u32>>,
     passing: &mut Vec<Vec<Spot>>,
     inside: &mut Vec<Vec<Spot>>,
-    side: usize,
-    number: u32,
-    left: &[Symbol],
+    side: &Side<'_>,
 ) -> Result<usize, AllocError>
     requires { IsForked edges.old }
-    ensures leads { IfOk result (λ node. Leads edges.new 0 left.now node) }
+    ensures leads { IfOk result (λ node. Leads edges.new 0 side.now.left.now node) }
     ensures room { IfOk result (λ node. node < length ends.new.items) }
-    ensures listed { OnOk result (IsPassing edges.new passing.new.items (begin_of side (record { left = left.now; number = number })) left.now) }
-    ensures spots { OnOk result (IsInside edges.new inside.new.items side (record { left = left.now; number = number })) }
+    ensures listed { OnOk result (IsPassing edges.new passing.new.items (begin_of side.now.index (record { left = side.now.left.now; number = side.now.number })) side.now.left.now) }
+    ensures spots { OnOk result (IsInside edges.new inside.new.items side.now.index (record { left = side.now.left.now; number = side.now.number })) }
     ensures passes { ListsOnly passing.old.items passing.new.items
-        (λ n s. (s ≡ begin_of side (record { left = left.now; number = number })) × IsOnWay edges.new left.now n) }
+        (λ n s. (s ≡ begin_of side.now.index (record { left = side.now.left.now; number = side.now.number })) × IsOnWay edges.new side.now.left.now n) }
     ensures stands { ListsOnly inside.old.items inside.new.items
-        (λ n s. (at : ℕ) × (s ≡ spot_of side (record { left = left.now; number = number }) at) × IsWithin edges.new left.now at n) }
+        (λ n s. (at : ℕ) × (s ≡ spot_of side.now.index (record { left = side.now.left.now; number = side.now.number }) at) × IsWithin edges.new side.now.left.now at n) }
     ensures grown { IsGrown edges.old edges.new }
     ensures forked { IsForked edges.new }
     ensures ends { SameEnds ends.old.items ends.new.items }
@@ -223,13 +229,13 @@ pub(crate) fn make_way(
     ensures inside { KeepsListed inside.old.items inside.new.items }
 {
     let begin = Spot {
-        side,
+        side: side.index,
         at: 0,
-        rest: left.len(),
-        number,
+        rest: side.left.len(),
+        number: side.number,
     };
-    let node = make_path(alloc, edges, passing, begin, left)?;
+    let node = make_path(alloc, edges, passing, begin, side.left)?;
     make_room(ends, node)?;
-    add_inside(alloc, edges, inside, side, number, left)?;
+    add_inside(alloc, edges, inside, side.index, side.number, side.left)?;
     Ok(node)
 }
