@@ -19,3 +19,4 @@ pub mod Sorting
 pub mod ReducedSystem
 pub mod OneReduced
 pub mod Answering
+pub mod Replaying

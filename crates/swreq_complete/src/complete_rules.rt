@@ -112,7 +112,7 @@ impl<'b> CompleteRules<'b> {
         self.list.written_out(alloc)
     }
 
-    /// The same rules once more. They are borrowed; where some of these are borrowed themselves, the others are copied.
+    /// These rules as borrowed ones. Where some of them are borrowed already, the others are copied.
     pub fn over<'a>(&'a self, alloc: Global) -> Result<CompleteRules<'a>, AllocError>
         ensures { IfOk result (λ c. c ≡ self.now) }
     {

@@ -37,7 +37,7 @@ impl Model for Part {
     ghost invariant = { λ p. IsIndexAfter p.before p.trie p.list };
 }
 
-// The same rules once more.
+// A copy of the rules.
 fn copied(alloc: Global, rules: &[Rule]) -> Result<RuleList, AllocError>
     ensures { IfOk result (λ copies. copies ≡ rules.now) }
 {
@@ -63,7 +63,7 @@ impl Part {
         }
     }
 
-    /// The same rules once more.
+    /// A copy of the part.
     pub fn copy(&self, alloc: Global) -> Result<Part, AllocError>
         ensures { IfOk result (λ copy. copy ≡ self.now) }
     {
@@ -226,7 +226,7 @@ impl<'b> Indexed<'b> {
         }
     }
 
-    /// The same rules once more. They are borrowed; of rules that stand on borrowed ones the own are copied.
+    /// These rules as borrowed ones. Where some of them are borrowed already, the own ones are copied.
     pub fn over<'a>(&'a self, alloc: Global) -> Result<Indexed<'a>, AllocError>
         ensures { IfOk result (λ same. same ≡ self.now) }
     {
