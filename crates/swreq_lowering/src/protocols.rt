@@ -9,7 +9,7 @@ ghost use Rattle.swreq_lowering.specs.Words.{words_by};
 use crate::context::Context;
 use crate::ids::Written;
 use crate::lookups::name_of;
-use crate::requirements::{add_bounds, add_clause};
+use crate::requirements::{Subject, add_bounds, add_clause};
 use crate::spelling::SELF;
 use crate::words::Words;
 use std::alloc::{AllocError, Global};
@@ -29,16 +29,12 @@ fn add_member(
 {
     let context = Context::Protocol;
     let base = table.param(SELF)?;
-    let subject = table.member(base, Step::Name(name_of(words, m.name)))?;
-    add_bounds(
-        table,
-        words,
-        context,
-        subject,
-        m.name.start,
-        m.inherits.items(),
-        into,
-    )?;
+    let term = table.member(base, Step::Name(name_of(words, m.name)))?;
+    let subject = Subject {
+        term,
+        at: m.name.start,
+    };
+    add_bounds(table, words, context, subject, m.inherits.items(), into)?;
     add_clause(table, words, context, m.clause.items(), into)
 }
 
@@ -72,12 +68,15 @@ pub fn of_protocol(
     let context = Context::Protocol;
     let mut into = Vec::new(alloc);
     let base = table.param(SELF)?;
+    let subject = Subject {
+        term: base,
+        at: p.name.start,
+    };
     add_bounds(
         table,
         words,
         context,
-        base,
-        p.name.start,
+        subject,
         p.inherits.items(),
         &mut into,
     )?;

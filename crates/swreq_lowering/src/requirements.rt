@@ -8,7 +8,7 @@ ghost use Rattle.swreq_lowering.specs.ByTable.{HasIdsOf};
 ghost use Rattle.swreq_lowering.specs.Requirements.{argument, arguments, bound_of, in_bound, in_bounds, equality};
 ghost use Rattle.swreq_lowering.specs.Walk.{in_clause, in_requirement};
 ghost use Rattle.swreq_lowering.specs.Types.{type_in};
-ghost use Rattle.swreq_lowering.specs.Words.{words_by};
+ghost use Rattle.swreq_lowering.specs.Words.{primaries_named, words_by};
 
 use crate::context::Context;
 use crate::ids::Written;
@@ -19,6 +19,21 @@ use std::alloc::AllocError;
 use swreq_decl::{Entity, ReqDecl, Span, TypeDecl};
 use swreq_derive::Requirement;
 use swreq_param::{ParamTable, Step, TermId};
+
+/// A type parameter on which bounds are written, and the offset at which it is written.
+#[derive(Clone, Copy, Debug)]
+pub struct Subject {
+    pub term: TermId,
+    pub at: u32,
+}
+
+/// An argument of a bound: the primary name that it stands for, its type, and the offset of the bound.
+#[derive(Clone, Copy)]
+struct Argument<'a> {
+    name: Span,
+    given: &'a TypeDecl,
+    at: u32,
+}
 
 /// What a bound requires of a type parameter, but for its arguments.
 fn bound_of(words: &Words<'_>, subject: TermId, e: &Entity) -> Requirement
@@ -35,110 +50,101 @@ fn bound_of(words: &Words<'_>, subject: TermId, e: &Entity) -> Requirement
     }
 }
 
-/// The equality of an argument with the primary associated type of this name, at the offset of the bound.
+/// The equality of an argument with the primary associated type for which it stands.
 #[tactic(auto, using(swreq_param::proofs::Growing::onward))]
 fn add_argument(
     table: &mut ParamTable,
     words: &Words<'_>,
     context: Context,
     subject: TermId,
-    at: u32,
-    name: Span,
-    given: &TypeDecl,
+    a: &Argument<'_>,
     into: &mut Vec<Written>,
 ) -> Result<(), AllocError>
     requires { IsOf table.old subject }
     ensures adds { OnOk result (Adds table.old table.new into.old.items into.new.items
-        (argument (words_by words.now) context (term_at table.old subject) at name given.now ∷ [])) }
+        (argument (words_by words.now) context (term_at table.old subject) a.now.at a.now.name a.now.given.now ∷ [])) }
     ensures extends { Extends table.old table.new }
 {
-    let left = table.member(subject, Step::Name(name_of(words, name)))?;
-    let right = spell(table, words, context, given)?;
+    let left = table.member(subject, Step::Name(name_of(words, a.name)))?;
+    let right = spell(table, words, context, a.given)?;
     into.push(Written {
         requirement: Requirement::Same { left, right },
-        left_at: at,
-        right_at: given.head.start,
+        left_at: a.at,
+        right_at: a.given.head.start,
     })?;
     Ok(())
 }
 
-/// The equalities of arguments with the primary associated types of these names, at the offset of the bound.
+/// The equalities of a bound's arguments with the primary associated types of its protocol, at the offset of the bound.
 #[tactic(auto, using(swreq_param::proofs::Growing::onward))]
 fn add_arguments(
     table: &mut ParamTable,
     words: &Words<'_>,
     context: Context,
     subject: TermId,
-    at: u32,
-    names: &[Span],
-    given: &[TypeDecl],
-    into: &mut Vec<Written>,
-) -> Result<(), AllocError>
-    requires { IsOf table.old subject }
-    ensures adds { OnOk result (Adds table.old table.new into.old.items into.new.items
-        (arguments (words_by words.now) context (term_at table.old subject) at names.now given.now)) }
-    ensures extends { Extends table.old table.new }
-{
-    let mut k = 0;
-    while k < names.len() && k < given.len() {
-        let argument = &given[k];
-        add_argument(table, words, context, subject, at, names[k], argument, into)?;
-        k += 1;
-    }
-    Ok(())
-}
-
-/// What one bound requires of a type parameter that is written at an offset.
-fn add_bound(
-    table: &mut ParamTable,
-    words: &Words<'_>,
-    context: Context,
-    subject: TermId,
-    at: u32,
     e: &Entity,
     into: &mut Vec<Written>,
 ) -> Result<(), AllocError>
     requires { IsOf table.old subject }
     ensures adds { OnOk result (Adds table.old table.new into.old.items into.new.items
-        (in_bound (words_by words.now) context (term_at table.old subject) at e.now)) }
+        (arguments (words_by words.now) context (term_at table.old subject) e.now.span.start
+        (primaries_named (words_by words.now) e.now.span) e.now.args)) }
+    ensures extends { Extends table.old table.new }
+{
+    let names = primaries_named(words, e.span);
+    let given = e.args.items();
+    let mut k = 0;
+    while k < names.len() && k < given.len() {
+        let a = Argument {
+            name: names[k],
+            given: &given[k],
+            at: e.span.start,
+        };
+        add_argument(table, words, context, subject, &a, into)?;
+        k += 1;
+    }
+    Ok(())
+}
+
+/// What one bound requires of its subject.
+fn add_bound(
+    table: &mut ParamTable,
+    words: &Words<'_>,
+    context: Context,
+    subject: Subject,
+    e: &Entity,
+    into: &mut Vec<Written>,
+) -> Result<(), AllocError>
+    requires { IsOf table.old subject.term }
+    ensures adds { OnOk result (Adds table.old table.new into.old.items into.new.items
+        (in_bound (words_by words.now) context (term_at table.old subject.term) subject.at e.now)) }
     ensures extends { Extends table.old table.new }
 {
     into.push(Written {
-        requirement: bound_of(words, subject, e),
-        left_at: at,
-        right_at: at,
+        requirement: bound_of(words, subject.term, e),
+        left_at: subject.at,
+        right_at: subject.at,
     })?;
-    let names = primaries_named(words, e.span);
-    add_arguments(
-        table,
-        words,
-        context,
-        subject,
-        e.span.start,
-        names,
-        e.args.items(),
-        into,
-    )
+    add_arguments(table, words, context, subject.term, e, into)
 }
 
-/// What bounds require of a type parameter that is written at an offset.
+/// What bounds require of their subject.
 #[tactic(auto, using(swreq_param::proofs::Growing::onward))]
 pub fn add_bounds(
     table: &mut ParamTable,
     words: &Words<'_>,
     context: Context,
-    subject: TermId,
-    at: u32,
+    subject: Subject,
     bounds: &[Entity],
     into: &mut Vec<Written>,
 ) -> Result<(), AllocError>
-    requires { IsOf table.old subject }
+    requires { IsOf table.old subject.term }
     ensures adds { OnOk result (Adds table.old table.new into.old.items into.new.items
-        (in_bounds (words_by words.now) context (term_at table.old subject) at bounds.now)) }
+        (in_bounds (words_by words.now) context (term_at table.old subject.term) subject.at bounds.now)) }
     ensures extends { Extends table.old table.new }
 {
     for e in bounds {
-        add_bound(table, words, context, subject, at, e, into)?;
+        add_bound(table, words, context, subject, e, into)?;
     }
     Ok(())
 }
@@ -182,7 +188,11 @@ fn add_subject(
     ensures extends { Extends table.old table.new }
 {
     let t = spell(table, words, context, subject)?;
-    add_bounds(table, words, context, t, subject.head.start, bounds, into)
+    let on = Subject {
+        term: t,
+        at: subject.head.start,
+    };
+    add_bounds(table, words, context, on, bounds, into)
 }
 
 /// A written requirement.

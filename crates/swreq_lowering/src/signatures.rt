@@ -10,7 +10,7 @@ ghost use Rattle.swreq_lowering.specs.Words.{words_by};
 use crate::context::Context;
 use crate::ids::Written;
 use crate::params::own_depth;
-use crate::requirements::{add_bounds, add_clause};
+use crate::requirements::{Subject, add_bounds, add_clause};
 use crate::words::Words;
 use std::alloc::{AllocError, Global};
 use swreq_decl::{FunctionDecl, ParamDecl, ReqDecl, StructDecl};
@@ -31,17 +31,13 @@ fn add_param(
     ensures extends { Extends table.old table.new }
 {
     let depth = own_depth(words.skeleton, signature);
-    let subject = table.param(ParamId { depth, index })?;
+    let term = table.param(ParamId { depth, index })?;
+    let subject = Subject {
+        term,
+        at: p.name.start,
+    };
     let context = Context::Signature(signature);
-    add_bounds(
-        table,
-        words,
-        context,
-        subject,
-        p.name.start,
-        p.bounds.items(),
-        into,
-    )
+    add_bounds(table, words, context, subject, p.bounds.items(), into)
 }
 
 #[tactic(auto, using(swreq_param::proofs::Growing::onward))]
