@@ -44,6 +44,14 @@ impl Model for PropertyMap {
     ghost invariant = { λ m. AreDistinct m.table };
 }
 
+/// The least word of a class by rules, and the number below which the protocols are that are asked of it.
+#[derive(Clone, Copy)]
+struct Class<'a, 'b> {
+    rules: &'a CompleteRules<'b>,
+    word: &'a [Symbol],
+    protocols: u32,
+}
+
 /// The symbols that are kept with some ending of a word that begins at this place or behind it.
 fn candidates(
     alloc: Global,
@@ -145,7 +153,12 @@ impl PropertyMap {
         let from = u.len().saturating_sub(longest);
         let candidates = candidates(alloc, &self.table, &self.lists, u, from)?;
         let mut room = Vec::with_capacity(alloc, u.len() + 1)?;
-        let mut protocols = conforming(alloc, rules, u, self.protocols, &candidates, &mut room)?;
+        let class = Class {
+            rules,
+            word: u,
+            protocols: self.protocols,
+        };
+        let mut protocols = conforming(alloc, &class, &candidates, &mut room)?;
         protocols.sort_unstable();
         protocols.dedup();
         let layout = self.has(rules, u, Symbol::Layout, &mut room);
@@ -170,23 +183,17 @@ fn symbol_at(symbols: &[Symbol], k: usize) -> Symbol
 }
 
 /// The protocol of the symbol, if it is one below this number that vanishes behind the least word of a class.
-fn conforms(
-    rules: &CompleteRules<'_>,
-    u: &[Symbol],
-    protocols: u32,
-    x: Symbol,
-    room: &mut Vec<Symbol>,
-) -> Option<u32>
-    requires least { IsLeast (Linked (Step rules.now)) u.now }
-    requires fits { length u.now + 1 ≤ vec_capacity room.old }
+fn conforms(class: &Class<'_, '_>, x: Symbol, room: &mut Vec<Symbol>) -> Option<u32>
+    requires least { IsLeast (Linked (Step class.now.rules.now)) class.now.word.now }
+    requires fits { length class.now.word.now + 1 ≤ vec_capacity room.old }
     ensures answer { MatchOption result
-        ((p : ℕ) → x ≡ Proto p → p < protocols → Vanishes rules.now u.now x → ⊥)
-        (λ p. (x ≡ Proto p) × (p < protocols) × Vanishes rules.now u.now (Proto p)) }
+        ((p : ℕ) → x ≡ Proto p → p < class.now.protocols → Vanishes class.now.rules.now class.now.word.now x → ⊥)
+        (λ p. (x ≡ Proto p) × (p < class.now.protocols) × Vanishes class.now.rules.now class.now.word.now (Proto p)) }
     ensures room { vec_capacity room.old ≤ vec_capacity room.new }
 {
     match x {
         Symbol::Proto(p) => {
-            if p < protocols && vanishes(rules, u, x, room) {
+            if p < class.protocols && vanishes(class.rules, class.word, x, room) {
                 Some(p)
             } else {
                 None
@@ -198,22 +205,22 @@ fn conforms(
 
 /// Adds the protocol of the next symbol, if it is one below this number that vanishes behind the least word of a class.
 fn add_conforming(
-    rules: &CompleteRules<'_>,
-    u: &[Symbol],
-    protocols: u32,
+    class: &Class<'_, '_>,
     symbols: &[Symbol],
     k: usize,
     room: &mut Vec<Symbol>,
     found: &mut Vec<u32>,
 ) -> Result<(), AllocError>
     requires within { k < length symbols.now }
-    requires least { IsLeast (Linked (Step rules.now)) u.now }
-    requires fits { length u.now + 1 ≤ vec_capacity room.old }
-    requires so_far { AreConforming rules.now protocols u.now (take k symbols.now) found.old.items }
-    ensures found { OnOk result (AreConforming rules.now protocols u.now (take (k + 1) symbols.now) found.new.items) }
+    requires least { IsLeast (Linked (Step class.now.rules.now)) class.now.word.now }
+    requires fits { length class.now.word.now + 1 ≤ vec_capacity room.old }
+    requires so_far { AreConforming class.now.rules.now class.now.protocols class.now.word.now
+        (take k symbols.now) found.old.items }
+    ensures found { OnOk result (AreConforming class.now.rules.now class.now.protocols class.now.word.now
+        (take (k + 1) symbols.now) found.new.items) }
     ensures room { vec_capacity room.old ≤ vec_capacity room.new }
 {
-    match conforms(rules, u, protocols, symbol_at(symbols, k), room) {
+    match conforms(class, symbol_at(symbols, k), room) {
         Some(p) => {
             found.push(p)?;
             Ok(())
@@ -225,20 +232,19 @@ fn add_conforming(
 /// The protocols among these symbols that vanish behind the least word of a class.
 fn conforming(
     alloc: Global,
-    rules: &CompleteRules<'_>,
-    u: &[Symbol],
-    protocols: u32,
+    class: &Class<'_, '_>,
     symbols: &[Symbol],
     room: &mut Vec<Symbol>,
 ) -> Result<Vec<u32>, AllocError>
-    requires least { IsLeast (Linked (Step rules.now)) u.now }
-    requires fits { length u.now + 1 ≤ vec_capacity room.old }
-    ensures found { IfOk result (λ v. AreConforming rules.now protocols u.now symbols.now v.items) }
+    requires least { IsLeast (Linked (Step class.now.rules.now)) class.now.word.now }
+    requires fits { length class.now.word.now + 1 ≤ vec_capacity room.old }
+    ensures found { IfOk result (λ v. AreConforming class.now.rules.now class.now.protocols class.now.word.now
+        symbols.now v.items) }
     ensures room { vec_capacity room.old ≤ vec_capacity room.new }
 {
     let mut found = Vec::new(alloc);
     for k in 0..symbols.len() {
-        add_conforming(rules, u, protocols, symbols, k, room, &mut found)?;
+        add_conforming(class, symbols, k, room, &mut found)?;
     }
     Ok(found)
 }

@@ -16,6 +16,7 @@ use std::alloc::{AllocError, Global};
 use swreq_lowering::Query;
 use swreq_map::PropertyMap;
 use swreq_param::ParamTable;
+use swreq_symbols::Text;
 use swreq_text::append_bytes;
 use swreq_valid::{Machine, Scratch};
 use swreq_world::World;
@@ -46,7 +47,10 @@ pub fn answer(
 {
     match *q {
         Query::Signature { .. } => unreachable!(),
-        Query::Reduced { t, .. } => reduced_line(alloc, world, table, m, t, s, out),
+        Query::Reduced { t, .. } => {
+            let text = Text { world, table };
+            reduced_line(alloc, &text, m, t, s, out)
+        }
         _ => {
             let verdict = judge(world, table, m, map, q, s);
             append_bytes(out, verdict.line())

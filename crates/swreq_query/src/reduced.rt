@@ -16,11 +16,11 @@ ghost use Rattle.swreq_query.specs.Asked.{AppendsAnswer};
 use crate::verdict::Verdict;
 use std::alloc::{AllocError, Global};
 use swreq_lexicon::Lexicon;
-use swreq_param::{ParamId, ParamTable, Step, TermId};
+use swreq_param::{ParamId, Step, TermId};
 use swreq_print::steps_text;
+use swreq_symbols::Text;
 use swreq_text::append_bytes;
 use swreq_valid::{Machine, Scratch};
-use swreq_world::World;
 
 /// Appends the line of the type parameter with this generic parameter and these steps.
 fn type_line(
@@ -42,24 +42,23 @@ fn type_line(
 /// Appends the line of the reduced type of t, or of `invalid` where t is not valid.
 pub(crate) fn reduced_line(
     alloc: Global,
-    world: &World,
-    table: &ParamTable,
+    text: &Text<'_>,
     m: &Machine,
     t: TermId,
     s: &mut Scratch,
     out: &mut Vec<u8>,
 ) -> Result<(), AllocError>
-    requires text { IsTextOver table.now world.now }
-    requires t { IsTypeIn table.now world.now.lexicon t }
-    requires room { 4 * (member_count (term_at table.now t) + 2) ≤ s.old.room }
-    ensures ok { OnOk result ((f : FuncId) (list : List TermRequirement) → IsMachineOf (world_by table.now world.now) list m.now
-        → AppendsAnswer world.now.lexicon (IsDerivable (world_by table.now world.now) m.now list) (AsksReduced f (term_at table.now t)) out.old.items out.new.items) }
+    requires text { IsTextOver text.now.table.now text.now.world.now }
+    requires t { IsTypeIn text.now.table.now text.now.world.now.lexicon t }
+    requires room { 4 * (member_count (term_at text.now.table.now t) + 2) ≤ s.old.room }
+    ensures ok { OnOk result ((f : FuncId) (list : List TermRequirement) → IsMachineOf (world_by text.now.table.now text.now.world.now) list m.now
+        → AppendsAnswer text.now.world.now.lexicon (IsDerivable (world_by text.now.table.now text.now.world.now) m.now list) (AsksReduced f (term_at text.now.table.now t)) out.old.items out.new.items) }
     ensures err { OnErr result (out.new.items ≡ out.old.items) }
     ensures room { s.new.room ≡ s.old.room }
 {
-    if m.is_valid(world, table, t, s) {
-        m.reduced(world, table, t, s);
-        type_line(alloc, world.lexicon(), s.param(), s.steps(), out)
+    if m.is_valid(text.world, text.table, t, s) {
+        m.reduced(text.world, text.table, t, s);
+        type_line(alloc, text.world.lexicon(), s.param(), s.steps(), out)
     } else {
         append_bytes(out, Verdict::Invalid.line())
     }

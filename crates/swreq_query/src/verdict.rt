@@ -20,6 +20,7 @@ ghost use Rattle.swreq_query.specs.Asked.{AsksRequirement, IsQueryIn, IsRoomFor,
 use swreq_lowering::Query;
 use swreq_map::PropertyMap;
 use swreq_param::{ParamTable, TermId};
+use swreq_symbols::Text;
 use swreq_valid::{Machine, Property, Scratch};
 use swreq_world::World;
 
@@ -60,24 +61,23 @@ fn verdict_of(derivable: Option<bool>) -> Verdict
 
 /// Whether t is valid and has the property.
 fn judge_property(
-    world: &World,
-    table: &ParamTable,
+    text: &Text<'_>,
     m: &Machine,
     map: &PropertyMap,
     t: TermId,
     property: Property,
     s: &mut Scratch,
 ) -> Verdict
-    requires text { IsTextOver table.now world.now }
-    requires t { IsTypeIn table.now world.now.lexicon t }
+    requires text { IsTextOver text.now.table.now text.now.world.now }
+    requires t { IsTypeIn text.now.table.now text.now.world.now.lexicon t }
     requires map { IsMapOf (last_rules m.now.rounds) map.now }
     requires property { IsBelow map.now.protocols property }
-    requires room { 4 * (member_count (term_at table.now t) + 2) ≤ s.old.room }
-    ensures answer { (f : FuncId) (list : List TermRequirement) → IsMachineOf (world_by table.now world.now) list m.now
-        → IsAnswer (IsDerivable (world_by table.now world.now) m.now list) (asks f (term_at table.now t) property) (answer_of result) }
+    requires room { 4 * (member_count (term_at text.now.table.now t) + 2) ≤ s.old.room }
+    ensures answer { (f : FuncId) (list : List TermRequirement) → IsMachineOf (world_by text.now.table.now text.now.world.now) list m.now
+        → IsAnswer (IsDerivable (world_by text.now.table.now text.now.world.now) m.now list) (asks f (term_at text.now.table.now t) property) (answer_of result) }
     ensures room { s.new.room ≡ s.old.room }
 {
-    verdict_of(m.has(world, table, map, t, property, s))
+    verdict_of(m.has(text, map, t, property, s))
 }
 
 /// Whether a and b are valid and equal.
@@ -132,11 +132,10 @@ pub fn judge(
         → IsAnswer (IsDerivable (world_by table.now world.now) m.now list) (query_by table.now q.now) (answer_of result) }
     ensures room { s.new.room ≡ s.old.room }
 {
+    let text = Text { world, table };
     match *q {
-        Query::Conf { t, p, .. } => {
-            judge_property(world, table, m, map, t, Property::Protocol(p), s)
-        }
-        Query::Layout { t, .. } => judge_property(world, table, m, map, t, Property::Layout, s),
+        Query::Conf { t, p, .. } => { judge_property(&text, m, map, t, Property::Protocol(p), s) }
+        Query::Layout { t, .. } => judge_property(&text, m, map, t, Property::Layout, s),
         Query::Same { a, b, .. } => judge_equality(world, table, m, a, b, s),
         Query::Signature { .. } | Query::Reduced { .. } => unreachable!(),
     }

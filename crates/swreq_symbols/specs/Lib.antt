@@ -3,3 +3,4 @@ pub mod Known
 pub mod Overs
 pub mod Vanishing
 pub mod Fronts
+pub mod Readings

@@ -6,11 +6,15 @@ mod behind;
 pub mod laws;
 mod names;
 mod over;
+mod reading;
+mod text;
 mod walk;
 mod words;
 
 pub use behind::first_behind;
 pub use names::name_at;
 pub use over::Over;
+pub use reading::Reading;
+pub use text::Text;
 pub use walk::least_word;
 pub use words::equation;

@@ -6,17 +6,19 @@ ghost use Rattle.swreq_param.specs.Tables.{IsOf, term_at};
 ghost use Rattle.swreq_param.specs.Terms.{member_count};
 ghost use Rattle.swreq_derive.specs.Derivation.{HasParam};
 ghost use Rattle.swreq_correspondence.specs.Shown.{ShowsValid};
-ghost use Rattle.swreq_correspondence.specs.Symbols.{start, word_of};
+ghost use Rattle.swreq_correspondence.specs.Symbols.{start};
 ghost use Rattle.swreq_world.specs.ByTable.{world_by};
 ghost use Rattle.swreq_world.specs.Closed.{AreIds, IsStepOf};
 ghost use Rattle.swreq_symbols.specs.Fronts.{without};
 ghost use Rattle.swreq_symbols.specs.Known.{IsTextOver, IsTypeIn};
 ghost use Rattle.swreq_symbols.specs.Meaning.{facts_of, symbols_of};
 ghost use Rattle.swreq_symbols.specs.Overs.{source_over};
+ghost use Rattle.swreq_symbols.specs.Readings.{IsReadAs};
 ghost use Rattle.swreq_symbols.specs.Vanishing.{HasStep, IsLeastBy, Links};
 
 use crate::behind::first_behind;
 use crate::over::Over;
+use crate::reading::Reading;
 use crate::words::{start_of, symbol_of};
 use swreq_complete::CompleteRules;
 use swreq_map::{append, vanishes};
@@ -127,52 +129,34 @@ fn without(table: &ParamTable, t: TermId, count: usize) -> TermId
 /// Whether the rules show that a member is valid whose base they show valid, with this least word. Where they do, the word becomes that
 /// of the member.
 fn add_member(
-    world: &World,
-    table: &ParamTable,
-    rules: &CompleteRules<'_>,
-    over: Over,
+    reading: &Reading<'_, '_>,
     t: TermId,
     word: &mut Vec<Symbol>,
     test: &mut Vec<Symbol>,
 ) -> bool
-    requires text { IsTextOver table.now world.now }
-    requires t { IsTypeIn table.now world.now.lexicon t }
-    requires member { 0 < member_count (term_at table.now t) }
-    requires base { ShowsValid (symbols_of world.now.lexicon) (facts_of (world_by table.now world.now))
-        (source_over over) (Links rules.now) (without 1 (term_at table.now t)) }
-    requires linked { Links rules.now (word_of (symbols_of world.now.lexicon) (source_over over)
-        (without 1 (term_at table.now t))) word.old.items }
-    requires least { IsLeastBy rules.now word.old.items }
+    requires text { IsTextOver reading.now.table.now reading.now.world.now }
+    requires t { IsTypeIn reading.now.table.now reading.now.world.now.lexicon t }
+    requires member { 0 < member_count (term_at reading.now.table.now t) }
+    requires base { IsReadAs reading.now (without 1 (term_at reading.now.table.now t)) word.old.items }
     requires fits { vec_len word.old + 1 ≤ vec_capacity word.old }
     requires fits_test { vec_len word.old + 1 ≤ vec_capacity test.old }
-    ensures valid { IsTrue result ↔ ShowsValid (symbols_of world.now.lexicon) (facts_of (world_by table.now world.now))
-        (source_over over) (Links rules.now) (term_at table.now t) }
-    ensures least { OnTrue result (IsLeastBy rules.now word.new.items) }
-    ensures linked { OnTrue result (Links rules.now (word_of (symbols_of world.now.lexicon) (source_over over)
-        (term_at table.now t)) word.new.items) }
+    ensures valid { IsTrue result ↔ ShowsValid (symbols_of reading.now.world.now.lexicon) (facts_of (world_by reading.now.table.now reading.now.world.now))
+        (source_over reading.now.over) (Links reading.now.rules.now) (term_at reading.now.table.now t) }
+    ensures read { OnTrue result (IsReadAs reading.now (term_at reading.now.table.now t) word.new.items) }
     ensures short { OnTrue result (vec_len word.new ≤ vec_len word.old + 1) }
     ensures room { vec_capacity word.old ≤ vec_capacity word.new }
     ensures room_test { vec_capacity test.old ≤ vec_capacity test.new }
 {
-    match table.split(t) {
+    match reading.table.split(t) {
         None => unreachable!(),
         Some((_, step)) => {
-            if !has_step(world, rules, word, step, test) {
+            if !has_step(reading.world, reading.rules, word, step, test) {
                 return false;
             }
-            append(rules, word, symbol_of(world, step));
+            append(reading.rules, word, symbol_of(reading.world, step));
             true
         }
     }
-}
-
-/// What type parameters are read by: a text, a table, and rules over the list of a signature or over a protocol.
-#[derive(Clone, Copy)]
-struct Reading<'a, 'b> {
-    world: &'a World,
-    table: &'a ParamTable,
-    rules: &'a CompleteRules<'b>,
-    over: Over,
 }
 
 /// Whether the rules show that a type parameter is valid which without its last members, so many, they show valid, with this least word.
@@ -190,18 +174,12 @@ fn add_members(
     requires text { IsTextOver reading.now.table.now reading.now.world.now }
     requires t { IsTypeIn reading.now.table.now reading.now.world.now.lexicon t }
     requires count { count ≤ member_count (term_at reading.now.table.now t) }
-    requires base { ShowsValid (symbols_of reading.now.world.now.lexicon) (facts_of (world_by reading.now.table.now reading.now.world.now))
-        (source_over reading.now.over) (Links reading.now.rules.now) (without count (term_at reading.now.table.now t)) }
-    requires linked { Links reading.now.rules.now (word_of (symbols_of reading.now.world.now.lexicon) (source_over reading.now.over)
-        (without count (term_at reading.now.table.now t))) word.old.items }
-    requires least { IsLeastBy reading.now.rules.now word.old.items }
+    requires base { IsReadAs reading.now (without count (term_at reading.now.table.now t)) word.old.items }
     requires fits { vec_len word.old + count ≤ vec_capacity word.old }
     requires fits_test { vec_len word.old + count ≤ vec_capacity test.old }
     ensures valid { IsTrue result ↔ ShowsValid (symbols_of reading.now.world.now.lexicon) (facts_of (world_by reading.now.table.now reading.now.world.now))
         (source_over reading.now.over) (Links reading.now.rules.now) (term_at reading.now.table.now t) }
-    ensures least { OnTrue result (IsLeastBy reading.now.rules.now word.new.items) }
-    ensures linked { OnTrue result (Links reading.now.rules.now (word_of (symbols_of reading.now.world.now.lexicon) (source_over reading.now.over)
-        (term_at reading.now.table.now t)) word.new.items) }
+    ensures read { OnTrue result (IsReadAs reading.now (term_at reading.now.table.now t) word.new.items) }
     ensures short { OnTrue result (vec_len word.new ≤ vec_len word.old + count) }
     ensures room { vec_capacity word.old ≤ vec_capacity word.new }
     ensures room_test { vec_capacity test.old ≤ vec_capacity test.new }
@@ -210,15 +188,7 @@ fn add_members(
         return true;
     }
     if count == 1 {
-        return add_member(
-            reading.world,
-            reading.table,
-            reading.rules,
-            reading.over,
-            t,
-            word,
-            test,
-        );
+        return add_member(reading, t, word, test);
     }
     let half = count / 2;
     let front = without(reading.table, t, half);
@@ -231,35 +201,24 @@ fn add_members(
 /// Whether the rules show that a type parameter is valid. Where they do, `word` becomes its least word. Both lists of symbols have
 /// room for the word of the type parameter and a symbol more, and keep it.
 pub fn least_word(
-    world: &World,
-    table: &ParamTable,
-    rules: &CompleteRules<'_>,
-    over: Over,
+    reading: &Reading<'_, '_>,
     t: TermId,
     word: &mut Vec<Symbol>,
     test: &mut Vec<Symbol>,
 ) -> bool
-    requires text { IsTextOver table.now world.now }
-    requires t { IsTypeIn table.now world.now.lexicon t }
-    requires fits { member_count (term_at table.now t) + 2 ≤ vec_capacity word.old }
-    requires fits_test { member_count (term_at table.now t) + 2 ≤ vec_capacity test.old }
-    ensures valid { IsTrue result ↔ ShowsValid (symbols_of world.now.lexicon) (facts_of (world_by table.now world.now))
-        (source_over over) (Links rules.now) (term_at table.now t) }
-    ensures least { OnTrue result (IsLeastBy rules.now word.new.items) }
-    ensures linked { OnTrue result (Links rules.now (word_of (symbols_of world.now.lexicon) (source_over over)
-        (term_at table.now t)) word.new.items) }
-    ensures short { OnTrue result (vec_len word.new ≤ member_count (term_at table.now t) + 1) }
+    requires text { IsTextOver reading.now.table.now reading.now.world.now }
+    requires t { IsTypeIn reading.now.table.now reading.now.world.now.lexicon t }
+    requires fits { member_count (term_at reading.now.table.now t) + 2 ≤ vec_capacity word.old }
+    requires fits_test { member_count (term_at reading.now.table.now t) + 2 ≤ vec_capacity test.old }
+    ensures valid { IsTrue result ↔ ShowsValid (symbols_of reading.now.world.now.lexicon) (facts_of (world_by reading.now.table.now reading.now.world.now))
+        (source_over reading.now.over) (Links reading.now.rules.now) (term_at reading.now.table.now t) }
+    ensures read { OnTrue result (IsReadAs reading.now (term_at reading.now.table.now t) word.new.items) }
+    ensures short { OnTrue result (vec_len word.new ≤ member_count (term_at reading.now.table.now t) + 1) }
     ensures room { vec_capacity word.old ≤ vec_capacity word.new }
     ensures room_test { vec_capacity test.old ≤ vec_capacity test.new }
 {
-    if !begins(rules, over, table.head(t), word) {
+    if !begins(reading.rules, reading.over, reading.table.head(t), word) {
         return false;
     }
-    let reading = Reading {
-        world,
-        table,
-        rules,
-        over,
-    };
-    add_members(&reading, t, table.members(t), word, test)
+    add_members(reading, t, reading.table.members(t), word, test)
 }

@@ -34,9 +34,9 @@ use Rattle.swreq_valid.specs.Machines.{IsMachineOf, MachineView}
 use Rattle.swreq_valid.specs.Rounds.{last_rules}
 use Rattle.swreq_valid.proofs.Valid.{list_derivable, list_shown}
 
-pub both_true : (P Q : Type 0) (b : Bool) → OnTrue b P → OnTrue b Q → OnTrue b (P × Q)
-both_true P Q true h k = (h, k)
-both_true P Q false h k = tt
+pub on_true : {P Q : Type 0} (b : Bool) → (P → Q) → OnTrue b P → OnTrue b Q
+on_true true f h = f h
+on_true false f h = tt
 
 -- words are linked where their least words are the same
 pub linked_by_least : (rules : List Rule) (u v a b : Word) (r : Bool) → Links rules u a → Links rules v b → IsLeastBy rules a → IsLeastBy rules b

@@ -15,7 +15,7 @@ use crate::machine::Machine;
 use crate::scratch::Scratch;
 use swreq_map::vanishes;
 use swreq_param::{ParamTable, ProtoId, TermId};
-use swreq_symbols::{Over, least_word};
+use swreq_symbols::{Over, Reading, least_word};
 use swreq_word::Symbol;
 use swreq_world::World;
 
@@ -39,15 +39,13 @@ impl Machine<'_> {
         ensures room { vec_capacity word.old ≤ vec_capacity word.new }
         ensures room_test { vec_capacity test.old ≤ vec_capacity test.new }
     {
-        least_word(
+        let reading = Reading {
             world,
             table,
-            self.rules(),
-            Over::Signature(self.params()),
-            t,
-            word,
-            test,
-        )
+            rules: self.rules(),
+            over: Over::Signature(self.params()),
+        };
+        least_word(&reading, t, word, test)
     }
 
     /// Whether t is a type parameter: whether it is derivable from the list of the machine.

@@ -15,9 +15,9 @@ ghost use Rattle.swreq_valid.specs.Rounds.{last_rules};
 use crate::machine::Machine;
 use crate::scratch::Scratch;
 use swreq_map::PropertyMap;
-use swreq_param::{ParamTable, ProtoId, TermId};
+use swreq_param::{ProtoId, TermId};
+use swreq_symbols::Text;
 use swreq_word::Symbol;
-use swreq_world::World;
 
 /// A property of a type parameter.
 #[derive(Clone, Copy)]
@@ -44,25 +44,24 @@ impl Machine<'_> {
     /// Whether a property's symbol vanishes behind the word of t, by the map of the rules; None exactly where t is not valid.
     fn vanishing(
         &self,
-        world: &World,
-        table: &ParamTable,
+        text: &Text<'_>,
         map: &PropertyMap,
         t: TermId,
         x: Symbol,
         s: &mut Scratch,
     ) -> Option<bool>
-        requires text { IsTextOver table.now world.now }
-        requires t { IsTypeIn table.now world.now.lexicon t }
+        requires text { IsTextOver text.now.table.now text.now.world.now }
+        requires t { IsTypeIn text.now.table.now text.now.world.now.lexicon t }
         requires map { IsMapOf (last_rules self.now.rounds) map.now }
         requires property { IsProperty map.now.protocols x }
-        requires room { 4 * (member_count (term_at table.now t) + 2) ≤ s.old.room }
+        requires room { 4 * (member_count (term_at text.now.table.now t) + 2) ≤ s.old.room }
         ensures answer { MatchOption result
-            (IsShownBy (world_by table.now world.now) self.now (term_at table.now t) → ⊥)
-            (λ b. IsShownBy (world_by table.now world.now) self.now (term_at table.now t)
-            × (IsTrue b ↔ IsBehind (world_by table.now world.now) self.now (term_at table.now t) x)) }
+            (IsShownBy (world_by text.now.table.now text.now.world.now) self.now (term_at text.now.table.now t) → ⊥)
+            (λ b. IsShownBy (world_by text.now.table.now text.now.world.now) self.now (term_at text.now.table.now t)
+            × (IsTrue b ↔ IsBehind (world_by text.now.table.now text.now.world.now) self.now (term_at text.now.table.now t) x)) }
         ensures room { s.new.room ≡ s.old.room }
     {
-        if self.walk(world, table, t, &mut s.word, &mut s.test) {
+        if self.walk(text.world, text.table, t, &mut s.word, &mut s.test) {
             Some(map.has(self.rules(), &s.word, x, &mut s.test))
         } else {
             None
@@ -72,22 +71,21 @@ impl Machine<'_> {
     /// Whether t has a property, by the property map of the rules of the machine; None exactly where t is not valid.
     pub fn has(
         &self,
-        world: &World,
-        table: &ParamTable,
+        text: &Text<'_>,
         map: &PropertyMap,
         t: TermId,
         property: Property,
         s: &mut Scratch,
     ) -> Option<bool>
-        requires text { IsTextOver table.now world.now }
-        requires t { IsTypeIn table.now world.now.lexicon t }
+        requires text { IsTextOver text.now.table.now text.now.world.now }
+        requires t { IsTypeIn text.now.table.now text.now.world.now.lexicon t }
         requires map { IsMapOf (last_rules self.now.rounds) map.now }
         requires property { IsBelow map.now.protocols property }
-        requires room { 4 * (member_count (term_at table.now t) + 2) ≤ s.old.room }
-        ensures answer { (list : List TermRequirement) → IsMachineOf (world_by table.now world.now) list self.now
-            → TellsIfHas (IsDerivable (world_by table.now world.now) self.now list) (term_at table.now t) property result }
+        requires room { 4 * (member_count (term_at text.now.table.now t) + 2) ≤ s.old.room }
+        ensures answer { (list : List TermRequirement) → IsMachineOf (world_by text.now.table.now text.now.world.now) list self.now
+            → TellsIfHas (IsDerivable (world_by text.now.table.now text.now.world.now) self.now list) (term_at text.now.table.now t) property result }
         ensures room { s.new.room ≡ s.old.room }
     {
-        self.vanishing(world, table, map, t, property.symbol(), s)
+        self.vanishing(text, map, t, property.symbol(), s)
     }
 }

@@ -27,4 +27,5 @@ pub use protocols::Protocols;
 pub use refused::Refused;
 pub use round::Round;
 pub use scratch::Scratch;
+pub use swreq_symbols::equation;
 pub use usable::is_usable;

@@ -21,7 +21,7 @@ use crate::wanted::{Start, Wanted};
 use std::alloc::{AllocError, Global};
 use swreq_complete::{CompleteRules, Failed, extend};
 use swreq_param::ParamTable;
-use swreq_symbols::equation;
+use swreq_symbols::{Text, equation};
 use swreq_watch::Watch;
 use swreq_word::Word;
 use swreq_world::World;
@@ -98,24 +98,23 @@ fn first_rules<'b>(
 /// Completes the equations of the round that uses the requirements whose flags are set.
 fn complete<'b, W: Watch>(
     alloc: Global,
-    world: &World,
-    table: &ParamTable,
+    text: &Text<'_>,
     below: Option<&'b CompleteRules<'b>>,
     start: &Start,
     used: &[bool],
     watch: &mut W,
 ) -> Result<CompleteRules<'b>, Failed>
-    requires text { IsTextOver table.now world.now }
+    requires text { IsTextOver text.now.table.now text.now.world.now }
     requires limits { AreInRange start.now.limits }
-    requires wanted { AreWanted table.now world.now.lexicon start.now.all.items }
+    requires wanted { AreWanted text.now.table.now text.now.world.now.lexicon start.now.all.items }
     requires flags { length used.now ≡ vec_len start.now.all }
-    ensures answer { IsAnswer start.now.limits (first_rules below.entry) (given (plan_of world.now table.now (first_rules below.entry) start.now)
-        (chosen (items_of table.now start.now.all.items) used.now)) result }
-    ensures told { TellsEvents start.now.limits (first_rules below.entry) (given (plan_of world.now table.now (first_rules below.entry) start.now)
-        (chosen (items_of table.now start.now.all.items) used.now))
+    ensures answer { IsAnswer start.now.limits (first_rules below.entry) (given (plan_of text.now.world.now text.now.table.now (first_rules below.entry) start.now)
+        (chosen (items_of text.now.table.now start.now.all.items) used.now)) result }
+    ensures told { TellsEvents start.now.limits (first_rules below.entry) (given (plan_of text.now.world.now text.now.table.now (first_rules below.entry) start.now)
+        (chosen (items_of text.now.table.now start.now.all.items) used.now))
         (W.told watch.old) (W.told watch.new) result }
 {
-    let equations = given_by(alloc, world, table, start, used)?;
+    let equations = given_by(alloc, text.world, text.table, start, used)?;
     let first = first_rules(alloc, below)?;
     extend(alloc, first, &equations, start.limits, watch)
 }
@@ -190,10 +189,11 @@ pub(crate) fn run<'b, W: Watch>(
     ensures only { IsOnlyOutcome start.now.limits (plan_of world.now table.now (first_rules below.entry) start.now) (rules_of result) }
     ensures rounds { IfOk result (AreRounds start.now.limits (plan_of world.now table.now (first_rules below.entry) start.now)) }
 {
+    let text = Text { world, table };
     let mut rounds: Vec<Round<'b>> = Vec::new(alloc);
     let mut used = none_used(alloc, start.all.len())?;
     'each: loop {
-        let rules = complete(alloc, world, table, below, start, &used, watch)?;
+        let rules = complete(alloc, &text, below, start, &used, watch)?;
         let next = next_used(alloc, world, table, start, &used, &rules)?;
         match rounds.push(Round::new(used, rules)) {
             Ok(()) => {}

@@ -14,57 +14,52 @@ use std::alloc::{AllocError, Global};
 use swreq_complete::CompleteRules;
 use swreq_derive::Requirement;
 use swreq_param::{ParamTable, TermId};
-use swreq_symbols::Over;
+use swreq_symbols::{Over, Reading};
 use swreq_world::{World, Written};
 
 /// The place of a side, where the rules do not show it valid.
 fn fails_at(
     alloc: Global,
-    world: &World,
-    table: &ParamTable,
-    rules: &CompleteRules<'_>,
-    over: Over,
+    reading: &Reading<'_, '_>,
     t: TermId,
     at: u32,
 ) -> Result<Option<u32>, AllocError>
-    requires text { IsTextOver table.now world.now }
-    requires t { IsTypeIn table.now world.now.lexicon t }
+    requires text { IsTextOver reading.now.table.now reading.now.world.now }
+    requires t { IsTypeIn reading.now.table.now reading.now.world.now.lexicon t }
     ensures { (rs : List TermRequirement) → IfOk result (λ r. MatchOption r
-        (IsShownIn (world_by table.now world.now) rules.now (record { source = within rs over; term = term_at table.now t; at = at }))
-        (λ a. (IsShownIn (world_by table.now world.now) rules.now
-        (record { source = within rs over; term = term_at table.now t; at = at }) → ⊥) × (a ≡ at))) }
+        (IsShownIn (world_by reading.now.table.now reading.now.world.now) reading.now.rules.now (record { source = within rs reading.now.over; term = term_at reading.now.table.now t; at = at }))
+        (λ a. (IsShownIn (world_by reading.now.table.now reading.now.world.now) reading.now.rules.now
+        (record { source = within rs reading.now.over; term = term_at reading.now.table.now t; at = at }) → ⊥) × (a ≡ at))) }
 {
-    let shown = is_shown(alloc, world, table, rules, over, t)?;
+    let shown = is_shown(
+        alloc,
+        reading.world,
+        reading.table,
+        reading.rules,
+        reading.over,
+        t,
+    )?;
     if shown { Ok(None) } else { Ok(Some(at)) }
 }
 
 /// The place of the first side of a requirement that the rules do not show valid, the left side before the right.
 fn first_of(
     alloc: Global,
-    world: &World,
-    table: &ParamTable,
-    rules: &CompleteRules<'_>,
-    over: Over,
+    reading: &Reading<'_, '_>,
     r: &Written,
 ) -> Result<Option<u32>, AllocError>
-    requires text { IsTextOver table.now world.now }
-    requires r { IsRequirementIn table.now world.now.lexicon r.now.requirement }
+    requires text { IsTextOver reading.now.table.now reading.now.world.now }
+    requires r { IsRequirementIn reading.now.table.now reading.now.world.now.lexicon r.now.requirement }
     ensures { (rs : List TermRequirement) → IfOk result (λ first. MatchOption first
-        (HoldsOfEach (IsShownIn (world_by table.now world.now) rules.now) (sides_of (within rs over) (placed_by table.now r.now)))
-        (FailsFirst (IsShownIn (world_by table.now world.now) rules.now) (sides_of (within rs over) (placed_by table.now r.now)))) }
+        (HoldsOfEach (IsShownIn (world_by reading.now.table.now reading.now.world.now) reading.now.rules.now) (sides_of (within rs reading.now.over) (placed_by reading.now.table.now r.now)))
+        (FailsFirst (IsShownIn (world_by reading.now.table.now reading.now.world.now) reading.now.rules.now) (sides_of (within rs reading.now.over) (placed_by reading.now.table.now r.now)))) }
 {
     match r.requirement {
-        Requirement::Conf { subject, .. } => fails_at(
-            alloc, world, table, rules, over, subject, r.left_at,
-        ),
-        Requirement::Layout { subject } => fails_at(
-            alloc, world, table, rules, over, subject, r.left_at,
-        ),
-        Requirement::Same { left, right } => match fails_at(
-            alloc, world, table, rules, over, left, r.left_at,
-        )? {
+        Requirement::Conf { subject, .. } => fails_at(alloc, reading, subject, r.left_at),
+        Requirement::Layout { subject } => fails_at(alloc, reading, subject, r.left_at),
+        Requirement::Same { left, right } => match fails_at(alloc, reading, left, r.left_at)? {
             Some(at) => Ok(Some(at)),
-            None => fails_at(alloc, world, table, rules, over, right, r.right_at),
+            None => fails_at(alloc, reading, right, r.right_at),
         },
     }
 }
@@ -84,9 +79,15 @@ pub(crate) fn first_invalid(
         (HoldsOfEach (IsShownIn (world_by table.now world.now) rules.now) (sides (within rs over) (placed table.now list.now)))
         (FailsFirst (IsShownIn (world_by table.now world.now) rules.now) (sides (within rs over) (placed table.now list.now)))) }
 {
+    let reading = Reading {
+        world,
+        table,
+        rules,
+        over,
+    };
     for k in 0..list.len() {
         let r = &list[k];
-        let first = first_of(alloc, world, table, rules, over, r)?;
+        let first = first_of(alloc, &reading, r)?;
         match first {
             Some(at) => return Ok(Some(at)),
             None => {}

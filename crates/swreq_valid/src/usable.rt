@@ -18,7 +18,7 @@ use std::alloc::{AllocError, Global};
 use swreq_complete::CompleteRules;
 use swreq_derive::Requirement;
 use swreq_param::{ParamTable, TermId};
-use swreq_symbols::{Over, least_word};
+use swreq_symbols::{Over, Reading, least_word};
 use swreq_word::Symbol;
 use swreq_world::World;
 
@@ -39,7 +39,13 @@ pub(crate) fn is_shown(
     let room = table.members(t).checked_add(2).ok_or(AllocError)?;
     let mut word: Vec<Symbol> = Vec::with_capacity(alloc, room)?;
     let mut test: Vec<Symbol> = Vec::with_capacity(alloc, room)?;
-    Ok(least_word(world, table, rules, over, t, &mut word, &mut test))
+    let reading = Reading {
+        world,
+        table,
+        rules,
+        over,
+    };
+    Ok(least_word(&reading, t, &mut word, &mut test))
 }
 
 /// Whether the rules show that the type parameters of a requirement are valid.

@@ -14,21 +14,20 @@ use Rattle.swreq_symbols.proofs.walk.least_word.Goals as goal
 pub returns-then-not-begins-clause-valid : goal.returns-then-not-begins-clause-valid
 returns-then-not-begins-clause-valid c = (
   (λ h. cc),
-  λ h. c.if-not-begins.ensures.answer.1 (subst (HasParam (source_over c.args.over)) (sym c.head.ensures)
-      (head_valid (world_by c.args.table.now c.args.world.now) (source_over c.args.over) c.args.rules.now (term_at c.args.table.now c.args.t) h)),
+  λ h. c.if-not-begins.ensures.answer.1 (subst (HasParam (source_over c.args.reading.now.over)) (sym c.head.ensures)
+      (head_valid (world_by c.args.reading.now.table.now c.args.reading.now.world.now) (source_over c.args.reading.now.over) c.args.reading.now.rules.now (term_at c.args.reading.now.table.now c.args.t) h)),
 )
 
 pub add_members-requires-clause-base : goal.add_members-requires-clause-base
-add_members-requires-clause-base c =
-    subst (λ n. ShowsValid (symbols_of c.args.world.now.lexicon) (facts_of (world_by c.args.table.now c.args.world.now)) (source_over c.args.over) (Links c.args.rules.now)
-    (without n (term_at c.args.table.now c.args.t)))
-    (sym c.members.ensures)
-    (begins_valid (world_by c.args.table.now c.args.world.now) (source_over c.args.over) c.args.rules.now (term_at c.args.table.now c.args.t)
-    c.head.result c.head.ensures (c.if-not-begins.ensures.answer.0 refl))
-
-pub add_members-requires-clause-linked : goal.add_members-requires-clause-linked
-add_members-requires-clause-linked c =
-    subst (λ n. Links c.args.rules.now (word_of (symbols_of c.args.world.now.lexicon) (source_over c.args.over) (without n (term_at c.args.table.now c.args.t))) c.begins.new.word.items)
-    (sym c.members.ensures)
-    (begins_linked (world_by c.args.table.now c.args.world.now) (source_over c.args.over) c.args.rules.now (term_at c.args.table.now c.args.t)
-    c.head.result c.begins.new.word.items c.head.ensures c.if-not-begins.ensures.linked)
+add_members-requires-clause-base c = record {
+  valid = subst (λ n. ShowsValid (symbols_of c.args.reading.now.world.now.lexicon) (facts_of (world_by c.args.reading.now.table.now c.args.reading.now.world.now)) (source_over c.args.reading.now.over) (Links c.args.reading.now.rules.now)
+      (without n (term_at c.args.reading.now.table.now c.args.t)))
+      (sym c.members.ensures)
+      (begins_valid (world_by c.args.reading.now.table.now c.args.reading.now.world.now) (source_over c.args.reading.now.over) c.args.reading.now.rules.now (term_at c.args.reading.now.table.now c.args.t)
+      c.head.result c.head.ensures (c.if-not-begins.ensures.answer.0 refl));
+  linked = subst (λ n. Links c.args.reading.now.rules.now (word_of (symbols_of c.args.reading.now.world.now.lexicon) (source_over c.args.reading.now.over) (without n (term_at c.args.reading.now.table.now c.args.t))) c.begins.new.word.items)
+      (sym c.members.ensures)
+      (begins_linked (world_by c.args.reading.now.table.now c.args.reading.now.world.now) (source_over c.args.reading.now.over) c.args.reading.now.rules.now (term_at c.args.reading.now.table.now c.args.t)
+      c.head.result c.begins.new.word.items c.head.ensures c.if-not-begins.ensures.linked);
+  least = c.if-not-begins.ensures.least;
+}

@@ -11,5 +11,5 @@ vanishing-requires-clause-property c =
 
 pub returns-clause-answer : goal.returns-clause-answer
 returns-clause-answer c list is =
-    tells_if_has (world_by c.args.table.now c.args.world.now) c.requires.text.closed c.args.self.now list is (term_at c.args.table.now c.args.t)
+    tells_if_has (world_by c.args.text.now.table.now c.args.text.now.world.now) c.requires.text.closed c.args.self.now list is (term_at c.args.text.now.table.now c.args.t)
     c.args.property c.symbol.result c.vanishing.result c.symbol.ensures c.vanishing.ensures.answer

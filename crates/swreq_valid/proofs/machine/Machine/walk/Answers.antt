@@ -1,4 +1,4 @@
-use Rattle.std.proofs.Common.{subst, subst₂, ◌↔◌, IsTrue}
+use Rattle.std.proofs.Common.{subst₂, ◌↔◌, IsTrue}
 use Rattle.std.specs.Bool.{OnTrue}
 use Rattle.swreq_param.specs.Tables.{term_at}
 use Rattle.swreq_correspondence.specs.Shown.{ShowsValid}
@@ -8,9 +8,7 @@ use Rattle.swreq_symbols.specs.Overs.{source_over}
 use Rattle.swreq_symbols.specs.declared.over.Over.TheVariants.{Signature}
 use Rattle.swreq_symbols.specs.Vanishing.{IsLeastBy, Links}
 use Rattle.swreq_world.specs.ByTable.{world_by}
-use Rattle.swreq_valid.specs.Asked.{word_in}
-use Rattle.swreq_valid.specs.Rounds.{last_rules}
-use Rattle.swreq_valid.proofs.Answering.{both_true}
+use Rattle.swreq_valid.proofs.Answering.{on_true}
 use Rattle.swreq_valid.proofs.machine.Machine.walk.Goals as goal
 
 pub returns-clause-valid : goal.returns-clause-valid
@@ -22,8 +20,7 @@ returns-clause-valid c =
 pub returns-clause-least : goal.returns-clause-least
 returns-clause-least c =
     let w = world_by c.args.table.now c.args.world.now in
-    both_true (IsLeastBy (last_rules c.args.self.now.rounds) c.least_word.new.word.items)
-    (Links (last_rules c.args.self.now.rounds) (word_in w c.args.self.now (term_at c.args.table.now c.args.t)) c.least_word.new.word.items) c.least_word.result
-    (subst (λ r. OnTrue c.least_word.result (IsLeastBy r c.least_word.new.word.items)) c.rules.ensures c.least_word.ensures.least)
-    (subst₂ (λ r p. OnTrue c.least_word.result (Links r (word_of (symbols_of w.lexicon) (source_over (Signature p)) (term_at c.args.table.now c.args.t)) c.least_word.new.word.items))
-    c.rules.ensures c.params.ensures c.least_word.ensures.linked)
+    subst₂ (λ r p. OnTrue c.least_word.result (IsLeastBy r c.least_word.new.word.items
+    × Links r (word_of (symbols_of w.lexicon) (source_over (Signature p)) (term_at c.args.table.now c.args.t)) c.least_word.new.word.items))
+    c.rules.ensures c.params.ensures
+    (on_true c.least_word.result (λ read. (read.least, read.linked)) c.least_word.ensures.read)
