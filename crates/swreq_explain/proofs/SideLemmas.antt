@@ -23,7 +23,7 @@ use Rattle.swreq_param.specs.Tables.{term_at}
 use Rattle.swreq_param.specs.Terms.{Term}
 use Rattle.swreq_word.specs.declared.symbols.Symbol.{Symbol}
 use Rattle.swreq_sheet.specs.declared.sheet.Sheet.{Sheet}
-use Rattle.swreq_sheet.specs.Sheets.{AreSaidEqual, Grows}
+use Rattle.swreq_sheet.specs.Sheets.{AreEqualIds, AreSaidEqual, Grows}
 use Rattle.swreq_read.specs.Readable.{SaysSymbol, SaysWord}
 use Rattle.swreq_read.proofs.ReadLemmas.{equal_as, equal_still, is_still, term_still, word_right, word_still}
 use Rattle.swreq_explain.specs.declared.sides.Desk.{Desk}
@@ -32,7 +32,7 @@ use Rattle.swreq_explain.specs.declared.sides.Side.{Side}
 use Rattle.swreq_explain.specs.Stating.{IsReadAt, IsReady, ground_at}
 
 pub ready_still : (d : Desk) (s u : Sheet) → Grows s u → IsReady d s → IsReady d u
-ready_still d s u g h = record { book = h.book; system = h.system; sheet = g.sheet; t = is_still s u g d.t h.t }
+ready_still d s u g h = record { system = h.system; sheet = g.sheet; t = is_still s u g d.t h.t }
 
 module _ (d : Desk) (x : Side) (t : Term) where
   pub read_still : (s u : Sheet) → Grows s u → (r : ReadAs) → IsReadAt d x t s r → IsReadAt d x t u r
@@ -47,6 +47,9 @@ module _ (d : Desk) (x : Side) (t : Term) where
 
   pub read_equal : (s : Sheet) (r : ReadAs) → IsReadAt d x t s r → AreSaidEqual s (term_at s.table r.itself) (term_at s.table r.word)
   read_equal s r h = equal_as s _ _ _ _ h.itself h.word h.equal
+
+  pub read_ids : (s : Sheet) (r : ReadAs) → IsReadAt d x t s r → AreEqualIds s r.itself r.word
+  read_ids s r h = (h.itself_of, h.word_of, read_equal s r h)
 
   -- what lines allow behind its word they allow behind that as which the word is read
   pub vanished : (s : Sheet) (r : ReadAs) (y : Symbol) (longer : List Symbol) → IsReadAt d x t s r → longer ≡ x.word.now ++ y ∷ []

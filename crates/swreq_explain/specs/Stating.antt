@@ -1,5 +1,5 @@
 -- Over what a requirement of a list is stated.
-use Rattle.std.specs.Prelude.{◌≡◌, ◌<◌, ◌++◌, [], ◌∷◌, List, None, length}
+use Rattle.std.specs.Prelude.{◌≡◌, ◌++◌, [], ◌∷◌, List, None}
 use Rattle.swreq_param.specs.Owned.{as_term}
 use Rattle.swreq_param.specs.Tables.{IsOf, term_at}
 use Rattle.swreq_param.specs.Terms.{Term}
@@ -11,7 +11,7 @@ use Rattle.swreq_read.specs.declared.ground.Ground.{Ground}
 use Rattle.swreq_read.specs.Readable.{SaysWord, read}
 use Rattle.swreq_sheet.specs.declared.sheet.Sheet.{Sheet}
 use Rattle.swreq_sheet.specs.Sheets.{AreSaidEqual, IsSheet}
-use Rattle.swreq_unfold.specs.Systems.{IsBook, IsShown, rules_at}
+use Rattle.swreq_unfold.specs.Systems.{HasSystem, IsShown, rules_at}
 use Rattle.swreq_explain.specs.declared.sides.Desk.{Desk}
 use Rattle.swreq_explain.specs.declared.sides.ReadAs.{ReadAs}
 use Rattle.swreq_explain.specs.declared.sides.Side.{Side}
@@ -25,8 +25,7 @@ rules_of d = rules_at d.book.now d.system
 
 -- The system is of the book, and the type parameter behind which words are read is of the sheet.
 pub record IsReady (d : Desk) (s : Sheet) : Type 0 where
-  pub book : IsBook d.book.now
-  pub system : d.system < length d.book.now.systems
+  pub system : HasSystem d.book.now d.system
   pub sheet : IsSheet s
   pub t : IsOf s.table d.t
 

@@ -76,7 +76,7 @@ fn derive(
     Ok(lines)
 }
 
-/// The same as `explain`, by the book of the machine of the signature that the query asks. One book serves for all queries of a
+/// What `explain` answers, by the book of the machine of the signature that the query asks. One book serves for all queries of a
 /// signature.
 pub fn explain_by(
     alloc: Global,

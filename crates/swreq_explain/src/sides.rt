@@ -53,7 +53,7 @@ pub(crate) fn read_side(
         owner: None,
         t: desk.t,
     };
-    let itself = read_type(desk.alloc, desk.book, sheet, scope, side.param, side.word)?;
+    let itself = read_type(desk.book, sheet, scope, side.param, side.word)?;
     let word = read(&desk.book.ground, sheet, desk.t, side.word)?;
     Ok(ReadAs { itself, word })
 }

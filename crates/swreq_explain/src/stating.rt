@@ -35,16 +35,8 @@ pub(crate) fn conform(
     ensures derives { OnOk result ((b : Basis) → FitsBook desk.entry.book.now b → Keeps b sheet.old sheet.new) }
 {
     let ids = read_side(desk, sheet, side)?;
-    link(
-        desk.alloc,
-        desk.book,
-        sheet,
-        desk.system,
-        desk.t,
-        side.word,
-        longer,
-    )?;
-    same_conf(desk.alloc, sheet, ids.itself, ids.word, p)?;
+    link(desk.book, sheet, desk.system, desk.t, side.word, longer)?;
+    same_conf(sheet, ids.itself, ids.word, p)?;
     Ok(())
 }
 
@@ -63,16 +55,8 @@ pub(crate) fn be_object(
     ensures derives { OnOk result ((b : Basis) → FitsBook desk.entry.book.now b → Keeps b sheet.old sheet.new) }
 {
     let ids = read_side(desk, sheet, side)?;
-    link(
-        desk.alloc,
-        desk.book,
-        sheet,
-        desk.system,
-        desk.t,
-        side.word,
-        longer,
-    )?;
-    same_layout(desk.alloc, sheet, ids.itself, ids.word)?;
+    link(desk.book, sheet, desk.system, desk.t, side.word, longer)?;
+    same_layout(sheet, ids.itself, ids.word)?;
     Ok(())
 }
 
@@ -96,18 +80,10 @@ pub(crate) fn equate(
 {
     let first = read_side(desk, sheet, left)?;
     let last = read_side(desk, sheet, right)?;
-    link(
-        desk.alloc,
-        desk.book,
-        sheet,
-        desk.system,
-        desk.t,
-        right.word,
-        left.word,
-    )?;
-    trans(desk.alloc, sheet, last.itself, last.word, first.word)?;
-    symm(desk.alloc, sheet, last.itself, first.word)?;
-    trans(desk.alloc, sheet, first.itself, first.word, last.itself)?;
+    link(desk.book, sheet, desk.system, desk.t, right.word, left.word)?;
+    trans(sheet, last.itself, last.word, first.word)?;
+    symm(sheet, last.itself, first.word)?;
+    trans(sheet, first.itself, first.word, last.itself)?;
     Ok((first.itself, last.itself))
 }
 

@@ -127,24 +127,31 @@ fn world_systems(
     protocols_systems(makings, protocols.rounds())
 }
 
+/// A signature with its machine.
+#[derive(Clone, Copy)]
+struct Own<'a> {
+    f: FuncId,
+    machine: &'a Machine<'a>,
+}
+
 /// Puts the systems of the rounds of the machine of a signature last.
 fn add_machine(
     alloc: Global,
     world: &World,
     table: &ParamTable,
     protocols: &Protocols,
-    m: &Machine,
-    f: FuncId,
+    own: Own<'_>,
     systems: &mut Vec<System>,
 ) -> Result<(), AllocError>
     requires text { IsTextOver table.now world.now }
     requires short { IsShort world.now }
-    requires signature { f.place < length world.now.signatures }
-    requires flags { HaveFlags (length (list_origin world.now f protocols.now).all) m.now.rounds }
-    ensures { OnOk result ((own : List SystemView) × (systems.new.items ≡ systems.old.items ++ own)
-        × AreSystemsOf (symbols_of world.now.lexicon) table.now (list_origin world.now f protocols.now) m.now.rounds own) }
+    requires signature { own.f.place < length world.now.signatures }
+    requires flags { HaveFlags (length (list_origin world.now own.f protocols.now).all) own.machine.now.rounds }
+    ensures { OnOk result ((more : List SystemView) × (systems.new.items ≡ systems.old.items ++ more)
+        × AreSystemsOf (symbols_of world.now.lexicon) table.now (list_origin world.now own.entry.f protocols.now)
+        own.entry.machine.now.rounds more) }
 {
-    let list = world.bare_signature(alloc, f)?;
+    let list = world.bare_signature(alloc, own.f)?;
     let mut all = Vec::new(alloc);
     add_numbered(None, &list, &mut all)?;
     let makings = Makings {
@@ -155,7 +162,7 @@ fn add_machine(
     };
     let base = protocols.rules().count();
     let below = protocols.rounds().len().saturating_sub(1);
-    add_list_systems(makings, base, below, m.rounds(), systems)?;
+    add_list_systems(makings, base, below, own.machine.rounds(), systems)?;
     Ok(())
 }
 
@@ -175,7 +182,8 @@ fn assemble(
 {
     let ground = ground_of(alloc, world, table, m.params())?;
     let mut systems = world_systems(alloc, world, table, protocols)?;
-    add_machine(alloc, world, table, protocols, m, f, &mut systems)?;
+    let own = Own { f, machine: m };
+    add_machine(alloc, world, table, protocols, own, &mut systems)?;
     Ok(Book {
         ground,
         systems: Seq::new(systems),

@@ -55,11 +55,11 @@ fn validate_member(
     ensures derives { OnOk result ((b : Basis) → FitsBook desk.entry.book.now b → Keeps b sheet.old sheet.new) }
 {
     let v = member(sheet, base.itself, step)?;
-    same_conf(desk.alloc, sheet, base.itself, base.word, named.proto)?;
+    same_conf(sheet, base.itself, base.word, named.proto)?;
     let of = (named.proto, named.name);
     match step {
-        Step::Name(_) => assoc_name(desk.alloc, sheet, base.itself, of, v)?,
-        Step::Bound(_) => assoc_decl(desk.alloc, sheet, base.itself, of, v)?,
+        Step::Name(_) => assoc_name(sheet, base.itself, of, v)?,
+        Step::Bound(_) => assoc_decl(sheet, base.itself, of, v)?,
     }
     Ok(v)
 }
@@ -77,7 +77,7 @@ fn validate(desk: Desk<'_>, sheet: &mut Sheet, side: Side<'_>) -> Result<TermId,
     match split(desk.alloc, side.param)? {
         None => {
             let t = param(sheet, side.param.head)?;
-            generic(desk.alloc, sheet, t)?;
+            generic(sheet, t)?;
             Ok(t)
         }
         Some((base, step)) => {
@@ -92,7 +92,7 @@ fn validate(desk: Desk<'_>, sheet: &mut Sheet, side: Side<'_>) -> Result<TermId,
                 owner: None,
                 t: desk.t,
             };
-            let named = declare(desk.alloc, desk.book, sheet, scope, front, step)?;
+            let named = declare(desk.book, sheet, scope, front, step)?;
             let v = validate_member(desk, sheet, ids, step, named)?;
             Ok(v)
         }
@@ -108,6 +108,6 @@ pub(crate) fn reflect(desk: Desk<'_>, sheet: &mut Sheet, side: Side<'_>) -> Resu
     ensures derives { OnOk result ((b : Basis) → FitsBook desk.entry.book.now b → Keeps b sheet.old sheet.new) }
 {
     let t = validate(desk, sheet, side)?;
-    reflex(desk.alloc, sheet, t)?;
+    reflex(sheet, t)?;
     Ok(())
 }

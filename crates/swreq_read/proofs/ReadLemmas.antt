@@ -16,7 +16,7 @@ use Rattle.swreq_param.specs.declared.ids.Step.TheVariants.{Name as NameStep}
 use Rattle.swreq_word.specs.declared.symbols.Symbol.{Symbol}
 use Rattle.swreq_word.specs.declared.symbols.Symbol.TheVariants.{Proto, Member, Param, Name, Layout}
 use Rattle.swreq_sheet.specs.declared.sheet.Sheet.{Sheet}
-use Rattle.swreq_sheet.specs.Sheets.{AreSaidEqual, Grows, IsSheet, Says}
+use Rattle.swreq_sheet.specs.Sheets.{AreEqualIds, AreSaidEqual, Grows, IsSheet, Says}
 use Rattle.swreq_sheet.proofs.SheetLemmas as sheets
 use Rattle.swreq_read.specs.declared.ground.Ground.{Ground}
 use Rattle.swreq_read.specs.declared.ground.Named.{Named}
@@ -149,6 +149,16 @@ module _ (s u : Sheet) (grows : Grows s u) where
       again : {y z : Term} → AreSaidEqual s y z → AreSaidEqual u y z
       again (inl e) = inl e
       again (inr w) = inr (grows.stays _ w)
+
+-- ids that were said equal are so still
+pub equal_ids_still : (s u : Sheet) → Grows s u → (t v : TermId) → AreEqualIds s t v → AreEqualIds u t v
+equal_ids_still s u grows t v w =
+    (is_still s u grows t w.0, is_still s u grows v w.1, equals_still s u grows t v w.0 w.1 w.2)
+
+-- what is now said equal is said so of ids as they now stand
+pub equal_ids_now : (s u : Sheet) → Grows s u → (t v : TermId) → IsOf s.table t → IsOf s.table v
+    → AreSaidEqual u (term_at s.table t) (term_at s.table v) → AreEqualIds u t v
+equal_ids_now s u grows t v h k w = (is_still s u grows t h, is_still s u grows v k, equal_now s u grows t v h k w)
 
 pub equal_as : (s : Sheet) (a b t u : Term) → a ≡ t → b ≡ u → AreSaidEqual s t u → AreSaidEqual s a b
 equal_as s a b t u e f w = subst (λ z. AreSaidEqual s z b) (sym e) (subst (AreSaidEqual s t) (sym f) w)

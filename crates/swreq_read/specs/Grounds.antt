@@ -28,6 +28,10 @@ IsMember g p a = (k : ℕ) × (slice_get g.members k ≡ Some (record { proto = 
 abbrev pub IsParentFor : Ground → ProtoId → NameId → ℕ → Type 0
 IsParentFor g p a k = (e : Parent) × (slice_get g.parents k ≡ Some e) × (e.heir ≡ p) × IsMember g e.proto a
 
+-- A is a member name of P, which P does not declare.
+abbrev pub IsFromAbove : Ground → ProtoId → NameId → Type 0
+IsFromAbove g p a = IsMember g p a × (IsDeclared g p a → ⊥)
+
 -- Inheritance goes down, and a protocol inherits no more protocols than there are. A member name of P is declared by P, or is one of a
 -- protocol that P is written to inherit.
 pub record IsInherited (g : Ground) : Type 0 where

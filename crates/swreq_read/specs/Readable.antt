@@ -3,6 +3,7 @@
 -- A generic parameter is read anywhere, and what follows it is read behind it. So a word that begins with one is read alike behind every
 -- type parameter.
 use Rattle.std.specs.Prelude.{◌≡◌, ◌<◌, ℕ, List, [], ◌∷◌, Some, length, slice_get, Contains}
+use Rattle.swreq_param.specs.declared.ids.AssocId.{AssocId}
 use Rattle.swreq_param.specs.declared.ids.NameId.{NameId}
 use Rattle.swreq_param.specs.declared.ids.ProtoId.{ProtoId}
 use Rattle.swreq_param.specs.declared.ids.Step.{Step}
@@ -17,9 +18,10 @@ use Rattle.swreq_derive.specs.Facts.{generic_params}
 use Rattle.swreq_word.specs.declared.symbols.Symbol.{Symbol}
 use Rattle.swreq_word.specs.declared.symbols.Symbol.TheVariants.{Proto, Member, Param, Name, Layout}
 use Rattle.swreq_sheet.specs.declared.sheet.Sheet.{Sheet}
-use Rattle.swreq_sheet.specs.Sheets.{AreSaidEqual, Says}
+use Rattle.swreq_sheet.specs.Sheets.{AreEqualIds, AreSaidEqual, IsIdOfMember, Says}
 use Rattle.swreq_read.specs.declared.ground.Ground.{Ground}
 use Rattle.swreq_read.specs.declared.ground.Named.{Named}
+use Rattle.swreq_read.specs.declared.members.Members.{Members}
 use Rattle.swreq_read.specs.Grounds.{IsDeclared, member_at}
 
 -- the type parameter as which a symbol behind t is read
@@ -34,6 +36,10 @@ after g t Layout = t
 abbrev pub read : Ground → Term → List Symbol → Term
 read g t [] = t
 read g t (x ∷ w) = read g (after g t x) w
+
+-- It is an id of the table, which stands for what one reads by the symbol behind T.
+abbrev pub IsIdAfter : Ground → Sheet → TermId → Symbol → TermId → Type 0
+IsIdAfter g s t x v = IsOf s.table v × (term_at s.table v ≡ after g (term_at s.table t) x)
 
 -- A line states that t conforms to a protocol that declares the name.
 abbrev pub SaysName : Ground → Sheet → Term → NameId → Type 0
@@ -50,6 +56,12 @@ IsGivenAt g s t x k n = (slice_get g.associated k ≡ Some n) × IsOfStep x k n 
 
 abbrev pub IsGiven : Ground → Sheet → Term → Step → Named → Type 0
 IsGiven g s t x n = (k : ℕ) × IsGivenAt g s t x k n
+
+-- They are the members of T by the bound and by the unbound step, and a type parameter that equals the latter.
+pub record AreMembers (s : Sheet) (t : TermId) (d : AssocId) (a : NameId) (m : Members) : Type 0 where
+  pub bound : IsIdOfMember s t (Bound d) m.bound
+  pub plain : IsIdOfMember s t (NameStep a) m.plain
+  pub equal : AreEqualIds s m.plain m.last
 
 -- Lines allow the symbol behind t.
 abbrev pub SaysSymbol : Ground → Sheet → Term → Symbol → Type 0

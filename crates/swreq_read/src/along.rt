@@ -4,21 +4,20 @@ ghost use Rattle.swreq_param.specs.Tables.{IsOf, term_at};
 ghost use Rattle.swreq_param.specs.declared.ids.Step.TheVariants as steps;
 ghost use Rattle.swreq_param.specs.Terms.{Term};
 ghost use Rattle.swreq_word.specs.declared.symbols.Symbol.TheVariants as symbols;
-ghost use Rattle.swreq_sheet.specs.Sheets.{AreSaidEqual, Basis, Grows, IsSheet, Keeps};
+ghost use Rattle.swreq_sheet.specs.Sheets.{AreEqualIds, AreSaidEqual, Basis, Grows, IsSheet, Keeps};
 ghost use Rattle.swreq_read.specs.Grounds.{FitsBasis};
-ghost use Rattle.swreq_read.specs.Readable.{SaysSymbol, SaysWord, after, read};
+ghost use Rattle.swreq_read.specs.Readable.{IsIdAfter, SaysSymbol, SaysWord, after, read};
 
 use crate::carrying::{carry_conf, carry_layout, carry_name};
 use crate::ground::{Ground, member_at};
 use crate::reading::after;
-use std::alloc::{AllocError, Global};
+use std::alloc::AllocError;
 use swreq_param::{NameId, ProtoId, TermId};
 use swreq_sheet::Sheet;
 use swreq_word::Symbol;
 
 /// The same of a member symbol. `members` are what one reads by it behind T and U.
 fn carry_member(
-    alloc: Global,
     ground: &Ground,
     sheet: &mut Sheet,
     t: TermId,
@@ -27,28 +26,23 @@ fn carry_member(
     members: (TermId, TermId),
 ) -> Result<(), AllocError>
     requires sheet { IsSheet sheet.old }
-    requires t { IsOf sheet.old.table t }
-    requires u { IsOf sheet.old.table u }
-    requires first { IsOf sheet.old.table members.0 }
-    requires second { IsOf sheet.old.table members.1 }
-    requires first_is { term_at sheet.old.table members.0 ≡ after ground.now (term_at sheet.old.table t) (symbols.Member rank) }
-    requires second_is { term_at sheet.old.table members.1 ≡ after ground.now (term_at sheet.old.table u) (symbols.Member rank) }
     requires symbol { SaysSymbol ground.now sheet.old (term_at sheet.old.table t) (symbols.Member rank) }
-    requires equal { AreSaidEqual sheet.old (term_at sheet.old.table t) (term_at sheet.old.table u) }
+    requires equal { AreEqualIds sheet.old t u }
+    requires first { IsIdAfter ground.now sheet.old t (symbols.Member rank) members.0 }
+    requires second { IsIdAfter ground.now sheet.old u (symbols.Member rank) members.1 }
     ensures symbol { OnOk result (SaysSymbol ground.now sheet.new (term_at sheet.old.table u) (symbols.Member rank)) }
     ensures equal { OnOk result (AreSaidEqual sheet.new (term_at sheet.old.table members.0) (term_at sheet.old.table members.1)) }
     ensures grows { OnOk result (Grows sheet.old sheet.new) }
     ensures derives { OnOk result ((b : Basis) → FitsBasis ground.now b → Keeps b sheet.old sheet.new) }
 {
     let named = member_at(ground, rank);
-    carry_name(alloc, ground, sheet, t, u, named.name, members)?;
-    carry_conf(alloc, sheet, t, u, named.proto)?;
+    carry_name(ground, sheet, t, u, named.name, members)?;
+    carry_conf(sheet, t, u, named.proto)?;
     Ok(())
 }
 
 /// Where a symbol is read behind T, and `[T == U]`, it is read behind U, and what one reads by it are equal. `members` are these.
 fn carry_symbol(
-    alloc: Global,
     ground: &Ground,
     sheet: &mut Sheet,
     t: TermId,
@@ -57,14 +51,10 @@ fn carry_symbol(
     members: (TermId, TermId),
 ) -> Result<(), AllocError>
     requires sheet { IsSheet sheet.old }
-    requires t { IsOf sheet.old.table t }
-    requires u { IsOf sheet.old.table u }
-    requires first { IsOf sheet.old.table members.0 }
-    requires second { IsOf sheet.old.table members.1 }
-    requires first_is { term_at sheet.old.table members.0 ≡ after ground.now (term_at sheet.old.table t) x }
-    requires second_is { term_at sheet.old.table members.1 ≡ after ground.now (term_at sheet.old.table u) x }
     requires symbol { SaysSymbol ground.now sheet.old (term_at sheet.old.table t) x }
-    requires equal { AreSaidEqual sheet.old (term_at sheet.old.table t) (term_at sheet.old.table u) }
+    requires equal { AreEqualIds sheet.old t u }
+    requires first { IsIdAfter ground.now sheet.old t x members.0 }
+    requires second { IsIdAfter ground.now sheet.old u x members.1 }
     ensures symbol { OnOk result (SaysSymbol ground.now sheet.new (term_at sheet.old.table u) x) }
     ensures equal { OnOk result (AreSaidEqual sheet.new (term_at sheet.old.table members.0) (term_at sheet.old.table members.1)) }
     ensures grows { OnOk result (Grows sheet.old sheet.new) }
@@ -72,19 +62,19 @@ fn carry_symbol(
 {
     match x {
         Symbol::Proto(rank) => {
-            carry_conf(alloc, sheet, t, u, ProtoId { rank })?;
+            carry_conf(sheet, t, u, ProtoId { rank })?;
             Ok(())
         }
         Symbol::Layout => {
-            carry_layout(alloc, sheet, t, u)?;
+            carry_layout(sheet, t, u)?;
             Ok(())
         }
         Symbol::Name(rank) => {
-            carry_name(alloc, ground, sheet, t, u, NameId { rank }, members)?;
+            carry_name(ground, sheet, t, u, NameId { rank }, members)?;
             Ok(())
         }
         Symbol::Member(rank) => {
-            carry_member(alloc, ground, sheet, t, u, rank, members)?;
+            carry_member(ground, sheet, t, u, rank, members)?;
             Ok(())
         }
         Symbol::Param(_, _) => Ok(()),
@@ -93,7 +83,6 @@ fn carry_symbol(
 
 /// The same, with the ids of what one reads.
 fn carry(
-    alloc: Global,
     ground: &Ground,
     sheet: &mut Sheet,
     t: TermId,
@@ -117,13 +106,12 @@ fn carry(
 {
     let first = after(ground, sheet, t, x)?;
     let second = after(ground, sheet, u, x)?;
-    carry_symbol(alloc, ground, sheet, t, u, x, (first, second))?;
+    carry_symbol(ground, sheet, t, u, x, (first, second))?;
     Ok((first, second))
 }
 
 /// Where a word is read behind T, and `[T == U]`, it is read behind U, and what one reads are equal. Answers the ids of these.
 pub fn carry_all(
-    alloc: Global,
     ground: &Ground,
     sheet: &mut Sheet,
     t: TermId,
@@ -148,7 +136,7 @@ pub fn carry_all(
     let mut first = t;
     let mut second = u;
     for k in 0..word.len() {
-        let next = carry(alloc, ground, sheet, first, second, word[k])?;
+        let next = carry(ground, sheet, first, second, word[k])?;
         first = next.0;
         second = next.1;
     }

@@ -5,24 +5,18 @@ ghost use Rattle.swreq_param.specs.declared.ids.Step.TheVariants.{Name};
 ghost use Rattle.swreq_param.specs.Terms.Term.{Member};
 ghost use Rattle.swreq_derive.specs.Derivation.TermRequirement.{Conforms, IsAnyObject};
 ghost use Rattle.swreq_derive.specs.Derivation.TermStatement.{Requires};
-ghost use Rattle.swreq_sheet.specs.Sheets.{AreSaidEqual, Basis, Grows, IsSheet, Keeps, Says};
+ghost use Rattle.swreq_sheet.specs.Sheets.{AreEqualIds, AreSaidEqual, Basis, Grows, IsIdOfMember, IsSheet, Keeps, Says};
 ghost use Rattle.swreq_read.specs.Grounds.{FitsBasis};
 ghost use Rattle.swreq_read.specs.Readable.{SaysName};
 
 use crate::given::declarer;
 use crate::ground::Ground;
-use std::alloc::{AllocError, Global};
+use std::alloc::AllocError;
 use swreq_param::{NameId, ProtoId, TermId};
 use swreq_sheet::{Sheet, same_conf, same_layout, same_name, symm};
 
 /// From `[T : P]` and `[T == U]`: `[U : P]`.
-pub fn carry_conf(
-    alloc: Global,
-    sheet: &mut Sheet,
-    t: TermId,
-    u: TermId,
-    p: ProtoId,
-) -> Result<(), AllocError>
+pub fn carry_conf(sheet: &mut Sheet, t: TermId, u: TermId, p: ProtoId) -> Result<(), AllocError>
     requires sheet { IsSheet sheet.old }
     requires t { IsOf sheet.old.table t }
     requires u { IsOf sheet.old.table u }
@@ -32,18 +26,13 @@ pub fn carry_conf(
     ensures grows { OnOk result (Grows sheet.old sheet.new) }
     ensures derives { OnOk result ((b : Basis) → Keeps b sheet.old sheet.new) }
 {
-    symm(alloc, sheet, t, u)?;
-    same_conf(alloc, sheet, u, t, p)?;
+    symm(sheet, t, u)?;
+    same_conf(sheet, u, t, p)?;
     Ok(())
 }
 
 /// From `[T : AnyObject]` and `[T == U]`: `[U : AnyObject]`.
-pub fn carry_layout(
-    alloc: Global,
-    sheet: &mut Sheet,
-    t: TermId,
-    u: TermId,
-) -> Result<(), AllocError>
+pub fn carry_layout(sheet: &mut Sheet, t: TermId, u: TermId) -> Result<(), AllocError>
     requires sheet { IsSheet sheet.old }
     requires t { IsOf sheet.old.table t }
     requires u { IsOf sheet.old.table u }
@@ -53,14 +42,13 @@ pub fn carry_layout(
     ensures grows { OnOk result (Grows sheet.old sheet.new) }
     ensures derives { OnOk result ((b : Basis) → Keeps b sheet.old sheet.new) }
 {
-    symm(alloc, sheet, t, u)?;
-    same_layout(alloc, sheet, u, t)?;
+    symm(sheet, t, u)?;
+    same_layout(sheet, u, t)?;
     Ok(())
 }
 
 /// Where a name is read behind T, and `[T == U]`, it is read behind U, and the members are equal. `members` are T.A and U.A.
 pub fn carry_name(
-    alloc: Global,
     ground: &Ground,
     sheet: &mut Sheet,
     t: TermId,
@@ -69,21 +57,17 @@ pub fn carry_name(
     members: (TermId, TermId),
 ) -> Result<(), AllocError>
     requires sheet { IsSheet sheet.old }
-    requires t { IsOf sheet.old.table t }
-    requires u { IsOf sheet.old.table u }
-    requires first { IsOf sheet.old.table members.0 }
-    requires second { IsOf sheet.old.table members.1 }
-    requires first_is { term_at sheet.old.table members.0 ≡ Member (term_at sheet.old.table t) (Name a) }
-    requires second_is { term_at sheet.old.table members.1 ≡ Member (term_at sheet.old.table u) (Name a) }
     requires name { SaysName ground.now sheet.old (term_at sheet.old.table t) a }
-    requires equal { AreSaidEqual sheet.old (term_at sheet.old.table t) (term_at sheet.old.table u) }
+    requires equal { AreEqualIds sheet.old t u }
+    requires first { IsIdOfMember sheet.old t (Name a) members.0 }
+    requires second { IsIdOfMember sheet.old u (Name a) members.1 }
     ensures name { OnOk result (SaysName ground.now sheet.new (term_at sheet.old.table u) a) }
     ensures equal { OnOk result (AreSaidEqual sheet.new (term_at sheet.old.table members.0) (term_at sheet.old.table members.1)) }
     ensures grows { OnOk result (Grows sheet.old sheet.new) }
     ensures derives { OnOk result ((b : Basis) → FitsBasis ground.now b → Keeps b sheet.old sheet.new) }
 {
     let p = declarer(ground, sheet, t, a);
-    carry_conf(alloc, sheet, t, u, p)?;
-    same_name(alloc, sheet, t, u, (p, a), members)?;
+    carry_conf(sheet, t, u, p)?;
+    same_name(sheet, t, u, (p, a), members)?;
     Ok(())
 }

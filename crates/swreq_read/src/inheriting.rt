@@ -5,11 +5,11 @@ ghost use Rattle.swreq_param.specs.Tables.{IsOf, term_at};
 ghost use Rattle.swreq_derive.specs.Derivation.TermRequirement.{Conforms};
 ghost use Rattle.swreq_derive.specs.Derivation.TermStatement.{Requires};
 ghost use Rattle.swreq_sheet.specs.Sheets.{Basis, Grows, IsSheet, Keeps, Says};
-ghost use Rattle.swreq_read.specs.Grounds.{FitsBasis, IsDeclared, IsInherited, IsMember, IsParentFor};
+ghost use Rattle.swreq_read.specs.Grounds.{FitsBasis, IsFromAbove, IsInherited, IsMember, IsParentFor};
 ghost use Rattle.swreq_read.specs.Readable.{SaysName};
 
 use crate::ground::{Ground, Parent, declares, is_member};
-use std::alloc::{AllocError, Global};
+use std::alloc::AllocError;
 use swreq_param::{NameId, ProtoId, TermId};
 use swreq_sheet::{Sheet, assoc_conf};
 
@@ -37,8 +37,7 @@ fn is_parent_for(ground: &Ground, p: ProtoId, a: NameId, k: usize) -> bool
 /// A protocol that P is written to inherit, and of which A is a member name.
 fn parent_for(ground: &Ground, p: ProtoId, a: NameId) -> Parent
     requires inherited { IsInherited ground.now }
-    requires member { IsMember ground.now p a }
-    requires undeclared { IsDeclared ground.now p a → ⊥ }
+    requires member { IsFromAbove ground.now p a }
     ensures parent { Contains ground.now.parents result }
     ensures heir { result.heir ≡ p }
     ensures member { IsMember ground.now result.proto a }
@@ -53,7 +52,6 @@ fn parent_for(ground: &Ground, p: ProtoId, a: NameId) -> Parent
 
 /// From `[T : P]`: `[T : Q]` for a protocol Q that P is written to inherit, and of which A is a member name. Answers how it is written.
 fn step_up(
-    alloc: Global,
     ground: &Ground,
     sheet: &mut Sheet,
     t: TermId,
@@ -61,8 +59,7 @@ fn step_up(
     a: NameId,
 ) -> Result<Parent, AllocError>
     requires inherited { IsInherited ground.now }
-    requires member { IsMember ground.now p a }
-    requires undeclared { IsDeclared ground.now p a → ⊥ }
+    requires member { IsFromAbove ground.now p a }
     requires sheet { IsSheet sheet.old }
     requires t { IsOf sheet.old.table t }
     requires conforms { Says sheet.old (Requires (Conforms (term_at sheet.old.table t) p)) }
@@ -75,14 +72,13 @@ fn step_up(
     ensures derives { OnOk result ((b : Basis) → FitsBasis ground.now b → Keeps b sheet.old sheet.new) }
 {
     let parent = parent_for(ground, p, a);
-    assoc_conf(alloc, sheet, t, (p, parent.number), t, parent.proto)?;
+    assoc_conf(sheet, t, (p, parent.number), t, parent.proto)?;
     Ok(parent)
 }
 
 /// Where a line states `[T : P]`, and A is a member name of P, lines state `[T : Q]` for a protocol Q that declares A: for P, or up from
 /// P along written inheritance.
 pub fn inherit(
-    alloc: Global,
     ground: &Ground,
     sheet: &mut Sheet,
     t: TermId,
@@ -103,7 +99,7 @@ pub fn inherit(
         if declares(ground, at, a) {
             return Ok(());
         }
-        let parent = step_up(alloc, ground, sheet, t, at, a)?;
+        let parent = step_up(ground, sheet, t, at, a)?;
         at = parent.proto;
     }
     Ok(())

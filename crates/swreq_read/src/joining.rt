@@ -6,14 +6,13 @@ ghost use Rattle.swreq_read.specs.Readable.{SaysBoth};
 
 use crate::ground::Ground;
 use crate::reading::read;
-use std::alloc::{AllocError, Global};
+use std::alloc::AllocError;
 use swreq_param::TermId;
 use swreq_sheet::{Sheet, symm, trans};
 use swreq_word::Symbol;
 
 /// Two words that are read as equal type parameters, the other way round.
 pub fn turn(
-    alloc: Global,
     ground: &Ground,
     sheet: &mut Sheet,
     t: TermId,
@@ -29,13 +28,12 @@ pub fn turn(
 {
     let first = read(ground, sheet, t, u)?;
     let second = read(ground, sheet, t, v)?;
-    symm(alloc, sheet, first, second)?;
+    symm(sheet, first, second)?;
     Ok(())
 }
 
 /// Where the first two words are read as equal type parameters, and so are the last two, the first and the last are.
 pub fn join(
-    alloc: Global,
     ground: &Ground,
     sheet: &mut Sheet,
     t: TermId,
@@ -54,6 +52,6 @@ pub fn join(
     let first = read(ground, sheet, t, u)?;
     let middle = read(ground, sheet, t, v)?;
     let last = read(ground, sheet, t, w)?;
-    trans(alloc, sheet, first, middle, last)?;
+    trans(sheet, first, middle, last)?;
     Ok(())
 }

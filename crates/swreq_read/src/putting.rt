@@ -9,7 +9,7 @@ use crate::along::carry_all;
 use crate::ground::Ground;
 use crate::joining::turn;
 use crate::reading::read;
-use std::alloc::{AllocError, Global};
+use std::alloc::AllocError;
 use swreq_param::TermId;
 use swreq_sheet::Sheet;
 use swreq_word::Symbol;
@@ -24,7 +24,6 @@ pub struct Sides<'a> {
 /// Where two words are read alike behind V, and a word behind T has the first of them behind a part that is read as V, the word with
 /// the second one there is read behind T, and the two are equal.
 pub fn put_side(
-    alloc: Global,
     ground: &Ground,
     sheet: &mut Sheet,
     v: TermId,
@@ -42,14 +41,13 @@ pub fn put_side(
 {
     let first = read(ground, sheet, v, from)?;
     let second = read(ground, sheet, v, to)?;
-    carry_all(alloc, ground, sheet, first, second, after)?;
+    carry_all(ground, sheet, first, second, after)?;
     Ok(())
 }
 
 /// Where two words are read alike behind what a part of a word is read as, and the word goes on with the first of them, the word with
 /// the second one there is read as an equal type parameter.
 pub fn replace(
-    alloc: Global,
     ground: &Ground,
     sheet: &mut Sheet,
     t: TermId,
@@ -67,13 +65,12 @@ pub fn replace(
     ensures derives { OnOk result ((b : Basis) → FitsBasis ground.now b → Keeps b sheet.old sheet.new) }
 {
     let v = read(ground, sheet, t, before)?;
-    put_side(alloc, ground, sheet, v, sides.from, sides.to, after)?;
+    put_side(ground, sheet, v, sides.from, sides.to, after)?;
     Ok(())
 }
 
 /// The same where the two words are known to be read alike the other way round.
 pub fn replace_back(
-    alloc: Global,
     ground: &Ground,
     sheet: &mut Sheet,
     t: TermId,
@@ -91,7 +88,7 @@ pub fn replace_back(
     ensures derives { OnOk result ((b : Basis) → FitsBasis ground.now b → Keeps b sheet.old sheet.new) }
 {
     let v = read(ground, sheet, t, before)?;
-    turn(alloc, ground, sheet, v, sides.to, sides.from)?;
-    replace(alloc, ground, sheet, t, before, sides, after)?;
+    turn(ground, sheet, v, sides.to, sides.from)?;
+    replace(ground, sheet, t, before, sides, after)?;
     Ok(())
 }

@@ -1,8 +1,11 @@
 -- What lines state so far, over type parameters, and how it grows.
 use Rattle.std.specs.Prelude.{◌≡◌, ◌⊎◌, ℕ, List, Some, map, slice_get}
 use Rattle.swreq_param.specs.declared.ids.ParamId.{ParamId}
+use Rattle.swreq_param.specs.declared.ids.Step.{Step}
+use Rattle.swreq_param.specs.declared.ids.TermId.{TermId}
 use Rattle.swreq_param.specs.Terms.{Term}
-use Rattle.swreq_param.specs.Tables.{IsOf, Extends}
+use Rattle.swreq_param.specs.Terms.Term.{Member}
+use Rattle.swreq_param.specs.Tables.{IsOf, Extends, term_at}
 use Rattle.swreq_derive.specs.declared.lines.Line.{Line}
 use Rattle.swreq_derive.specs.declared.requirements.Requirement.TheVariants.{Conf, Layout, Same}
 use Rattle.swreq_derive.specs.declared.requirements.Statement.{Statement}
@@ -41,6 +44,10 @@ said s = map (statement_of s.table) (stated_by s.lines.items)
 abbrev pub Says : Sheet → TermStatement → Type 0
 Says s st = (n : ℕ) × HasNumber n (said s) st
 
+-- A line states it, by ids of the table.
+abbrev pub IsPremise : Sheet → Statement → Type 0
+IsPremise s st = AreIdsIn s.table st × Says s (statement_of s.table st)
+
 -- The lines are a derivation.
 abbrev pub IsDerivedFrom : Basis → Sheet → Type 0
 IsDerivedFrom b s = IsDerivation b.facts b.params b.written (map (line_of s.table) s.lines.items)
@@ -48,6 +55,14 @@ IsDerivedFrom b s = IsDerivation b.facts b.params b.written (map (line_of s.tabl
 -- The two are one, or a line states that they are equal.
 abbrev pub AreSaidEqual : Sheet → Term → Term → Type 0
 AreSaidEqual s t u = (t ≡ u) ⊎ Says s (Requires (Equals t u))
+
+-- The two ids are of the table, and their type parameters are one, or a line states that they are equal.
+abbrev pub AreEqualIds : Sheet → TermId → TermId → Type 0
+AreEqualIds s t u = IsOf s.table t × IsOf s.table u × AreSaidEqual s (term_at s.table t) (term_at s.table u)
+
+-- It is an id of the table, which stands for the member of T by the step.
+abbrev pub IsIdOfMember : Sheet → TermId → Step → TermId → Type 0
+IsIdOfMember s t x v = IsOf s.table v × (term_at s.table v ≡ Member (term_at s.table t) x)
 
 -- Lines and type parameters were added: what was stated still is, and each id stands for what it stood for.
 pub record Grows (old new : Sheet) : Type 0 where

@@ -3,10 +3,10 @@ ghost use Rattle.std.specs.Prelude.{◌≡◌, ◌++◌, [], ◌∷◌, OnOk};
 ghost use Rattle.std.specs.Bool.{Decides};
 ghost use Rattle.swreq_derive.specs.Facts.{statement_of};
 ghost use Rattle.swreq_derive.specs.Instances.{HasNumber, IsInstance};
-ghost use Rattle.swreq_sheet.specs.Sheets.{AreIdsIn, Basis, Grows, IsSheet, Keeps, Says, said};
+ghost use Rattle.swreq_sheet.specs.Sheets.{AreIdsIn, Basis, Grows, IsPremise, IsSheet, Keeps, Says, said};
 
 use crate::sheet::{Sheet, number_of};
-use std::alloc::{AllocError, Global};
+use std::alloc::AllocError;
 use swreq_derive::{DerivRule, Line, Statement};
 use swreq_text::Seq;
 
@@ -38,8 +38,7 @@ fn add(
 /// The number of the line that states this.
 fn premise(sheet: &Sheet, statement: Statement) -> usize
     requires sheet { IsSheet sheet.now }
-    requires ids { AreIdsIn sheet.now.table statement }
-    requires said { Says sheet.now (statement_of sheet.now.table statement) }
+    requires said { IsPremise sheet.now statement }
     ensures { HasNumber result (said sheet.now) (statement_of sheet.now.table statement) }
 {
     match number_of(sheet, statement) {
@@ -62,7 +61,6 @@ pub fn is_said(sheet: &Sheet, statement: Statement) -> bool
 
 /// States what a rule gives without premises, unless a line states it.
 pub(crate) fn from_none(
-    alloc: Global,
     sheet: &mut Sheet,
     rule: DerivRule,
     gives: Statement,
@@ -78,22 +76,20 @@ pub(crate) fn from_none(
     if is_said(sheet, gives) {
         return Ok(());
     }
-    let premises = Vec::new(alloc);
+    let premises = Vec::new(sheet.alloc);
     add(sheet, rule, premises, gives)?;
     Ok(())
 }
 
 /// States what a rule gives from this, unless a line states it.
 pub(crate) fn from_one(
-    alloc: Global,
     sheet: &mut Sheet,
     rule: DerivRule,
     from: Statement,
     gives: Statement,
 ) -> Result<(), AllocError>
     requires sheet { IsSheet sheet.old }
-    requires from { AreIdsIn sheet.old.table from }
-    requires said { Says sheet.old (statement_of sheet.old.table from) }
+    requires from { IsPremise sheet.old from }
     requires gives { AreIdsIn sheet.old.table gives }
     ensures table { OnOk result (sheet.new.table ≡ sheet.old.table) }
     ensures says { OnOk result (Says sheet.new (statement_of sheet.old.table gives)) }
@@ -105,24 +101,21 @@ pub(crate) fn from_one(
         return Ok(());
     }
     let first = premise(sheet, from);
-    let premises = vec![in alloc; first]?;
+    let premises = vec![in sheet.alloc; first]?;
     add(sheet, rule, premises, gives)?;
     Ok(())
 }
 
 /// States what a rule gives from these two, unless a line states it.
 pub(crate) fn from_two(
-    alloc: Global,
     sheet: &mut Sheet,
     rule: DerivRule,
     from: (Statement, Statement),
     gives: Statement,
 ) -> Result<(), AllocError>
     requires sheet { IsSheet sheet.old }
-    requires first { AreIdsIn sheet.old.table from.0 }
-    requires second { AreIdsIn sheet.old.table from.1 }
-    requires first_said { Says sheet.old (statement_of sheet.old.table from.0) }
-    requires second_said { Says sheet.old (statement_of sheet.old.table from.1) }
+    requires first { IsPremise sheet.old from.0 }
+    requires second { IsPremise sheet.old from.1 }
     requires gives { AreIdsIn sheet.old.table gives }
     ensures table { OnOk result (sheet.new.table ≡ sheet.old.table) }
     ensures says { OnOk result (Says sheet.new (statement_of sheet.old.table gives)) }
@@ -136,7 +129,7 @@ pub(crate) fn from_two(
     }
     let first = premise(sheet, from.0);
     let second = premise(sheet, from.1);
-    let premises = vec![in alloc; first, second]?;
+    let premises = vec![in sheet.alloc; first, second]?;
     add(sheet, rule, premises, gives)?;
     Ok(())
 }

@@ -11,13 +11,12 @@ ghost use Rattle.swreq_sheet.specs.Sheets.{AreSaidEqual, Basis, Grows, IsSheet, 
 use crate::adding::{from_none, from_one};
 use crate::sheet::Sheet;
 use crate::statements::{conf, layout, same};
-use std::alloc::{AllocError, Global};
+use std::alloc::AllocError;
 use swreq_derive::DerivRule;
 use swreq_param::{ProtoId, TermId};
 
 /// From `[T : P]`, and the n-th requirement of P, `[U : Q]`: that one with T for `Self`. `v` is U with T for `Self`.
 pub fn assoc_conf(
-    alloc: Global,
     sheet: &mut Sheet,
     t: TermId,
     of: (ProtoId, u32),
@@ -35,19 +34,12 @@ pub fn assoc_conf(
         → term_at sheet.old.table v ≡ for_self (term_at sheet.old.table t) u → Keeps b sheet.old sheet.new) }
 {
     let (p, n) = of;
-    from_one(
-        alloc,
-        sheet,
-        DerivRule::AssocConf { p, n },
-        conf(t, p),
-        conf(v, q),
-    )?;
+    from_one(sheet, DerivRule::AssocConf { p, n }, conf(t, p), conf(v, q))?;
     Ok(())
 }
 
 /// From `[T : P]`, and the n-th requirement of P, `[U : AnyObject]`: that one with T for `Self`. `v` is U with T for `Self`.
 pub fn assoc_layout(
-    alloc: Global,
     sheet: &mut Sheet,
     t: TermId,
     of: (ProtoId, u32),
@@ -65,7 +57,6 @@ pub fn assoc_layout(
 {
     let (p, n) = of;
     from_one(
-        alloc,
         sheet,
         DerivRule::AssocLayout { p, n },
         conf(t, p),
@@ -76,7 +67,6 @@ pub fn assoc_layout(
 
 /// From `[T : P]`, and the n-th requirement of P, `[U == V]`: that one with T for `Self`. `sides` are U and V with T for `Self`.
 pub fn assoc_same(
-    alloc: Global,
     sheet: &mut Sheet,
     t: TermId,
     of: (ProtoId, u32),
@@ -96,7 +86,6 @@ pub fn assoc_same(
 {
     let (p, n) = of;
     from_one(
-        alloc,
         sheet,
         DerivRule::AssocSame { p, n },
         conf(t, p),
@@ -106,13 +95,7 @@ pub fn assoc_same(
 }
 
 /// The n-th written requirement, `[T : P]`.
-pub fn written_conf(
-    alloc: Global,
-    sheet: &mut Sheet,
-    n: u32,
-    t: TermId,
-    p: ProtoId,
-) -> Result<(), AllocError>
+pub fn written_conf(sheet: &mut Sheet, n: u32, t: TermId, p: ProtoId) -> Result<(), AllocError>
     requires sheet { IsSheet sheet.old }
     requires t { IsOf sheet.old.table t }
     ensures table { OnOk result (sheet.new.table ≡ sheet.old.table) }
@@ -121,12 +104,12 @@ pub fn written_conf(
     ensures derives { OnOk result ((b : Basis) → HasNumber n b.written (Conforms (term_at sheet.old.table t) p)
         → Keeps b sheet.old sheet.new) }
 {
-    from_none(alloc, sheet, DerivRule::Conf { n }, conf(t, p))?;
+    from_none(sheet, DerivRule::Conf { n }, conf(t, p))?;
     Ok(())
 }
 
 /// The n-th written requirement, `[T : AnyObject]`.
-pub fn written_layout(alloc: Global, sheet: &mut Sheet, n: u32, t: TermId) -> Result<(), AllocError>
+pub fn written_layout(sheet: &mut Sheet, n: u32, t: TermId) -> Result<(), AllocError>
     requires sheet { IsSheet sheet.old }
     requires t { IsOf sheet.old.table t }
     ensures table { OnOk result (sheet.new.table ≡ sheet.old.table) }
@@ -135,18 +118,12 @@ pub fn written_layout(alloc: Global, sheet: &mut Sheet, n: u32, t: TermId) -> Re
     ensures derives { OnOk result ((b : Basis) → HasNumber n b.written (IsAnyObject (term_at sheet.old.table t))
         → Keeps b sheet.old sheet.new) }
 {
-    from_none(alloc, sheet, DerivRule::Layout { n }, layout(t))?;
+    from_none(sheet, DerivRule::Layout { n }, layout(t))?;
     Ok(())
 }
 
 /// The n-th written requirement, `[T == U]`.
-pub fn written_same(
-    alloc: Global,
-    sheet: &mut Sheet,
-    n: u32,
-    t: TermId,
-    u: TermId,
-) -> Result<(), AllocError>
+pub fn written_same(sheet: &mut Sheet, n: u32, t: TermId, u: TermId) -> Result<(), AllocError>
     requires sheet { IsSheet sheet.old }
     requires t { IsOf sheet.old.table t }
     requires u { IsOf sheet.old.table u }
@@ -156,6 +133,6 @@ pub fn written_same(
     ensures derives { OnOk result ((b : Basis) → HasNumber n b.written (Equals (term_at sheet.old.table t) (term_at sheet.old.table u))
         → Keeps b sheet.old sheet.new) }
 {
-    from_none(alloc, sheet, DerivRule::Same { n }, same(t, u))?;
+    from_none(sheet, DerivRule::Same { n }, same(t, u))?;
     Ok(())
 }

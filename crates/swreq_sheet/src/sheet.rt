@@ -9,9 +9,11 @@ use std::alloc::Global;
 use swreq_derive::{Line, Statement};
 use swreq_param::ParamTable;
 
-/// Lines of a derivation under way, with the table whose ids they use. No two of them state the same.
+/// Lines of a derivation under way, with the table whose ids they use. No two of them state the same. What is put on the sheet takes
+/// memory of its allocator.
 #[derive(Drop)]
 pub struct Sheet {
+    pub alloc: Global,
     pub table: ParamTable,
     pub lines: Vec<Line>,
     /// What the lines state, in order.
@@ -26,6 +28,7 @@ impl Sheet {
         ensures sheet { IsSheet result }
     {
         Sheet {
+            alloc,
             table,
             lines: Vec::new(alloc),
             stated: Stated::new(alloc),

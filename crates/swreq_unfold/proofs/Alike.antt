@@ -27,6 +27,11 @@ pub both_now : (g : Ground) (s u : Sheet) → Grows s u → (t : TermId) (a b : 
 both_now g s u grows t a b h w = subst (λ z. SaysBoth g u z a b) (sym (term_still s u grows t h))
     (both_still g s u grows (term_at s.table t) a b w)
 
+-- what is read alike behind an id as it now stands is so behind it as it stood
+pub both_before : {g : Ground} {v : Sheet} {a b : List Symbol} (s u : Sheet) → Grows s u → (t : TermId) → IsOf s.table t
+    → SaysBoth g v (term_at u.table t) a b → SaysBoth g v (term_at s.table t) a b
+both_before {g} {v} {a} {b} s u grows t h = subst (λ z. SaysBoth g v z a b) (term_still s u grows t h)
+
 -- words that are read alike both ways are so in the order of a rule's sides
 pub oriented_both : (g : Ground) (s : Sheet) (t : Term) (u v : List Symbol) (rule : Rule) → IsOriented rule u v → SaysBoth g s t u v
     → SaysBoth g s t v u → SaysBoth g s t rule.left rule.right

@@ -11,19 +11,19 @@ use Rattle.swreq_word.specs.declared.symbols.Symbol.{Symbol}
 use Rattle.swreq_word.specs.declared.symbols.Symbol.TheVariants.{Layout as LayoutSymbol, Member, Name, Proto}
 use Rattle.swreq_rule.specs.declared.rules.Rule.{Rule}
 use Rattle.swreq_sheet.specs.declared.sheet.Sheet.{Sheet}
-use Rattle.swreq_sheet.specs.Sheets.{Grows, Says}
+use Rattle.swreq_sheet.specs.Sheets.{Grows, IsSheet, Says}
 use Rattle.swreq_read.specs.declared.ground.Ground.{Ground}
 use Rattle.swreq_read.specs.declared.ground.Named.{Named}
 use Rattle.swreq_read.specs.Grounds.{member_at}
 use Rattle.swreq_read.specs.Readable.{read, SaysBoth, SaysWord}
-use Rattle.swreq_read.proofs.ReadLemmas.{read_on, term_still, word_both, word_right}
+use Rattle.swreq_read.proofs.ReadLemmas.{is_still, read_on, term_still, word_both, word_right}
 use Rattle.swreq_unfold.specs.declared.book.Book.{Book}
 use Rattle.swreq_unfold.specs.declared.book.Equation.{Equation}
 use Rattle.swreq_unfold.specs.declared.book.Reason.{Reason}
 use Rattle.swreq_unfold.specs.declared.book.Owned.{Owned}
 use Rattle.swreq_unfold.specs.declared.book.Owned.TheVariants.{Conf, Layout, Same}
 use Rattle.swreq_unfold.specs.Heads.{head_of, Allows, AllowsWord}
-use Rattle.swreq_unfold.specs.Systems.{HasShownSides, IsGivenBy}
+use Rattle.swreq_unfold.specs.Systems.{HasEquation, HasShownSides, IsGivenBy}
 use Rattle.swreq_unfold.proofs.Headed.{shown_head}
 use Rattle.swreq_unfold.proofs.Alike.{both_as}
 use Rattle.swreq_unfold.proofs.Asking.{head_front}
@@ -43,6 +43,11 @@ pub allows_now : (g : Ground) (s u : Sheet) → Grows s u → (t : TermId) (w : 
     → AllowsWord g u (term_at u.table t) w
 allows_now g s u grows t w i a = (a.0, a.1, asked_now s u grows t a.0 i a.2)
 
+-- where a rule may be read as the sheet was, it may be read as it is
+pub allowed_still : (g : Ground) (s u : Sheet) → Grows s u → (t : TermId) (w : List Symbol) → IsOf s.table t
+    → AllowsWord g s (term_at s.table t) w → IsSheet u × IsOf u.table t × AllowsWord g u (term_at u.table t) w
+allowed_still g s u grows t w i a = (grows.sheet, is_still s u grows t i, allows_now g s u grows t w i a)
+
 -- ---- what the left sides of equations ask
 
 pub asked_of : (g : Ground) (s : Sheet) (t : Term) (w : List Symbol) (h : Option ProtoId) → AllowsWord g s t w
@@ -56,6 +61,10 @@ pub sides_asked : (g : Ground) (owner : Option ProtoId) (rules : List Rule) (q :
 sides_asked g owner rules (Conf t p) left right h = ap (head_of g) h.1 ∙ head_front g right _ owner (shown_head g owner rules _ right h.0)
 sides_asked g owner rules (Layout t) left right h = ap (head_of g) h.1 ∙ head_front g right _ owner (shown_head g owner rules _ right h.0)
 sides_asked g owner rules (Same t u) left right h = shown_head g owner rules _ left h.0
+
+pub sides_as : (g : Ground) (owner : Option ProtoId) (rules : List Rule) (q p : Owned) (left right : List Symbol) → q ≡ p
+    → HasShownSides g owner rules q left right → HasShownSides g owner rules p left right
+sides_as g owner rules q p left right = subst (λ z. HasShownSides g owner rules z left right)
 
 -- ---- the basic equations
 
@@ -110,7 +119,8 @@ pub proto_said : (g : Ground) (s : Sheet) (t : Term) (w v : List Symbol) (p : Pr
     → Says s (Requires (Conforms (read g t w) p))
 proto_said g s t w v p e h = (word_right g s t w (Proto p.rank ∷ []) (subst (SaysWord g s t) e h)).0
 
--- an equation by its reason
-pub given_as : (b : Book) (r : ℕ) (e : Equation) (reason : Reason) → e.reason ≡ reason → IsGivenBy b r e.reason e.left e.right
+-- an equation of a book, by its reason
+pub given_as : {b : Book} {r : ℕ} {e : Equation} → HasEquation b r e → (reason : Reason) → e.reason ≡ reason
     → IsGivenBy b r reason e.left e.right
-given_as b r e reason same h = subst (λ z. IsGivenBy b r z e.left e.right) same h
+given_as {b} {r} {e} w reason same = subst (λ z. IsGivenBy b r z e.left e.right) same
+    ((w.system.book.systems r w.system.within).given w.there.0 e w.there.1)

@@ -1,7 +1,7 @@
 -- Both sides of each rule ask the same.
-use Rattle.std.proofs.Common.{◌≡◌, inl, inr, ℕ, zero, suc, ◌+◌, ◌-◌, ◌<◌, ◌≤◌, List, [], ◌++◌, length, take, slice_get, Some, Option, None}
-use Rattle.std.proofs.Common.{refl, sym, ap, subst, ◌∙◌, arith, append_assoc}
-use Rattle.std.proofs.lemmas.Option.{get_or_from_slice_get}
+use Rattle.std.proofs.Common.{◌≡◌, ◌⊎◌, inl, inr, ℕ, zero, suc, ◌+◌, ◌-◌, ◌<◌, ◌≤◌, List, [], ◌++◌, length, take, slice_get}
+use Rattle.std.proofs.Common.{Some, Option, None, refl, sym, ap, subst, ◌∙◌, arith, append_assoc}
+use Rattle.std.proofs.lemmas.Option.{get_or_from_slice_get, slice_get_within}
 use Rattle.std.proofs.lemmas.Bool.{cases_lt}
 use Rattle.std.proofs.lemmas.List.{append-nil, get_or_past, take_all}
 use Rattle.swreq_param.specs.declared.ids.ProtoId.{ProtoId}
@@ -10,9 +10,13 @@ use Rattle.swreq_rule.specs.declared.rules.Birth.{Birth}
 use Rattle.swreq_rule.specs.declared.rules.Birth.TheVariants.{Given, Pair}
 use Rattle.swreq_rule.specs.declared.rules.Rule.{Rule}
 use Rattle.swreq_rule.specs.declared.rules.Place.{Place}
-use Rattle.swreq_pair.specs.Pairs.{IsPair}
+use Rattle.swreq_rule.specs.Steps.{RuleAt}
+use Rattle.swreq_pair.specs.Pairs.{ContainmentPair, IsPair, OverlapPair}
+use Rattle.swreq_param.specs.Terms.{Term}
+use Rattle.swreq_sheet.specs.declared.sheet.Sheet.{Sheet}
 use Rattle.swreq_derive.proofs.LineLemmas.{get_take}
 use Rattle.swreq_read.specs.declared.ground.Ground.{Ground}
+use Rattle.swreq_read.specs.Readable.{SaysWord, read}
 use Rattle.swreq_unfold.specs.declared.book.At.{At}
 use Rattle.swreq_unfold.specs.declared.book.Book.{Book}
 use Rattle.swreq_unfold.specs.declared.book.Equation.{Equation}
@@ -21,12 +25,15 @@ use Rattle.swreq_unfold.specs.declared.book.Owned.TheVariants.{Conf, Layout, Sam
 use Rattle.swreq_unfold.specs.declared.book.Reason.{Reason}
 use Rattle.swreq_unfold.specs.declared.book.Reason.TheVariants.{Doubled, Named, Required}
 use Rattle.swreq_unfold.specs.declared.book.System.{System}
-use Rattle.swreq_unfold.specs.Heads.{head_of}
+use Rattle.swreq_unfold.specs.Heads.{head_of, AllowsWord}
 use Rattle.swreq_unfold.proofs.Asking.{IsHeaded}
-use Rattle.swreq_unfold.specs.Systems.{HasShownSides, IsBook, IsGivenBy, IsShown, IsSystem, ReducesTo, rules_at, system_at}
+use Rattle.swreq_unfold.specs.Systems.{HasRule, HasRules, HasShownSides, HasSystem, IsBook, IsBornAt, IsGivenBy, IsShown, IsSystem}
+use Rattle.swreq_unfold.specs.Systems.{ReducesTo, rules_at, system_at}
 use Rattle.std.proofs.lemmas.Option.{same_Some}
 use Rattle.swreq_unfold.proofs.Asking.{AreHeaded, head_front, head_of_born, head_put, head_reduces}
-use Rattle.swreq_unfold.proofs.Births.{head_of_pair, born_of, GivenBy, PairedBy, given_by, paired_by}
+use Rattle.swreq_unfold.proofs.Births.{head_of_pair, born_of, BornOf, GivenBy, PairedBy, first_allows, given_by, pair_kind, pair_within}
+use Rattle.swreq_unfold.proofs.Births.{paired_by, rule_at_number, second_allows}
+use Rattle.swreq_unfold.proofs.PathSteps.{number_above}
 
 -- ---- equations
 
@@ -153,17 +160,94 @@ headed b w r k rule e = below_systems b w (r + 1) r k rule (omega arith) e
 
 -- ---- what bore a rule of a book
 
-module _ (b : Book) (w : IsBook b) (r k : ℕ) (rule : Rule) where
-  pub given_at : (n : ℕ) → r < length b.systems → (system_at b r).base ≤ k → slice_get (rules_at b r) k ≡ Some rule → rule.birth ≡ Given n
-      → GivenBy (system_at b r) k rule n
-  given_at n within past e birth = given_by (system_at b r) k rule n
-      (born_of (system_at b r) k rule (Given n) past e birth ((w.systems r within).born k rule past e))
+-- a rule past the base of its system, which is at hand
+pub born_past : {b : Book} {at : At} {rule : Rule} {moment : Birth} {v : System} → v ≡ system_at b at.system → v.base ≤ at.rule
+    → rule.birth ≡ moment → IsBornAt b at rule moment
+born_past {at = at} same past birth = record { past = subst (λ (z : System). z.base ≤ at.rule) same past; birth = birth }
 
-  pub paired_at : (place : Place) → r < length b.systems → (system_at b r).base ≤ k → slice_get (rules_at b r) k ≡ Some rule
-      → rule.birth ≡ Pair place.i place.j place.at → PairedBy (system_at b r) k rule place
-  paired_at place within past e birth =
-      paired_by (system_at b r) k rule place (born_of (system_at b r) k rule (Pair place.i place.j place.at) past e birth
-      ((w.systems r within).born k rule past e))
+module _ {b : Book} {at : At} {rule : Rule} (w : HasRule b at rule) where
+  bore : (moment : Birth) → IsBornAt b at rule moment → BornOf (system_at b at.system) at.rule rule moment
+  bore moment h =
+      born_of (system_at b at.system) at.rule rule moment h.past w.is h.birth
+      ((w.system.book.systems at.system w.system.within).born at.rule rule h.past w.is)
+
+  pub given_at : (n : ℕ) → IsBornAt b at rule (Given n) → GivenBy (system_at b at.system) at.rule rule n
+  given_at n h = given_by (system_at b at.system) at.rule rule n (bore (Given n) h)
+
+  pub paired_at : (place : Place) → IsBornAt b at rule (Pair place.i place.j place.at)
+      → PairedBy (system_at b at.system) at.rule rule place
+  paired_at place h = paired_by (system_at b at.system) at.rule rule place (bore (Pair place.i place.j place.at) h)
+
+  -- the system has the rules before its rule
+  pub rules_until : HasRules b at
+  rules_until =
+      let within : at.rule < length (rules_at b at.system) = slice_get_within (rules_at b at.system) at.rule rule w.is in
+      record { system = w.system; within = omega (arith, within) }
+
+-- A rule of the system that stands before this place.
+pub record StandsBefore (b : Book) (at before : At) (rule : Rule) : Type 0 where
+  pub same : before.system ≡ at.system
+  pub earlier : before.rule < at.rule
+  pub there : HasRule b before rule
+
+pub stands_before : (b : Book) (at before : At) (n : ℕ) (rule : Rule) → HasSystem b at.system
+    → before ≡ record { system = at.system; rule = n - 1 } → n - 1 < at.rule → slice_get (rules_at b at.system) (n - 1) ≡ Some rule
+    → StandsBefore b at before rule
+stands_before b at before n rule w e h is =
+    subst (λ z. StandsBefore b at z rule) (sym e) (record { same = refl; earlier = h; there = record { system = w; is = is } })
+
+-- The two rules of the pair that bore a rule, where they are at hand.
+pub record PairHere (b : Book) (at : At) (rule : Rule) (place : Place) (first second : Rule) : Type 0 where
+  pub born : PairedBy (system_at b at.system) at.rule rule place
+  pub is_first : RuleAt (rules_at b at.system) place.i first
+  pub is_second : RuleAt (rules_at b at.system) place.j second
+
+pub pair_here : {b : Book} {at : At} {rule first second : Rule} {rules : List Rule} → HasRule b at rule → (place : Place)
+    → IsBornAt b at rule (Pair place.i place.j place.at) → rules ≡ rules_at b at.system
+    → RuleAt rules place.i first → RuleAt rules place.j second → PairHere b at rule place first second
+pair_here {b} {at} {rule} {first} {second} w place born same is_first is_second = record {
+  born = paired_at w place born;
+  is_first = subst (λ z. RuleAt z place.i first) same is_first;
+  is_second = subst (λ z. RuleAt z place.j second) same is_second;
+}
+
+module _ {b : Book} {at : At} {rule : Rule} {place : Place} {first second : Rule} (w : HasRule b at rule)
+    (p : PairHere b at rule place first second) where
+  abbrev rules : List Rule
+  rules = rules_at b at.system
+
+  pub first_before : (before : At) → before ≡ record { system = at.system; rule = place.i - 1 } → StandsBefore b at before first
+  first_before before e =
+      let above = number_above rules place.i first p.is_first in
+      stands_before b at before place.i first w.system e (omega (arith, above, p.born.first_within))
+      (rule_at_number rules place.i first p.is_first)
+
+  pub second_before : (before : At) → before ≡ record { system = at.system; rule = place.j - 1 } → StandsBefore b at before second
+  second_before before e =
+      let above = number_above rules place.j second p.is_second in
+      stands_before b at before place.j second w.system e (omega (arith, above, p.born.second_within))
+      (rule_at_number rules place.j second p.is_second)
+
+  -- what the first one asks is stated where what the rule asks is
+  pub first_asked : (s : Sheet) (t : Term) → AllowsWord b.ground s t rule.left → AllowsWord b.ground s t first.left
+  first_asked s t a =
+      let all = headed b w.system.book at.system in
+      first_allows b.ground s t (system_at b at.system) at.rule rule first place all (all at.rule rule w.is)
+      (all (place.i - 1) first (rule_at_number rules place.i first p.is_first)) p.born p.is_first a
+
+  -- what the second one asks is stated behind what stands before it
+  pub second_asked : (s : Sheet) (t : Term) → SaysWord b.ground s t first.left
+      → AllowsWord b.ground s (read b.ground t (take place.at first.left)) second.left
+  second_asked s t h =
+      second_allows b.ground s t rules place p.born.left p.born.right first second p.born.pair p.is_first p.is_second
+      (headed b w.system.book at.system (place.j - 1) second (rule_at_number rules place.j second p.is_second)) h
+
+  pub within_first : place.at ≤ length first.left
+  within_first = pair_within rules place p.born.left p.born.right first p.born.pair p.is_first
+
+  pub kind_of : (left right : List Symbol) → IsPair rules place left right
+      → OverlapPair first second place.at left right ⊎ ContainmentPair first second place.at left right
+  kind_of left right h = pair_kind rules place left right first second h p.is_first p.is_second
 
 -- The left side of the equation that bore a rule asks what the rule asks.
 pub record AsksAlike (g : Ground) (u v : List Symbol) : Type 0 where
@@ -171,20 +255,19 @@ pub record AsksAlike (g : Ground) (u v : List Symbol) : Type 0 where
   pub first : head_of g u ≡ Some asked
   pub second : head_of g v ≡ Some asked
 
-pub equation_asks : (b : Book) (w : IsBook b) (r k : ℕ) (rule : Rule) (n : ℕ) (e : Equation) → r < length b.systems
-    → (system_at b r).base ≤ k
-    → slice_get (rules_at b r) k ≡ Some rule → rule.birth ≡ Given n → slice_get (system_at b r).given (n - 1) ≡ Some e
-    → AsksAlike b.ground e.left rule.left
-equation_asks b w r k rule n e within past here birth there =
-    let f = given_at b w r k rule n within past here birth in
+pub equation_asks : {b : Book} {at : At} {rule : Rule} → HasRule b at rule → (n : ℕ) (e : Equation) → IsBornAt b at rule (Given n)
+    → slice_get (system_at b at.system).given (n - 1) ≡ Some e → AsksAlike b.ground e.left rule.left
+equation_asks {b} {at} {rule} w n e born there =
+    let f = given_at w n born in
     let same : f.equation ≡ e = same_Some _ _ (sym f.is_there ∙ there) in
-    let asks = given_headed b r f.equation.reason f.equation.left f.equation.right
-    ((w.systems r within).given (n - 1) f.equation f.is_there) in
+    let all = headed b w.system.book at.system in
+    let asks = given_headed b at.system f.equation.reason f.equation.left f.equation.right
+    ((w.system.book.systems at.system w.system.within).given (n - 1) f.equation f.is_there) in
     subst (λ (z : Equation). AsksAlike b.ground z.left rule.left) same (record {
       asked = asks.0;
       first = asks.1;
-      second = head_of_born b.ground (rules_at b r) k f.equation.left f.equation.right rule asks.0 (headed b w r)
-          (headed b w r k rule here) f.reduces asks.1;
+      second = head_of_born b.ground (rules_at b at.system) at.rule f.equation.left f.equation.right rule asks.0 all
+          (all at.rule rule w.is) f.reduces asks.1;
     })
 
 -- ---- all rules of a system
@@ -196,13 +279,16 @@ pub record AreAll (b : Book) (at : At) (r : ℕ) : Type 0 where
   pub taken : take at.rule (rules_at b at.system) ≡ rules_at b r
   pub few : at.rule < 4294967295
 
-pub all_at : (b : Book) → IsBook b → (at : At) (r : ℕ) (rules : List Rule) → r < length b.systems
-    → at ≡ record { system = r; rule = length rules }
+pub all_at : (b : Book) (at : At) (r : ℕ) (rules : List Rule) → HasSystem b r → at ≡ record { system = r; rule = length rules }
     → rules ≡ rules_at b r → AreAll b at r
-all_at b w at r rules within e f = subst (λ z. AreAll b z r) (sym e)
+all_at b at r rules w e f = subst (λ z. AreAll b z r) (sym e)
     (subst (λ z. AreAll b (record { system = r; rule = length z }) r) (sym f) (record {
       same = refl;
       within = omega arith;
       taken = take_all (length (rules_at b r)) (rules_at b r) (omega arith);
-      few = (w.systems r within).complete.few;
+      few = (w.book.systems r w.within).complete.few;
     }))
+
+-- the system has all its rules
+pub all_there : (b : Book) (at : At) (r : ℕ) → HasSystem b r → AreAll b at r → HasRules b at
+all_there b at r w h = record { system = subst (HasSystem b) (sym h.same) w; within = h.within }

@@ -7,3 +7,4 @@ pub mod Headed
 pub mod ShownSteps
 pub mod Ends
 pub mod Equations
+pub mod Readings

@@ -6,8 +6,9 @@ use Rattle.swreq_rule.specs.declared.rules.Rule.{Rule}
 use Rattle.std.proofs.lemmas.Option.{slice_get_within}
 use Rattle.swreq_rule.specs.Steps.{RuleAt}
 use Rattle.swreq_derive.proofs.LineLemmas.{get_take}
+use Rattle.swreq_path.specs.declared.paths.Path.{Path}
 use Rattle.swreq_path.specs.declared.steps.RewriteStep.{RewriteStep}
-use Rattle.swreq_path.specs.Paths.{replaced_side, put_side, StepLeads, StepsLead}
+use Rattle.swreq_path.specs.Paths.{HasTarget, replaced_side, put_side, StepLeads, StepsLead}
 use Rattle.std.proofs.lemmas.Option.{same_Some}
 
 -- ---- a step of a path
@@ -30,6 +31,14 @@ pub goes_on : (rules : List Rule) (steps : List RewriteStep) (k : ℕ) (step : R
     → GoesOn rules steps k step u b
 goes_on rules steps k step u b e h =
     let w = subst (λ z. StepsLead rules z u b) (from_place steps k step e) h in record { next = w.0; leads = w.1; rest = w.2 }
+
+-- where steps lead from the start of a path to a word, and the rest of them on from it
+pub goes_along : (rules taken : List Rule) (path : Path) (k : ℕ) (step : RewriteStep) (u b : List Symbol)
+    → rules ≡ taken → slice_get path.steps k ≡ Some step
+    → ((x : List Symbol) → StepsLead rules path.steps path.start x → StepsLead rules (drop k path.steps) u x) → HasTarget taken path b
+    → GoesOn rules path.steps k step u b
+goes_along rules taken path k step u b same e left h =
+    goes_on rules path.steps k step u b e (left b (subst (λ z. StepsLead z path.steps path.start b) (sym same) h))
 
 pub went_on : (rules : List Rule) (steps : List RewriteStep) (k : ℕ) (step : RewriteStep) (u v b : List Symbol)
     → slice_get steps k ≡ Some step → StepLeads rules step u v
@@ -70,3 +79,23 @@ pub step_target : (rules : List Rule) (step : RewriteStep) (u v : List Symbol) (
     → v ≡ step.before ++ (put_side step.forward rule ++ step.after)
 step_target rules step u v rule h r = h.target ∙ ap (λ z. step.before ++ (put_side step.forward z ++ step.after))
     (one_rule rules step.rule h.rule rule h.is_rule r)
+
+-- A step of a path by its rule, between the words from which and to which it leads.
+pub record StepBy (steps : List RewriteStep) (k : ℕ) (step : RewriteStep) (rules : List Rule) (rule : Rule) (u b : List Symbol)
+    : Type 0 where
+  pub next : List Symbol
+  pub leads : StepLeads rules step u next
+  pub source : u ≡ step.before ++ (replaced_side step.forward rule ++ step.after)
+  pub target : next ≡ step.before ++ (put_side step.forward rule ++ step.after)
+
+pub step_by : (rules taken : List Rule) (path : Path) (k : ℕ) (step : RewriteStep) (u b : List Symbol)
+    → rules ≡ taken → slice_get path.steps k ≡ Some step
+    → ((x : List Symbol) → StepsLead rules path.steps path.start x → StepsLead rules (drop k path.steps) u x) → HasTarget taken path b
+    → (rule : Rule) → RuleAt rules step.rule rule → StepBy path.steps k step rules rule u b
+step_by rules taken path k step u b same e left h rule is =
+    let go = goes_along rules taken path k step u b same e left h in record {
+      next = go.next;
+      leads = go.leads;
+      source = step_source rules step u go.next rule go.leads is;
+      target = step_target rules step u go.next rule go.leads is;
+    }

@@ -1,3 +1,4 @@
 pub mod Heads
 pub mod Types
+pub mod Readings
 pub mod Systems

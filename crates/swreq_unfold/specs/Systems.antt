@@ -8,6 +8,7 @@ use Rattle.swreq_param.specs.declared.ids.ProtoId.{ProtoId}
 use Rattle.swreq_word.specs.declared.symbols.Symbol.{Symbol}
 use Rattle.swreq_word.specs.declared.symbols.Symbol.TheVariants.{Layout as LayoutSymbol, Member, Name, Proto}
 use Rattle.swreq_word.specs.Relations.{Linked}
+use Rattle.swreq_rule.specs.declared.rules.Birth.{Birth}
 use Rattle.swreq_rule.specs.declared.rules.Rule.{Rule}
 use Rattle.swreq_rule.specs.Oriented.{IsOriented}
 use Rattle.swreq_rule.specs.Reduction.{Reduces}
@@ -25,6 +26,7 @@ use Rattle.swreq_sheet.specs.Sheets.{Basis}
 use Rattle.swreq_read.specs.declared.ground.Ground.{Ground}
 use Rattle.swreq_read.specs.declared.ground.Named.{Named}
 use Rattle.swreq_read.specs.Grounds.{FitsBasis, IsInherited}
+use Rattle.swreq_unfold.specs.declared.book.At.{At}
 use Rattle.swreq_unfold.specs.declared.book.Book.{Book}
 use Rattle.swreq_unfold.specs.declared.book.Equation.{Equation}
 use Rattle.swreq_unfold.specs.declared.book.Owned.{Owned}
@@ -103,6 +105,31 @@ pub record IsSystem (b : Book) (r : ℕ) (v : System) : Type 0 where
 pub record IsBook (b : Book) : Type 0 where
   pub inherited : IsInherited b.ground
   pub systems : (r : ℕ) → r < length b.systems → IsSystem b r (system_at b r)
+
+-- It is a book that has the system.
+pub record HasSystem (b : Book) (r : ℕ) : Type 0 where
+  pub book : IsBook b
+  pub within : r < length b.systems
+
+-- It is a book, and its system has so many rules.
+pub record HasRules (b : Book) (at : At) : Type 0 where
+  pub system : HasSystem b at.system
+  pub within : at.rule ≤ length (rules_at b at.system)
+
+-- It is a book, in whose system the rule stands there.
+pub record HasRule (b : Book) (at : At) (rule : Rule) : Type 0 where
+  pub system : HasSystem b at.system
+  pub is : slice_get (rules_at b at.system) at.rule ≡ Some rule
+
+-- The rule there is past the base, and was born thus.
+pub record IsBornAt (b : Book) (at : At) (rule : Rule) (moment : Birth) : Type 0 where
+  pub past : (system_at b at.system).base ≤ at.rule
+  pub birth : rule.birth ≡ moment
+
+-- It is a book, and an equation of its system.
+pub record HasEquation (b : Book) (r : ℕ) (e : Equation) : Type 0 where
+  pub system : HasSystem b r
+  pub there : (k : ℕ) × (slice_get (system_at b r).given k ≡ Some e)
 
 -- The requirement of the reason is written.
 abbrev pub IsWritten : Basis → Reason → Type 0

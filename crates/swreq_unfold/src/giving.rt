@@ -9,11 +9,11 @@ ghost use Rattle.swreq_word.specs.declared.symbols.Symbol.TheVariants.{Layout, M
 ghost use Rattle.swreq_sheet.specs.Sheets.{AreSaidEqual, Basis, Grows, IsSheet, Keeps, Says};
 ghost use Rattle.swreq_read.specs.declared.ground.Named.{Named};
 ghost use Rattle.swreq_read.specs.Grounds.{FitsBasis, IsInherited, member_at};
-ghost use Rattle.swreq_read.specs.Readable.{SaysBoth, SaysWord, read};
-ghost use Rattle.swreq_unfold.specs.Heads.{Allows};
+ghost use Rattle.swreq_read.specs.Readable.{SaysBoth};
+ghost use Rattle.swreq_unfold.specs.Readings.{IsOrigin, IsReadBy};
 ghost use Rattle.swreq_unfold.specs.Types.{placed, written_by};
 
-use std::alloc::{AllocError, Global};
+use std::alloc::AllocError;
 use swreq_param::{ProtoId, TermId};
 use swreq_read::{Ground, Sides, carry_conf, carry_layout, inherit, member_at, read};
 use swreq_sheet::{
@@ -32,7 +32,6 @@ pub(crate) struct Origin {
 
 /// The equation of a member symbol, `[P]·A = [P:A]`, where a line states `[T : P]`.
 pub(crate) fn give_member(
-    alloc: Global,
     ground: &Ground,
     sheet: &mut Sheet,
     t: TermId,
@@ -49,20 +48,13 @@ pub(crate) fn give_member(
     ensures derives { OnOk result ((b : Basis) → FitsBasis ground.now b → Keeps b sheet.old sheet.new) }
 {
     let named = member_at(ground, rank);
-    inherit(alloc, ground, sheet, t, named.proto, named.name)
+    inherit(ground, sheet, t, named.proto, named.name)
 }
 
 /// A line for `[U : Q]`, of which it is the requirement. `u` is U where it is read.
-fn put_conf(
-    alloc: Global,
-    sheet: &mut Sheet,
-    origin: Origin,
-    u: TermId,
-    q: ProtoId,
-) -> Result<(), AllocError>
+fn put_conf(sheet: &mut Sheet, origin: Origin, u: TermId, q: ProtoId) -> Result<(), AllocError>
     requires sheet { IsSheet sheet.old }
-    requires t { IsOf sheet.old.table origin.t }
-    requires owner { Allows sheet.old (term_at sheet.old.table origin.t) origin.owner }
+    requires origin { IsOrigin sheet.old origin }
     requires u { IsOf sheet.old.table u }
     ensures table { OnOk result (sheet.new.table ≡ sheet.old.table) }
     ensures conforms { OnOk result (Says sheet.new (Requires (Conforms (term_at sheet.old.table u) q))) }
@@ -71,16 +63,15 @@ fn put_conf(
         → term_at sheet.old.table u ≡ placed origin.owner (term_at sheet.old.table origin.t) v → Keeps b sheet.old sheet.new) }
 {
     match origin.owner {
-        Some(p) => assoc_conf(alloc, sheet, origin.t, (p, origin.number), u, q),
-        None => written_conf(alloc, sheet, origin.number, u, q),
+        Some(p) => assoc_conf(sheet, origin.t, (p, origin.number), u, q),
+        None => written_conf(sheet, origin.number, u, q),
     }
 }
 
 /// The same of `[U : AnyObject]`.
-fn put_layout(alloc: Global, sheet: &mut Sheet, origin: Origin, u: TermId) -> Result<(), AllocError>
+fn put_layout(sheet: &mut Sheet, origin: Origin, u: TermId) -> Result<(), AllocError>
     requires sheet { IsSheet sheet.old }
-    requires t { IsOf sheet.old.table origin.t }
-    requires owner { Allows sheet.old (term_at sheet.old.table origin.t) origin.owner }
+    requires origin { IsOrigin sheet.old origin }
     requires u { IsOf sheet.old.table u }
     ensures table { OnOk result (sheet.new.table ≡ sheet.old.table) }
     ensures object { OnOk result (Says sheet.new (Requires (IsAnyObject (term_at sheet.old.table u)))) }
@@ -89,21 +80,15 @@ fn put_layout(alloc: Global, sheet: &mut Sheet, origin: Origin, u: TermId) -> Re
         → term_at sheet.old.table u ≡ placed origin.owner (term_at sheet.old.table origin.t) v → Keeps b sheet.old sheet.new) }
 {
     match origin.owner {
-        Some(p) => assoc_layout(alloc, sheet, origin.t, (p, origin.number), u),
-        None => written_layout(alloc, sheet, origin.number, u),
+        Some(p) => assoc_layout(sheet, origin.t, (p, origin.number), u),
+        None => written_layout(sheet, origin.number, u),
     }
 }
 
 /// The same of `[U == V]`. `sides` are U and V where they are read.
-fn put_same(
-    alloc: Global,
-    sheet: &mut Sheet,
-    origin: Origin,
-    sides: (TermId, TermId),
-) -> Result<(), AllocError>
+fn put_same(sheet: &mut Sheet, origin: Origin, sides: (TermId, TermId)) -> Result<(), AllocError>
     requires sheet { IsSheet sheet.old }
-    requires t { IsOf sheet.old.table origin.t }
-    requires owner { Allows sheet.old (term_at sheet.old.table origin.t) origin.owner }
+    requires origin { IsOrigin sheet.old origin }
     requires left { IsOf sheet.old.table sides.0 }
     requires right { IsOf sheet.old.table sides.1 }
     ensures table { OnOk result (sheet.new.table ≡ sheet.old.table) }
@@ -114,14 +99,13 @@ fn put_same(
         → term_at sheet.old.table sides.1 ≡ placed origin.owner (term_at sheet.old.table origin.t) v → Keeps b sheet.old sheet.new) }
 {
     match origin.owner {
-        Some(p) => assoc_same(alloc, sheet, origin.t, (p, origin.number), sides),
-        None => written_same(alloc, sheet, origin.number, sides.0, sides.1),
+        Some(p) => assoc_same(sheet, origin.t, (p, origin.number), sides),
+        None => written_same(sheet, origin.number, sides.0, sides.1),
     }
 }
 
 /// The equation of a requirement `[U : Q]`, where lines state that U equals what its word is read as. `u` is U where it is read.
 pub(crate) fn give_conf(
-    alloc: Global,
     ground: &Ground,
     sheet: &mut Sheet,
     origin: Origin,
@@ -130,25 +114,21 @@ pub(crate) fn give_conf(
     word: &[Symbol],
 ) -> Result<(), AllocError>
     requires sheet { IsSheet sheet.old }
-    requires t { IsOf sheet.old.table origin.t }
-    requires owner { Allows sheet.old (term_at sheet.old.table origin.t) origin.owner }
-    requires u { IsOf sheet.old.table u }
-    requires word { SaysWord ground.now sheet.old (term_at sheet.old.table origin.t) word.now }
-    requires equal { AreSaidEqual sheet.old (term_at sheet.old.table u) (read ground.now (term_at sheet.old.table origin.t) word.now) }
+    requires origin { IsOrigin sheet.old origin }
+    requires side { IsReadBy ground.now sheet.old origin.t u word.now }
     ensures both { OnOk result (SaysBoth ground.now sheet.new (term_at sheet.old.table origin.t) (word.now ++ Proto q.rank ∷ []) word.now) }
     ensures grows { OnOk result (Grows sheet.old sheet.new) }
     ensures derives { OnOk result ((b : Basis) (v : Term) → HasNumber origin.number (written_by b origin.owner) (Conforms v q)
         → term_at sheet.old.table u ≡ placed origin.owner (term_at sheet.old.table origin.t) v → Keeps b sheet.old sheet.new) }
 {
-    put_conf(alloc, sheet, origin, u, q)?;
+    put_conf(sheet, origin, u, q)?;
     let last = read(ground, sheet, origin.t, word)?;
-    carry_conf(alloc, sheet, u, last, q)?;
+    carry_conf(sheet, u, last, q)?;
     Ok(())
 }
 
 /// The equation of a requirement `[U : AnyObject]`, in the same way.
 pub(crate) fn give_layout(
-    alloc: Global,
     ground: &Ground,
     sheet: &mut Sheet,
     origin: Origin,
@@ -156,25 +136,21 @@ pub(crate) fn give_layout(
     word: &[Symbol],
 ) -> Result<(), AllocError>
     requires sheet { IsSheet sheet.old }
-    requires t { IsOf sheet.old.table origin.t }
-    requires owner { Allows sheet.old (term_at sheet.old.table origin.t) origin.owner }
-    requires u { IsOf sheet.old.table u }
-    requires word { SaysWord ground.now sheet.old (term_at sheet.old.table origin.t) word.now }
-    requires equal { AreSaidEqual sheet.old (term_at sheet.old.table u) (read ground.now (term_at sheet.old.table origin.t) word.now) }
+    requires origin { IsOrigin sheet.old origin }
+    requires side { IsReadBy ground.now sheet.old origin.t u word.now }
     ensures both { OnOk result (SaysBoth ground.now sheet.new (term_at sheet.old.table origin.t) (word.now ++ Layout ∷ []) word.now) }
     ensures grows { OnOk result (Grows sheet.old sheet.new) }
     ensures derives { OnOk result ((b : Basis) (v : Term) → HasNumber origin.number (written_by b origin.owner) (IsAnyObject v)
         → term_at sheet.old.table u ≡ placed origin.owner (term_at sheet.old.table origin.t) v → Keeps b sheet.old sheet.new) }
 {
-    put_layout(alloc, sheet, origin, u)?;
+    put_layout(sheet, origin, u)?;
     let last = read(ground, sheet, origin.t, word)?;
-    carry_layout(alloc, sheet, u, last)?;
+    carry_layout(sheet, u, last)?;
     Ok(())
 }
 
 /// The equation of a requirement `[U == V]`, in the same way of both sides.
 pub(crate) fn give_same(
-    alloc: Global,
     ground: &Ground,
     sheet: &mut Sheet,
     origin: Origin,
@@ -182,27 +158,20 @@ pub(crate) fn give_same(
     words: Sides,
 ) -> Result<(), AllocError>
     requires sheet { IsSheet sheet.old }
-    requires t { IsOf sheet.old.table origin.t }
-    requires owner { Allows sheet.old (term_at sheet.old.table origin.t) origin.owner }
-    requires first { IsOf sheet.old.table ids.0 }
-    requires second { IsOf sheet.old.table ids.1 }
-    requires left { SaysWord ground.now sheet.old (term_at sheet.old.table origin.t) words.from.now }
-    requires right { SaysWord ground.now sheet.old (term_at sheet.old.table origin.t) words.to.now }
-    requires left_equal { AreSaidEqual sheet.old (term_at sheet.old.table ids.0)
-        (read ground.now (term_at sheet.old.table origin.t) words.from.now) }
-    requires right_equal { AreSaidEqual sheet.old (term_at sheet.old.table ids.1)
-        (read ground.now (term_at sheet.old.table origin.t) words.to.now) }
+    requires origin { IsOrigin sheet.old origin }
+    requires left { IsReadBy ground.now sheet.old origin.t ids.0 words.from.now }
+    requires right { IsReadBy ground.now sheet.old origin.t ids.1 words.to.now }
     ensures both { OnOk result (SaysBoth ground.now sheet.new (term_at sheet.old.table origin.t) words.entry.from.now words.entry.to.now) }
     ensures grows { OnOk result (Grows sheet.old sheet.new) }
     ensures derives { OnOk result ((b : Basis) (u v : Term) → HasNumber origin.number (written_by b origin.owner) (Equals u v)
         → term_at sheet.old.table ids.0 ≡ placed origin.owner (term_at sheet.old.table origin.t) u
         → term_at sheet.old.table ids.1 ≡ placed origin.owner (term_at sheet.old.table origin.t) v → Keeps b sheet.old sheet.new) }
 {
-    put_same(alloc, sheet, origin, ids)?;
+    put_same(sheet, origin, ids)?;
     let first = read(ground, sheet, origin.t, words.from)?;
     let last = read(ground, sheet, origin.t, words.to)?;
-    symm(alloc, sheet, ids.0, first)?;
-    trans(alloc, sheet, first, ids.0, ids.1)?;
-    trans(alloc, sheet, first, ids.1, last)?;
+    symm(sheet, ids.0, first)?;
+    trans(sheet, first, ids.0, ids.1)?;
+    trans(sheet, first, ids.1, last)?;
     Ok(())
 }

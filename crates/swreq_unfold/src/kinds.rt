@@ -8,7 +8,7 @@ ghost use Rattle.swreq_read.specs.Grounds.{FitsBasis};
 ghost use Rattle.swreq_read.specs.Readable.{SaysBoth, read};
 
 use crate::pairs::{Around, meet_across, meet_within};
-use std::alloc::{AllocError, Global};
+use std::alloc::AllocError;
 use swreq_param::TermId;
 use swreq_read::{Ground, Sides};
 use swreq_rule::Rule;
@@ -33,7 +33,6 @@ fn back(word: &[Symbol], count: usize) -> &[Symbol]
 
 /// The left sides overlap at this place.
 pub(crate) fn cross(
-    alloc: Global,
     ground: &Ground,
     sheet: &mut Sheet,
     t: TermId,
@@ -55,7 +54,6 @@ pub(crate) fn cross(
     let left = first.left.symbols();
     let common = left.len() - at;
     meet_across(
-        alloc,
         ground,
         sheet,
         t,
@@ -77,7 +75,6 @@ pub(crate) fn cross(
 
 /// The left side of the second stands in that of the first at this place.
 pub(crate) fn within(
-    alloc: Global,
     ground: &Ground,
     sheet: &mut Sheet,
     t: TermId,
@@ -99,7 +96,6 @@ pub(crate) fn within(
     let left = first.left.symbols();
     let end = at + second.left.symbols().len();
     meet_within(
-        alloc,
         ground,
         sheet,
         t,
@@ -118,7 +114,6 @@ pub(crate) fn within(
 
 /// The two rules have a pair at this place, of either kind.
 pub(crate) fn meet(
-    alloc: Global,
     ground: &Ground,
     sheet: &mut Sheet,
     t: TermId,
@@ -142,9 +137,9 @@ pub(crate) fn meet(
 {
     let rest = first.left.symbols().len() - at;
     if second.left.symbols().len() <= rest {
-        within(alloc, ground, sheet, t, first, second, at)?;
+        within(ground, sheet, t, first, second, at)?;
         return Ok(());
     }
-    cross(alloc, ground, sheet, t, first, second, at)?;
+    cross(ground, sheet, t, first, second, at)?;
     Ok(())
 }

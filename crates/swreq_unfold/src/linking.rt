@@ -1,16 +1,16 @@
 //! Words that rules link.
-ghost use Rattle.std.specs.Prelude.{◌<◌, OnOk, length};
+ghost use Rattle.std.specs.Prelude.{OnOk};
 ghost use Rattle.swreq_param.specs.Tables.{IsOf, term_at};
 ghost use Rattle.swreq_word.specs.Relations.{Linked};
 ghost use Rattle.swreq_rule.specs.Steps.{Step as RuleStep};
 ghost use Rattle.swreq_sheet.specs.Sheets.{Basis, Grows, IsSheet, Keeps};
 ghost use Rattle.swreq_read.specs.Readable.{SaysBoth, SaysWord};
-ghost use Rattle.swreq_unfold.specs.Systems.{FitsBook, IsBook, rules_at};
+ghost use Rattle.swreq_unfold.specs.Systems.{FitsBook, HasSystem, rules_at};
 
 use crate::book::{Book, all_of, all_rules};
 use crate::types::path_between;
 use crate::unfolding::walk_along;
-use std::alloc::{AllocError, Global};
+use std::alloc::AllocError;
 use swreq_param::TermId;
 use swreq_sheet::Sheet;
 use swreq_word::Symbol;
@@ -18,7 +18,6 @@ use swreq_word::Symbol;
 /// Where steps by the rules of a system link two words, and lines allow the first behind T, lines allow the second there too, and state
 /// that the two are read as equal type parameters.
 pub fn link(
-    alloc: Global,
     book: &Book,
     sheet: &mut Sheet,
     system: usize,
@@ -26,8 +25,7 @@ pub fn link(
     u: &[Symbol],
     v: &[Symbol],
 ) -> Result<(), AllocError>
-    requires book { IsBook book.now }
-    requires system { system < length book.now.systems }
+    requires system { HasSystem book.now system }
     requires sheet { IsSheet sheet.old }
     requires t { IsOf sheet.old.table t }
     requires word { SaysWord book.now.ground sheet.old (term_at sheet.old.table t) u.now }
@@ -37,10 +35,10 @@ pub fn link(
     ensures derives { OnOk result ((b : Basis) → FitsBook book.now b → Keeps b sheet.old sheet.new) }
 {
     let rules = all_rules(book, system);
-    match path_between(alloc, rules, u, v)? {
+    match path_between(sheet.alloc, rules, u, v)? {
         None => unreachable!(),
         Some(path) => {
-            walk_along(alloc, book, sheet, all_of(system, rules), t, &path)?;
+            walk_along(book, sheet, all_of(system, rules), t, &path)?;
             Ok(())
         }
     }

@@ -5,7 +5,8 @@ ghost use Rattle.swreq_rule.specs.Oriented.{IsOriented};
 ghost use Rattle.swreq_pair.specs.Pairs.{HasPair, IsPair};
 ghost use Rattle.swreq_sheet.specs.Sheets.{Basis, Grows, IsSheet, Keeps};
 ghost use Rattle.swreq_read.specs.Grounds.{FitsBasis};
-ghost use Rattle.swreq_read.specs.Readable.{SaysBoth, SaysWord, read};
+ghost use Rattle.swreq_read.specs.Readable.{SaysBoth, read};
+ghost use Rattle.swreq_unfold.specs.Readings.{SaysBehind, SaysEnds};
 
 use std::alloc::{AllocError, Global};
 use swreq_pair::write_sides;
@@ -33,7 +34,6 @@ fn joined(alloc: Global, a: &[Symbol], b: &[Symbol]) -> Result<Vec<Symbol>, Allo
 
 /// From two words that are read alike with a third, those two are read alike.
 fn join_at(
-    alloc: Global,
     ground: &Ground,
     sheet: &mut Sheet,
     t: TermId,
@@ -49,15 +49,14 @@ fn join_at(
     ensures grows { OnOk result (Grows sheet.old sheet.new) }
     ensures derives { OnOk result ((b : Basis) → Keeps b sheet.old sheet.new) }
 {
-    turn(alloc, ground, sheet, t, w, u)?;
-    join(alloc, ground, sheet, t, u, w, v)?;
+    turn(ground, sheet, t, w, u)?;
+    join(ground, sheet, t, u, w, v)?;
     Ok(())
 }
 
 /// Where one left side stands in the other, `w`, which goes on as `u` by its own rule: the two sides are read alike. `v` is `w` with
 /// the other side there.
 pub(crate) fn meet_within(
-    alloc: Global,
     ground: &Ground,
     sheet: &mut Sheet,
     t: TermId,
@@ -76,18 +75,17 @@ pub(crate) fn meet_within(
     ensures grows { OnOk result (Grows sheet.old sheet.new) }
     ensures derives { OnOk result ((b : Basis) → FitsBasis ground.now b → Keeps b sheet.old sheet.new) }
 {
-    replace(alloc, ground, sheet, t, around.before, sides, around.after)?;
-    let from = joined(alloc, sides.from, around.after)?;
-    let to = joined(alloc, sides.to, around.after)?;
-    let w = joined(alloc, around.before, &from)?;
-    let v = joined(alloc, around.before, &to)?;
-    join_at(alloc, ground, sheet, t, &w, u, &v)?;
+    replace(ground, sheet, t, around.before, sides, around.after)?;
+    let from = joined(sheet.alloc, sides.from, around.after)?;
+    let to = joined(sheet.alloc, sides.to, around.after)?;
+    let w = joined(sheet.alloc, around.before, &from)?;
+    let v = joined(sheet.alloc, around.before, &to)?;
+    join_at(ground, sheet, t, &w, u, &v)?;
     Ok(())
 }
 
 /// Where two words are read alike, and each of them like the word to which it reduces, the sides of a rule that has these are read alike.
 pub(crate) fn close(
-    alloc: Global,
     ground: &Ground,
     sheet: &mut Sheet,
     t: TermId,
@@ -98,23 +96,21 @@ pub(crate) fn close(
     requires sheet { IsSheet sheet.old }
     requires t { IsOf sheet.old.table t }
     requires words { SaysBoth ground.now sheet.old (term_at sheet.old.table t) words.from.now words.to.now }
-    requires first { SaysBoth ground.now sheet.old (term_at sheet.old.table t) words.from.now ends.from.now }
-    requires last { SaysBoth ground.now sheet.old (term_at sheet.old.table t) words.to.now ends.to.now }
+    requires ends { SaysEnds ground.now sheet.old (term_at sheet.old.table t) words ends }
     requires oriented { IsOriented rule.now ends.from.now ends.to.now }
     ensures both { OnOk result (SaysBoth ground.now sheet.new (term_at sheet.old.table t) rule.now.left rule.now.right) }
     ensures grows { OnOk result (Grows sheet.old sheet.new) }
     ensures derives { OnOk result ((b : Basis) → Keeps b sheet.old sheet.new) }
 {
-    join_at(alloc, ground, sheet, t, words.from, ends.from, words.to)?;
-    join(alloc, ground, sheet, t, ends.from, words.to, ends.to)?;
-    turn(alloc, ground, sheet, t, ends.from, ends.to)?;
+    join_at(ground, sheet, t, words.from, ends.from, words.to)?;
+    join(ground, sheet, t, ends.from, words.to, ends.to)?;
+    turn(ground, sheet, t, ends.from, ends.to)?;
     Ok(())
 }
 
 /// Where a left side goes on as the other begins, the two sides are read alike. The one is `before` and `common`, and goes as `u` by its
 /// own rule; the other is `common` and `after`, and goes as `v`.
 pub(crate) fn meet_across(
-    alloc: Global,
     ground: &Ground,
     sheet: &mut Sheet,
     t: TermId,
@@ -125,21 +121,19 @@ pub(crate) fn meet_across(
     requires sheet { IsSheet sheet.old }
     requires t { IsOf sheet.old.table t }
     requires first { SaysBoth ground.now sheet.old (term_at sheet.old.table t) first.from.now first.to.now }
-    requires second { SaysBoth ground.now sheet.old (read ground.now (term_at sheet.old.table t) around.before.now)
-        second.from.now second.to.now }
-    requires before { SaysWord ground.now sheet.old (term_at sheet.old.table t) around.before.now }
+    requires second { SaysBehind ground.now sheet.old (term_at sheet.old.table t) around.before.now second.from.now second.to.now }
     requires word { first.from.now ++ around.after.now ≡ around.before.now ++ second.from.now }
     ensures both { OnOk result (SaysBoth ground.now sheet.new (term_at sheet.old.table t) (first.entry.to.now ++ around.entry.after.now)
         (around.entry.before.now ++ second.entry.to.now)) }
     ensures grows { OnOk result (Grows sheet.old sheet.new) }
     ensures derives { OnOk result ((b : Basis) → FitsBasis ground.now b → Keeps b sheet.old sheet.new) }
 {
-    put_side(alloc, ground, sheet, t, first.from, first.to, around.after)?;
-    let w = joined(alloc, first.from, around.after)?;
-    let u = joined(alloc, first.to, around.after)?;
-    let v = joined(alloc, around.before, second.to)?;
-    replace(alloc, ground, sheet, t, around.before, second, &[])?;
-    join_at(alloc, ground, sheet, t, &w, &u, &v)?;
+    put_side(ground, sheet, t, first.from, first.to, around.after)?;
+    let w = joined(sheet.alloc, first.from, around.after)?;
+    let u = joined(sheet.alloc, first.to, around.after)?;
+    let v = joined(sheet.alloc, around.before, second.to)?;
+    replace(ground, sheet, t, around.before, second, &[])?;
+    join_at(ground, sheet, t, &w, &u, &v)?;
     Ok(())
 }
 

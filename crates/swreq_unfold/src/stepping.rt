@@ -9,7 +9,7 @@ ghost use Rattle.swreq_read.specs.Grounds.{FitsBasis};
 ghost use Rattle.swreq_read.specs.Readable.{SaysBoth, SaysWord, read};
 
 use crate::book::At;
-use std::alloc::{AllocError, Global};
+use std::alloc::AllocError;
 use swreq_param::TermId;
 use swreq_path::{Path, RewriteStep};
 use swreq_read::{Ground, Sides, replace, replace_back};
@@ -46,7 +46,6 @@ pub(crate) fn step_of(path: &Path, k: usize) -> &RewriteStep
 
 /// A step by a rule whose sides are read alike where the step puts one in place of the other.
 pub(crate) fn take_step(
-    alloc: Global,
     ground: &Ground,
     sheet: &mut Sheet,
     t: TermId,
@@ -69,7 +68,6 @@ pub(crate) fn take_step(
     let right = rule.right.symbols();
     if step.forward {
         replace(
-            alloc,
             ground,
             sheet,
             t,
@@ -83,7 +81,6 @@ pub(crate) fn take_step(
         return Ok(());
     }
     replace_back(
-        alloc,
         ground,
         sheet,
         t,

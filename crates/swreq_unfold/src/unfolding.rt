@@ -1,5 +1,5 @@
 //! The two sides of a rule, read behind a type parameter.
-ghost use Rattle.std.specs.Prelude.{◌≡◌, ◌<◌, ◌≤◌, ℕ, OnOk, IfOk, Some, List, length, slice_get, take};
+ghost use Rattle.std.specs.Prelude.{◌≡◌, OnOk, IfOk, List, take};
 ghost use Rattle.swreq_param.specs.Owned.{as_term};
 ghost use Rattle.swreq_param.specs.Tables.{IsOf, term_at};
 ghost use Rattle.swreq_derive.specs.Instances.{HasNumber};
@@ -9,7 +9,8 @@ ghost use Rattle.swreq_path.specs.Paths.{HasTarget};
 ghost use Rattle.swreq_sheet.specs.Sheets.{AreSaidEqual, Basis, Grows, IsSheet, Keeps};
 ghost use Rattle.swreq_read.specs.Readable.{IsGiven, SaysBoth, SaysWord, read};
 ghost use Rattle.swreq_unfold.specs.Heads.{Allows, AllowsWord};
-ghost use Rattle.swreq_unfold.specs.Systems.{FitsBook, HasShownSides, IsBook, IsShown, ReducesTo, requirement_by, rules_at, system_at};
+ghost use Rattle.swreq_unfold.specs.Systems.{FitsBook, HasEquation, HasRule, HasRules, HasShownSides, HasSystem, IsBornAt, IsShown};
+ghost use Rattle.swreq_unfold.specs.Systems.{ReducesTo, requirement_by, rules_at};
 ghost use Rattle.swreq_unfold.specs.Types.{IsStepShown, placed, written_by};
 
 use crate::book::{
@@ -20,7 +21,7 @@ use crate::kinds::{front, meet};
 use crate::pairs::{close, pair_sides};
 use crate::stepping::{before, rule_of, step_of, take_step};
 use crate::types::{Scope, shown_step, start, step_at};
-use std::alloc::{AllocError, Global};
+use std::alloc::AllocError;
 use swreq_param::{Step, TermId, TypeParam};
 use swreq_path::{Path, path_of};
 use swreq_read::{Named, Sides, equal_member, given_step, join, read, says_both};
@@ -32,16 +33,13 @@ use swreq_word::{Symbol, Word};
 /// as equal type parameters. Answers the last word.
 #[cycle(unfold)]
 pub(crate) fn walk_along(
-    alloc: Global,
     book: &Book,
     sheet: &mut Sheet,
     at: At,
     t: TermId,
     path: &Path,
 ) -> Result<Word, AllocError>
-    requires book { IsBook book.now }
-    requires system { at.system < length book.now.systems }
-    requires within { at.rule ≤ length (rules_at book.now at.system) }
+    requires rules { HasRules book.now at }
     requires sheet { IsSheet sheet.old }
     requires t { IsOf sheet.old.table t }
     requires path { (b : List SymbolView) × HasTarget (take at.rule (rules_at book.now at.system)) path.now b }
@@ -57,11 +55,10 @@ pub(crate) fn walk_along(
         let step = step_of(path, k);
         let rule = rule_of(rules, step.rule);
         let v = read(&book.ground, sheet, t, step.before.symbols())?;
-        unfold(alloc, book, sheet, before(at, step.rule), rule, v)?;
-        take_step(alloc, &book.ground, sheet, t, rule, step)?;
-        let next = step.target(alloc, rules)?;
+        unfold(book, sheet, before(at, step.rule), rule, v)?;
+        take_step(&book.ground, sheet, t, rule, step)?;
+        let next = step.target(sheet.alloc, rules)?;
         join(
-            alloc,
             &book.ground,
             sheet,
             t,
@@ -77,7 +74,6 @@ pub(crate) fn walk_along(
 /// Where two words are read alike, so are the sides of the rule to which the rules before it reduce them.
 #[cycle(unfold)]
 fn settle(
-    alloc: Global,
     book: &Book,
     sheet: &mut Sheet,
     at: At,
@@ -85,9 +81,7 @@ fn settle(
     t: TermId,
     words: Sides,
 ) -> Result<(), AllocError>
-    requires book { IsBook book.now }
-    requires system { at.system < length book.now.systems }
-    requires rule { slice_get (rules_at book.now at.system) at.rule ≡ Some rule.now }
+    requires rule { HasRule book.now at rule.now }
     requires sheet { IsSheet sheet.old }
     requires t { IsOf sheet.old.table t }
     requires both { SaysBoth book.now.ground sheet.old (term_at sheet.old.table t) words.from.now words.to.now }
@@ -97,12 +91,11 @@ fn settle(
     ensures derives { OnOk result ((b : Basis) → FitsBook book.now b → Keeps b sheet.old sheet.new) }
 {
     let rules = rules_before(book, at);
-    let forth = path_of(alloc, rules, words.from)?;
-    let first = walk_along(alloc, book, sheet, at, t, &forth)?;
-    let back = path_of(alloc, rules, words.to)?;
-    let last = walk_along(alloc, book, sheet, at, t, &back)?;
+    let forth = path_of(sheet.alloc, rules, words.from)?;
+    let first = walk_along(book, sheet, at, t, &forth)?;
+    let back = path_of(sheet.alloc, rules, words.to)?;
+    let last = walk_along(book, sheet, at, t, &back)?;
     close(
-        alloc,
         &book.ground,
         sheet,
         t,
@@ -119,16 +112,13 @@ fn settle(
 /// The two sides of a rule, behind a type parameter at which it may be read. What lines say already is not unfolded again.
 #[cycle(unfold)]
 pub fn unfold(
-    alloc: Global,
     book: &Book,
     sheet: &mut Sheet,
     at: At,
     rule: &Rule,
     t: TermId,
 ) -> Result<(), AllocError>
-    requires book { IsBook book.now }
-    requires system { at.system < length book.now.systems }
-    requires rule { slice_get (rules_at book.now at.system) at.rule ≡ Some rule.now }
+    requires rule { HasRule book.now at rule.now }
     requires sheet { IsSheet sheet.old }
     requires t { IsOf sheet.old.table t }
     requires allows { AllowsWord book.now.ground sheet.old (term_at sheet.old.table t) rule.now.left }
@@ -142,7 +132,7 @@ pub fn unfold(
             system: system.below,
             rule: at.rule,
         };
-        unfold(alloc, book, sheet, lower, rule, t)?;
+        unfold(book, sheet, lower, rule, t)?;
         return Ok(());
     }
     let said = says_both(
@@ -157,11 +147,11 @@ pub fn unfold(
     }
     match rule.birth {
         Birth::Given(n) => {
-            from_equation(alloc, book, sheet, at, rule, n, t)?;
+            from_equation(book, sheet, at, rule, n, t)?;
             Ok(())
         }
         Birth::Pair(i, j, place) => {
-            from_pair(alloc, book, sheet, at, rule, Place { i, j, at: place }, t)?;
+            from_pair(book, sheet, at, rule, Place { i, j, at: place }, t)?;
             Ok(())
         }
     }
@@ -170,7 +160,6 @@ pub fn unfold(
 /// The rule is born of an equation.
 #[cycle(unfold)]
 fn from_equation(
-    alloc: Global,
     book: &Book,
     sheet: &mut Sheet,
     at: At,
@@ -178,11 +167,8 @@ fn from_equation(
     n: usize,
     t: TermId,
 ) -> Result<(), AllocError>
-    requires book { IsBook book.now }
-    requires system { at.system < length book.now.systems }
-    requires rule { slice_get (rules_at book.now at.system) at.rule ≡ Some rule.now }
-    requires past { (system_at book.now at.system).base ≤ at.rule }
-    requires birth { rule.now.birth ≡ births.Given n }
+    requires rule { HasRule book.now at rule.now }
+    requires born { IsBornAt book.now at rule.now (births.Given n) }
     requires sheet { IsSheet sheet.old }
     requires t { IsOf sheet.old.table t }
     requires allows { AllowsWord book.now.ground sheet.old (term_at sheet.old.table t) rule.now.left }
@@ -191,9 +177,8 @@ fn from_equation(
     ensures derives { OnOk result ((b : Basis) → FitsBook book.now b → Keeps b sheet.old sheet.new) }
 {
     let equation = equation_at(book, at.system, n);
-    give(alloc, book, sheet, at.system, equation, t)?;
+    give(book, sheet, at.system, equation, t)?;
     settle(
-        alloc,
         book,
         sheet,
         at,
@@ -210,7 +195,6 @@ fn from_equation(
 /// The rule is born of a pair.
 #[cycle(unfold)]
 fn from_pair(
-    alloc: Global,
     book: &Book,
     sheet: &mut Sheet,
     at: At,
@@ -218,11 +202,8 @@ fn from_pair(
     place: Place,
     t: TermId,
 ) -> Result<(), AllocError>
-    requires book { IsBook book.now }
-    requires system { at.system < length book.now.systems }
-    requires rule { slice_get (rules_at book.now at.system) at.rule ≡ Some rule.now }
-    requires past { (system_at book.now at.system).base ≤ at.rule }
-    requires birth { rule.now.birth ≡ births.Pair place.i place.j place.at }
+    requires rule { HasRule book.now at rule.now }
+    requires born { IsBornAt book.now at rule.now (births.Pair place.i place.j place.at) }
     requires sheet { IsSheet sheet.old }
     requires t { IsOf sheet.old.table t }
     requires allows { AllowsWord book.now.ground sheet.old (term_at sheet.old.table t) rule.now.left }
@@ -233,33 +214,30 @@ fn from_pair(
     let rules = all_rules(book, at.system);
     let first = rule_of(rules, place.i);
     let second = rule_of(rules, place.j);
-    unfold(alloc, book, sheet, before(at, place.i), first, t)?;
+    unfold(book, sheet, before(at, place.i), first, t)?;
     let part = front(first.left.symbols(), place.at);
     let v = read(&book.ground, sheet, t, part)?;
-    unfold(alloc, book, sheet, before(at, place.j), second, v)?;
-    meet(alloc, &book.ground, sheet, t, first, second, place.at)?;
-    let (left, right) = pair_sides(alloc, rules, place)?;
+    unfold(book, sheet, before(at, place.j), second, v)?;
+    meet(&book.ground, sheet, t, first, second, place.at)?;
+    let (left, right) = pair_sides(sheet.alloc, rules, place)?;
     let words = Sides {
         from: &left,
         to: &right,
     };
-    settle(alloc, book, sheet, at, rule, t, words)?;
+    settle(book, sheet, at, rule, t, words)?;
     Ok(())
 }
 
 /// The equation of a round, behind a type parameter at which it may be read.
 #[cycle(unfold)]
 fn give(
-    alloc: Global,
     book: &Book,
     sheet: &mut Sheet,
     system: usize,
     equation: &Equation,
     t: TermId,
 ) -> Result<(), AllocError>
-    requires book { IsBook book.now }
-    requires system { system < length book.now.systems }
-    requires there { (k : ℕ) × (slice_get (system_at book.now system).given k ≡ Some equation.now) }
+    requires equation { HasEquation book.now system equation.now }
     requires sheet { IsSheet sheet.old }
     requires t { IsOf sheet.old.table t }
     requires allows { AllowsWord book.now.ground sheet.old (term_at sheet.old.table t) equation.now.left }
@@ -270,7 +248,7 @@ fn give(
     match &equation.reason {
         Reason::Doubled { .. } => Ok(()),
         Reason::Named { rank } => {
-            give_member(alloc, &book.ground, sheet, t, *rank)?;
+            give_member(&book.ground, sheet, t, *rank)?;
             Ok(())
         }
         Reason::Required {
@@ -287,7 +265,7 @@ fn give(
                 from: equation.left.symbols(),
                 to: equation.right.symbols(),
             };
-            give_required(alloc, book, sheet, scope, *number, requirement, words)?;
+            give_required(book, sheet, scope, *number, requirement, words)?;
             Ok(())
         }
     }
@@ -296,7 +274,6 @@ fn give(
 /// The equation of a requirement with this number, whose type parameters the rules of the system show.
 #[cycle(unfold)]
 fn give_required(
-    alloc: Global,
     book: &Book,
     sheet: &mut Sheet,
     scope: Scope,
@@ -304,8 +281,7 @@ fn give_required(
     requirement: &Owned,
     words: Sides,
 ) -> Result<(), AllocError>
-    requires book { IsBook book.now }
-    requires system { scope.system < length book.now.systems }
+    requires system { HasSystem book.now scope.system }
     requires sheet { IsSheet sheet.old }
     requires t { IsOf sheet.old.table scope.t }
     requires owner { Allows sheet.old (term_at sheet.old.table scope.t) scope.owner }
@@ -325,19 +301,19 @@ fn give_required(
     };
     match requirement {
         Owned::Conf { subject, proto } => {
-            let u = read_type(alloc, book, sheet, scope, subject, words.to)?;
-            give_conf(alloc, &book.ground, sheet, origin, u, *proto, words.to)?;
+            let u = read_type(book, sheet, scope, subject, words.to)?;
+            give_conf(&book.ground, sheet, origin, u, *proto, words.to)?;
             Ok(())
         }
         Owned::Layout { subject } => {
-            let u = read_type(alloc, book, sheet, scope, subject, words.to)?;
-            give_layout(alloc, &book.ground, sheet, origin, u, words.to)?;
+            let u = read_type(book, sheet, scope, subject, words.to)?;
+            give_layout(&book.ground, sheet, origin, u, words.to)?;
             Ok(())
         }
         Owned::Same { left, right } => {
-            let u = read_type(alloc, book, sheet, scope, left, words.from)?;
-            let v = read_type(alloc, book, sheet, scope, right, words.to)?;
-            give_same(alloc, &book.ground, sheet, origin, (u, v), words)?;
+            let u = read_type(book, sheet, scope, left, words.from)?;
+            let v = read_type(book, sheet, scope, right, words.to)?;
+            give_same(&book.ground, sheet, origin, (u, v), words)?;
             Ok(())
         }
     }
@@ -347,15 +323,13 @@ fn give_required(
 /// for `Self`, equals what the word is read as. Answers its id with T for `Self`.
 #[cycle(unfold)]
 pub fn read_type(
-    alloc: Global,
     book: &Book,
     sheet: &mut Sheet,
     scope: Scope,
     param: &TypeParam,
     word: &[Symbol],
 ) -> Result<TermId, AllocError>
-    requires book { IsBook book.now }
-    requires system { scope.system < length book.now.systems }
+    requires system { HasSystem book.now scope.system }
     requires sheet { IsSheet sheet.old }
     requires t { IsOf sheet.old.table scope.t }
     requires owner { Allows sheet.old (term_at sheet.old.table scope.t) scope.owner }
@@ -373,9 +347,9 @@ pub fn read_type(
     for k in 0..param.steps.items().len() {
         let step = step_at(param, k);
         let part = front(word, k + 1);
-        let named = declare(alloc, book, sheet, scope, part, step)?;
+        let named = declare(book, sheet, scope, part, step)?;
         let last = read(&book.ground, sheet, scope.t, part)?;
-        at = equal_member(alloc, &book.ground, sheet, at, last, step, named)?;
+        at = equal_member(&book.ground, sheet, at, last, step, named)?;
     }
     Ok(at)
 }
@@ -384,15 +358,13 @@ pub fn read_type(
 /// of the system show that there is one.
 #[cycle(unfold)]
 pub fn declare(
-    alloc: Global,
     book: &Book,
     sheet: &mut Sheet,
     scope: Scope,
     word: &[Symbol],
     step: Step,
 ) -> Result<Named, AllocError>
-    requires book { IsBook book.now }
-    requires system { scope.system < length book.now.systems }
+    requires system { HasSystem book.now scope.system }
     requires sheet { IsSheet sheet.old }
     requires t { IsOf sheet.old.table scope.t }
     requires word { SaysWord book.now.ground sheet.old (term_at sheet.old.table scope.t) word.now }
@@ -406,9 +378,9 @@ pub fn declare(
         Some(named) => Ok(named),
         None => {
             let rules = all_rules(book, scope.system);
-            let shown = shown_step(alloc, &book.ground, rules, word, step)?;
+            let shown = shown_step(sheet.alloc, &book.ground, rules, word, step)?;
             let at = all_of(scope.system, rules);
-            walk_along(alloc, book, sheet, at, scope.t, &shown.path)?;
+            walk_along(book, sheet, at, scope.t, &shown.path)?;
             Ok(shown.named)
         }
     }

@@ -2,9 +2,9 @@ use Rattle.std.proofs.Common.{◌≡◌, ◌∙◌, ap, sym}
 use Rattle.swreq_param.specs.Tables.{term_at}
 use Rattle.swreq_sheet.proofs.SheetLemmas.{grows_then}
 use Rattle.swreq_read.specs.Readable.{read}
-use Rattle.swreq_read.proofs.ReadLemmas.{equal_as, equal_now, is_still, term_still}
+use Rattle.swreq_read.proofs.ReadLemmas.{equal_as, equal_ids_now, equal_now, is_still, term_still}
 use Rattle.swreq_explain.specs.Stating.{ground_at}
-use Rattle.swreq_explain.proofs.SideLemmas.{read_equal, read_still}
+use Rattle.swreq_explain.proofs.SideLemmas.{read_ids, read_still}
 use Rattle.swreq_explain.proofs.stating.equate.Goals as goal
 
 pub trans-requires-clause-first : goal.trans-requires-clause-first
@@ -13,7 +13,7 @@ trans-requires-clause-first c =
     let s2 = c.read_side-2.new.sheet in
     let s3 = c.link.new.sheet in
     let t = term_at c.read_side.new.sheet.table d.t in
-    read_equal d c.args.right t s3 c.in_ok-last.last (read_still d c.args.right t s2 s3 c.in_ok-link.ensures.grows c.in_ok-last.last c.in_ok-last.ensures.read)
+    read_ids d c.args.right t s3 c.in_ok-last.last (read_still d c.args.right t s2 s3 c.in_ok-link.ensures.grows c.in_ok-last.last c.in_ok-last.ensures.read)
 
 pub trans-requires-clause-second : goal.trans-requires-clause-second
 trans-requires-clause-second c =
@@ -34,8 +34,12 @@ trans-requires-clause-second c =
     let first = read_still d c.args.left t0 s1 s3 (grows_then s1 s2 s3 g2 g3) c.in_ok-first.first c.in_ok-first.ensures.read in
     let last = read_still d c.args.right t1 s2 s3 g3 c.in_ok-last.last c.in_ok-last.ensures.read in
     let same_1 : t1 ≡ t0 = term_still s0 s1 g1 d.t c.requires.ready.t in
-    let same_2 : t2 ≡ t1 = term_still s1 s2 g2 d.t (is_still s0 s1 g1 d.t c.requires.ready.t) in
-    equal_as s3 _ _ _ _ (last.word ∙ ap (λ z. read g z v) (sym same_2)) (first.word ∙ ap (λ z. read g z u) (sym (same_2 ∙ same_1))) c.in_ok-link.ensures.both.equal
+    let same_2 : t2 ≡ t1 = term_still s1 s2 g2 d.t (is_still s0 s1 g1 d.t c.requires.ready.t) in (
+      last.word_of,
+      first.word_of,
+      equal_as s3 _ _ _ _ (last.word ∙ ap (λ z. read g z v) (sym same_2)) (first.word ∙ ap (λ z. read g z u) (sym (same_2 ∙ same_1)))
+          c.in_ok-link.ensures.both.equal,
+    )
 
 pub symm-requires-clause-equal : goal.symm-requires-clause-equal
 symm-requires-clause-equal c =
@@ -59,7 +63,7 @@ trans-requires-2-clause-first c =
     let g = grows_then s1 s3 s5 (grows_then s1 s2 s3 c.in_ok-last.ensures.grows c.in_ok-link.ensures.grows)
     (grows_then s3 s4 s5 c.in_ok-trans.ensures.grows c.in_ok-symm.ensures.grows) in
     let t = term_at c.args.sheet.now.table d.t in
-    read_equal d c.args.left t s5 c.in_ok-first.first (read_still d c.args.left t s1 s5 g c.in_ok-first.first c.in_ok-first.ensures.read)
+    read_ids d c.args.left t s5 c.in_ok-first.first (read_still d c.args.left t s1 s5 g c.in_ok-first.first c.in_ok-first.ensures.read)
 
 pub trans-requires-2-clause-second : goal.trans-requires-2-clause-second
 trans-requires-2-clause-second c =
@@ -69,7 +73,7 @@ trans-requires-2-clause-second c =
     let s4 = c.trans.new.sheet in
     let g2 = c.in_ok-last.ensures.grows in
     let g34 = grows_then s2 s3 s4 c.in_ok-link.ensures.grows c.in_ok-trans.ensures.grows in
-    equal_now s4 c.symm.new.sheet c.in_ok-symm.ensures.grows c.in_ok-first.first.word c.in_ok-last.last.itself
+    equal_ids_now s4 c.symm.new.sheet c.in_ok-symm.ensures.grows c.in_ok-first.first.word c.in_ok-last.last.itself
     (is_still s1 s4 (grows_then s1 s2 s4 g2 g34) c.in_ok-first.first.word c.in_ok-first.ensures.read.word_of)
     (is_still s2 s4 g34 c.in_ok-last.last.itself c.in_ok-last.ensures.read.itself_of) c.in_ok-symm.ensures.equal
 

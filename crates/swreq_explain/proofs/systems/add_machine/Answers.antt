@@ -12,8 +12,8 @@ use Rattle.swreq_explain.proofs.systems.add_machine.Goals as goal
 pub add_list_systems-requires-clause-in_text : goal.add_list_systems-requires-clause-in_text
 add_list_systems-requires-clause-in_text c =
     let w = c.args.world.now in
-    let h = list_in_text c.args.table.now w c.requires.text c.args.f c.requires.signature in
-    let all : c.deref-2.result.now ≡ numbered_from None 1 (bare (signature_at w c.args.f).requirements)
+    let h = list_in_text c.args.table.now w c.requires.text c.args.own.f c.requires.signature in
+    let all : c.deref-2.result.now ≡ numbered_from None 1 (bare (signature_at w c.args.own.f).requirements)
     = c.deref-2.ensures.value ∙ c.in_ok-add_numbered.ensures ∙ ap (λ z. z ++ numbered_from None 1 c.deref.result.now) c.new-all.ensures.items
     ∙ ap (numbered_from None 1) (c.deref.ensures.value ∙ c.in_ok-list.ensures) in
     subst (AreNumberedIn c.args.table.now w.lexicon) (sym all) h
@@ -21,8 +21,8 @@ add_list_systems-requires-clause-in_text c =
 pub returns : goal.returns
 returns c =
     let w = c.args.world.now in
-    let o = list_origin w c.args.f c.args.protocols.now in
-    let all : c.deref-2.result.now ≡ numbered_from None 1 (bare (signature_at w c.args.f).requirements)
+    let o = list_origin w c.args.own.f c.args.protocols.now in
+    let all : c.deref-2.result.now ≡ numbered_from None 1 (bare (signature_at w c.args.own.f).requirements)
     = c.deref-2.ensures.value ∙ c.in_ok-add_numbered.ensures ∙ ap (λ z. z ++ numbered_from None 1 c.deref.result.now) c.new-all.ensures.items
     ∙ ap (numbered_from None 1) (c.deref.ensures.value ∙ c.in_ok-list.ensures) in
     let (own, split, made) = c.in_ok-add_list_systems.ensures o

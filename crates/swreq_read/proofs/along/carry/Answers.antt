@@ -1,7 +1,7 @@
 use Rattle.std.proofs.Common.{sym, ap, ◌∙◌}
 use Rattle.swreq_read.specs.Readable.{after}
 use Rattle.swreq_sheet.proofs.SheetLemmas.{grows_then}
-use Rattle.swreq_read.proofs.ReadLemmas.{equal_as, equals_still, symbol_now, term_still}
+use Rattle.swreq_read.proofs.ReadLemmas.{equal_as, equal_ids_still, symbol_now, term_still}
 use Rattle.swreq_read.proofs.along.carry.Goals as goal
 
 pub carry_symbol-requires-clause-symbol : goal.carry_symbol-requires-clause-symbol
@@ -12,9 +12,9 @@ carry_symbol-requires-clause-symbol c =
 
 pub carry_symbol-requires-clause-equal : goal.carry_symbol-requires-clause-equal
 carry_symbol-requires-clause-equal c =
-    equals_still c.args.sheet.now c.after-2.new.sheet
+    equal_ids_still c.args.sheet.now c.after-2.new.sheet
     (grows_then c.args.sheet.now c.after.new.sheet c.after-2.new.sheet c.in_ok-first.ensures.grows c.in_ok-second.ensures.grows)
-    c.args.t c.args.u c.requires.t c.requires.u c.requires.equal
+    c.args.t c.args.u (c.requires.t, c.requires.u, c.requires.equal)
 
 pub returns-clause-equal : goal.returns-clause-equal
 returns-clause-equal c =

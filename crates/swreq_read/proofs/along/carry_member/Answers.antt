@@ -11,12 +11,12 @@ pub carry_conf-requires-clause-conforms : goal.carry_conf-requires-clause-confor
 carry_conf-requires-clause-conforms c =
     let u = c.carry_name.new.sheet in
     subst (λ (z : Named). Says u (Requires (Conforms (term_at u.table c.args.t) z.proto))) (sym c.member_at-named.ensures)
-    (conforms_still c.args.sheet.now u c.in_ok-carry_name.ensures.grows c.args.t _ c.requires.t c.requires.symbol.1)
+    (conforms_still c.args.sheet.now u c.in_ok-carry_name.ensures.grows c.args.t _ c.requires.equal.0 c.requires.symbol.1)
 
 pub carry_conf-requires-clause-equal : goal.carry_conf-requires-clause-equal
 carry_conf-requires-clause-equal c =
-    equals_still c.args.sheet.now c.carry_name.new.sheet c.in_ok-carry_name.ensures.grows c.args.t c.args.u c.requires.t c.requires.u
-    c.requires.equal
+    equals_still c.args.sheet.now c.carry_name.new.sheet c.in_ok-carry_name.ensures.grows c.args.t c.args.u c.requires.equal.0 c.requires.equal.1
+    c.requires.equal.2
 
 pub returns-clause-equal : goal.returns-clause-equal
 returns-clause-equal c =

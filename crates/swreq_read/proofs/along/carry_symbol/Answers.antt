@@ -9,15 +9,15 @@ returns-in_ok-carry_conf-in-Proto-clause-equal c =
     let s = c.args.sheet.now in
     let g = c.args.ground.now in
     equal_as c.carry_conf.new.sheet _ _ (term_at s.table c.args.t) (term_at s.table c.args.u)
-    (c.requires.first_is ∙ ap (after g (term_at s.table c.args.t)) c.in-Proto.is)
-    (c.requires.second_is ∙ ap (after g (term_at s.table c.args.u)) c.in-Proto.is)
-    (equal_still g s c.carry_conf.new.sheet c.in_ok-carry_conf-in-Proto.ensures.grows _ _ c.requires.equal)
+    (c.requires.first.1 ∙ ap (after g (term_at s.table c.args.t)) c.in-Proto.is)
+    (c.requires.second.1 ∙ ap (after g (term_at s.table c.args.u)) c.in-Proto.is)
+    (equal_still g s c.carry_conf.new.sheet c.in_ok-carry_conf-in-Proto.ensures.grows _ _ c.requires.equal.2)
 
 pub returns-in_ok-carry_layout-in-Layout-clause-equal : goal.returns-in_ok-carry_layout-in-Layout-clause-equal
 returns-in_ok-carry_layout-in-Layout-clause-equal c =
     let s = c.args.sheet.now in
     let g = c.args.ground.now in
     equal_as c.carry_layout.new.sheet _ _ (term_at s.table c.args.t) (term_at s.table c.args.u)
-    (c.requires.first_is ∙ ap (after g (term_at s.table c.args.t)) c.in-Layout.is)
-    (c.requires.second_is ∙ ap (after g (term_at s.table c.args.u)) c.in-Layout.is)
-    (equal_still g s c.carry_layout.new.sheet c.in_ok-carry_layout-in-Layout.ensures.grows _ _ c.requires.equal)
+    (c.requires.first.1 ∙ ap (after g (term_at s.table c.args.t)) c.in-Layout.is)
+    (c.requires.second.1 ∙ ap (after g (term_at s.table c.args.u)) c.in-Layout.is)
+    (equal_still g s c.carry_layout.new.sheet c.in_ok-carry_layout-in-Layout.ensures.grows _ _ c.requires.equal.2)

@@ -2,13 +2,12 @@ use Rattle.std.proofs.Common.{subst}
 use Rattle.swreq_param.specs.Tables.{term_at}
 use Rattle.swreq_sheet.specs.Sheets.{AreSaidEqual}
 use Rattle.swreq_sheet.proofs.SheetLemmas.{grows_then}
-use Rattle.swreq_read.proofs.ReadLemmas.{equals_still, term_still}
+use Rattle.swreq_read.proofs.ReadLemmas.{equal_ids_still, term_still}
 use Rattle.swreq_read.proofs.carrying.carry_name.Goals as goal
 
 pub same_name-requires-clause-equal : goal.same_name-requires-clause-equal
 same_name-requires-clause-equal c =
-    equals_still c.args.sheet.now c.carry_conf.new.sheet c.in_ok-carry_conf.ensures.grows c.args.t c.args.u c.requires.t c.requires.u
-    c.requires.equal
+    equal_ids_still c.args.sheet.now c.carry_conf.new.sheet c.in_ok-carry_conf.ensures.grows c.args.t c.args.u c.requires.equal
 
 pub returns-clause-name : goal.returns-clause-name
 returns-clause-name c =
@@ -20,9 +19,9 @@ returns-clause-equal c =
     let u = c.carry_conf.new.sheet in
     let g = c.in_ok-carry_conf.ensures.grows in
     let v = c.same_name.new.sheet in
-    subst (λ z. AreSaidEqual v z (term_at s.table c.args.members.1)) (term_still s u g c.args.members.0 c.requires.first)
+    subst (λ z. AreSaidEqual v z (term_at s.table c.args.members.1)) (term_still s u g c.args.members.0 c.requires.first.0)
     (subst (λ z. AreSaidEqual v (term_at u.table c.args.members.0) z)
-    (term_still s u g c.args.members.1 c.requires.second) c.in_ok-same_name.ensures.equal)
+    (term_still s u g c.args.members.1 c.requires.second.0) c.in_ok-same_name.ensures.equal)
 
 pub returns-clause-grows : goal.returns-clause-grows
 returns-clause-grows c =

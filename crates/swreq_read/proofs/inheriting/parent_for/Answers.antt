@@ -12,8 +12,8 @@ loop-k-preserved c =
     c.is_parent_for.result ≡ false = c.if-is_parent_for.false in absurd cc))
 
 pub unreachable-requires : goal.unreachable-requires
-unreachable-requires c = elim (c.requires.inherited.from c.args.p c.args.a c.requires.member) [
-  | inl w ↦ c.requires.undeclared w
+unreachable-requires c = elim (c.requires.inherited.from c.args.p c.args.a c.requires.member.0) [
+  | inl w ↦ c.requires.member.1 w
   | inr w ↦ (let g = c.args.ground.now in
       let k = contains_get g.parents w.0 w.1 in
       let h : k.0 < length g.parents = slice_get_within g.parents k.0 w.0 k.1 in

@@ -2,7 +2,7 @@ use Rattle.std.proofs.Common.{ap, sym, ◌∙◌}
 use Rattle.swreq_param.specs.Tables.{term_at}
 use Rattle.swreq_read.specs.Readable.{read}
 use Rattle.swreq_sheet.proofs.SheetLemmas.{grows_then}
-use Rattle.swreq_read.proofs.ReadLemmas.{both_still, equal_as, equal_still, term_still}
+use Rattle.swreq_read.proofs.ReadLemmas.{both_still, equal_as, equal_still, is_still, term_still}
 use Rattle.swreq_read.proofs.joining.join.Goals as goal
 
 pub trans-requires-clause-first : goal.trans-requires-clause-first
@@ -15,11 +15,14 @@ trans-requires-clause-first c =
     let g1 = c.in_ok-first.ensures.grows in
     let g2 = c.in_ok-middle.ensures.grows in
     let g3 = c.in_ok-last.ensures.grows in
-    let g23 = grows_then s1 s2 s3 g2 g3 in
-    equal_as s3 _ _ _ _ (term_still s1 s3 g23 c.in_ok-first.first c.in_ok-first.ensures.is_of ∙ c.in_ok-first.ensures.stands)
-    (term_still s2 s3 g3 c.in_ok-middle.middle c.in_ok-middle.ensures.is_of ∙ c.in_ok-middle.ensures.stands
-    ∙ ap (λ z. read g z c.args.v.now) (term_still s s1 g1 c.args.t c.requires.t))
-    (equal_still g s s3 (grows_then s s1 s3 g1 g23) _ _ c.requires.first.equal)
+    let g23 = grows_then s1 s2 s3 g2 g3 in (
+      is_still s1 s3 g23 c.in_ok-first.first c.in_ok-first.ensures.is_of,
+      is_still s2 s3 g3 c.in_ok-middle.middle c.in_ok-middle.ensures.is_of,
+      equal_as s3 _ _ _ _ (term_still s1 s3 g23 c.in_ok-first.first c.in_ok-first.ensures.is_of ∙ c.in_ok-first.ensures.stands)
+          (term_still s2 s3 g3 c.in_ok-middle.middle c.in_ok-middle.ensures.is_of ∙ c.in_ok-middle.ensures.stands
+          ∙ ap (λ z. read g z c.args.v.now) (term_still s s1 g1 c.args.t c.requires.t))
+          (equal_still g s s3 (grows_then s s1 s3 g1 g23) _ _ c.requires.first.equal),
+    )
 
 pub trans-requires-clause-second : goal.trans-requires-clause-second
 trans-requires-clause-second c =
@@ -31,12 +34,15 @@ trans-requires-clause-second c =
     let g1 = c.in_ok-first.ensures.grows in
     let g2 = c.in_ok-middle.ensures.grows in
     let g3 = c.in_ok-last.ensures.grows in
-    let g12 = grows_then s s1 s2 g1 g2 in
-    equal_as s3 _ _ _ _
-    (term_still s2 s3 g3 c.in_ok-middle.middle c.in_ok-middle.ensures.is_of ∙ c.in_ok-middle.ensures.stands
-    ∙ ap (λ z. read g z c.args.v.now) (term_still s s1 g1 c.args.t c.requires.t))
-    (c.in_ok-last.ensures.stands ∙ ap (λ z. read g z c.args.w.now) (term_still s s2 g12 c.args.t c.requires.t))
-    (equal_still g s s3 (grows_then s s2 s3 g12 g3) _ _ c.requires.second.equal)
+    let g12 = grows_then s s1 s2 g1 g2 in (
+      is_still s2 s3 g3 c.in_ok-middle.middle c.in_ok-middle.ensures.is_of,
+      c.in_ok-last.ensures.is_of,
+      equal_as s3 _ _ _ _
+          (term_still s2 s3 g3 c.in_ok-middle.middle c.in_ok-middle.ensures.is_of ∙ c.in_ok-middle.ensures.stands
+          ∙ ap (λ z. read g z c.args.v.now) (term_still s s1 g1 c.args.t c.requires.t))
+          (c.in_ok-last.ensures.stands ∙ ap (λ z. read g z c.args.w.now) (term_still s s2 g12 c.args.t c.requires.t))
+          (equal_still g s s3 (grows_then s s2 s3 g12 g3) _ _ c.requires.second.equal),
+    )
 
 pub returns-clause-both : goal.returns-clause-both
 returns-clause-both c =

@@ -1,4 +1,4 @@
-use Rattle.std.proofs.Common.{◌≡◌, sym, ap, subst, ◌∙◌}
+use Rattle.std.proofs.Common.{◌≡◌, sym, ap, ap₂, subst, ◌∙◌}
 use Rattle.swreq_param.specs.declared.ids.NameId.{NameId}
 use Rattle.swreq_param.specs.declared.ids.Step.{Step}
 use Rattle.swreq_param.specs.declared.ids.Step.TheVariants.{Name}
@@ -6,7 +6,7 @@ use Rattle.swreq_param.specs.Tables.{term_at}
 use Rattle.swreq_param.specs.Terms.Term.{Member}
 use Rattle.swreq_sheet.proofs.SheetLemmas.{grows_then}
 use Rattle.swreq_read.specs.Readable.{IsGiven, IsOfStep}
-use Rattle.swreq_read.proofs.ReadLemmas.{equal_as, equal_now, equals_still, given_still, is_still, term_still}
+use Rattle.swreq_read.proofs.ReadLemmas.{equal_as, equal_ids_now, equal_ids_still, given_still, is_still, term_still}
 use Rattle.swreq_read.proofs.members.equal_member.Goals as goal
 
 pub bind-requires-clause-given : goal.bind-requires-clause-given
@@ -22,15 +22,34 @@ bind-requires-clause-given c =
     (subst (λ z. IsGiven c.args.ground.now s4 z c.args.step c.args.named) (sym (term_still s s4 g c.args.u c.requires.u))
     (given_still c.args.ground.now s s4 g _ c.args.step c.args.named c.requires.given))
 
-pub bind-requires-clause-unbound : goal.bind-requires-clause-unbound
-bind-requires-clause-unbound c =
+pub bind-requires-clause-members : goal.bind-requires-clause-members
+bind-requires-clause-members c =
+    let s = c.args.sheet.now in
     let s1 = c.member.new.sheet in
     let s2 = c.member-2.new.sheet in
     let s3 = c.member-3.new.sheet in
+    let s4 = c.same_name.new.sheet in
     let g3 = c.in_ok-stepped.ensures.grows in
-    equal_now s3 c.same_name.new.sheet c.in_ok-same_name.ensures.grows c.in_ok-plain.plain c.in_ok-last.last
-    (is_still s1 s3 (grows_then s1 s2 s3 c.in_ok-last.ensures.grows g3) c.in_ok-plain.plain c.in_ok-plain.ensures.is_of)
-    (is_still s2 s3 g3 c.in_ok-last.last c.in_ok-last.ensures.is_of) c.in_ok-same_name.ensures.equal
+    let g4 = c.in_ok-same_name.ensures.grows in
+    let g13 = grows_then s1 s2 s3 c.in_ok-last.ensures.grows g3 in
+    let g14 = grows_then s1 s3 s4 g13 g4 in
+    let now = sym (term_still s s4 (grows_then s s1 s4 c.in_ok-plain.ensures.grows g14) c.args.t c.requires.t) in
+    let plain = c.in_ok-plain.plain in
+    let stepped = c.in_ok-stepped.stepped in
+    let then = term_still s s2 (grows_then s s1 s2 c.in_ok-plain.ensures.grows c.in_ok-last.ensures.grows) c.args.t c.requires.t in record {
+      bound = (
+        is_still s3 s4 g4 stepped c.in_ok-stepped.ensures.is_of,
+        term_still s3 s4 g4 stepped c.in_ok-stepped.ensures.is_of ∙ c.in_ok-stepped.ensures.stands
+            ∙ ap₂ (λ z (x : Step). Member z x) (then ∙ now) c.in-Bound.is,
+      );
+      plain = (
+        is_still s1 s4 g14 plain c.in_ok-plain.ensures.is_of,
+        term_still s1 s4 g14 plain c.in_ok-plain.ensures.is_of ∙ c.in_ok-plain.ensures.stands
+            ∙ ap (λ z. Member z (Name c.args.named.name)) now,
+      );
+      equal = equal_ids_now s3 s4 g4 plain c.in_ok-last.last (is_still s1 s3 g13 plain c.in_ok-plain.ensures.is_of)
+          (is_still s2 s3 g3 c.in_ok-last.last c.in_ok-last.ensures.is_of) c.in_ok-same_name.ensures.equal;
+    }
 
 pub bind-requires-clause-equal : goal.bind-requires-clause-equal
 bind-requires-clause-equal c =
@@ -41,7 +60,7 @@ bind-requires-clause-equal c =
     let s4 = c.same_name.new.sheet in
     let g = grows_then s s2 s4 (grows_then s s1 s2 c.in_ok-plain.ensures.grows c.in_ok-last.ensures.grows)
     (grows_then s2 s3 s4 c.in_ok-stepped.ensures.grows c.in_ok-same_name.ensures.grows) in
-    equals_still s s4 g c.args.t c.args.u c.requires.t c.requires.u c.requires.equal
+    equal_ids_still s s4 g c.args.t c.args.u (c.requires.t, c.requires.u, c.requires.equal)
 
 pub returns-in-Name-clause-equal : goal.returns-in-Name-clause-equal
 returns-in-Name-clause-equal c =

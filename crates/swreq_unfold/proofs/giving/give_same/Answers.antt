@@ -2,7 +2,7 @@ use Rattle.std.proofs.Common.{sym, ap, ◌∙◌}
 use Rattle.swreq_param.specs.Tables.{term_at}
 use Rattle.swreq_sheet.proofs.SheetLemmas.{grows_then}
 use Rattle.swreq_read.specs.Readable.{read}
-use Rattle.swreq_read.proofs.ReadLemmas.{equal_as, equal_now, equal_still, is_still, term_still, word_still}
+use Rattle.swreq_read.proofs.ReadLemmas.{equal_as, equal_ids_now, equal_still, is_still, term_still, word_still}
 use Rattle.swreq_unfold.proofs.giving.give_same.Goals as goal
 
 pub symm-requires-clause-equal : goal.symm-requires-clause-equal
@@ -16,10 +16,10 @@ symm-requires-clause-equal c =
     let g2 = c.in_ok-first.ensures.grows in
     let g3 = c.in_ok-last.ensures.grows in
     let grows = grows_then s s1 s3 g1 (grows_then s1 s2 s3 g2 g3) in
-    equal_as s3 _ _ _ _ (term_still s s3 grows c.args.ids.0 c.requires.first)
+    equal_as s3 _ _ _ _ (term_still s s3 grows c.args.ids.0 c.requires.left.id)
     (term_still s2 s3 g3 c.in_ok-first.first c.in_ok-first.ensures.is_of ∙ c.in_ok-first.ensures.stands
-    ∙ ap (λ z. read g z c.args.words.from.now) (term_still s s1 g1 c.args.origin.t c.requires.t))
-    (equal_still g s s3 grows _ _ c.requires.left_equal)
+    ∙ ap (λ z. read g z c.args.words.from.now) (term_still s s1 g1 c.args.origin.t c.requires.origin.t))
+    (equal_still g s s3 grows _ _ c.requires.left.equal)
 
 pub trans-requires-clause-first : goal.trans-requires-clause-first
 trans-requires-clause-first c =
@@ -29,9 +29,9 @@ trans-requires-clause-first c =
     let s3 = c.read-2.new.sheet in
     let g3 = c.in_ok-last.ensures.grows in
     let grows = grows_then s s1 s3 c.in_ok-put_same.ensures.grows (grows_then s1 s2 s3 c.in_ok-first.ensures.grows g3) in
-    equal_now s3 c.symm.new.sheet c.in_ok-symm.ensures.grows c.in_ok-first.first c.args.ids.0
+    equal_ids_now s3 c.symm.new.sheet c.in_ok-symm.ensures.grows c.in_ok-first.first c.args.ids.0
     (is_still s2 s3 g3 c.in_ok-first.first c.in_ok-first.ensures.is_of)
-    (is_still s s3 grows c.args.ids.0 c.requires.first) c.in_ok-symm.ensures.equal
+    (is_still s s3 grows c.args.ids.0 c.requires.left.id) c.in_ok-symm.ensures.equal
 
 pub trans-requires-clause-second : goal.trans-requires-clause-second
 trans-requires-clause-second c =
@@ -43,9 +43,12 @@ trans-requires-clause-second c =
     let s4 = c.symm.new.sheet in
     let after = grows_then s1 s3 s4
     (grows_then s1 s2 s3 c.in_ok-first.ensures.grows c.in_ok-last.ensures.grows) c.in_ok-symm.ensures.grows in
-    let grows = grows_then s s1 s4 c.in_ok-put_same.ensures.grows after in
-    equal_as s4 _ _ _ _ (term_still s s4 grows c.args.ids.0 c.requires.first) (term_still s s4 grows c.args.ids.1 c.requires.second)
-    (equal_still g s1 s4 after _ _ c.in_ok-put_same.ensures.equal)
+    let grows = grows_then s s1 s4 c.in_ok-put_same.ensures.grows after in (
+      is_still s s4 grows c.args.ids.0 c.requires.left.id,
+      is_still s s4 grows c.args.ids.1 c.requires.right.id,
+      equal_as s4 _ _ _ _ (term_still s s4 grows c.args.ids.0 c.requires.left.id) (term_still s s4 grows c.args.ids.1 c.requires.right.id)
+          (equal_still g s1 s4 after _ _ c.in_ok-put_same.ensures.equal),
+    )
 
 pub trans-requires-2-clause-first : goal.trans-requires-2-clause-first
 trans-requires-2-clause-first c =
@@ -56,9 +59,9 @@ trans-requires-2-clause-first c =
     let s4 = c.symm.new.sheet in
     let on = grows_then s2 s3 s4 c.in_ok-last.ensures.grows c.in_ok-symm.ensures.grows in
     let grows = grows_then s s2 s4 (grows_then s s1 s2 c.in_ok-put_same.ensures.grows c.in_ok-first.ensures.grows) on in
-    equal_now s4 c.trans.new.sheet c.in_ok-trans.ensures.grows c.in_ok-first.first c.args.ids.1
+    equal_ids_now s4 c.trans.new.sheet c.in_ok-trans.ensures.grows c.in_ok-first.first c.args.ids.1
     (is_still s2 s4 on c.in_ok-first.first c.in_ok-first.ensures.is_of)
-    (is_still s s4 grows c.args.ids.1 c.requires.second) c.in_ok-trans.ensures.equal
+    (is_still s s4 grows c.args.ids.1 c.requires.right.id) c.in_ok-trans.ensures.equal
 
 pub trans-requires-2-clause-second : goal.trans-requires-2-clause-second
 trans-requires-2-clause-second c =
@@ -71,11 +74,14 @@ trans-requires-2-clause-second c =
     let s5 = c.trans.new.sheet in
     let g2 = grows_then s s1 s2 c.in_ok-put_same.ensures.grows c.in_ok-first.ensures.grows in
     let after = grows_then s3 s4 s5 c.in_ok-symm.ensures.grows c.in_ok-trans.ensures.grows in
-    let grows = grows_then s s3 s5 (grows_then s s2 s3 g2 c.in_ok-last.ensures.grows) after in
-    equal_as s5 _ _ _ _ (term_still s s5 grows c.args.ids.1 c.requires.second)
-    (term_still s3 s5 after c.in_ok-last.last c.in_ok-last.ensures.is_of ∙ c.in_ok-last.ensures.stands
-    ∙ ap (λ z. read g z c.args.words.to.now) (term_still s s2 g2 c.args.origin.t c.requires.t))
-    (equal_still g s s5 grows _ _ c.requires.right_equal)
+    let grows = grows_then s s3 s5 (grows_then s s2 s3 g2 c.in_ok-last.ensures.grows) after in (
+      is_still s s5 grows c.args.ids.1 c.requires.right.id,
+      is_still s3 s5 after c.in_ok-last.last c.in_ok-last.ensures.is_of,
+      equal_as s5 _ _ _ _ (term_still s s5 grows c.args.ids.1 c.requires.right.id)
+          (term_still s3 s5 after c.in_ok-last.last c.in_ok-last.ensures.is_of ∙ c.in_ok-last.ensures.stands
+          ∙ ap (λ z. read g z c.args.words.to.now) (term_still s s2 g2 c.args.origin.t c.requires.origin.t))
+          (equal_still g s s5 grows _ _ c.requires.right.equal),
+    )
 
 pub returns-clause-both : goal.returns-clause-both
 returns-clause-both c =
@@ -95,11 +101,11 @@ returns-clause-both c =
     let grows = grows_then s s5 s6 (grows_then s s3 s5 (grows_then s s2 s3 g2 g3) after) c.in_ok-trans-2.ensures.grows in
     let first = term_still s2 s5 (grows_then s2 s3 s5 g3 after) c.in_ok-first.first c.in_ok-first.ensures.is_of
     ∙ c.in_ok-first.ensures.stands
-    ∙ ap (λ z. read g z c.args.words.from.now) (term_still s s1 g1 c.args.origin.t c.requires.t) in
+    ∙ ap (λ z. read g z c.args.words.from.now) (term_still s s1 g1 c.args.origin.t c.requires.origin.t) in
     let last = term_still s3 s5 after c.in_ok-last.last c.in_ok-last.ensures.is_of ∙ c.in_ok-last.ensures.stands
-    ∙ ap (λ z. read g z c.args.words.to.now) (term_still s s2 g2 c.args.origin.t c.requires.t) in record {
-      left = word_still g s s6 grows t c.args.words.from.now c.requires.left;
-      right = word_still g s s6 grows t c.args.words.to.now c.requires.right;
+    ∙ ap (λ z. read g z c.args.words.to.now) (term_still s s2 g2 c.args.origin.t c.requires.origin.t) in record {
+      left = word_still g s s6 grows t c.args.words.from.now c.requires.left.word;
+      right = word_still g s s6 grows t c.args.words.to.now c.requires.right.word;
       equal = equal_as s6 _ _ _ _ (sym first) (sym last) c.in_ok-trans-2.ensures.equal;
     }
 

@@ -7,14 +7,20 @@ use Rattle.swreq_path.specs.declared.paths.Path.{Path}
 use Rattle.swreq_path.specs.Paths.{HasTarget}
 use Rattle.swreq_path.proofs.Leading.{one_end}
 use Rattle.swreq_unfold.specs.Systems.{rules_at}
-use Rattle.swreq_unfold.proofs.Headed.{all_at}
+use Rattle.swreq_unfold.proofs.Headed.{all_at, all_there}
 use Rattle.swreq_unfold.proofs.Alike.{both_as}
 use Rattle.swreq_unfold.proofs.linking.link.Goals as goal
 
+pub walk_along-requires-clause-rules : goal.walk_along-requires-clause-rules
+walk_along-requires-clause-rules c =
+    all_there c.args.book.now c.all_of.result c.args.system c.requires.system
+    (all_at c.args.book.now c.all_of.result c.args.system c.all_rules-rules.result.now c.requires.system c.all_of.ensures
+    c.all_rules-rules.ensures)
+
 pub walk_along-requires-clause-path : goal.walk_along-requires-clause-path
 walk_along-requires-clause-path c =
-    let all = all_at c.args.book.now c.requires.book c.all_of.result c.args.system c.all_rules-rules.result.now c.requires.system
-    c.all_of.ensures c.all_rules-rules.ensures in
+    let all = all_at c.args.book.now c.all_of.result c.args.system c.all_rules-rules.result.now c.requires.system c.all_of.ensures
+    c.all_rules-rules.ensures in
     let target = MatchOption-at_some (Linked (Step c.all_rules-rules.result.now) c.args.u.now c.args.v.now → ⊥)
     (λ (p : Path). HasTarget c.all_rules-rules.result.now p c.args.v.now)
     c.in-Some.path c.in-Some.is c.in_ok-path_between.ensures.target in
@@ -24,8 +30,8 @@ pub returns-clause-both : goal.returns-clause-both
 returns-clause-both c =
     let rules = rules_at c.args.book.now c.args.system in
     let path = c.in-Some.path in
-    let all = all_at c.args.book.now c.requires.book c.all_of.result c.args.system c.all_rules-rules.result.now c.requires.system
-    c.all_of.ensures c.all_rules-rules.ensures in
+    let all = all_at c.args.book.now c.all_of.result c.args.system c.all_rules-rules.result.now c.requires.system c.all_of.ensures
+    c.all_rules-rules.ensures in
     let walked = c.in_ok-walk_along-in-Some.ensures in
     let target = MatchOption-at_some (Linked (Step c.all_rules-rules.result.now) c.args.u.now c.args.v.now → ⊥)
     (λ (p : Path). HasTarget c.all_rules-rules.result.now p c.args.v.now)

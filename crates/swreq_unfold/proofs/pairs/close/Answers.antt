@@ -14,7 +14,8 @@ join-requires-clause-first c =
 
 pub join-requires-clause-second : goal.join-requires-clause-second
 join-requires-clause-second c =
-    both_now c.args.ground.now c.args.sheet.now c.join_at.new.sheet c.in_ok-join_at.ensures.grows c.args.t _ _ c.requires.t c.requires.last
+    both_now c.args.ground.now c.args.sheet.now c.join_at.new.sheet c.in_ok-join_at.ensures.grows c.args.t _ _ c.requires.t
+    c.requires.ends.last
 
 pub turn-requires-clause-both : goal.turn-requires-clause-both
 turn-requires-clause-both c =

@@ -11,17 +11,18 @@ put_side-requires-clause-word c =
     let g = c.args.ground.now in
     let s = c.args.sheet.now in
     subst (SaysWord g s (term_at s.table c.args.t)) (sym c.requires.word)
-    (word_both g s (term_at s.table c.args.t) c.args.around.before.now c.args.second.from.now c.requires.before c.requires.second.left)
+    (word_both g s (term_at s.table c.args.t) c.args.around.before.now c.args.second.from.now c.requires.second.before
+    c.requires.second.both.left)
 
 pub replace-requires-clause-both : goal.replace-requires-clause-both
 replace-requires-clause-both c =
     let g = c.args.ground.now in
     let s = c.args.sheet.now in
     let s1 = c.put_side.new.sheet in
-    both_as g s1 (read g
-    (term_at s.table c.args.t) c.args.around.before.now) _ c.args.second.from.now c.args.second.from.now c.args.second.to.now c.args.second.to.now
+    both_as g s1 (read g (term_at s.table c.args.t) c.args.around.before.now) _ c.args.second.from.now c.args.second.from.now
+    c.args.second.to.now c.args.second.to.now
     (ap (λ z. read g z c.args.around.before.now) (sym (term_still s s1 c.in_ok-put_side.ensures.grows c.args.t c.requires.t))) refl refl
-    (both_still g s s1 c.in_ok-put_side.ensures.grows _ c.args.second.from.now c.args.second.to.now c.requires.second)
+    (both_still g s s1 c.in_ok-put_side.ensures.grows _ c.args.second.from.now c.args.second.to.now c.requires.second.both)
 
 pub join_at-requires-clause-first : goal.join_at-requires-clause-first
 join_at-requires-clause-first c =
