@@ -11,6 +11,7 @@ pub mod Named
 pub mod Completing
 pub mod Passing
 pub mod Halving
+pub mod Ending
 pub mod Telling
 pub mod Whole
 pub mod PlainTypes

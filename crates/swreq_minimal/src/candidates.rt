@@ -23,10 +23,11 @@ ghost use Rattle.swreq_minimal.specs.Typed.{SaysBy};
 
 use crate::of_params::of_params;
 use crate::order::{is_before, is_same};
+use crate::reader::Reader;
 use crate::spoken::said;
 use std::alloc::{AllocError, Global};
 use swreq_complete::CompleteRules;
-use swreq_derive::{Params, Requirement};
+use swreq_derive::Requirement;
 use swreq_param::ParamTable;
 use swreq_rule::Rule;
 use swreq_valid::Machine;
@@ -85,29 +86,26 @@ fn put_sorted(
 
 /// Adds what a rule of the reduced system says, unless it is there.
 fn add(
-    alloc: Global,
-    world: &World,
-    rules: &CompleteRules<'_>,
-    params: Params,
+    by: &Reader<'_, '_>,
     table: &mut ParamTable,
     rule: &Rule,
     found: &mut Vec<Requirement>,
 ) -> Result<(), AllocError>
-    requires minimal { IsMinimal (Links rules.now) rule.now.left }
-    requires least { IsLeastBy rules.now rule.now.right }
-    requires known { AreKnown table.old world.now.lexicon found.old.items }
+    requires minimal { IsMinimal (Links by.now.rules.now) rule.now.left }
+    requires least { IsLeastBy by.now.rules.now rule.now.right }
+    requires known { AreKnown table.old by.now.world.now.lexicon found.old.items }
     ensures members { OnOk result ((q : TermRequirement) → Contains (listed table.new found.new.items) q
-        ↔ (Contains (listed table.old found.old.items) q ⊎ SaysBy world.now.lexicon rules.now params rule.now.left rule.now.right q)) }
+        ↔ (Contains (listed table.old found.old.items) q ⊎ SaysBy by.now.world.now.lexicon by.now.rules.now by.now.params rule.now.left rule.now.right q)) }
     ensures sorted { OnOk result ((f : TermFacts) (s : Source)
         → ((q : TermRequirement) → Contains (listed table.old found.old.items) q
-        ⊎ SaysBy world.now.lexicon rules.now params rule.now.left rule.now.right q → IsCanonical f s q)
+        ⊎ SaysBy by.now.world.now.lexicon by.now.rules.now by.now.params rule.now.left rule.now.right q → IsCanonical f s q)
         → IsStrictlySorted (listed table.old found.old.items) → IsStrictlySorted (listed table.new found.new.items)) }
-    ensures known { OnOk result (AreKnown table.new world.now.lexicon found.new.items) }
+    ensures known { OnOk result (AreKnown table.new by.now.world.now.lexicon found.new.items) }
     ensures extends { Extends table.old table.new }
 {
     let left = rule.left.symbols();
     let right = rule.right.symbols();
-    let one = said(alloc, world, rules, params, table, left, right)?;
+    let one = said(by, table, left, right)?;
     match one {
         None => Ok(()),
         Some(r) => put_sorted(table, found, r),
@@ -116,23 +114,20 @@ fn add(
 
 /// What these rules of the reduced system say, in order, each once.
 fn collect(
-    alloc: Global,
-    world: &World,
-    rules: &CompleteRules<'_>,
-    params: Params,
+    by: &Reader<'_, '_>,
     table: &mut ParamTable,
     system: &[Rule],
 ) -> Result<Vec<Requirement>, AllocError>
-    requires { (k : ℕ) (rule : Rule) → slice_get system.now k ≡ Some rule → IsReduced (Links rules.now) rule }
-    ensures said { IfOk result (λ v. IsSaidList world.now.lexicon rules.now params system.now (length system.now)
+    requires { (k : ℕ) (rule : Rule) → slice_get system.now k ≡ Some rule → IsReduced (Links by.now.rules.now) rule }
+    ensures said { IfOk result (λ v. IsSaidList by.now.world.now.lexicon by.now.rules.now by.now.params system.now (length system.now)
         (listed table.new v.items)) }
-    ensures known { IfOk result (λ v. AreKnown table.new world.now.lexicon v.items) }
+    ensures known { IfOk result (λ v. AreKnown table.new by.now.world.now.lexicon v.items) }
     ensures extends { Extends table.old table.new }
 {
-    let mut found: Vec<Requirement> = Vec::new(alloc);
+    let mut found: Vec<Requirement> = Vec::new(by.alloc);
     for k in 0..system.len() {
         let rule = &system[k];
-        add(alloc, world, rules, params, table, rule, &mut found)?;
+        add(by, table, rule, &mut found)?;
     }
     Ok(found)
 }
@@ -154,5 +149,11 @@ pub(crate) fn candidates(
 {
     let rules = machine.rules();
     let system = of_params(alloc, rules)?;
-    collect(alloc, world, rules, machine.params(), table, &system)
+    let by = Reader {
+        alloc,
+        world,
+        rules,
+        params: machine.params(),
+    };
+    collect(&by, table, &system)
 }

@@ -8,6 +8,7 @@ mod minimised;
 mod of_params;
 mod order;
 mod plain;
+mod reader;
 mod sifting;
 mod spoken;
 mod typed;

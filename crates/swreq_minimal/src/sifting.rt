@@ -12,7 +12,7 @@ ghost use Rattle.swreq_canonical.specs.Minimised.{Leaves};
 ghost use Rattle.swreq_list_rules.specs.ListRules.{AreOfList, ListRulesView};
 ghost use Rattle.swreq_list_rules.specs.Settings.{AreKnownIn, IsSetting, facts_in, params_in, plan_in, said_in, source_in};
 ghost use Rattle.swreq_symbols.specs.Known.{IsRequirementIn};
-ghost use Rattle.swreq_minimal.specs.Halves.{AreBesideBoth, AreGrownBy, IsPartOf, IsSpanOf};
+ghost use Rattle.swreq_minimal.specs.Halves.{AreBesideBoth, AreGrownBy, IsPartOf, IsSpanOf, beside};
 ghost use Rattle.swreq_minimal.specs.Passed.{IsLastNeeded, IsLeftFrom, IsLeftWithout, IsPassed, IsSifted, IsTakenBefore};
 ghost use Rattle.swreq_minimal.specs.Told.{TellsFailure, TellsParts};
 
@@ -352,6 +352,68 @@ struct Half {
     other: Span,
 }
 
+/// Drops those at the end of a span that are derivable from the requirements beside it, of which these are the rules: from the last on, up to
+/// the first that is not, or to the one with which the span begins. Gives where the span then ends.
+fn drop_end(
+    alloc: Global,
+    setting: &Setting<'_>,
+    rules: &ListRules<'_>,
+    left: &mut Vec<Requirement>,
+    span: Span,
+) -> Result<usize, Failed>
+    requires setting { IsSetting setting.now }
+    requires rules { AreOfList setting.now (said_in setting.now (beside left.old.items span)) rules.now }
+    requires left { AreKnownIn setting.now left.old.items }
+    requires span { IsSpanOf left.old.items span }
+    ensures within { IfOk result (λ to. (span.from < to) × (to ≤ span.to)) }
+    ensures stays { IfOk result (λ to. left.new.items ≡ take to left.old.items ++ drop span.to left.old.items) }
+    ensures leaves { IfOk result (λ to. (all : List TermRequirement)
+        → span.to ≤ length all → IsLeftFrom (facts_in setting.now) (params_in setting.now) span.to all (said_in setting.now left.old.items)
+        → IsLeftFrom (facts_in setting.now) (params_in setting.now) to all (said_in setting.now left.new.items)) }
+    ensures known { OnOk result (AreKnownIn setting.now left.new.items) }
+    ensures memory { IfErr result (λ failed. failed ≡ Memory) }
+{
+    let mut to = span.to;
+    while to - span.from > 1 {
+        let derivable = match rules.derives(alloc, setting, left[to - 1]) {
+            Ok(derivable) => derivable,
+            Err(_) => return Err(Failed::Memory),
+        };
+        if !derivable {
+            return Ok(to);
+        }
+        to -= 1;
+        left.remove(to);
+    }
+    Ok(to)
+}
+
+/// The same where there are rules. Where there are none, the span ends where it did.
+fn drop_end_by(
+    alloc: Global,
+    setting: &Setting<'_>,
+    rules: Option<&ListRules<'_>>,
+    left: &mut Vec<Requirement>,
+    span: Span,
+) -> Result<usize, Failed>
+    requires setting { IsSetting setting.now }
+    requires rules { IfSome rules (λ rules. AreOfList setting.now (said_in setting.now (beside left.old.items span)) rules.now) }
+    requires left { AreKnownIn setting.now left.old.items }
+    requires span { IsSpanOf left.old.items span }
+    ensures within { IfOk result (λ to. (span.from < to) × (to ≤ span.to)) }
+    ensures stays { IfOk result (λ to. left.new.items ≡ take to left.old.items ++ drop span.to left.old.items) }
+    ensures leaves { IfOk result (λ to. (all : List TermRequirement)
+        → span.to ≤ length all → IsLeftFrom (facts_in setting.now) (params_in setting.now) span.to all (said_in setting.now left.old.items)
+        → IsLeftFrom (facts_in setting.now) (params_in setting.now) to all (said_in setting.now left.new.items)) }
+    ensures known { OnOk result (AreKnownIn setting.now left.new.items) }
+    ensures memory { IfErr result (λ failed. failed ≡ Memory) }
+{
+    match rules {
+        None => Ok(span.to),
+        Some(rules) => drop_end(alloc, setting, rules, left, span),
+    }
+}
+
 /// Goes through the requirements of a half from the last to the first, as `drop_in` does. The rules are those of the requirements beside both
 /// halves, where there are any.
 #[cycle(halves)]
@@ -391,10 +453,52 @@ fn drop_half<W: Watch>(
 }
 
 /// Goes through the requirements of a span from the last to the first, and drops each that is derivable from the others that are then left.
-/// The rules are those of the requirements beside the span, where there are any. Each half of the span is gone through with the rules to which
-/// the other half was added.
+/// The rules are those of the requirements beside the span, where there are any. Those at its end that are derivable by these are dropped first,
+/// before any rules grow.
 #[cycle(halves)]
 fn drop_in<W: Watch>(
+    alloc: Global,
+    setting: &Setting<'_>,
+    rules: Option<&ListRules<'_>>,
+    left: &mut Vec<Requirement>,
+    span: Span,
+    watch: &mut W,
+) -> Result<(), Failed>
+    requires setting { IsSetting setting.now }
+    requires rules { IfSome rules (λ rules. AreOfList setting.now
+        (said_in setting.now (take span.from left.old.items ++ drop span.to left.old.items)) rules.now) }
+    requires left { AreKnownIn setting.now left.old.items }
+    requires span { IsSpanOf left.old.items span }
+    ensures leaves { OnOk result ((all : List TermRequirement)
+        → span.to ≤ length all → IsLeftFrom (facts_in setting.now) (params_in setting.now) span.to all (said_in setting.now left.old.items)
+        → IsLeftFrom (facts_in setting.now) (params_in setting.now) span.from all (said_in setting.now left.new.items)) }
+    ensures stays { OnOk result ((kept : List Requirement)
+        × (left.new.items ≡ take span.from left.old.items ++ (kept ++ drop span.to left.old.items))) }
+    ensures known { OnOk result (AreKnownIn setting.now left.new.items) }
+    ensures told { OnOk result ((all : List TermRequirement)
+        → span.to ≤ length all → IsLeftFrom (facts_in setting.now) (params_in setting.now) span.to all (said_in setting.now left.old.items)
+        → TellsParts setting.now.limits (plan_in setting.now) (IsLeftWithout (facts_in setting.now) (params_in setting.now) all)
+        (W.told watch.old) (W.told watch.new)) }
+    ensures failed { IfErr result (λ failed. (all : List TermRequirement)
+        → span.to ≤ length all → IsLeftFrom (facts_in setting.now) (params_in setting.now) span.to all (said_in setting.now left.old.items)
+        → TellsFailure setting.now.limits (plan_in setting.now) (IsLeftWithout (facts_in setting.now) (params_in setting.now) all)
+        (W.told watch.old) (W.told watch.new) failed) }
+{
+    match drop_end_by(alloc, setting, rules, left, span) {
+        Ok(to) => {
+            let rest = Span {
+                from: span.from,
+                to,
+            };
+            drop_halves(alloc, setting, rules, left, rest, watch)
+        }
+        Err(failed) => Err(failed),
+    }
+}
+
+/// The same by halves: each half of the span is gone through with the rules to which the other half was added.
+#[cycle(halves)]
+fn drop_halves<W: Watch>(
     alloc: Global,
     setting: &Setting<'_>,
     rules: Option<&ListRules<'_>>,

@@ -18,10 +18,11 @@ ghost use Rattle.swreq_symbols.specs.Meaning.{symbols_of};
 ghost use Rattle.swreq_symbols.specs.Vanishing.{IsFirstBehind, IsLeastBy, Links};
 ghost use Rattle.swreq_minimal.specs.Typed.{Finds, Identifies, IsTypeBy, SaysBy, SpeaksBy};
 
+use crate::reader::Reader;
 use crate::typed::{bound, symbol_type, type_of};
-use std::alloc::{AllocError, Global};
+use std::alloc::AllocError;
 use swreq_complete::CompleteRules;
-use swreq_derive::{Params, Requirement};
+use swreq_derive::Requirement;
 use swreq_param::{AssocId, NameId, ParamTable, ProtoId, TermId};
 use swreq_symbols::{first_behind, name_at};
 use swreq_word::{Symbol, are_same};
@@ -63,26 +64,24 @@ fn first_named(
 
 /// The bound member of t, the type of the word, with the first associated type of the name for which the symbol behind it stands.
 fn last_member(
-    alloc: Global,
-    world: &World,
-    rules: &CompleteRules<'_>,
+    by: &Reader<'_, '_>,
     table: &mut ParamTable,
     t: TermId,
     front: &[Symbol],
     symbol: Symbol,
 ) -> Result<Option<TermId>, AllocError>
     requires t { IsOf table.old t }
-    requires least { IsLeastBy rules.now front.now }
+    requires least { IsLeastBy by.now.rules.now front.now }
     ensures member { IfOk result (λ o. MatchOption o
-        ((a : NameId) (d : AssocId) → IsNamed (symbols_of world.now.lexicon) symbol a
-        → IsFirstBehind world.now.lexicon rules.now front.now a d → ⊥)
-        (λ id. (a : NameId) × (d : AssocId) × IsNamed (symbols_of world.now.lexicon) symbol a
-        × IsFirstBehind world.now.lexicon rules.now front.now a d
+        ((a : NameId) (d : AssocId) → IsNamed (symbols_of by.now.world.now.lexicon) symbol a
+        → IsFirstBehind by.now.world.now.lexicon by.now.rules.now front.now a d → ⊥)
+        (λ id. (a : NameId) × (d : AssocId) × IsNamed (symbols_of by.now.world.now.lexicon) symbol a
+        × IsFirstBehind by.now.world.now.lexicon by.now.rules.now front.now a d
         × IsOf table.new id × (term_at table.new id ≡ Member (term_at table.old t) (Bound d)))) }
     ensures extends { Extends table.old table.new }
 {
-    let mut test: Vec<Symbol> = Vec::with_capacity(alloc, front.len() + 1)?;
-    match first_named(world, rules, front, symbol, &mut test) {
+    let mut test: Vec<Symbol> = Vec::with_capacity(by.alloc, front.len() + 1)?;
+    match first_named(by.world, by.rules, front, symbol, &mut test) {
         None => Ok(None),
         Some(d) => bound(table, t, d),
     }
@@ -90,37 +89,31 @@ fn last_member(
 
 /// The type parameter of which a left side speaks that has this symbol behind this word, which is not empty.
 fn spoken_behind(
-    alloc: Global,
-    world: &World,
-    rules: &CompleteRules<'_>,
-    params: Params,
+    by: &Reader<'_, '_>,
     table: &mut ParamTable,
     front: &[Symbol],
     symbol: Symbol,
 ) -> Result<Option<TermId>, AllocError>
     requires some { 0 < length front.now }
-    requires least { IsLeastBy rules.now front.now }
-    ensures spoken { IfOk result (Identifies (SpeaksBy world.now.lexicon rules.now params (front.now ++ symbol ∷ [])) table.new) }
+    requires least { IsLeastBy by.now.rules.now front.now }
+    ensures spoken { IfOk result (Identifies (SpeaksBy by.now.world.now.lexicon by.now.rules.now by.now.params (front.now ++ symbol ∷ [])) table.new) }
     ensures extends { Extends table.old table.new }
 {
-    let at = type_of(alloc, world, rules, params, table, front)?;
+    let at = type_of(by, table, front)?;
     match at {
         None => Ok(None),
-        Some(t) => last_member(alloc, world, rules, table, t, front, symbol),
+        Some(t) => last_member(by, table, t, front, symbol),
     }
 }
 
 /// The type parameter of which a left side speaks, or None where it speaks of none.
 fn spoken(
-    alloc: Global,
-    world: &World,
-    rules: &CompleteRules<'_>,
-    params: Params,
+    by: &Reader<'_, '_>,
     table: &mut ParamTable,
     left: &[Symbol],
 ) -> Result<Option<TermId>, AllocError>
-    requires { IsMinimal (Links rules.now) left.now }
-    ensures spoken { IfOk result (Identifies (SpeaksBy world.now.lexicon rules.now params left.now) table.new) }
+    requires { IsMinimal (Links by.now.rules.now) left.now }
+    ensures spoken { IfOk result (Identifies (SpeaksBy by.now.world.now.lexicon by.now.rules.now by.now.params left.now) table.new) }
     ensures extends { Extends table.old table.new }
 {
     if left.is_empty() {
@@ -128,17 +121,9 @@ fn spoken(
     }
     let last = left.len() - 1;
     if last == 0 {
-        return symbol_type(params, table, left[0]);
+        return symbol_type(by.params, table, left[0]);
     }
-    spoken_behind(
-        alloc,
-        world,
-        rules,
-        params,
-        table,
-        &left[..last],
-        left[last],
-    )
+    spoken_behind(by, table, &left[..last], left[last])
 }
 
 /// The symbol that stands behind the right side in the left side, or None where the left side is no such word.
@@ -218,23 +203,20 @@ fn same_type(table: &ParamTable, t: TermId, v: TermId) -> Option<Requirement>
 
 /// The same-type requirement that the rule says, where t is the type of its right side, or None where it says none.
 fn same_said(
-    alloc: Global,
-    world: &World,
-    rules: &CompleteRules<'_>,
-    params: Params,
+    by: &Reader<'_, '_>,
     table: &mut ParamTable,
     left: &[Symbol],
     t: TermId,
 ) -> Result<Option<Requirement>, AllocError>
-    requires minimal { IsMinimal (Links rules.now) left.now }
+    requires minimal { IsMinimal (Links by.now.rules.now) left.now }
     requires t { IsOf table.old t }
     ensures same { IfOk result (λ o. MatchOption o
-        ((v : Term) → SpeaksBy world.now.lexicon rules.now params left.now v → term_at table.old t ≡ v)
-        (λ r. (v : TermId) × (r ≡ Same t v) × IsOf table.new v × SpeaksBy world.now.lexicon rules.now params left.now (term_at table.new v)
+        ((v : Term) → SpeaksBy by.now.world.now.lexicon by.now.rules.now by.now.params left.now v → term_at table.old t ≡ v)
+        (λ r. (v : TermId) × (r ≡ Same t v) × IsOf table.new v × SpeaksBy by.now.world.now.lexicon by.now.rules.now by.now.params left.now (term_at table.new v)
         × (term_at table.old t ≡ term_at table.new v → ⊥))) }
     ensures extends { Extends table.old table.new }
 {
-    let other = spoken(alloc, world, rules, params, table, left)?;
+    let other = spoken(by, table, left)?;
     match other {
         None => Ok(None),
         Some(v) => Ok(same_type(table, t, v)),
@@ -243,45 +225,39 @@ fn same_said(
 
 /// What the rule says, where t is the type of its right side, or None where it says nothing.
 fn said_of(
-    alloc: Global,
-    world: &World,
-    rules: &CompleteRules<'_>,
-    params: Params,
+    by: &Reader<'_, '_>,
     table: &mut ParamTable,
     left: &[Symbol],
     right: &[Symbol],
     t: TermId,
 ) -> Result<Option<Requirement>, AllocError>
-    requires minimal { IsMinimal (Links rules.now) left.now }
+    requires minimal { IsMinimal (Links by.now.rules.now) left.now }
     requires t { IsOf table.old t }
-    requires typed { IsTypeBy world.now.lexicon rules.now params right.now (term_at table.old t) }
-    ensures said { IfOk result (Finds (SaysBy world.now.lexicon rules.now params left.now right.now) table.new world.now.lexicon) }
+    requires typed { IsTypeBy by.now.world.now.lexicon by.now.rules.now by.now.params right.now (term_at table.old t) }
+    ensures said { IfOk result (Finds (SaysBy by.now.world.now.lexicon by.now.rules.now by.now.params left.now right.now) table.new by.now.world.now.lexicon) }
     ensures extends { Extends table.old table.new }
 {
-    match property_said(world, left, right, t) {
+    match property_said(by.world, left, right, t) {
         Some(r) => Ok(Some(r)),
-        None => same_said(alloc, world, rules, params, table, left, t),
+        None => same_said(by, table, left, t),
     }
 }
 
 /// What a rule of the reduced system says, or None where it says nothing. Its left side is minimal and its right side least.
 pub(crate) fn said(
-    alloc: Global,
-    world: &World,
-    rules: &CompleteRules<'_>,
-    params: Params,
+    by: &Reader<'_, '_>,
     table: &mut ParamTable,
     left: &[Symbol],
     right: &[Symbol],
 ) -> Result<Option<Requirement>, AllocError>
-    requires minimal { IsMinimal (Links rules.now) left.now }
-    requires least { IsLeastBy rules.now right.now }
-    ensures said { IfOk result (Finds (SaysBy world.now.lexicon rules.now params left.now right.now) table.new world.now.lexicon) }
+    requires minimal { IsMinimal (Links by.now.rules.now) left.now }
+    requires least { IsLeastBy by.now.rules.now right.now }
+    ensures said { IfOk result (Finds (SaysBy by.now.world.now.lexicon by.now.rules.now by.now.params left.now right.now) table.new by.now.world.now.lexicon) }
     ensures extends { Extends table.old table.new }
 {
-    let at = type_of(alloc, world, rules, params, table, right)?;
+    let at = type_of(by, table, right)?;
     match at {
         None => Ok(None),
-        Some(t) => said_of(alloc, world, rules, params, table, left, right, t),
+        Some(t) => said_of(by, table, left, right, t),
     }
 }

@@ -12,12 +12,11 @@ ghost use Rattle.swreq_symbols.specs.Vanishing.{IsLeastBy};
 ghost use Rattle.swreq_minimal.specs.Typed.{Identifies, IsMemberBehind, IsTypeBy};
 
 use crate::given::member_behind;
-use std::alloc::{AllocError, Global};
-use swreq_complete::CompleteRules;
+use crate::reader::Reader;
+use std::alloc::AllocError;
 use swreq_derive::Params;
 use swreq_param::{AssocId, ParamId, ParamTable, Step, TermId};
 use swreq_word::Symbol;
-use swreq_world::World;
 
 /// The type of the word of a generic parameter's symbol, or None where the generic parameter is none of these.
 fn generic(params: Params, table: &mut ParamTable, g: ParamId) -> Result<Option<TermId>, AllocError>
@@ -79,8 +78,7 @@ pub(crate) fn bound(
 
 /// The bound member of t for which the symbol stands behind a word of the type t, or None where it stands for none.
 fn step(
-    world: &World,
-    rules: &CompleteRules<'_>,
+    by: &Reader<'_, '_>,
     table: &mut ParamTable,
     t: TermId,
     front: &[Symbol],
@@ -88,16 +86,16 @@ fn step(
     test: &mut Vec<Symbol>,
 ) -> Result<Option<TermId>, AllocError>
     requires t { IsOf table.old t }
-    requires least { IsLeastBy rules.now front.now }
+    requires least { IsLeastBy by.now.rules.now front.now }
     requires fits { length front.now + 1 ≤ vec_capacity test.old }
     ensures member { IfOk result (λ o. MatchOption o
-        ((d : AssocId) → IsMemberBehind world.now.lexicon rules.now front.now symbol d → ⊥)
-        (λ id. (d : AssocId) × IsMemberBehind world.now.lexicon rules.now front.now symbol d
+        ((d : AssocId) → IsMemberBehind by.now.world.now.lexicon by.now.rules.now front.now symbol d → ⊥)
+        (λ id. (d : AssocId) × IsMemberBehind by.now.world.now.lexicon by.now.rules.now front.now symbol d
         × IsOf table.new id × (term_at table.new id ≡ Member (term_at table.old t) (Bound d)))) }
     ensures extends { Extends table.old table.new }
     ensures room { vec_capacity test.old ≤ vec_capacity test.new }
 {
-    match member_behind(world, rules, front, symbol, test) {
+    match member_behind(by.world, by.rules, front, symbol, test) {
         None => Ok(None),
         Some(d) => bound(table, t, d),
     }
@@ -105,8 +103,7 @@ fn step(
 
 /// The type of a word with this symbol behind it, where that of the word is known.
 fn go_on(
-    world: &World,
-    rules: &CompleteRules<'_>,
+    by: &Reader<'_, '_>,
     table: &mut ParamTable,
     at: Option<TermId>,
     front: &[Symbol],
@@ -115,36 +112,33 @@ fn go_on(
 ) -> Result<Option<TermId>, AllocError>
     requires at { MatchOption at (Unit {0}) (IsOf table.old) }
     requires some { 0 < length front.now }
-    requires least { IsLeastBy rules.now front.now }
+    requires least { IsLeastBy by.now.rules.now front.now }
     requires fits { length front.now + 1 ≤ vec_capacity test.old }
-    ensures typed { (params : Params) → Identifies (IsTypeBy world.now.lexicon rules.now params front.now) table.old at
-        → IfOk result (Identifies (IsTypeBy world.now.lexicon rules.now params (front.now ++ symbol ∷ [])) table.new) }
+    ensures typed { (params : Params) → Identifies (IsTypeBy by.now.world.now.lexicon by.now.rules.now params front.now) table.old at
+        → IfOk result (Identifies (IsTypeBy by.now.world.now.lexicon by.now.rules.now params (front.now ++ symbol ∷ [])) table.new) }
     ensures extends { Extends table.old table.new }
     ensures room { vec_capacity test.old ≤ vec_capacity test.new }
 {
     match at {
         None => Ok(None),
-        Some(t) => step(world, rules, table, t, front, symbol, test),
+        Some(t) => step(by, table, t, front, symbol, test),
     }
 }
 
 /// The type of a word, by these rules, or None where it has none.
 pub(crate) fn type_of(
-    alloc: Global,
-    world: &World,
-    rules: &CompleteRules<'_>,
-    params: Params,
+    by: &Reader<'_, '_>,
     table: &mut ParamTable,
     word: &[Symbol],
 ) -> Result<Option<TermId>, AllocError>
-    requires { IsLeastBy rules.now word.now }
-    ensures typed { IfOk result (Identifies (IsTypeBy world.now.lexicon rules.now params word.now) table.new) }
+    requires { IsLeastBy by.now.rules.now word.now }
+    ensures typed { IfOk result (Identifies (IsTypeBy by.now.world.now.lexicon by.now.rules.now by.now.params word.now) table.new) }
     ensures extends { Extends table.old table.new }
 {
-    let mut test: Vec<Symbol> = Vec::with_capacity(alloc, word.len() + 1)?;
-    let mut at = begin(params, table, word)?;
+    let mut test: Vec<Symbol> = Vec::with_capacity(by.alloc, word.len() + 1)?;
+    let mut at = begin(by.params, table, word)?;
     for k in 1..word.len() {
-        let next = go_on(world, rules, table, at, &word[..k], word[k], &mut test)?;
+        let next = go_on(by, table, at, &word[..k], word[k], &mut test)?;
         at = next;
     }
     Ok(at)

@@ -5,7 +5,7 @@ use Rattle.swreq_minimal.proofs.candidates.collect.Given as goal
 
 abbrev pub invariant-loop-k : goal.invariant-loop-k
 invariant-loop-k l = record {
-  said : IsSaidList l.world.lexicon l.rules l.params l.system l.k (listed l.table l.found.items);
-  known : AreKnown l.table l.world.lexicon l.found.items;
+  said : IsSaidList l.by.world.now.lexicon l.by.rules.now l.by.params l.system l.k (listed l.table l.found.items);
+  known : AreKnown l.table l.by.world.now.lexicon l.found.items;
   extends : Extends l.initial.table l.table;
 }

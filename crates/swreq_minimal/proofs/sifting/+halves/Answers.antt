@@ -1,4 +1,4 @@
-use Rattle.std.proofs.Common.{◌≡◌, ◌↔◌, ◌∙◌, ◌≤◌, ◌+◌, ◌-◌, ◌/◌, ◌++◌, arith, ap, sym, subst, suc, List, take, drop, length, Contains, IfSome, OnOk}
+use Rattle.std.proofs.Common.{◌≡◌, ◌↔◌, ◌∙◌, ◌≤◌, ◌+◌, ◌-◌, ◌/◌, ◌++◌, arith, ap, sym, subst, suc, List, take, drop, length, Contains, IfSome, OnOk, []}
 use Rattle.std.specs.Borrow.{Bor}
 use Rattle.std.specs.Prelude.{remove}
 use Rattle.std.proofs.lemmas.Result.{IfErr-weaker, on_ok_weaker}
@@ -11,6 +11,7 @@ use Rattle.swreq_minimal.specs.Halves.{AreBesideBoth, beside, part_of}
 use Rattle.swreq_minimal.specs.Passed.{IsLeftFrom, IsLeftWithout}
 use Rattle.swreq_minimal.specs.Told.{TellsFailure}
 use Rattle.swreq_minimal.proofs.Halving.{both_stay, for_first, for_second, grown_to, halves, if_some_weaker, new_length, one_place, where_borrowed}
+use Rattle.swreq_minimal.proofs.Ending.{beside_stays, shorter}
 use Rattle.swreq_minimal.proofs.Inserting.{any}
 use Rattle.swreq_minimal.proofs.Passing.{passed_on, is_without, without}
 use Rattle.swreq_minimal.proofs.Telling.{failure_of, fails_after, tells_of, tells_on, wants_at_once}
@@ -18,8 +19,8 @@ use Rattle.swreq_minimal.proofs.sifting.+halves.Goals as goal
 
 -- ---- a span of one place
 
-pub drop_in-drop_at-requires-clause-rules : goal.drop_in-drop_at-requires-clause-rules
-drop_in-drop_at-requires-clause-rules g t c =
+pub drop_halves-drop_at-requires-clause-rules : goal.drop_halves-drop_at-requires-clause-rules
+drop_halves-drop_at-requires-clause-rules g t c =
     let s = c.args.setting.now in
     let now = c.args.left.now.items in
     let from = c.args.span.from in
@@ -28,8 +29,8 @@ drop_in-drop_at-requires-clause-rules g t c =
     subst (λ (z : List Requirement). IfSome c.args.rules (λ (rules : Bor ListRulesView). AreOfList s (said_in s z) rules.now))
     (ap (λ n. take from now ++ drop n now) one ∙ sym (without s.table.now now from any (omega (arith, w, one)))) c.requires.rules
 
-pub drop_in-returns-then-middle-span-clause-leaves : goal.drop_in-returns-then-middle-span-clause-leaves
-drop_in-returns-then-middle-span-clause-leaves g t c =
+pub drop_halves-returns-then-middle-span-clause-leaves : goal.drop_halves-returns-then-middle-span-clause-leaves
+drop_halves-returns-then-middle-span-clause-leaves g t c =
     let s = c.args.setting.now in
     let from = c.args.span.from in
     let one : c.args.span.to ≡ suc from = one_place from c.args.span.to c.requires.span.0 c.if-middle-span.true in
@@ -38,16 +39,16 @@ drop_in-returns-then-middle-span-clause-leaves g t c =
     (subst (λ n. IsLeftFrom (facts_in s) (params_in s) n all (said_in s c.args.left.now.items)) one left) c.drop_at.new.left.items leaves)
     c.drop_at.ensures.leaves
 
-pub drop_in-returns-then-middle-span-clause-stays : goal.drop_in-returns-then-middle-span-clause-stays
-drop_in-returns-then-middle-span-clause-stays g t c =
+pub drop_halves-returns-then-middle-span-clause-stays : goal.drop_halves-returns-then-middle-span-clause-stays
+drop_halves-returns-then-middle-span-clause-stays g t c =
     let from = c.args.span.from in
     let now = c.args.left.now.items in
     let one : c.args.span.to ≡ suc from = one_place from c.args.span.to c.requires.span.0 c.if-middle-span.true in
     subst (λ n. OnOk c.drop_at.result ((kept : List Requirement) × (c.drop_at.new.left.items ≡ take from now ++ (kept ++ drop n now)))) (sym one)
     c.drop_at.ensures.stays
 
-pub drop_in-returns-then-middle-span-clause-told : goal.drop_in-returns-then-middle-span-clause-told
-drop_in-returns-then-middle-span-clause-told g t c =
+pub drop_halves-returns-then-middle-span-clause-told : goal.drop_halves-returns-then-middle-span-clause-told
+drop_halves-returns-then-middle-span-clause-told g t c =
     let s = c.args.setting.now in
     let from = c.args.span.from in
     let one : c.args.span.to ≡ suc from = one_place from c.args.span.to c.requires.span.0 c.if-middle-span.true in
@@ -59,8 +60,8 @@ drop_in-returns-then-middle-span-clause-told g t c =
     (g.W.Watch.told c.args.watch.now) (g.W.Watch.told c.drop_at.new.watch) told)
     c.drop_at.ensures.told
 
-pub drop_in-returns-then-middle-span-clause-failed : goal.drop_in-returns-then-middle-span-clause-failed
-drop_in-returns-then-middle-span-clause-failed g t c =
+pub drop_halves-returns-then-middle-span-clause-failed : goal.drop_halves-returns-then-middle-span-clause-failed
+drop_halves-returns-then-middle-span-clause-failed g t c =
     let s = c.args.setting.now in
     let from = c.args.span.from in
     let one : c.args.span.to ≡ suc from = one_place from c.args.span.to c.requires.span.0 c.if-middle-span.true in
@@ -71,6 +72,69 @@ drop_in-returns-then-middle-span-clause-failed g t c =
     (subst (λ n. IsLeftFrom (facts_in s) (params_in s) n all (said_in s c.args.left.now.items)) one left)))
     (g.W.Watch.told c.args.watch.now) (g.W.Watch.told c.drop_at.new.watch) failed h)
     c.drop_at.ensures.failed
+
+-- ---- a span that ends earlier
+
+pub drop_in-drop_halves-requires : goal.drop_in-drop_halves-requires
+drop_in-drop_halves-requires g t c κs sub =
+    let s = c.args.setting.now in
+    let old = c.args.left.now.items in
+    let now = c.drop_end_by.new.left.items in
+    let from = c.args.span.from in
+    let (after, within) = c.in-Ok.ensures.within in
+    let is = c.in-Ok.ensures.stays in
+    let all = c.requires.span.1 in
+    let same = beside_stays old now from c.in-Ok.to c.args.span.to (omega (arith, after)) within all is in
+    let long = shorter old now from c.in-Ok.to c.args.span.to (omega (arith, after)) within all is in (
+      omega (arith, c.decreases, within),
+      (
+        sub,
+        (
+          c.requires.setting,
+          (
+            subst (λ (z : List Requirement). IfSome c.args.rules (λ (rules : Bor ListRulesView). AreOfList s (said_in s z) rules.now)) (sym same) c.requires.rules,
+            (c.in-Ok.ensures.known, (after, omega (arith, long))),
+          ),
+        ),
+      ),
+    )
+
+pub drop_in-returns-in-Ok-clause-stays : goal.drop_in-returns-in-Ok-clause-stays
+drop_in-returns-in-Ok-clause-stays g t c =
+    let (after, within) = c.in-Ok.ensures.within in
+    on_ok_weaker c.drop_halves.result (λ h. (
+      h.0 ++ [],
+      both_stay c.args.left.now.items c.args.span.from c.in-Ok.to c.args.span.to (omega (arith, after)) within c.requires.span.1
+          c.drop_end_by.new.left.items [] c.in-Ok.ensures.stays c.drop_halves.new.left.items h.0 h.1,
+    )) c.drop_halves.ensures.stays
+
+pub drop_in-returns-in-Ok-clause-leaves : goal.drop_in-returns-in-Ok-clause-leaves
+drop_in-returns-in-Ok-clause-leaves g t c =
+    let (after, within) = c.in-Ok.ensures.within in
+    on_ok_weaker c.drop_halves.result (λ h all all_within left.
+    h all (omega (arith, within, all_within)) (c.in-Ok.ensures.leaves all all_within left))
+    c.drop_halves.ensures.leaves
+
+pub drop_in-returns-in-Ok-clause-told : goal.drop_in-returns-in-Ok-clause-told
+drop_in-returns-in-Ok-clause-told g t c =
+    let (after, within) = c.in-Ok.ensures.within in
+    on_ok_weaker c.drop_halves.result (λ h all all_within left.
+    h all (omega (arith, within, all_within)) (c.in-Ok.ensures.leaves all all_within left))
+    c.drop_halves.ensures.told
+
+pub drop_in-returns-in-Ok-clause-failed : goal.drop_in-returns-in-Ok-clause-failed
+drop_in-returns-in-Ok-clause-failed g t c =
+    let (after, within) = c.in-Ok.ensures.within in
+    IfErr-weaker c.drop_halves.result _ _ (λ failed h all all_within left.
+    h all (omega (arith, within, all_within)) (c.in-Ok.ensures.leaves all all_within left))
+    c.drop_halves.ensures.failed
+
+pub drop_in-returns-in-Err-clause-failed : goal.drop_in-returns-in-Err-clause-failed
+drop_in-returns-in-Err-clause-failed g t c all within left =
+    let s = c.args.setting.now in
+    let P = IsLeftWithout (facts_in s) (params_in s) all in
+    subst (TellsFailure s.limits (plan_in s) P (g.W.Watch.told c.args.watch.now) (g.W.Watch.told c.args.watch.now)) (sym c.in-Err.ensures.memory)
+    (wants_at_once s.limits (plan_in s) P (g.W.Watch.told c.args.watch.now))
 
 -- ---- a half of a span
 
@@ -107,8 +171,8 @@ drop_half-returns-in-Err-clause-failed g t c all within left =
 
 -- ---- both halves
 
-pub drop_in-drop_half-requires : goal.drop_in-drop_half-requires
-drop_in-drop_half-requires g t c κs sub =
+pub drop_halves-drop_half-requires : goal.drop_halves-drop_half-requires
+drop_halves-drop_half-requires g t c κs sub =
     let s = c.args.setting.now in
     let now = c.args.left.now.items in
     let from = c.args.span.from in
@@ -124,8 +188,8 @@ drop_in-drop_half-requires g t c κs sub =
     )) c.requires.rules in
     (omega (arith, c.decreases, half.0, half.1), (sub, (c.requires.setting, (rules, (c.requires.left, ((half.1, within), (omega (arith, half.0), omega (arith, half.1, within))))))))
 
-pub drop_in-drop_half-requires-2 : goal.drop_in-drop_half-requires-2
-drop_in-drop_half-requires-2 g t c κs sub =
+pub drop_halves-drop_half-requires-2 : goal.drop_halves-drop_half-requires-2
+drop_halves-drop_half-requires-2 g t c κs sub =
     let s = c.args.setting.now in
     let now = c.args.left.now.items in
     let from = c.args.span.from in
@@ -164,8 +228,8 @@ drop_in-drop_half-requires-2 g t c κs sub =
       ),
     )
 
-pub drop_in-returns-clause-stays : goal.drop_in-returns-clause-stays
-drop_in-returns-clause-stays g t c =
+pub drop_halves-returns-clause-stays : goal.drop_halves-returns-clause-stays
+drop_halves-returns-clause-stays g t c =
     let from = c.args.span.from in
     let to = c.args.span.to in
     let half = halves from to c.requires.span.0 c.if-middle-span.false in
@@ -176,8 +240,8 @@ drop_in-returns-clause-stays g t c =
           c.drop_half.new.left.items kept is c.drop_half-2.new.left.items h.0 h.1,
     )) c.drop_half-2.ensures.stays
 
-pub drop_in-returns-clause-told : goal.drop_in-returns-clause-told
-drop_in-returns-clause-told g t c =
+pub drop_halves-returns-clause-told : goal.drop_halves-returns-clause-told
+drop_halves-returns-clause-told g t c =
     let s = c.args.setting.now in
     let half = halves c.args.span.from c.args.span.to c.requires.span.0 c.if-middle-span.false in
     on_ok_weaker c.drop_half-2.result (λ h all within left.
@@ -187,8 +251,8 @@ drop_in-returns-clause-told g t c =
     (h all (omega (arith, within, half.1)) (c.in-Ok.ensures.leaves all within left)))
     c.drop_half-2.ensures.told
 
-pub drop_in-returns-clause-failed : goal.drop_in-returns-clause-failed
-drop_in-returns-clause-failed g t c =
+pub drop_halves-returns-clause-failed : goal.drop_halves-returns-clause-failed
+drop_halves-returns-clause-failed g t c =
     let s = c.args.setting.now in
     let half = halves c.args.span.from c.args.span.to c.requires.span.0 c.if-middle-span.false in
     IfErr-weaker c.drop_half-2.result _ _ (λ failed h all within left.

@@ -5,11 +5,11 @@ use Rattle.swreq_minimal.proofs.spoken.same_said.Goals as goal
 
 pub returns-in-None-clause-same : goal.returns-in-None-clause-same
 returns-in-None-clause-same c =
-    none_same c.args.world.now.lexicon c.args.rules.now c.args.params c.args.left.now c.args.table.now c.spoken.new.table c.args.t
-    (subst (λ z. Identifies (SpeaksBy c.args.world.now.lexicon c.args.rules.now c.args.params c.args.left.now) c.spoken.new.table z) c.in-None.is c.in_ok-other.ensures.spoken)
+    none_same c.args.by.now.world.now.lexicon c.args.by.now.rules.now c.args.by.now.params c.args.left.now c.args.table.now c.spoken.new.table c.args.t
+    (subst (λ z. Identifies (SpeaksBy c.args.by.now.world.now.lexicon c.args.by.now.rules.now c.args.by.now.params c.args.left.now) c.spoken.new.table z) c.in-None.is c.in_ok-other.ensures.spoken)
 
 pub returns-in-Some-clause-same : goal.returns-in-Some-clause-same
 returns-in-Some-clause-same c =
-    let spoken = subst (λ z. Identifies (SpeaksBy c.args.world.now.lexicon c.args.rules.now c.args.params c.args.left.now) c.spoken.new.table z) c.in-Some.is c.in_ok-other.ensures.spoken in
-    some_same c.args.world.now.lexicon c.args.rules.now c.args.params c.args.left.now c.args.table.now c.spoken.new.table c.args.t c.in-Some.v
+    let spoken = subst (λ z. Identifies (SpeaksBy c.args.by.now.world.now.lexicon c.args.by.now.rules.now c.args.by.now.params c.args.left.now) c.spoken.new.table z) c.in-Some.is c.in_ok-other.ensures.spoken in
+    some_same c.args.by.now.world.now.lexicon c.args.by.now.rules.now c.args.by.now.params c.args.left.now c.args.table.now c.spoken.new.table c.args.t c.in-Some.v
     c.spoken.ensures.extends c.requires.t spoken.0 spoken.1 c.same_type.result c.same_type.ensures

@@ -9,15 +9,15 @@ use Rattle.swreq_minimal.proofs.spoken.spoken.Goals as goal
 pub returns-then-is_empty-clause-spoken : goal.returns-then-is_empty-clause-spoken
 returns-then-is_empty-clause-spoken c =
     let e : length c.args.left.now ≡ 0 = search rules in
-    spoken_empty c.args.world.now.lexicon c.args.rules.now c.args.params c.args.left.now e
+    spoken_empty c.args.by.now.world.now.lexicon c.args.by.now.rules.now c.args.by.now.params c.args.left.now e
 
 pub returns-then-last-eq0-clause-spoken : goal.returns-then-last-eq0-clause-spoken
 returns-then-last-eq0-clause-spoken c =
     let l : 0 < length c.args.left.now = search rules in
     let e : length c.args.left.now ≡ 1 = omega (arith, l, c.if-last-eq0.true) in
     IfOk-weaker c.symbol_type.result _ _
-    (spoken_single c.args.world.now.lexicon c.args.rules.now c.args.params c.args.left.now (Proto 0) e c.symbol_type.new.table)
-    (c.symbol_type.ensures.typed c.args.world.now.lexicon c.args.rules.now)
+    (spoken_single c.args.by.now.world.now.lexicon c.args.by.now.rules.now c.args.by.now.params c.args.left.now (Proto 0) e c.symbol_type.new.table)
+    (c.symbol_type.ensures.typed c.args.by.now.world.now.lexicon c.args.by.now.rules.now)
 
 pub spoken_behind-requires-clause-some : goal.spoken_behind-requires-clause-some
 spoken_behind-requires-clause-some c =
@@ -29,10 +29,10 @@ spoken_behind-requires-clause-some c =
 pub spoken_behind-requires-clause-least : goal.spoken_behind-requires-clause-least
 spoken_behind-requires-clause-least c =
     let l : 0 < length c.args.left.now = search rules in
-    front_least (Links c.args.rules.now) c.args.left.now (length c.args.left.now - 1) c.requires (omega (arith, l))
+    front_least (Links c.args.by.now.rules.now) c.args.left.now (length c.args.left.now - 1) c.requires (omega (arith, l))
 
 pub returns-clause-spoken : goal.returns-clause-spoken
 returns-clause-spoken c =
     let l : 0 < length c.args.left.now = search rules in
-    subst (λ z. IfOk c.spoken_behind.result (Identifies (SpeaksBy c.args.world.now.lexicon c.args.rules.now c.args.params z) c.spoken_behind.new.table))
+    subst (λ z. IfOk c.spoken_behind.result (Identifies (SpeaksBy c.args.by.now.world.now.lexicon c.args.by.now.rules.now c.args.by.now.params z) c.spoken_behind.new.table))
     (sym (with_last c.args.left.now (length c.args.left.now - 1) (Proto 0) (omega (arith, l)))) c.spoken_behind.ensures.spoken

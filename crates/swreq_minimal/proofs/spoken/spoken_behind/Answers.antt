@@ -6,12 +6,12 @@ use Rattle.swreq_minimal.proofs.spoken.spoken_behind.Goals as goal
 
 pub returns-in-None-clause-spoken : goal.returns-in-None-clause-spoken
 returns-in-None-clause-spoken c =
-    none_behind c.args.world.now.lexicon c.args.rules.now c.args.params c.args.front.now c.args.symbol c.requires.some
-    (subst (λ z. Identifies (IsTypeBy c.args.world.now.lexicon c.args.rules.now c.args.params c.args.front.now) c.type_of.new.table z) c.in-None.is c.in_ok-at.ensures.typed)
+    none_behind c.args.by.now.world.now.lexicon c.args.by.now.rules.now c.args.by.now.params c.args.front.now c.args.symbol c.requires.some
+    (subst (λ z. Identifies (IsTypeBy c.args.by.now.world.now.lexicon c.args.by.now.rules.now c.args.by.now.params c.args.front.now) c.type_of.new.table z) c.in-None.is c.in_ok-at.ensures.typed)
 
 pub returns-in-Some-clause-spoken : goal.returns-in-Some-clause-spoken
 returns-in-Some-clause-spoken c =
-    let typed = subst (λ z. Identifies (IsTypeBy c.args.world.now.lexicon c.args.rules.now c.args.params c.args.front.now) c.type_of.new.table z) c.in-Some.is c.in_ok-at.ensures.typed in
+    let typed = subst (λ z. Identifies (IsTypeBy c.args.by.now.world.now.lexicon c.args.by.now.rules.now c.args.by.now.params c.args.front.now) c.type_of.new.table z) c.in-Some.is c.in_ok-at.ensures.typed in
     IfOk-weaker c.last_member.result _ _
-    (some_behind c.args.world.now.lexicon c.args.rules.now c.args.params c.args.front.now c.args.symbol c.requires.some c.type_of.new.table c.last_member.new.table c.in-Some.t typed.1)
+    (some_behind c.args.by.now.world.now.lexicon c.args.by.now.rules.now c.args.by.now.params c.args.front.now c.args.symbol c.requires.some c.type_of.new.table c.last_member.new.table c.in-Some.t typed.1)
     c.last_member.ensures.member
