@@ -179,10 +179,14 @@ fn add_signature(
     alloc: Global,
     names: &Lexicon,
     table: &ParamTable,
-    params: Params,
-    list: &[Requirement],
+    signature: &(u32, u32, &[Requirement]),
     out: &mut Vec<u8>,
 ) -> Result<(), AllocError> {
+    let (outer, inner, list) = signature;
+    let params = Params {
+        outer: *outer,
+        inner: *inner,
+    };
     assert!(rt; are_over(table, list));
     signature_text(alloc, names, table, params, list, out)?;
     Ok(out.push(b'\n')?)
@@ -196,12 +200,8 @@ fn add_signatures(
     table: &ParamTable,
     out: &mut Vec<u8>,
 ) -> Result<(), AllocError> {
-    for (outer, inner, list) in SIGNATURES {
-        let params = Params {
-            outer: *outer,
-            inner: *inner,
-        };
-        add_signature(rt, alloc, names, table, params, list, out)?;
+    for signature in SIGNATURES {
+        add_signature(rt, alloc, names, table, signature, out)?;
     }
     Ok(())
 }

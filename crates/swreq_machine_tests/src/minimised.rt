@@ -11,7 +11,8 @@ use crate::worlds::world_of;
 use std::alloc::Global;
 use std::process::Abort;
 use std::test::Fail;
-use swreq_complete::Limits;
+use swreq_complete::{Failed, Limits};
+use swreq_derive::Requirement;
 use swreq_minimal::minimise;
 use swreq_param::ParamTable;
 use swreq_valid::{Machine, Protocols, Refused};
@@ -45,43 +46,34 @@ fn machine_of<'b>(
     )
 }
 
-/// How many requirements minimising keeps of the list of the machine, or why it fails.
-fn kept(
-    alloc: Global,
-    world: &World,
-    table: &mut ParamTable,
-    protocols: &Protocols,
-    machine: &Machine,
-    limits: Limits,
-    watch: &mut Recorder,
-) -> Result<String, Fail>
-    requires text { IsTextOver table.old world.now }
-    requires protocols { AreRulesOf (world_by table.old world.now) (last_rules protocols.now.rounds) }
-    requires limits { AreInRange limits }
-{
-    match minimise(alloc, world, table, protocols, machine, limits, watch) {
+/// How many requirements minimising keeps, or why it fails.
+fn told(alloc: Global, kept: Result<Vec<Requirement>, Failed>) -> Result<String, Fail> {
+    match kept {
         Ok(list) => Ok(format!(in alloc; "{}", list.len())?),
         Err(failed) => Ok(why_not(&failed).to_string(alloc)?),
     }
 }
 
-/// The same of the list of a signature.
+/// The same of the list of the first signature.
 fn kept_of(
     alloc: Global,
     world: &World,
     table: &mut ParamTable,
     protocols: &Protocols,
-    f: FuncId,
     limits: Limits,
     watch: &mut Recorder,
 ) -> Result<String, Fail>
     requires text { IsTextOver table.old world.now }
     requires protocols { AreRulesOf (world_by table.old world.now) (last_rules protocols.now.rounds) }
-    requires f { f.place < length world.now.signatures }
+    requires some { 0 < length world.now.signatures }
     requires limits { AreInRange limits }
 {
+    let f = FuncId { place: 0 };
     match machine_of(alloc, world, table, protocols, f, LIMITS) {
-        Ok(machine) => kept(alloc, world, table, protocols, &machine, limits, watch),
+        Ok(machine) => {
+            let kept = minimise(alloc, world, table, protocols, &machine, limits, watch);
+            told(alloc, kept)
+        }
         Err(_) => Err("no machine".into()),
     }
 }
@@ -97,12 +89,11 @@ fn kept_of_first(
     requires text { IsTextOver table.old world.now }
     requires limits { AreInRange limits }
 {
-    let f = FuncId { place: 0 };
-    if f.place >= world.functions() {
+    if world.functions() == 0 {
         return Err("no signature".into());
     }
     match Protocols::build(alloc, world, table, LIMITS, &mut Quiet) {
-        Ok(protocols) => kept_of(alloc, world, table, &protocols, f, limits, watch),
+        Ok(protocols) => kept_of(alloc, world, table, &protocols, limits, watch),
         Err(_) => Err("no rules".into()),
     }
 }

@@ -119,25 +119,23 @@ fn shown_by_pair(
 fn put_shown(
     rt: &impl Abort,
     alloc: Global,
-    text: &str,
-    pair: (u32, u32),
-    keep: &str,
-    may: &str,
+    row: &(&str, (u32, u32), &str, &str, &str),
     out: &mut String,
 ) -> Result<(), Fail> {
+    let (text, pair, keep, may, _) = row;
     let list = rules(alloc, text)?;
     put_evidence(
         out,
-        shown_by_pair(rt, alloc, list.rules(), pair, keep, may)?,
+        shown_by_pair(rt, alloc, list.rules(), *pair, keep, may)?,
     )
 }
 
 #[test]
 fn a_loop_shows_rules_that_it_uses_bare_and_once(rt: HostRuntime) -> Result<(), Fail> {
-    for (text, pair, keep, may, wanted) in SHOWN {
+    for row in SHOWN {
         let mut out = String::new(rt.alloc());
-        put_shown(&rt, rt.alloc(), text, *pair, keep, may, &mut out)?;
-        assert_same(&rt, &out, wanted);
+        put_shown(&rt, rt.alloc(), row, &mut out)?;
+        assert_same(&rt, &out, row.4);
     }
     Ok(())
 }
