@@ -15,7 +15,7 @@ fn main(rt: HostRuntime) -> ExitCode {
     let words = match words(&rt) {
         Ok(words) => words,
         Err(e) if e.kind() == ErrorKind::OutOfMemory => return ExitCode::from(OUT_OF_MEMORY),
-        // Words that are no text are wrong words, as none are.
+        // Words that are not UTF-8 are wrong words, as no words are.
         Err(_) => Vec::new(rt.alloc()),
     };
     let mut src = StdSource::new(rt.stdin());

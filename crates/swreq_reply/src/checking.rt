@@ -220,7 +220,7 @@ fn check_all<W: Watch>(
     Ok(())
 }
 
-/// So many places, none of them filled.
+/// `count` places, none of them filled.
 fn no_pieces(alloc: Global, count: usize) -> Result<Vec<Option<Seq<u8>>>, AllocError>
     ensures { IfOk result (AreNone count) }
 {

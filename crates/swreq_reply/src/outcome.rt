@@ -156,7 +156,7 @@ fn with_skeleton<W: Watch>(
     over_table(r, skeleton, &mut table, watch)
 }
 
-/// The same, where this table is for the type parameters of the text.
+/// Resolves the names, with the type parameters of the text in this table, and answers.
 fn over_table<W: Watch>(
     r: &Request<'_>,
     skeleton: &Skeleton,

@@ -25,7 +25,7 @@ pub(crate) struct Passed<'a> {
     pub limits: Limits,
 }
 
-/// The want of memory for which alone a list that has passed the check is refused.
+/// Why the machine of a list that has passed the check is refused: only since memory ran out.
 fn lost(_refused: &Refused) -> AllocError
     requires { _refused.now ≡ Memory }
 {

@@ -47,7 +47,7 @@ fn maker(world: &World, content: Content, k: usize) -> Option<FuncId>
     }
 }
 
-/// So many lists without places.
+/// `count` lists without places.
 fn no_places(alloc: Global, count: usize) -> Result<Vec<Vec<usize>>, AllocError>
     ensures count { IfOk result (λ v. length v.items ≡ count) }
     ensures empty { IfOk result (λ v. All (λ (places : Vec ℕ GlobalView). places.items ≡ []) v.items) }

@@ -32,7 +32,7 @@ pub(crate) fn list_asked(query: &Query) -> Option<FuncId>
     }
 }
 
-/// So many flags, all of them alike.
+/// `count` flags that are all alike.
 fn flags(alloc: Global, count: usize, flag: bool) -> Result<Vec<bool>, AllocError>
     ensures { IfOk result (λ v. AreFlags (λ k. flag) count v.items) }
 {

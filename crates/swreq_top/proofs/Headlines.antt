@@ -1,10 +1,10 @@
 -- What is printed with status 0 says the sentences of the headline.
-use Rattle.std.proofs.Common.{◌≡◌, ◌⊎◌, ◌∙◌, append-nil, ℕ, refl, sym, ap, subst, inl, inr, zero, suc, false, List, ◌++◌, Option, Some, None, IfSome, map, arith}
+use Rattle.std.proofs.Common.{◌≡◌, ◌⊎◌, ◌∙◌, append-nil, Contains, ℕ, refl, sym, ap, subst, inl, inr, zero, suc, false, List, ◌++◌, Option, Some, None, IfSome, map, arith}
 use Rattle.std.specs.Prelude.{◌↔◌, codes, slice_get}
 use Rattle.std.specs.Io.KnownBytes.{Appends}
 use Rattle.std.proofs.lemmas.List.{append_cancel_left}
-use Rattle.std.proofs.lemmas.List.Elements.{All-contains}
-use Rattle.std.proofs.lemmas.Option.{IfSome_then}
+use Rattle.std.proofs.lemmas.List.Elements.{All-contains, Contains-get_or}
+use Rattle.std.proofs.lemmas.Option.{IfSome_then, get_or_from_slice_get, slice_get_within}
 use Rattle.swreq_param.specs.Terms.{Term}
 use Rattle.swreq_derive.specs.Derivation.{BookDerivable, Derivable, Source, TermRequirement, TermStatement}
 use Rattle.swreq_derive.specs.Derivation.TermRequirement.{Conforms, IsAnyObject, Equals}
@@ -22,8 +22,8 @@ use Rattle.swreq_lowering.specs.declared.ids.FuncId.{FuncId}
 use Rattle.swreq_lowering.specs.Queries.{TermQuery}
 use Rattle.swreq_lowering.specs.Queries.TermQuery.{AsksSignature, AsksReduced, AsksConforms, AsksAnyObject, AsksEquals}
 use Rattle.swreq_lowering.specs.Requirements.{PlacedRequirement}
-use Rattle.swreq_world.specs.Closed.{IsQueryOf}
-use Rattle.swreq_world.specs.Worlds.{SignatureOver, TextWorld, signature_at}
+use Rattle.swreq_world.specs.Closed.{IsClosed, IsQueryOf}
+use Rattle.swreq_world.specs.Worlds.{SignatureOver, TextWorld, no_signature, signature_at}
 use Rattle.swreq_symbols.specs.Meaning.{facts_of}
 use Rattle.swreq_print.specs.Names.{Text}
 use Rattle.swreq_query.specs.Answers.{Answer, HasOnlyValidSides, IsAnswer, IsLeastEqual, answer_line, asked}
@@ -31,7 +31,7 @@ use Rattle.swreq_query.specs.Answers.Answer.{Invalid, Yes, No, Reduced}
 use Rattle.swreq_query.proofs.OneAnswer.{one_answer}
 use Rattle.swreq_output.specs.Signatures.{IsMinimisedLine, full_name}
 use Rattle.swreq_world.specs.FactsAt.{source_of, written_list}
-use Rattle.swreq_output.proofs.PrintingAlike.{lines_alike}
+use Rattle.swreq_output.proofs.PrintingAlike.{equivalent_by_one_line, lines_alike, params_of_one_line}
 use Rattle.swreq_reply.specs.declared.outcome.Outcome.{Outcome}
 use Rattle.swreq_top.specs.Headline.{HasPathWhereImplied, IsDerivedWhereImplied, IsEqualAndIndependent, IsImplied, IsLeastWhereValid, IsYes, IsYesWhereImplied, PrintsOf, SayAlike, SayDerivations, SayEqualLists, SayFailing, SayFamily, SayPaths, SayTheLeast, SayYesWhereImplied, SaysOf}
 use Rattle.swreq_reply.specs.Lines.{AreLines}
@@ -48,8 +48,8 @@ use Rattle.swreq_reply.specs.Verdict.{IsAnswered, IsJudged, IsVerdict, limits_of
 use Rattle.swreq_reply.specs.Verdict.IsVerdict.{answered as is_answered, cut_short as is_cut_short, judged as is_judged, refused as is_refused}
 use Rattle.swreq_reqsig.proofs.Signatures.{numbered_signatures}
 use Rattle.swreq_top.proofs.Delivering.{refused_status}
-use Rattle.swreq_top.proofs.Passed.{HasPassed, formed, is_closed}
-use Rattle.swreq_reply.proofs.Lines.{asked_list, lines_by}
+use Rattle.swreq_top.proofs.Passed.{HasPassed, formed, has_ended, is_closed}
+use Rattle.swreq_reply.proofs.Lines.{asked_list, lines_by, query_signature}
 
 -- ---- answers of one query
 
@@ -74,8 +74,12 @@ module _ (w : TextWorld) (b : Backing) (q : TermQuery) (piece : Text) (answers :
   -- and one that is implied has that piece
   implied_is_yes : (r : TermRequirement) → asked q ≡ Some r → (IsImplied w q (Requires r) → HasOnlyValidSides (IsImplied w q) q)
       → IsImplied w q (Requires r) → IsYes w b q piece
-  implied_is_yes r asks sides h =
-      (answers.1, subst (λ (a : Answer). Backs w b q a answers.1) is_yes answers.3, answers.4 ∙ ap (λ (a : Answer). answer_line w.lexicon a ++ answers.1) is_yes)
+  implied_is_yes r asks sides h = (
+    answers.1,
+    subst (λ (a : Answer). Backs w b q a answers.1) is_yes answers.3,
+    answers.4 ∙ ap
+        (λ (a : Answer). answer_line w.lexicon a ++ answers.1) is_yes,
+  )
     where
       is_yes : answers.0 ≡ Yes
       is_yes = one_answer (IsImplied w q) q answers.0 Yes answers.2 (sides h, (r, asks, h))
@@ -83,10 +87,12 @@ module _ (w : TextWorld) (b : Backing) (q : TermQuery) (piece : Text) (answers :
 -- a query of a type parameter prints the least one
 least : (w : TextWorld) (b : Backing) (f : FuncId) (t : Term) (piece : Text) → AnswersByTypes w false b (AsksReduced f t) piece
     → IsLeastWhereValid w (AsksReduced f t) piece
-least w b f t piece (Invalid, rest, is, backs, e) valid = absurd (is.2 (subst (λ z. IsImplied w (AsksReduced f t) (IsValid z)) (sym is.1) valid))
+least w b f t piece (Invalid, rest, is, backs, e) valid = absurd
+    (is.2 (subst (λ z. IsImplied w (AsksReduced f t) (IsValid z)) (sym is.1) valid))
 least w b f t piece (Yes, rest, is, backs, e) valid =
     absurd (let clash : (let z : Option TermRequirement = None in z) ≡ Some is.1.0 = is.1.1 in cc)
-least w b f t piece (No, rest, is, backs, e) valid = absurd (let clash : (let z : Option TermRequirement = None in z) ≡ Some is.1.0 = is.1.1 in cc)
+least w b f t piece (No, rest, is, backs, e) valid = absurd
+    (let clash : (let z : Option TermRequirement = None in z) ≡ Some is.1.0 = is.1.1 in cc)
 least w b f t piece (Reduced u, rest, is, backs, e) valid = (
   u,
   subst (λ z. IsLeastEqual (IsImplied w (AsksReduced f t)) z u) (sym (inner f is.1.0 t is.1.1 is.1.2)) is.1.3,
@@ -112,7 +118,8 @@ module _ (w : TextWorld) (formed : IsWellFormed (facts_of w) (map source_of w.si
     side_of : (t side : Term) → side ≡ t → Derivable (facts_of w) s (IsValid t) → IsImplied w q (IsValid side)
     side_of t side e h = subst (λ z. IsImplied w q (IsValid z)) (sym e) ((book (IsValid t)).1 h)
 
-  yes_where_implied : (b : Backing) (q : TermQuery) (piece : Text) → IsQueryOf w q → IsLineOf w false b q piece → IsYesWhereImplied w b q piece
+  yes_where_implied : (b : Backing) (q : TermQuery) (piece : Text) → IsQueryOf w q → IsLineOf w false b q piece
+      → IsYesWhereImplied w b q piece
   yes_where_implied b (AsksSignature f) piece of h = tt
   yes_where_implied b (AsksReduced f t) piece of h = tt
   yes_where_implied b (AsksConforms f t p) piece of h =
@@ -146,13 +153,17 @@ least_where_valid w b (AsksEquals f t u) piece h = tt
 
 -- ---- printed signatures
 
-equal_and_independent : (w : TextWorld) (g : SignatureOver PlacedRequirement) (line : Text) → IsMinimisedLine w g line → IsEqualAndIndependent w g line
+equal_and_independent : (w : TextWorld) (g : SignatureOver PlacedRequirement) (line : Text) → IsMinimisedLine w g line
+    → IsEqualAndIndependent w g line
 equal_and_independent w g line m = record {
   list = m.list;
   same = m.same;
   independent = minimised_independent (facts_of w) (generic_params g.params) (written_list g) m.list m.minimised;
   line_is = m.line_is;
 }
+
+contains_at : {A : Type 0} (xs : List A) (k : ℕ) (x : A) → slice_get xs k ≡ Some x → Contains xs x
+contains_at xs k x e = (k, slice_get_within xs k x e, get_or_from_slice_get xs k x x e)
 
 -- the lines stand where what they are lines of stands
 line_at : {A : Type 0} {P : A → Text → Type 0} {xs : List A} {ls : List Text} → AreLines P xs ls → (k : ℕ) (x : A) (line : Text)
@@ -166,18 +177,33 @@ line_at (more is rest) (suc k) y other e d = line_at rest k y other e d
 
 module _ (w : TextWorld) where
   -- what is printed of a signature is the line of its minimised list
-  minimised_at : (c : Content) (p : Parts) (lines : List Text) (k : ℕ) (g : SignatureOver PlacedRequirement) (line : Text) → ArePrinted w false c p lines
+  minimised_at : (c : Content) (p : Parts) (lines : List Text) (k : ℕ) (g : SignatureOver PlacedRequirement) (line : Text)
+      → ArePrinted w false c p lines
       → PrintsOf w c lines k g line → IsMinimisedLine w g line
   minimised_at (Answers b) p lines k g line are (f, asks, is, at) =
       subst (λ z. IsMinimisedLine w z line) (sym is) (line_at are k (AsksSignature f) line asks at)
   minimised_at Signatures p lines k g line are (at_g, at) =
       let named = line_at are k g (full_name w g ++ (codes ": " ++ line)) at_g at in
       subst (IsMinimisedLine w g)
-      (sym (append_cancel_left (codes ": ") line named.0 (append_cancel_left (full_name w g) (codes ": " ++ line) (codes ": " ++ named.0) named.2))) named.1
+      (sym (append_cancel_left (codes ": ") line named.0
+      (append_cancel_left (full_name w g) (codes ": " ++ line) (codes ": " ++ named.0) named.2))) named.1
   minimised_at Systems p lines k g line are h = absurd h
   minimised_at Families p lines k g line are h = absurd h
   minimised_at Calls p lines k g line are h = absurd h
   minimised_at Judgements p lines k g line are h = absurd h
+
+  -- and it is a signature of the text
+  signature_printed : IsClosed w → (c : Content) (lines : List Text) (k : ℕ) (g : SignatureOver PlacedRequirement) (line : Text)
+      → PrintsOf w c lines k g line → Contains w.signatures g
+  signature_printed closed (Answers b) lines k g line (f, asks, is, at) =
+      let of = All-contains (IsQueryOf w) w.queries (AsksSignature f) closed.queries (contains_at w.queries k (AsksSignature f) asks) in
+      subst (λ (z : SignatureOver PlacedRequirement). Contains w.signatures z) (sym is)
+      (Contains-get_or w.signatures f.place no_signature (query_signature w (AsksSignature f) of))
+  signature_printed closed Signatures lines k g line (at_g, at) = contains_at w.signatures k g at_g
+  signature_printed closed Systems lines k g line h = absurd h
+  signature_printed closed Families lines k g line h = absurd h
+  signature_printed closed Calls lines k g line h = absurd h
+  signature_printed closed Judgements lines k g line h = absurd h
 
   -- ---- the sentences, of what is printed
 
@@ -189,7 +215,8 @@ module _ (w : TextWorld) where
   say_equal_lists c p lines are k g line at = equal_and_independent w g line (minimised_at c p lines k g line are at)
 
   say_least : Holds SayTheLeast
-  say_least (Answers b) p lines are = lines_by (IsLineOf w false b) (IsLeastWhereValid w) (λ q line c is. least_where_valid w b q line is) are
+  say_least (Answers b) p lines are = lines_by (IsLineOf w false b) (IsLeastWhereValid w)
+      (λ q line c is. least_where_valid w b q line is) are
   say_least Signatures p lines are = tt
   say_least Systems p lines are = tt
   say_least Families p lines are = tt
@@ -204,17 +231,14 @@ module _ (w : TextWorld) where
   say_failing Calls p lines are = are
   say_failing Judgements p lines are = tt
 
-  say_alike : Holds SayAlike
-  say_alike c p lines are k j g h line other at also alike =
-      lines_alike w g h line other alike.0 alike.1 (minimised_at c p lines k g line are at) (minimised_at c p lines j h other are also)
-
   module _ (has : HasPassed w) where
     -- the answers to the queries of the text, each by a sentence on its query
     of_queries : (b : Backing) (Sentence : TermQuery → Text → Type 0)
         → ((q : TermQuery) (piece : Text) → IsQueryOf w q → IsLineOf w false b q piece → Sentence q piece)
         → (lines : List Text) → AreLines (IsLineOf w false b) w.queries lines → AreLines Sentence w.queries lines
     of_queries b Sentence each lines are =
-        lines_by (IsLineOf w false b) Sentence (λ q line c of. each q line (All-contains (IsQueryOf w) w.queries q (is_closed w has).queries c) of) are
+        lines_by (IsLineOf w false b) Sentence
+        (λ q line c of. each q line (All-contains (IsQueryOf w) w.queries q (is_closed w has).queries c) of) are
 
     say_yes : Holds SayYesWhereImplied
     say_yes (Answers b) p lines are = of_queries b (IsYesWhereImplied w b) (yes_where_implied w (formed w has) b) lines are
@@ -224,8 +248,10 @@ module _ (w : TextWorld) where
     say_yes Calls p lines are = tt
     say_yes Judgements p lines are = tt
 
-    derived_where_implied : (q : TermQuery) (piece : Text) → IsQueryOf w q → IsLineOf w false Derivation q piece → IsDerivedWhereImplied w q piece
-    derived_where_implied q piece is of = IfSome_then (asked q) (yes_where_implied w (formed w has) Derivation q piece is of) (λ r both. both.1)
+    derived_where_implied : (q : TermQuery) (piece : Text) → IsQueryOf w q → IsLineOf w false Derivation q piece
+        → IsDerivedWhereImplied w q piece
+    derived_where_implied q piece is of = IfSome_then (asked q) (yes_where_implied w (formed w has) Derivation q piece is of)
+        (λ r both. both.1)
 
     say_derivations : Holds SayDerivations
     say_derivations (Answers Derivation) p lines are = of_queries Derivation (IsDerivedWhereImplied w) derived_where_implied lines are
@@ -253,6 +279,21 @@ module _ (w : TextWorld) where
     say_paths Families p lines are = tt
     say_paths Calls p lines are = tt
     say_paths Judgements p lines are = tt
+
+    say_alike : Holds SayAlike
+    say_alike c p lines are k j g h line other at also =
+        let in_g = signature_printed (is_closed w has) c lines k g line at in
+        let in_h = signature_printed (is_closed w has) c lines j h other also in
+        let a = minimised_at c p lines k g line are at in
+        let b = minimised_at c p lines j h other are also in (
+          λ same.
+              let one = subst (λ (z : Text). IsMinimisedLine w h z) (sym same) b in (
+                params_of_one_line has.text w has.of_text g h in_g in_h line a one,
+                equivalent_by_one_line has.text w has.of_text g h in_g in_h line a one has.limits (has_ended w has g in_g)
+                    (has_ended w has h in_h),
+              ),
+          λ alike. lines_alike w g h line other alike.0 alike.1 a b,
+        )
 
     say_family : Holds SayFamily
     say_family Families p lines (kept, (flags, given, is), e) =
@@ -284,7 +325,8 @@ IsAnsweredRun r = (bytes : Text) × Appends r.before.taken r.after.taken bytes
 
 module _ (Sentence : TextWorld → Content → Parts → List Text → Type 0)
     (passed : (w : TextWorld) → HasPassed w → Holds w Sentence)
-    (judged : (w : TextWorld) (p : Parts) (lines : List Text) → ArePrinted w false Judgements p lines → Sentence w Judgements p lines) (r : Run) where
+    (judged : (w : TextWorld) (p : Parts) (lines : List Text) → ArePrinted w false Judgements p lines
+    → Sentence w Judgements p lines) (r : Run) where
   -- What is printed of the text.
   abbrev SaysOfText : CommandLine → Text → Type 0
   SaysOfText line text = (p : Parts) × AreParts line.command text p × SaysOf Sentence line p r.before.taken r.after.taken
@@ -305,7 +347,17 @@ module _ (Sentence : TextWorld → Content → Parts → List Text → Type 0)
       let (lines, are, e) = a.output in (
         p,
         a.check.has_world.are,
-        (w, a.check.has_world.of_text, (lines, are, subst (Appends r.before.taken r.after.taken) e taken, passed w has (content_of line.command) p lines are)),
+        (
+          w,
+          a.check.has_world.of_text,
+          (
+            lines,
+            are,
+            subst (Appends r.before.taken r.after.taken) e taken,
+            passed w has
+                (content_of line.command) p lines are,
+          ),
+        ),
       )
 
   of_judged : (line : CommandLine) (text output : Text) (told : List Event) → Appends r.before.taken r.after.taken output
@@ -357,7 +409,7 @@ pub lists_taken : SaysAnswered SayEqualLists
 lists_taken = taken_say SayEqualLists (λ w has. say_equal_lists w) (λ w. say_equal_lists w Judgements)
 
 pub alike_taken : SaysAnswered SayAlike
-alike_taken = taken_say SayAlike (λ w has. say_alike w) (λ w. say_alike w Judgements)
+alike_taken = taken_say SayAlike (λ w has. say_alike w has) (λ w p lines are k j g h line other at. absurd at)
 
 pub derivations_taken : SaysAnswered SayDerivations
 derivations_taken = taken_say SayDerivations (λ w has. say_derivations w has) (λ w p lines are. tt)

@@ -14,7 +14,7 @@ pub record IsRun (r : Run) : Type 0 where
   pub least : Prints r SayTheLeast
   -- Each printed signature derives what was written and is derived from it, no requirement derivable from the others.
   pub equal : Prints r SayEqualLists
-  -- Equivalent signatures print alike.
+  -- Equivalent signatures print alike, and no others.
   pub alike : Prints r SayAlike
   -- After each yes of `explain` stands a derivation that the checker accepts and that ends in what is asked.
   pub derivations : Prints r SayDerivations

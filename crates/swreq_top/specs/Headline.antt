@@ -42,8 +42,8 @@ module _ (w : TextWorld) where
   abbrev pub IsImplied : TermQuery → TermStatement → Type 0
   IsImplied q = BookDerivable (facts_of w) (source_of (signature_at w (signature_of q)))
 
-  -- The piece is the line `yes`, and behind it what backs it: where derivations are printed one that the checker accepts and that ends in what
-  -- is asked, and where paths are printed the one that is given for a conformance.
+  -- The piece is the line `yes`, and behind it what backs it: where derivations are printed one that the checker accepts and that ends
+  -- in what is asked, and where paths are printed the one that is given for a conformance.
   abbrev pub IsYes : Backing → TermQuery → Text → Type 0
   IsYes b q piece = (behind : Text) × BacksYes w b q behind × (piece ≡ codes "yes\n" ++ behind)
 
@@ -90,8 +90,8 @@ module _ (w : TextWorld) where
   IsDerivedWhereImplied q piece = IfSome (asked q)
       (λ r. IsImplied q (Requires r) → (lines : Text) × IsDerivationText w q lines × (piece ≡ codes "yes\n" ++ lines))
 
-  -- Where the conformance that a query asks is implied, its piece is the line `yes` and the line of a conformance path: none is shorter, and
-  -- of those as long as it none has numbers that come before its own.
+  -- Where the conformance that a query asks is implied, its piece is the line `yes` and the line of a conformance path: none is
+  -- shorter, and of those as long as it none has numbers that come before its own.
   abbrev pub HasPathWhereImplied : TermQuery → Text → Type 0
   HasPathWhereImplied (AsksConforms f t p) piece = IsImplied (AsksConforms f t p) (Requires (Conforms t p))
       → (line : Text) × IsPathLine w f t p line × (piece ≡ codes "yes\n" ++ line)
@@ -111,12 +111,13 @@ module _ (w : TextWorld) where
 
   -- Each printed signature derives what was written and is derived from it, no requirement derivable from the others.
   abbrev pub SayEqualLists : Content → Parts → List Text → Type 0
-  SayEqualLists c p lines = (k : ℕ) (g : SignatureOver PlacedRequirement) (line : Text) → PrintsOf c lines k g line → IsEqualAndIndependent g line
+  SayEqualLists c p lines = (k : ℕ) (g : SignatureOver PlacedRequirement) (line : Text) → PrintsOf c lines k g line
+      → IsEqualAndIndependent g line
 
-  -- Equivalent signatures print alike.
+  -- Equivalent signatures print alike, and no others.
   abbrev pub SayAlike : Content → Parts → List Text → Type 0
   SayAlike c p lines = (k j : ℕ) (g h : SignatureOver PlacedRequirement) (line other : Text)
-      → PrintsOf c lines k g line → PrintsOf c lines j h other → AreAlike g h → line ≡ other
+      → PrintsOf c lines k g line → PrintsOf c lines j h other → (line ≡ other) ↔ AreAlike g h
 
   -- After each yes of `explain` stands a derivation that the checker accepts and that ends in what is asked.
   abbrev pub SayDerivations : Content → Parts → List Text → Type 0
@@ -140,7 +141,8 @@ module _ (w : TextWorld) where
 
 -- The source text has a world, and the bytes that were taken are lines, by what the command prints, of which this is true.
 abbrev pub SaysOf : (TextWorld → Content → Parts → List Text → Type 0) → CommandLine → Parts → (old new : Option Text) → Type 0
-SaysOf Sentence line p old new = (w : TextWorld) × IsWorldOfText p.source w × ((lines : List Text) × ArePrinted w false (content_of line.command) p lines
+SaysOf Sentence line p old new = (w : TextWorld) × IsWorldOfText p.source w ×
+    ((lines : List Text) × ArePrinted w false (content_of line.command) p lines
     × Appends old new (printed_text line.command lines) × Sentence w (content_of line.command) p lines)
 
 -- The status is 0 only where the words say a command, and where its text is known, so says what was taken.

@@ -1,11 +1,11 @@
 use Rattle.std.proofs.Common.{refl}
 use Rattle.swreq_reply.proofs.Checked.{is_formed}
-use Rattle.swreq_top.proofs.Passed.{world_closed}
+use Rattle.swreq_output.proofs.PrintingAlike.{closed_world}
 use Rattle.swreq_top.proofs.WellFormed.{never_refused}
 use Rattle.swreq_top.proofs.laws.checked_texts_are_well_formed.Goals as goal
 
 pub returns-clause-formed : goal.returns-clause-formed
-returns-clause-formed c text w limits rules told of built = is_formed limits w (world_closed text w of) built
+returns-clause-formed c text w limits rules told of built = is_formed limits w (closed_world text w of) built
 
 pub returns-clause-unrefused : goal.returns-clause-unrefused
 returns-clause-unrefused c w limits at told formed checked = never_refused w formed limits at checked refl
