@@ -29,7 +29,7 @@ impl Row {
         Ok(Row { places })
     }
 
-    /// The same row once more, which takes no room.
+    /// This row once more. Its words are not copied.
     pub fn shared(&self) -> Result<Self, AllocError>
         ensures { IfOk result (λ row. row ≡ self.now) }
     {

@@ -17,4 +17,5 @@ pub mod Keyed
 pub mod PairKeys
 pub mod PairPlaces
 pub mod Rows
+pub mod Upwards
 pub mod PlaceSets

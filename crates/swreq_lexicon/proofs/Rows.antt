@@ -1,5 +1,5 @@
 -- Places of protocols in an order, and sets of them.
-use Rattle.std.proofs.Common.{◌≡◌, ◌≢◌, ℕ, zero, suc, ◌+◌, ◌-◌, ◌<◌, ◌≤◌, ⊎_elim, ◌↔◌, Bool, true, false, cond, ◌||◌, ◌&&◌, nat_eq, List, [], ◌∷◌, ◌++◌, length, get_or, set, slice_get, take, None, Some, Contains, refl, sym, ap, subst, ◌∙◌, arith, length-append, eqb-true}
+use Rattle.std.proofs.Common.{◌≡◌, ◌≢◌, ℕ, zero, suc, ◌+◌, ◌<◌, ◌≤◌, ⊎_elim, ◌↔◌, Bool, true, false, cond, ◌||◌, ◌&&◌, nat_eq, List, [], ◌∷◌, ◌++◌, length, get_or, set, slice_get, take, None, Some, Contains, refl, sym, ap, subst, ◌∙◌, arith, length-append, eqb-true}
 use Rattle.std.specs.List.{filter, list_any}
 use Rattle.std.proofs.Math.Bool.{or-false}
 use Rattle.std.proofs.lemmas.Bool.{cases_eq, cases_lt, eq-eqb, false_from_ne_true}
@@ -15,7 +15,7 @@ use Rattle.swreq_param.specs.declared.ids.NameId.{NameId}
 use Rattle.swreq_param.specs.declared.ids.ProtoId.{ProtoId}
 use Rattle.swreq_lexicon.specs.declared.pair.ProtocolName.{ProtocolName}
 use Rattle.swreq_lexicon.specs.Associated.{name}
-use Rattle.swreq_lexicon.specs.Symbols.{has_member, having, row_of, AreCounts, AreHeirs, AreNoHeirs, AreOnce, ArePlaces, AreRows, StandsAt}
+use Rattle.swreq_lexicon.specs.Symbols.{has_member, having, row_of, AreCounts, AreHeirs, AreOnce, ArePlaces, AreRows, StandsAt}
 use Rattle.swreq_lexicon.proofs.SymbolPlaces.{length_of}
 
 -- ---- the place of a protocol
@@ -34,27 +34,13 @@ module _ (order : List ProtoId) (places : List ℕ) (are : ArePlaces order place
       let s = contains_get order p c in
       none-some s.0 (sym h ∙ are s.0 p s.1)
 
--- the set of one place
 differ : (x y : ℕ) → (x ≡ y → ⊥) → nat_eq x y ≡ false
 differ x y d = false_from_ne_true (nat_eq x y) (λ e. d (eqb-true x y e))
 
-module _ (order : List ProtoId) (q : ProtoId) (old : List ℕ) (none : (k : ℕ) → sets.has old k ≡ false) (k : ℕ) (p : ProtoId) (f : slice_get order k ≡ Some p) where
-  pub one_standing : (place : ℕ) → StandsAt order q place → (new : List ℕ) → sets.has new place ≡ true → ((j : ℕ) → j ≢ place → sets.has new j ≡ sets.has old j)
-      → sets.has new k ≡ nat_eq p.rank q.rank
-  one_standing place stands new there others = ⊎_elim here other (cases_eq k place)
-    where
-      here : k ≡ place → sets.has new k ≡ nat_eq p.rank q.rank
-      here e =
-          let same : p ≡ q = same_Some p q (sym f ∙ ap (slice_get order) e ∙ stands.0) in
-          ap (sets.has new) e ∙ there ∙ sym (eq-eqb p.rank q.rank (ap (λ (r : ProtoId). r.rank) same))
-
-      other : (k ≡ place → ⊥) → sets.has new k ≡ nat_eq p.rank q.rank
-      other n =
-          others k n ∙ none k
-          ∙ sym (differ p.rank q.rank (λ e. n (stands.1 k (f ∙ ap Some (λ i. record { rank = e i })))))
-
-  pub none_standing : (Contains order q → ⊥) → sets.has old k ≡ nat_eq p.rank q.rank
-  none_standing absent = none k ∙ sym (differ p.rank q.rank (λ e. absent (get_contains order k q (f ∙ ap Some (λ i. record { rank = e i })))))
+pub none_standing : (order : List ProtoId) (q : ProtoId) (set : List ℕ) → ((k : ℕ) → sets.has set k ≡ false) → (k : ℕ) (p : ProtoId)
+    → slice_get order k ≡ Some p → (Contains order q → ⊥) → sets.has set k ≡ nat_eq p.rank q.rank
+none_standing order q set none k p f absent =
+    none k ∙ sym (differ p.rank q.rank (λ e. absent (get_contains order k q (f ∙ ap Some (λ i. record { rank = e i })))))
 
 -- the places of the first n protocols
 abbrev pub ArePlacesTo : List ProtoId → ℕ → List ℕ → Type 0
@@ -146,13 +132,3 @@ module _ (inherits : ProtoId → ProtoId → Bool) (order : List ProtoId) where
   pub same_rows : (xs ys : List ProtocolName) (rows : List (List ℕ)) → ((d : ProtocolName) → Contains xs d ↔ Contains ys d)
       → AreRows order (has_member inherits xs) rows → AreRows order (has_member inherits ys) rows
   same_rows xs ys rows same are k p a f = are k p a f ∙ same_members (λ d. nat_eq a.rank d.name.rank && (nat_eq p.rank d.proto.rank || inherits p d.proto)) xs ys same
-
-  -- one protocol more that inherits none
-  pub one_gone : (gone : ℕ) (p : ProtoId) → gone < length order → slice_get order (length order - 1 - gone) ≡ Some p → ((q : ProtoId) → inherits p q ≡ false)
-      → AreNoHeirs inherits order (length order - gone) → AreNoHeirs inherits order (length order - (gone + 1))
-  one_gone gone p within at none rest k r q h f = ⊎_elim here (λ g. rest k r q g f) (cases_lt k (length order - gone))
-    where
-      here : k < length order - gone → inherits r q ≡ false
-      here l =
-          let last : length order - 1 - gone ≡ k = omega (arith, within, h, l) in
-          ap (λ s. inherits s q) (same_Some r p (sym f ∙ ap (slice_get order) (sym last) ∙ at)) ∙ none q

@@ -1,5 +1,6 @@
 pub mod Lexicons
 pub mod Associated
+pub mod Heirs
 pub mod Keys
 pub mod Symbols
 pub mod Views

@@ -1,14 +1,12 @@
 -- Member symbols by rank, where the protocols stand in their order within each name.
-use Rattle.std.specs.Prelude.{◌≡◌, ◌↔◌, ◌<◌, ◌≤◌, ◌+◌, ◌/◌, ◌%◌, ◌&&◌, ◌||◌, ℕ, zero, suc, Bool, false, nat_eq, List, [], ◌++◌, Some, length, map, filter, slice_get, slice_index, slice_index_or, Contains}
+use Rattle.std.specs.Prelude.{◌≡◌, ◌↔◌, ◌<◌, ◌≤◌, ◌+◌, ◌&&◌, ◌||◌, ℕ, zero, suc, Bool, nat_eq, List, [], ◌++◌, Some, length, map, filter, slice_get, slice_index, slice_index_or, Contains}
 use Rattle.std.specs.List.{list_any}
 use Rattle.swreq_closure.specs.Bits as sets
-use Rattle.swreq_closure.specs.Columns.{in_column}
 use Rattle.swreq_param.specs.declared.ids.NameId.{NameId}
 use Rattle.swreq_param.specs.declared.ids.ProtoId.{ProtoId}
 use Rattle.swreq_lexicon.specs.declared.pair.ProtocolName.{ProtocolName}
 use Rattle.swreq_lexicon.specs.Lexicons.{pair}
 use Rattle.swreq_lexicon.specs.Associated.{name}
-use Rattle.swreq_lexicon.specs.Views.{place_by}
 
 -- P declares A or inherits a protocol that declares A.
 abbrev pub has_member : (ProtoId → ProtoId → Bool) → List ProtocolName → ProtoId → NameId → Bool
@@ -67,15 +65,6 @@ module _ (inherits : ProtoId → ProtoId → Bool) (order : List ProtoId) where
   -- The set has the places in order of Q and of the protocols that inherit it.
   abbrev pub AreHeirs : ProtoId → List ℕ → Type 0
   AreHeirs q set = (k : ℕ) (p : ProtoId) → slice_get order k ≡ Some p → sets.has set k ≡ (nat_eq p.rank q.rank || inherits p q)
-
-  -- From this place on no protocol inherits another.
-  abbrev pub AreNoHeirs : ℕ → Type 0
-  AreNoHeirs from = (k : ℕ) (p q : ProtoId) → from ≤ k → slice_get order k ≡ Some p → inherits p q ≡ false
-
-  -- Each column has the places in order of the protocols that inherit one of 64, from 64 times the index on by place in the text.
-  abbrev pub AreInherited : List ℕ → ℕ → List ℕ → Type 0
-  AreInherited places index columns = (k : ℕ) (p q : ProtoId) → slice_get order k ≡ Some p → place_by places q / 64 ≡ index
-      → in_column columns (place_by places q % 64) k ≡ inherits p q
 
 -- The protocols in their order, where the member symbols of each name begin, and for each name the places of those that have it.
 pub record SymbolsView : Type 0 where

@@ -2,6 +2,7 @@
 #![tactic(auto)]
 
 mod associated;
+mod heirs;
 pub mod laws;
 mod lexicon;
 mod members;

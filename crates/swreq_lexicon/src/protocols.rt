@@ -2,11 +2,13 @@
 ghost use Rattle.std.specs.Prelude.{◌≡◌, ◌<◌, ◌≤◌, ◌+◌, ◌*◌, ◌/◌, ◌%◌, ◌++◌, ◌∷◌, [], ◌↔◌, ℕ, false, List, length, map, cond, slice_get, slice_index, slice_index_or, unwrap_or, Some, MatchOption, IfOk, Contains};
 ghost use Rattle.std.specs.List.{position_from};
 ghost use Rattle.std.specs.Str.{bytes_eq};
-ghost use Rattle.swreq_closure.specs.Bits.{has_bit, room};
+ghost use Rattle.swreq_closure.specs.Bits.{has, room};
+ghost use Rattle.swreq_closure.specs.Chains.{AreWithin, IsClosureOf};
 ghost use Rattle.swreq_closure.specs.Walks.{AreApart};
 ghost use Rattle.swreq_names.specs.Spaces.{word, declarations, place};
 ghost use Rattle.swreq_lexicon.specs.Associated.{depth};
 ghost use Rattle.swreq_lexicon.specs.Lexicons.{proto_by};
+ghost use Rattle.swreq_lexicon.specs.Heirs.{HaveProtocols, LeadToProtocols};
 ghost use Rattle.swreq_lexicon.specs.PlaceSets.{IsSetOf};
 ghost use Rattle.swreq_rank.specs.Ranks.{Bytes, IsRanking, bytes_cmp, rank};
 ghost use Rattle.swreq_lexicon.specs.Texts.{protocol_names};
@@ -36,6 +38,7 @@ pub struct Protocols {
 impl Model for Protocols {
     ghost use Rattle.std.specs.Prelude.{◌≡◌, ◌≤◌, length};
     ghost use Rattle.swreq_closure.specs.Bits.{room};
+    ghost use Rattle.swreq_lexicon.specs.Heirs.{HaveProtocols};
     ghost use Rattle.swreq_lexicon.specs.PlaceSets.{IsSetOf};
     ghost use Rattle.swreq_lexicon.specs.Views.{ProtocolsView};
 
@@ -49,7 +52,8 @@ impl Model for Protocols {
     } };
 
     ghost invariant = { λ p. (length p.ranks ≤ 1048576) × (length p.ranks ≤ length p.written_order.items)
-        × (length p.places.items ≡ length p.ranks) × (room p.firsts ≤ 18446744073709551615) × IsSetOf p.places.items p.firsts };
+        × (length p.places.items ≡ length p.ranks) × (room p.firsts ≤ 18446744073709551615) × IsSetOf p.places.items p.firsts
+        × HaveProtocols p.resolved.declared.protocols p.places.items (length p.ranks) };
 }
 
 impl Protocols {
@@ -141,12 +145,13 @@ impl Protocols {
         self.resolved.inherits(self.place(p), self.place(q))
     }
 
-    /// Which of 64 protocols it inherits, from 64 times the index on by place in written order, as the bits of a word.
-    pub fn inherited_word(&self, p: ProtoId, index: usize) -> u64
-        ensures { (q : ProtoId) → place_by self.now.places q / 64 ≡ index
-            → has_bit result (place_by self.now.places q % 64) ≡ inherits_by self.now.places self.now.resolved.inherits p q }
+    /// The protocols that each one inherits directly, by places in written order.
+    pub fn direct(&self) -> &[Seq<usize>]
+        ensures closure { IsClosureOf result.now self.now.resolved.inherits }
+        ensures within { AreWithin result.now }
+        ensures protocols { LeadToProtocols self.now.places (length self.now.protocols) result.now }
     {
-        self.resolved.inheritance().word(self.place(p), index)
+        self.resolved.direct()
     }
 
     /// Whether it may inherit any. It is false only where it inherits none.

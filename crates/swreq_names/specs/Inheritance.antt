@@ -1,17 +1,18 @@
 -- Which protocols a protocol inherits. A protocol is its place among the protocols in written order.
-use Rattle.std.specs.Prelude.{ℕ, ◌↔◌, Bool, cond, true, false, ◌&&◌, List, [], ◌∷◌, Option, None, map, IsTrue}
+use Rattle.std.specs.Prelude.{◌≡◌, ℕ, ◌↔◌, Bool, cond, true, false, ◌&&◌, List, [], ◌∷◌, Option, None, Some, map, Contains, IsTrue}
 use Rattle.std.specs.List.{flat_map}
 use Rattle.std.specs.Option.{option_to_list}
 use Rattle.std.specs.Str.{bytes_eq}
-use Rattle.swreq_closure.specs.Chains.{Leads}
+use Rattle.swreq_closure.specs.Chains.{next, Leads}
 use Rattle.swreq_decl.specs.declared.skeleton.Entity.{Entity}
 use Rattle.swreq_decl.specs.declared.skeleton.StepDecl.{StepDecl}
 use Rattle.swreq_decl.specs.declared.skeleton.ProtocolDecl.{ProtocolDecl}
 use Rattle.swreq_decl.specs.declared.skeleton.Skeleton.{Skeleton}
+use Rattle.swreq_names.specs.declared.directory.Declaration.{Declaration}
 use Rattle.swreq_names.specs.Parts.{Subject, Constraint, of_protocol}
 use Rattle.swreq_names.specs.Parts.Subject.{self_of, associated, parameter, written}
 use Rattle.swreq_names.specs.Parts.Constraint.{bound, same}
-use Rattle.swreq_names.specs.Spaces.{word, protocol_of, Spaces, spaces, self_bytes}
+use Rattle.swreq_names.specs.Spaces.{word, place, protocol_of, Spaces, spaces, self_bytes}
 
 abbrev pub is_bare : List StepDecl → Bool
 is_bare [] = true
@@ -52,3 +53,7 @@ Inherits text s = Leads (inheritance text s)
 -- The table tells which protocol inherits which.
 abbrev pub TellsInheritance : List ℕ → Skeleton → (ℕ → ℕ → Bool) → Type 0
 TellsInheritance text s inherits = (i j : ℕ) → IsTrue (inherits i j) ↔ Inherits text s i j
+
+-- Each direct step leads to the first protocol of a name.
+abbrev pub LeadToDeclared : List Declaration → List (List ℕ) → Type 0
+LeadToDeclared protocols graph = (i j : ℕ) → Contains (next graph i) j → (name : List ℕ) × (place protocols name ≡ Some j)

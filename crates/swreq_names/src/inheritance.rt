@@ -2,14 +2,13 @@
 ghost use Rattle.std.specs.Prelude.{◌≡◌, ◌++◌, map, length, IfOk, OnOk, MatchOption};
 ghost use Rattle.std.specs.List.{flat_map};
 ghost use Rattle.std.specs.Option.{option_to_list};
-ghost use Rattle.swreq_closure.specs.Chains.{IsClosureOf};
-ghost use Rattle.swreq_names.specs.Inheritance.{named_by, named_in, direct};
+ghost use Rattle.swreq_closure.specs.Chains.{AreWithin};
+ghost use Rattle.swreq_names.specs.Inheritance.{named_by, named_in, direct, LeadToDeclared};
 ghost use Rattle.swreq_names.specs.Walk.{inherited_in, inherited_in_clause, walked_direct};
 
 use crate::declared::Declared;
 use crate::words::word;
 use std::alloc::{AllocError, Global};
-use swreq_closure::Closure;
 use swreq_decl::{AssocDecl, Entity, ProtocolDecl, ReqDecl};
 use swreq_text::Seq;
 
@@ -112,32 +111,21 @@ fn direct(
     Ok(Seq::new(into))
 }
 
-/// For each protocol those that it inherits directly.
-fn all_direct(
+/// For each protocol those that it inherits directly, by places in written order. `d` has the names of the skeleton.
+pub fn inheritance(
     alloc: Global,
     text: &[u8],
     d: &Declared,
     protocols: &[ProtocolDecl],
 ) -> Result<Vec<Seq<usize>>, AllocError>
-    ensures { IfOk result (λ all. all.items ≡ map (walked_direct text.now d.now) protocols.now) }
-{
-    let mut all = Vec::new(alloc);
-    for p in protocols {
-        all.push(direct(alloc, text, d, p)?)?;
-    }
-    Ok(all)
-}
-
-/// Which protocol inherits which. `d` has the names of the skeleton.
-pub fn closure_of(
-    alloc: Global,
-    text: &[u8],
-    d: &Declared,
-    protocols: &[ProtocolDecl],
-) -> Result<Closure, AllocError>
     requires { length d.now.protocols ≡ length protocols.now }
-    ensures { IfOk result (IsClosureOf (map (direct text.now d.now) protocols.now)) }
+    ensures is { IfOk result (λ steps. steps.items ≡ map (direct text.now d.now) protocols.now) }
+    ensures within { IfOk result (λ steps. AreWithin steps.items) }
+    ensures declared { IfOk result (λ steps. LeadToDeclared d.now.protocols steps.items) }
 {
-    let steps = all_direct(alloc, text, d, protocols)?;
-    Closure::of(alloc, &steps)
+    let mut steps = Vec::new(alloc);
+    for p in protocols {
+        steps.push(direct(alloc, text, d, p)?)?;
+    }
+    Ok(steps)
 }

@@ -2,17 +2,19 @@
 
 ghost use Rattle.std.specs.Prelude.{◌≡◌, ℕ, Bool, List, ◌&&◌, length, IfOk};
 ghost use Rattle.std.specs.List.{list_any};
-ghost use Rattle.swreq_closure.specs.Chains.{leads};
+ghost use Rattle.swreq_closure.specs.Chains.{leads, AreWithin, IsClosureOf};
 ghost use Rattle.swreq_names.specs.Spaces.{any_below, protocol_of, signature_of, nested_of, param_of, declares, has_member};
+ghost use Rattle.swreq_names.specs.Inheritance.{LeadToDeclared};
 ghost use Rattle.swreq_names.specs.Names.{HasDeclared};
 
 use crate::declared::Declared;
-use crate::inheritance::closure_of;
+use crate::inheritance::inheritance;
 use crate::signature::{Param, Signature};
 use std::alloc::{AllocError, Global};
 use std::marker::Model;
 use swreq_closure::Closure;
 use swreq_decl::Skeleton;
+use swreq_text::Seq;
 
 /// Whether this protocol inherits one of these.
 fn inherits_any(inherits: &Closure, i: usize, places: &[usize]) -> bool
@@ -41,15 +43,22 @@ pub fn has_member(d: &Declared, inherits: &Closure, i: usize, name: &[u8]) -> bo
 #[derive(Drop)]
 pub struct Names {
     declared: Box<Declared>,
+    /// The protocols that each one inherits directly.
+    direct: Vec<Seq<usize>>,
     inherits: Closure,
 }
 
 impl Model for Names {
+    ghost use Rattle.swreq_closure.specs.Chains.{AreWithin, IsClosureOf};
+    ghost use Rattle.swreq_names.specs.Inheritance.{LeadToDeclared};
     ghost use Rattle.swreq_names.specs.Names.{NamesView};
 
     ghost Value = { NamesView };
 
     ghost view = { λ n. record { declared = n.declared.value; inherits = n.inherits } };
+
+    ghost invariant = { λ n. IsClosureOf n.direct.items n.inherits × AreWithin n.direct.items
+        × LeadToDeclared n.declared.value.protocols n.direct.items };
 }
 
 impl Names {
@@ -58,9 +67,14 @@ impl Names {
         ensures { IfOk result (HasDeclared text.now s.now) }
     {
         let declared = Declared::of(alloc, text, s)?;
-        let inherits = closure_of(alloc, text, &declared, s.protocols.items())?;
+        let direct = inheritance(alloc, text, &declared, s.protocols.items())?;
+        let inherits = Closure::of(alloc, &direct)?;
         let declared = Box::new(alloc, declared)?;
-        Ok(Names { declared, inherits })
+        Ok(Names {
+            declared,
+            direct,
+            inherits,
+        })
     }
 
     /// The declared names, in their spaces.
@@ -68,6 +82,15 @@ impl Names {
         ensures { result.now ≡ self.now.declared }
     {
         &self.declared
+    }
+
+    /// The protocols that each one inherits directly, by places in written order.
+    pub fn direct(&self) -> &[Seq<usize>]
+        ensures closure { IsClosureOf result.now self.now.inherits }
+        ensures within { AreWithin result.now }
+        ensures declared { LeadToDeclared self.now.declared.protocols result.now }
+    {
+        &self.direct
     }
 
     /// Which protocol inherits which, by places in written order.

@@ -3,6 +3,7 @@ ghost use Rattle.std.specs.Prelude.{◌≡◌, ◌<◌, ◌++◌, ◌∷◌, [],
 
 use std::alloc::{AllocError, Global};
 use std::marker::Model;
+use swreq_text::Seq;
 
 /// A list, which grows.
 #[derive(Drop)]
@@ -56,7 +57,7 @@ impl<T> Model for Lists<T> {
 }
 
 impl<T: Drop> Lists<T> {
-    /// So many lists, none of which has an item.
+    /// `count` empty lists.
     pub fn new(alloc: Global, count: usize) -> Result<Self, AllocError>
         ensures { IfOk result (λ lists. lists ≡ replicate count []) }
     {
@@ -74,6 +75,17 @@ impl<T: Drop> Lists<T> {
     {
         self.lists[place].push(item)?;
         Ok(())
+    }
+
+    /// The lists, by place.
+    pub fn into_seqs(self, alloc: Global) -> Result<Vec<Seq<T>>, AllocError>
+        ensures { IfOk result (λ seqs. seqs.items ≡ self) }
+    {
+        let mut seqs = Vec::new(alloc);
+        for list in self.lists {
+            seqs.push(Seq::new(list.items))?;
+        }
+        Ok(seqs)
     }
 
     /// The list at this place, which has no item where there is none.

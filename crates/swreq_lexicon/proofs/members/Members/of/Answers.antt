@@ -2,8 +2,8 @@ use Rattle.swreq_lexicon.specs.Views.{inherits_by}
 use Rattle.swreq_lexicon.proofs.Rows.{same_rows}
 use Rattle.swreq_lexicon.proofs.members.Members.of.Goals as goal
 
-pub rows-requires : goal.rows-requires
-rows-requires c d h = c.requires d ((c.written.ensures d).0 h)
+pub rows-requires-clause-names : goal.rows-requires-clause-names
+rows-requires-clause-names c d h = c.requires.names d ((c.written.ensures d).0 h)
 
 pub returns : goal.returns
 returns c =

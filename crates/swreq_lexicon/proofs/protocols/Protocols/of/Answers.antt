@@ -1,13 +1,14 @@
-use Rattle.std.proofs.Common.{◌∙◌, ◌<◌, ℕ, List, length, get_or, map, sym, ap, subst, arith}
+use Rattle.std.proofs.Common.{◌∙◌, ◌<◌, ℕ, List, length, get_or, map, Contains, sym, ap, subst, arith}
 use Rattle.std.proofs.lemmas.List.{length-map}
 use Rattle.swreq_closure.specs.Walks.{AreApart}
 use Rattle.swreq_decl.specs.declared.skeleton.ProtocolDecl.{ProtocolDecl}
 use Rattle.swreq_names.specs.Spaces.{word}
 use Rattle.swreq_names.specs.declared.directory.Declaration.{Declaration}
 use Rattle.swreq_lexicon.specs.Lexicons.{proto_by}
+use Rattle.swreq_lexicon.specs.Heirs.{HaveProtocols}
 use Rattle.swreq_lexicon.specs.PlaceSets.{IsSetOf}
 use Rattle.swreq_lexicon.specs.Texts.{protocol_names}
-use Rattle.swreq_lexicon.proofs.Places.{declared_names, names_length}
+use Rattle.swreq_lexicon.proofs.Places.{declared_names, declared_place, names_length}
 use Rattle.swreq_lexicon.proofs.PlaceSets.{first_place, places_apart, places_length, places_within}
 use Rattle.swreq_lexicon.proofs.protocols.Protocols.of.Goals as goal
 
@@ -51,4 +52,6 @@ invariant_of-result c =
       places_length all c.in_ok-ranks.ranks ds c.in_ok-places.places.items names c.in_ok-ranks.ensures.ranking c.in_ok-places.ensures,
       omega (arith, room, small),
       subst (λ (xs : List ℕ). IsSetOf xs c.in_ok-firsts.firsts) c.deref.ensures.value c.in_ok-firsts.ensures.set,
+      subst (λ (xs : List ℕ). HaveProtocols ds xs (length c.in_ok-ranks.ranks)) (sym c.in_ok-places.ensures)
+          (declared_place c.in_ok-ranks.ranks ds (λ q h. (c.in_ok-ranks.ensures.ranking.same q).1 (subst (λ xs. Contains xs q) names h))),
     )

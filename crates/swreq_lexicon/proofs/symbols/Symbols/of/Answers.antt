@@ -16,6 +16,9 @@ pub of-requires-clause-once : goal.of-requires-clause-once
 of-requires-clause-once c =
     ordered_once (inherits_by c.args.protocols.now.places c.args.protocols.now.resolved.inherits) (length c.args.protocols.now.protocols) c.in_ok-protos.protos.items c.in_ok-protos.ensures.ranking
 
+pub of-requires-2-clause-all : goal.of-requires-2-clause-all
+of-requires-2-clause-all c p h = rw c.in_ok-ordered.ensures ((c.in_ok-protos.ensures.ranking.same p).1 h)
+
 pub returns-clause-order : goal.returns-clause-order
 returns-clause-order c =
     let n = length c.args.protocols.now.protocols in
