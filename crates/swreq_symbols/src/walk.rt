@@ -138,8 +138,7 @@ fn add_member(
     requires t { IsTypeIn reading.now.table.now reading.now.world.now.lexicon t }
     requires member { 0 < member_count (term_at reading.now.table.now t) }
     requires base { IsReadAs reading.now (without 1 (term_at reading.now.table.now t)) word.old.items }
-    requires fits { vec_len word.old + 1 ≤ vec_capacity word.old }
-    requires fits_test { vec_len word.old + 1 ≤ vec_capacity test.old }
+    requires fits { (vec_len word.old + 1 ≤ vec_capacity word.old) × (vec_len word.old + 1 ≤ vec_capacity test.old) }
     ensures valid { IsTrue result ↔ ShowsValid (symbols_of reading.now.world.now.lexicon) (facts_of (world_by reading.now.table.now reading.now.world.now))
         (source_over reading.now.over) (Links reading.now.rules.now) (term_at reading.now.table.now t) }
     ensures read { OnTrue result (IsReadAs reading.now (term_at reading.now.table.now t) word.new.items) }
@@ -175,8 +174,7 @@ fn add_members(
     requires t { IsTypeIn reading.now.table.now reading.now.world.now.lexicon t }
     requires count { count ≤ member_count (term_at reading.now.table.now t) }
     requires base { IsReadAs reading.now (without count (term_at reading.now.table.now t)) word.old.items }
-    requires fits { vec_len word.old + count ≤ vec_capacity word.old }
-    requires fits_test { vec_len word.old + count ≤ vec_capacity test.old }
+    requires fits { (vec_len word.old + count ≤ vec_capacity word.old) × (vec_len word.old + count ≤ vec_capacity test.old) }
     ensures valid { IsTrue result ↔ ShowsValid (symbols_of reading.now.world.now.lexicon) (facts_of (world_by reading.now.table.now reading.now.world.now))
         (source_over reading.now.over) (Links reading.now.rules.now) (term_at reading.now.table.now t) }
     ensures read { OnTrue result (IsReadAs reading.now (term_at reading.now.table.now t) word.new.items) }

@@ -29,7 +29,7 @@ add_members-requires t c =
     let base = subst (ShowsValid (symbols_of by.world.now.lexicon) (facts_of (world_by by.table.now by.world.now)) (source_over by.over) (Links by.rules.now)) (sym same) c.requires.base.valid in
     let linked = subst (λ z. Links by.rules.now (word_of (symbols_of by.world.now.lexicon) (source_over by.over) z) c.args.word.now.items) (sym same) c.requires.base.linked in (
       omega (arith, c.decreases, c.if-count-eq0.false),
-      (c.requires.text, (front_in, (omega (arith, size, c.requires.count), (record { valid = base; linked = linked; least = c.requires.base.least }, (omega (arith, c.requires.fits), omega (arith, c.requires.fits_test)))))),
+      (c.requires.text, (front_in, (omega (arith, size, c.requires.count), (record { valid = base; linked = linked; least = c.requires.base.least }, (omega (arith, c.requires.fits.0), omega (arith, c.requires.fits.1)))))),
     )
 
 pub returns-then-not-add_members-clause-valid : goal.returns-then-not-add_members-clause-valid
