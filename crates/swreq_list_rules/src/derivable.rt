@@ -57,7 +57,7 @@ fn are_linked(
 
 /// Whether a requirement is derivable from a list with these rules: whether its type parameters are valid, and the rules link the two sides of
 /// its equation.
-pub fn holds(
+pub fn is_derivable_by(
     alloc: Global,
     setting: &Setting<'_>,
     rules: &CompleteRules<'_>,

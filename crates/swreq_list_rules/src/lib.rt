@@ -6,6 +6,6 @@ mod list_rules;
 mod setting;
 mod settling;
 
-pub use derivable::holds;
+pub use derivable::is_derivable_by;
 pub use list_rules::ListRules;
 pub use setting::Setting;

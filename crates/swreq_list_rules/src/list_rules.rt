@@ -7,7 +7,7 @@ ghost use Rattle.swreq_symbols.specs.Known.{IsRequirementIn};
 ghost use Rattle.swreq_list_rules.specs.ListRules.{AreOfList};
 ghost use Rattle.swreq_list_rules.specs.Settings.{AreKnownIn, IsSetting, facts_in, said_in, source_in};
 
-use crate::derivable::holds;
+use crate::derivable::is_derivable_by;
 use crate::setting::Setting;
 use crate::settling::settle;
 use std::alloc::{AllocError, Global};
@@ -92,6 +92,6 @@ impl<'b> ListRules<'b> {
         ensures { (list : List TermRequirement) → AreOfList setting.now list self.now
             → IfOk result (λ b. IsTrue b ↔ Derivable (facts_in setting.now) (source_in setting.now list) (Requires (requirement_of setting.now.table.now r))) }
     {
-        holds(alloc, setting, &self.rules, r)
+        is_derivable_by(alloc, setting, &self.rules, r)
     }
 }

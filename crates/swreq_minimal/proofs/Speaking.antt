@@ -95,13 +95,13 @@ module _ (x : LexiconView) (rules : List Rule) (params : Params) where
   named_first front y a named None n = λ b d m f. n d (subst (λ z. IsGivenBehind x rules front z d) (one_name (symbols_of x) y b a m named) f.given)
   named_first front y a named (Some d) f = (a, named, f)
 
-  spoken_behind : (front : Word) (y : Symbol) (t : Term) → 0 < length front → SpeaksBy x rules params (front ++ y ∷ []) t
+  member_subject : (front : Word) (y : Symbol) (t : Term) → 0 < length front → SpeaksBy x rules params (front ++ y ∷ []) t
       → (z : Term) × (d : AssocId) × (a : NameId) × (t ≡ Member z (Bound d)) × IsTypeBy x rules params front z × IsNamed (symbols_of x) y a
       × IsFirstBehind x rules front a d
-  spoken_behind front y (Generic g) l (c, e) =
+  member_subject front y (Generic g) l (c, e) =
       let (f, s) = nothing_before (Param g.depth g.index) y front (sym e) in
       absurd (let n : length front ≡ 0 = ap length f in omega (arith, l, n))
-  spoken_behind front y (Member z (Bound d)) l (other, s, a, e, h, n, m) =
+  member_subject front y (Member z (Bound d)) l (other, s, a, e, h, n, m) =
       let (f, q) = same_from_push front other y s e in (
         z,
         d,
@@ -111,17 +111,17 @@ module _ (x : LexiconView) (rules : List Rule) (params : Params) where
         subst (λ v. IsNamed (symbols_of x) v a) (sym q) n,
         subst (λ v. IsFirstBehind x rules v a d) (sym f) m,
       )
-  spoken_behind front y (Member z (Name a)) l h = absurd h
+  member_subject front y (Member z (Name a)) l h = absurd h
 
   pub none_behind : (front : Word) (y : Symbol) → 0 < length front → ((t : Term) → IsTypeBy x rules params front t → ⊥)
       → (t : Term) → SpeaksBy x rules params (front ++ y ∷ []) t → ⊥
-  none_behind front y l n t h = let (z, d, a, e, k, m, f) = spoken_behind front y t l h in n z k
+  none_behind front y l n t h = let (z, d, a, e, k, m, f) = member_subject front y t l h in n z k
 
   pub some_behind : (front : Word) (y : Symbol) → 0 < length front → (old new : List Term) (id : TermId) → IsTypeBy x rules params front (term_at old id) → (o : Option TermId)
       → MatchOption o ((a : NameId) (d : AssocId) → IsNamed (symbols_of x) y a → IsFirstBehind x rules front a d → ⊥)
       (λ u. (a : NameId) × (d : AssocId) × IsNamed (symbols_of x) y a × IsFirstBehind x rules front a d × IsOf new u × (term_at new u ≡ Member (term_at old id) (Bound d)))
       → Identifies (SpeaksBy x rules params (front ++ y ∷ [])) new o
-  some_behind front y l old new id h None n = λ t k. let (z, d, a, e, j, m, f) = spoken_behind front y t l k in n a d m f
+  some_behind front y l old new id h None n = λ t k. let (z, d, a, e, j, m, f) = member_subject front y t l k in n a d m f
   some_behind front y l old new id h (Some u) (a, d, n, f, of, is) =
       (of, subst (SpeaksBy x rules params (front ++ y ∷ [])) (sym is) (front, y, a, refl, h, n, f))
 
@@ -175,24 +175,24 @@ module _ (x : LexiconView) (rules : List Rule) (params : Params) where
       (((p : ProtoId) → l ≡ r ++ Proto p.rank ∷ [] → IsProtocol x p → ⊥) × (l ≡ r ++ Layout ∷ [] → ⊥))
       (λ q. ((p : ProtoId) × (l ≡ r ++ Proto p.rank ∷ []) × IsProtocol x p × (q ≡ Conf t p)) ⊎ ((l ≡ r ++ Layout ∷ []) × (q ≡ LayoutOf t)))
 
-  pub property_said : (l r : Word) (terms : List Term) (t : TermId) → IsOf terms t → IsTypeBy x rules params r (term_at terms t) → (q : Requirement)
+  pub property_requirement : (l r : Word) (terms : List Term) (t : TermId) → IsOf terms t → IsTypeBy x rules params r (term_at terms t) → (q : Requirement)
       → SaysProperty l r t (Some q) → IsRequirementIn terms x q × SaysBy x rules params l r (requirement_of terms q)
-  property_said l r terms t of h q (inl (p, e, i, s)) =
+  property_requirement l r terms t of h q (inl (p, e, i, s)) =
       subst (λ z. IsRequirementIn terms x z × SaysBy x rules params l r (requirement_of terms z)) (sym s)
       ((of, (type_of_text x rules params (term_at terms t) r h, i)), (h, i, e))
-  property_said l r terms t of h q (inr (e, s)) =
+  property_requirement l r terms t of h q (inr (e, s)) =
       subst (λ z. IsRequirementIn terms x z × SaysBy x rules params l r (requirement_of terms z)) (sym s)
       ((of, type_of_text x rules params (term_at terms t) r h), (h, e))
 
-  pub same_said : (l r : Word) (old new : List Term) (t : TermId) → Extends old new → IsOf old t → IsTypeBy x rules params r (term_at old t)
+  pub same_type_requirement : (l r : Word) (old new : List Term) (t : TermId) → Extends old new → IsOf old t → IsTypeBy x rules params r (term_at old t)
       → SaysProperty l r t None → (o : Option Requirement) → SaysSame l old new t o → Finds (SaysBy x rules params l r) new x o
-  same_said l r old new t b of h none None n = unsaid
+  same_type_requirement l r old new t b of h none None n = unsaid
     where
       unsaid : (q : TermRequirement) → SaysBy x rules params l r q → ⊥
       unsaid (Conforms z p) (k, i, e) = none.0 p e i
       unsaid (IsAnyObject z) (k, e) = none.1 e
       unsaid (Equals z v) (k, s, d) = d (one_type x rules params z (term_at old t) r k h ∙ n v s)
-  same_said l r old new t b of h none (Some q) (v, e, ov, s, d) =
+  same_type_requirement l r old new t b of h none (Some q) (v, e, ov, s, d) =
       let is = b.stands t of in
       let typed : IsTypeBy x rules params r (term_at new t) = subst (IsTypeBy x rules params r) (sym is) h in
       subst (λ z. IsRequirementIn new x z × SaysBy x rules params l r (requirement_of new z)) (sym e) (

@@ -24,7 +24,7 @@ ghost use Rattle.swreq_minimal.specs.Typed.{SaysBy};
 use crate::of_params::of_params;
 use crate::order::{is_before, is_same};
 use crate::reader::Reader;
-use crate::spoken::said;
+use crate::rule_requirement::rule_requirement;
 use std::alloc::{AllocError, Global};
 use swreq_complete::CompleteRules;
 use swreq_derive::Requirement;
@@ -84,7 +84,7 @@ fn put_sorted(
     }
 }
 
-/// Adds what a rule of the reduced system says, unless it is there.
+/// Adds the requirement of a rule of the reduced system, where it has one, unless it is there.
 fn add(
     by: &Reader<'_, '_>,
     table: &mut ParamTable,
@@ -105,14 +105,14 @@ fn add(
 {
     let left = rule.left.symbols();
     let right = rule.right.symbols();
-    let one = said(by, table, left, right)?;
+    let one = rule_requirement(by, table, left, right)?;
     match one {
         None => Ok(()),
         Some(r) => put_sorted(table, found, r),
     }
 }
 
-/// What these rules of the reduced system say, in order, each once.
+/// The requirements of these rules of the reduced system, in order, each once.
 fn collect(
     by: &Reader<'_, '_>,
     table: &mut ParamTable,

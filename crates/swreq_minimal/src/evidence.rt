@@ -220,7 +220,7 @@ fn loops_from(alloc: Global, rules: &[Rule], from: usize) -> Result<Vec<Loop>, A
     Ok(loops)
 }
 
-/// So many marks, all set.
+/// `count` marks, all set.
 fn all_marked(alloc: Global, count: usize) -> Result<Vec<bool>, AllocError>
     ensures { IfOk result (λ v. length v.items ≡ count) }
 {
@@ -231,7 +231,7 @@ fn all_marked(alloc: Global, count: usize) -> Result<Vec<bool>, AllocError>
     Ok(marks)
 }
 
-/// So many marks, of which the last alone is set.
+/// `count` marks, of which the last alone is set.
 fn last_marked(alloc: Global, count: usize) -> Result<Vec<bool>, AllocError>
     ensures count { IfOk result (λ v. length v.items ≡ count) }
     ensures last { IfOk result (λ v. (n : ℕ) → IsMarked v.items n → n ≡ count) }

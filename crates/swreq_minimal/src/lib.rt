@@ -9,8 +9,8 @@ mod of_params;
 mod order;
 mod plain;
 mod reader;
+mod rule_requirement;
 mod sifting;
-mod spoken;
 mod typed;
 
 pub use minimised::minimise;

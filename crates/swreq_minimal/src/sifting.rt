@@ -20,11 +20,11 @@ use crate::evidence::is_evident;
 use std::alloc::Global;
 use swreq_complete::Failed;
 use swreq_derive::Requirement;
-use swreq_list_rules::{ListRules, Setting, holds};
+use swreq_list_rules::{ListRules, Setting, is_derivable_by};
 use swreq_valid::core;
 use swreq_watch::Watch;
 
-// ---- whether a requirement follows
+// ---- whether a requirement is derivable
 
 /// Whether a requirement is derivable from a list, as the machine of the list tells.
 fn by_machine<W: Watch>(
@@ -55,7 +55,7 @@ fn by_machine<W: Watch>(
         watch,
     ) {
         Err(failed) => Err(failed),
-        Ok(machine) => match holds(alloc, setting, machine.rules(), r) {
+        Ok(machine) => match is_derivable_by(alloc, setting, machine.rules(), r) {
             Ok(derivable) => Ok(derivable),
             Err(_) => Err(Failed::Memory),
         },
@@ -91,7 +91,7 @@ fn by_evidence<W: Watch>(
 }
 
 /// Whether a requirement is derivable from a list: as its rules tell, or where there are none, by evidence or its machine.
-fn follows<W: Watch>(
+fn is_derivable<W: Watch>(
     alloc: Global,
     setting: &Setting<'_>,
     rules: Option<&ListRules<'_>>,
@@ -141,24 +141,38 @@ fn with<'b>(
     }
 }
 
-/// The same over rules that are borrowed, where there are any.
-fn over_with<'a>(
+/// The rules of a list with members more, where there are rules, or None where there are none or a completion passes a limit.
+fn grown<'b>(
     alloc: Global,
     setting: &Setting<'_>,
-    rules: Option<&'a ListRules<'_>>,
+    rules: Option<ListRules<'b>>,
     more: &[Requirement],
-) -> Result<Option<ListRules<'a>>, Failed>
+) -> Result<Option<ListRules<'b>>, Failed>
     requires setting { IsSetting setting.now }
-    requires waiting { IfSome rules (λ rules. AreKnownIn setting.now rules.now.waiting) }
+    requires waiting { IfSome rules (λ rules. AreKnownIn setting.now rules.waiting) }
     requires more { AreKnownIn setting.now more.now }
-    ensures rules { IfOk result (λ o. IfSome o (λ new. (old : Bor ListRulesView) × (rules.entry ≡ Some old)
-        × AreGrownBy setting.now old.now more.now new)) }
+    ensures rules { IfOk result (λ o. IfSome o (λ new. (old : ListRulesView) × (rules.entry ≡ Some old)
+        × AreGrownBy setting.now old more.now new)) }
+    ensures memory { IfErr result (λ failed. failed ≡ Memory) }
+{
+    match rules {
+        None => Ok(None),
+        Some(rules) => with(alloc, setting, rules, more),
+    }
+}
+
+/// The same rules once more, where there are any. What of them is not borrowed is copied.
+fn copied<'a>(
+    alloc: Global,
+    rules: Option<&'a ListRules<'_>>,
+) -> Result<Option<ListRules<'a>>, Failed>
+    ensures rules { IfOk result (λ o. IfSome o (λ new. (old : Bor ListRulesView) × (rules.entry ≡ Some old) × (new ≡ old.now))) }
     ensures memory { IfErr result (λ failed. failed ≡ Memory) }
 {
     match rules {
         None => Ok(None),
         Some(rules) => match rules.over(alloc) {
-            Ok(same) => with(alloc, setting, same, more),
+            Ok(same) => Ok(Some(same)),
             Err(_) => Err(Failed::Memory),
         },
     }
@@ -221,7 +235,7 @@ fn put_taken<'b>(
 
 /// Takes a candidate, unless it is derivable from those that were taken before. The rules of these are given where they are there, and so are
 /// those of what is taken then handed back.
-fn take<'b, W: Watch>(
+fn take_underivable<'b, W: Watch>(
     alloc: Global,
     setting: &Setting<'b>,
     taken: &mut Vec<Requirement>,
@@ -244,7 +258,7 @@ fn take<'b, W: Watch>(
     ensures failed { IfErr result (TellsFailure setting.entry.now.limits (plan_in setting.entry.now)
         (λ l. l ≡ said_in setting.entry.now taken.old.items) (W.told watch.old) (W.told watch.new)) }
 {
-    let derivable = match follows(alloc, setting, rules.as_ref(), taken, candidate, watch) {
+    let derivable = match is_derivable(alloc, setting, rules.as_ref(), taken, candidate, watch) {
         Ok(derivable) => derivable,
         Err(failed) => return Err(failed),
     };
@@ -279,7 +293,7 @@ fn generators<W: Watch>(
         Err(failed) => return Err(failed),
     };
     for k in 0..candidates.len() {
-        match take(alloc, setting, &mut taken, rules, candidates[k], watch) {
+        match take_underivable(alloc, setting, &mut taken, rules, candidates[k], watch) {
             Ok(grown) => rules = grown,
             Err(failed) => return Err(failed),
         }
@@ -328,7 +342,7 @@ fn drop_at<W: Watch>(
         (λ l. l ≡ said_in setting.now (remove left.old.items place)) (W.told watch.old) (W.told watch.new)) }
 {
     let one = left.remove(place);
-    let derivable = match follows(alloc, setting, rules, left, one, watch) {
+    let derivable = match is_derivable(alloc, setting, rules, left, one, watch) {
         Ok(derivable) => derivable,
         Err(failed) => return Err(failed),
     };
@@ -388,7 +402,7 @@ fn drop_end(
     Ok(to)
 }
 
-/// The same where there are rules. Where there are none, the span ends where it did.
+/// Drops those at the end of a span as `drop_end` does, where there are rules. Where there are none, the span ends where it did.
 fn drop_end_by(
     alloc: Global,
     setting: &Setting<'_>,
@@ -420,13 +434,13 @@ fn drop_end_by(
 fn drop_half<W: Watch>(
     alloc: Global,
     setting: &Setting<'_>,
-    rules: Option<&ListRules<'_>>,
+    rules: Option<ListRules<'_>>,
     left: &mut Vec<Requirement>,
     half: Half,
     watch: &mut W,
 ) -> Result<(), Failed>
     requires setting { IsSetting setting.now }
-    requires rules { IfSome rules (λ rules. AreBesideBoth setting.now left.old.items half rules.now) }
+    requires rules { IfSome rules (AreBesideBoth setting.now left.old.items half) }
     requires left { AreKnownIn setting.now left.old.items }
     requires span { IsSpanOf left.old.items half.span }
     requires other { IsPartOf left.old.items half.other }
@@ -446,8 +460,8 @@ fn drop_half<W: Watch>(
         (W.told watch.old) (W.told watch.new) failed) }
 {
     let more = &left[half.other.from..half.other.to];
-    match over_with(alloc, setting, rules, more) {
-        Ok(grown) => drop_in(alloc, setting, grown.as_ref(), left, half.span, watch),
+    match grown(alloc, setting, rules, more) {
+        Ok(grown) => drop_in(alloc, setting, grown, left, half.span, watch),
         Err(failed) => Err(failed),
     }
 }
@@ -459,14 +473,14 @@ fn drop_half<W: Watch>(
 fn drop_in<W: Watch>(
     alloc: Global,
     setting: &Setting<'_>,
-    rules: Option<&ListRules<'_>>,
+    rules: Option<ListRules<'_>>,
     left: &mut Vec<Requirement>,
     span: Span,
     watch: &mut W,
 ) -> Result<(), Failed>
     requires setting { IsSetting setting.now }
-    requires rules { IfSome rules (λ rules. AreOfList setting.now
-        (said_in setting.now (take span.from left.old.items ++ drop span.to left.old.items)) rules.now) }
+    requires rules { IfSome rules (AreOfList setting.now
+        (said_in setting.now (take span.from left.old.items ++ drop span.to left.old.items))) }
     requires left { AreKnownIn setting.now left.old.items }
     requires span { IsSpanOf left.old.items span }
     ensures leaves { OnOk result ((all : List TermRequirement)
@@ -484,7 +498,7 @@ fn drop_in<W: Watch>(
         → TellsFailure setting.now.limits (plan_in setting.now) (IsLeftWithout (facts_in setting.now) (params_in setting.now) all)
         (W.told watch.old) (W.told watch.new) failed) }
 {
-    match drop_end_by(alloc, setting, rules, left, span) {
+    match drop_end_by(alloc, setting, rules.as_ref(), left, span) {
         Ok(to) => {
             let rest = Span {
                 from: span.from,
@@ -496,19 +510,19 @@ fn drop_in<W: Watch>(
     }
 }
 
-/// The same by halves: each half of the span is gone through with the rules to which the other half was added.
+/// Goes through the requirements of a span as `drop_in` does, by halves: each half with the rules to which the other half was added.
 #[cycle(halves)]
 fn drop_halves<W: Watch>(
     alloc: Global,
     setting: &Setting<'_>,
-    rules: Option<&ListRules<'_>>,
+    rules: Option<ListRules<'_>>,
     left: &mut Vec<Requirement>,
     span: Span,
     watch: &mut W,
 ) -> Result<(), Failed>
     requires setting { IsSetting setting.now }
-    requires rules { IfSome rules (λ rules. AreOfList setting.now
-        (said_in setting.now (take span.from left.old.items ++ drop span.to left.old.items)) rules.now) }
+    requires rules { IfSome rules (AreOfList setting.now
+        (said_in setting.now (take span.from left.old.items ++ drop span.to left.old.items))) }
     requires left { AreKnownIn setting.now left.old.items }
     requires span { IsSpanOf left.old.items span }
     ensures leaves { OnOk result ((all : List TermRequirement)
@@ -528,7 +542,7 @@ fn drop_halves<W: Watch>(
 {
     let middle = span.from + (span.to - span.from) / 2;
     if middle == span.from {
-        return drop_at(alloc, setting, rules, left, span.from, watch);
+        return drop_at(alloc, setting, rules.as_ref(), left, span.from, watch);
     }
     let behind = left.len() - span.to;
     let first = Span {
@@ -543,7 +557,11 @@ fn drop_halves<W: Watch>(
         span: second,
         other: first,
     };
-    match drop_half(alloc, setting, rules, left, last_half, watch) {
+    let same = match copied(alloc, rules.as_ref()) {
+        Ok(same) => same,
+        Err(failed) => return Err(failed),
+    };
+    match drop_half(alloc, setting, same, left, last_half, watch) {
         Ok(()) => {}
         Err(failed) => return Err(failed),
     }
@@ -590,15 +608,15 @@ fn drop_derivable<W: Watch>(
     drop_in(
         alloc,
         setting,
-        rules.as_ref(),
+        rules,
         left,
         Span { from: 0, to: last },
         watch,
     )
 }
 
-/// What is left of the candidates.
-pub(crate) fn sift<W: Watch>(
+/// The minimised candidates: what is left of them.
+pub(crate) fn minimised_candidates<W: Watch>(
     alloc: Global,
     setting: &Setting<'_>,
     candidates: &[Requirement],

@@ -19,16 +19,16 @@ returns-in-Err-clause-failed g c list is =
     wants_at_once c.args.limits (list_of (world_by c.args.table.now c.args.world.now) (last_rules c.args.protocols.now.rounds) c.args.machine.now.params)
     (IsPassedOf (symbols_of c.args.world.now.lexicon) (facts_of (world_by c.args.table.now c.args.world.now)) (generic_params c.args.machine.now.params) list) (g.W.Watch.told c.args.watch.now)
 
-pub sift-requires-clause-setting : goal.sift-requires-clause-setting
-sift-requires-clause-setting g c = record {
+pub minimised_candidates-requires-clause-setting : goal.minimised_candidates-requires-clause-setting
+minimised_candidates-requires-clause-setting g c = record {
   text = text_stays c.args.table.now c.candidates.new.table c.candidates.ensures.extends c.args.world.now c.requires.text;
   protocols = subst (λ (z : TextWorld). AreRulesOf z (last_rules c.args.protocols.now.rounds))
       (sym (world_stays c.args.table.now c.candidates.new.table c.candidates.ensures.extends c.args.world.now c.requires.text.table)) c.requires.protocols;
   limits = c.requires.limits;
 }
 
-pub sift-requires-clause-candidates : goal.sift-requires-clause-candidates
-sift-requires-clause-candidates g c = subst (AreKnown c.candidates.new.table c.args.world.now.lexicon) (sym c.deref.ensures.value) c.in-Ok.ensures.known
+pub minimised_candidates-requires-clause-candidates : goal.minimised_candidates-requires-clause-candidates
+minimised_candidates-requires-clause-candidates g c = subst (AreKnown c.candidates.new.table c.args.world.now.lexicon) (sym c.deref.ensures.value) c.in-Ok.ensures.known
 
 pub returns-in-Ok : goal.returns-in-Ok
 returns-in-Ok g c =
@@ -47,20 +47,20 @@ returns-in-Ok g c =
       is = is;
       candidates = c.in-Ok.ensures.candidates list is;
     } in
-    let sifted = rw (c.params.ensures, c.deref.ensures.value) at c.sift.ensures.sifted in
-    let told = rw (c.params.ensures, c.deref.ensures.value) at c.sift.ensures.told in
-    let failed = rw (c.params.ensures, c.deref.ensures.value) at c.sift.ensures.failed in
+    let sifted = rw (c.params.ensures, c.deref.ensures.value) at c.minimised_candidates.ensures.sifted in
+    let told = rw (c.params.ensures, c.deref.ensures.value) at c.minimised_candidates.ensures.told in
+    let failed = rw (c.params.ensures, c.deref.ensures.value) at c.minimised_candidates.ensures.failed in
     let a = g.W.Watch.told c.args.watch.now in
-    let b = g.W.Watch.told c.sift.new.watch in
+    let b = g.W.Watch.told c.minimised_candidates.new.watch in
     record {
-      minimised = λ list is. IfOk-weaker c.sift.result _ _ (λ v s. is_minimised old new w protocols machine list found (read list is) (listed new v.items) s) sifted;
-      same = λ list is. IfOk-weaker c.sift.result _ _ (λ v s. is_same old new w protocols machine list found (read list is) (listed new v.items) s) sifted;
-      independent = λ list is. IfOk-weaker c.sift.result _ _ (λ v s. is_independent old new w protocols machine list found (read list is) (listed new v.items) s) sifted;
-      canonical = λ list is. IfOk-weaker c.sift.result _ _ (λ v s. is_canonical old new w protocols machine list found (read list is) (listed new v.items) s) sifted;
-      sorted = λ list is. IfOk-weaker c.sift.result _ _ (λ v s. is_sorted old new w protocols machine list found (read list is) (listed new v.items) s) sifted;
-      told = λ list is. IfOk-weaker c.sift.result _ _ (λ v h. tells old new w protocols machine list found (read list is) c.args.limits a b h) told;
-      failed = λ list is. IfErr-weaker c.sift.result _ _ (λ e h. fails old new w protocols machine list found (read list is) c.args.limits a b e h) failed;
-      known = c.sift.ensures.known;
+      minimised = λ list is. IfOk-weaker c.minimised_candidates.result _ _ (λ v s. is_minimised old new w protocols machine list found (read list is) (listed new v.items) s) sifted;
+      same = λ list is. IfOk-weaker c.minimised_candidates.result _ _ (λ v s. is_same old new w protocols machine list found (read list is) (listed new v.items) s) sifted;
+      independent = λ list is. IfOk-weaker c.minimised_candidates.result _ _ (λ v s. is_independent old new w protocols machine list found (read list is) (listed new v.items) s) sifted;
+      canonical = λ list is. IfOk-weaker c.minimised_candidates.result _ _ (λ v s. is_canonical old new w protocols machine list found (read list is) (listed new v.items) s) sifted;
+      sorted = λ list is. IfOk-weaker c.minimised_candidates.result _ _ (λ v s. is_sorted old new w protocols machine list found (read list is) (listed new v.items) s) sifted;
+      told = λ list is. IfOk-weaker c.minimised_candidates.result _ _ (λ v h. tells old new w protocols machine list found (read list is) c.args.limits a b h) told;
+      failed = λ list is. IfErr-weaker c.minimised_candidates.result _ _ (λ e h. fails old new w protocols machine list found (read list is) c.args.limits a b e h) failed;
+      known = c.minimised_candidates.ensures.known;
       extends = c.candidates.ensures.extends;
       world = world_stays old new c.candidates.ensures.extends w c.requires.text.table;
       text = text_stays old new c.candidates.ensures.extends w c.requires.text;

@@ -1,10 +1,9 @@
 use Rattle.std.proofs.Common.{◌≡◌, ◌↔◌, ◌∙◌, ◌≤◌, ◌+◌, ◌-◌, ◌/◌, ◌++◌, arith, ap, sym, subst, suc, List, take, drop, length, Contains, IfSome, OnOk, []}
-use Rattle.std.specs.Borrow.{Bor}
 use Rattle.std.specs.Prelude.{remove}
 use Rattle.std.proofs.lemmas.Result.{IfErr-weaker, on_ok_weaker}
 use Rattle.swreq_derive.specs.declared.requirements.Requirement.{Requirement}
 use Rattle.swreq_derive.specs.Derivation.{TermRequirement}
-use Rattle.swreq_list_rules.specs.ListRules.{AreOfList, ListRulesView}
+use Rattle.swreq_list_rules.specs.ListRules.{AreOfList}
 use Rattle.swreq_list_rules.specs.Settings.{facts_in, params_in, plan_in, said_in}
 use Rattle.swreq_minimal.specs.declared.sifting.Half.{Half}
 use Rattle.swreq_minimal.specs.Halves.{AreBesideBoth, beside, part_of}
@@ -26,8 +25,9 @@ drop_halves-drop_at-requires-clause-rules g t c =
     let from = c.args.span.from in
     let one : c.args.span.to ≡ suc from = one_place from c.args.span.to c.requires.span.0 c.if-middle-span.true in
     let w = c.requires.span.1 in
-    subst (λ (z : List Requirement). IfSome c.args.rules (λ (rules : Bor ListRulesView). AreOfList s (said_in s z) rules.now))
-    (ap (λ n. take from now ++ drop n now) one ∙ sym (without s.table.now now from any (omega (arith, w, one)))) c.requires.rules
+    where_borrowed (AreOfList s (said_in s (remove now from))) c.as_ref.result c.args.rules c.as_ref.ensures.value
+    (subst (λ (z : List Requirement). IfSome c.args.rules (AreOfList s (said_in s z)))
+    (ap (λ n. take from now ++ drop n now) one ∙ sym (without s.table.now now from any (omega (arith, w, one)))) c.requires.rules)
 
 pub drop_halves-returns-then-middle-span-clause-leaves : goal.drop_halves-returns-then-middle-span-clause-leaves
 drop_halves-returns-then-middle-span-clause-leaves g t c =
@@ -75,6 +75,11 @@ drop_halves-returns-then-middle-span-clause-failed g t c =
 
 -- ---- a span that ends earlier
 
+pub drop_in-drop_end_by-requires-clause-rules : goal.drop_in-drop_end_by-requires-clause-rules
+drop_in-drop_end_by-requires-clause-rules g t c =
+    let s = c.args.setting.now in
+    where_borrowed (AreOfList s (said_in s (beside c.args.left.now.items c.args.span))) c.as_ref.result c.args.rules c.as_ref.ensures.value c.requires.rules
+
 pub drop_in-drop_halves-requires : goal.drop_in-drop_halves-requires
 drop_in-drop_halves-requires g t c κs sub =
     let s = c.args.setting.now in
@@ -92,7 +97,7 @@ drop_in-drop_halves-requires g t c κs sub =
         (
           c.requires.setting,
           (
-            subst (λ (z : List Requirement). IfSome c.args.rules (λ (rules : Bor ListRulesView). AreOfList s (said_in s z) rules.now)) (sym same) c.requires.rules,
+            subst (λ (z : List Requirement). IfSome c.args.rules (AreOfList s (said_in s z))) (sym same) c.requires.rules,
             (c.in-Ok.ensures.known, (after, omega (arith, long))),
           ),
         ),
@@ -148,18 +153,9 @@ drop_half-drop_in-requires g t c κs sub =
     let rules = if_some_weaker _ (AreOfList s (said_in s (beside now span))) c.in-Ok.grown
     (λ new h. let (old, e, grew) = h in
     let (list, are, same) = rw e at c.requires.rules in
-    grown_to s list (part_of now other) (beside now span) old.now new same are grew) grown in (
+    grown_to s list (part_of now other) (beside now span) old new same are grew) grown in (
       omega (arith, c.decreases),
-      (
-        sub,
-        (
-          c.requires.setting,
-          (
-            where_borrowed (AreOfList s (said_in s (beside now span))) c.as_ref.result c.in-Ok.grown c.as_ref.ensures.value rules,
-            (c.requires.left, c.requires.span),
-          ),
-        ),
-      ),
+      (sub, (c.requires.setting, (rules, (c.requires.left, c.requires.span)))),
     )
 
 pub drop_half-returns-in-Err-clause-failed : goal.drop_half-returns-in-Err-clause-failed
@@ -181,12 +177,21 @@ drop_halves-drop_half-requires g t c κs sub =
     let within = c.requires.span.1 in
     let middle = from + (to - from) / 2 in
     let last_half : Half = record { span = record { from = middle; to = to }; other = record { from = from; to = middle } } in
-    let rules = if_some_weaker _ (λ (b : Bor ListRulesView). AreBesideBoth s now last_half b.now) c.args.rules (λ b are. (
+    let borrowed = where_borrowed (AreOfList s (said_in s (take from now ++ drop to now)))
+    c.as_ref-2.result c.args.rules c.as_ref-2.ensures.value c.requires.rules in
+    let rules = if_some_weaker _ (AreBesideBoth s now last_half) c.in-Ok.same (λ new h. let (old, e, is) = h in (
       said_in s (take from now ++ drop to now),
-      are,
+      subst (AreOfList s (said_in s (take from now ++ drop to now))) (sym is) (rw e at borrowed),
       for_second s now from middle to (omega (arith, half.0)) (omega (arith, half.1)) within,
-    )) c.requires.rules in
+    )) c.in-Ok.ensures.rules in
     (omega (arith, c.decreases, half.0, half.1), (sub, (c.requires.setting, (rules, (c.requires.left, ((half.1, within), (omega (arith, half.0), omega (arith, half.1, within))))))))
+
+pub drop_halves-returns-in-Err-clause-failed : goal.drop_halves-returns-in-Err-clause-failed
+drop_halves-returns-in-Err-clause-failed g t c all within left =
+    let s = c.args.setting.now in
+    let P = IsLeftWithout (facts_in s) (params_in s) all in
+    subst (TellsFailure s.limits (plan_in s) P (g.W.Watch.told c.args.watch.now) (g.W.Watch.told c.args.watch.now)) (sym c.in-Err.ensures.memory)
+    (wants_at_once s.limits (plan_in s) P (g.W.Watch.told c.args.watch.now))
 
 pub drop_halves-drop_half-requires-2 : goal.drop_halves-drop_half-requires-2
 drop_halves-drop_half-requires-2 g t c κs sub =
@@ -198,14 +203,14 @@ drop_halves-drop_half-requires-2 g t c κs sub =
     let within = c.requires.span.1 in
     let middle = from + (to - from) / 2 in
     let new = c.drop_half.new.left.items in
-    let (kept, is) = c.in-Ok.ensures.stays in
+    let (kept, is) = c.in-Ok-drop_half.ensures.stays in
     let long = new_length now from middle to (omega (arith, half.0)) (omega (arith, half.1)) within new kept is in
     let end : length new - (length now - to) ≡ c.len-2.result - (c.len.result - to) = omega (arith, c.len-2.ensures, c.len.ensures) in
     let first_half : Half = record {
       span = record { from = from; to = middle };
       other = record { from = middle; to = c.len-2.result - (c.len.result - to) };
     } in
-    let rules = if_some_weaker _ (λ (b : Bor ListRulesView). AreBesideBoth s new first_half b.now) c.args.rules (λ b are. (
+    let rules = if_some_weaker _ (AreBesideBoth s new first_half) c.args.rules (λ rules are. (
       said_in s (take from now ++ drop to now),
       are,
       subst (λ n. (q : TermRequirement) → Contains (said_in s (take from now ++ drop to now) ++ said_in s (take (n - middle) (drop middle new))) q
@@ -220,7 +225,7 @@ drop_halves-drop_half-requires-2 g t c κs sub =
           (
             rules,
             (
-              c.in-Ok.ensures.known,
+              c.in-Ok-drop_half.ensures.known,
               ((half.0, omega (arith, long)), (omega (arith, long, end), omega (arith, long, end))),
             ),
           ),
@@ -233,7 +238,7 @@ drop_halves-returns-clause-stays g t c =
     let from = c.args.span.from in
     let to = c.args.span.to in
     let half = halves from to c.requires.span.0 c.if-middle-span.false in
-    let (kept, is) = c.in-Ok.ensures.stays in
+    let (kept, is) = c.in-Ok-drop_half.ensures.stays in
     on_ok_weaker c.drop_half-2.result (λ h. (
       h.0 ++ kept,
       both_stay c.args.left.now.items from (from + (to - from) / 2) to (omega (arith, half.0)) (omega (arith, half.1)) c.requires.span.1
@@ -247,8 +252,8 @@ drop_halves-returns-clause-told g t c =
     on_ok_weaker c.drop_half-2.result (λ h all within left.
     tells_on s.limits (plan_in s) (IsLeftWithout (facts_in s) (params_in s) all)
     (g.W.Watch.told c.args.watch.now) (g.W.Watch.told c.drop_half.new.watch) (g.W.Watch.told c.drop_half-2.new.watch)
-    (c.in-Ok.ensures.told all within left)
-    (h all (omega (arith, within, half.1)) (c.in-Ok.ensures.leaves all within left)))
+    (c.in-Ok-drop_half.ensures.told all within left)
+    (h all (omega (arith, within, half.1)) (c.in-Ok-drop_half.ensures.leaves all within left)))
     c.drop_half-2.ensures.told
 
 pub drop_halves-returns-clause-failed : goal.drop_halves-returns-clause-failed
@@ -258,6 +263,6 @@ drop_halves-returns-clause-failed g t c =
     IfErr-weaker c.drop_half-2.result _ _ (λ failed h all within left.
     fails_after s.limits (plan_in s) (IsLeftWithout (facts_in s) (params_in s) all)
     (g.W.Watch.told c.args.watch.now) (g.W.Watch.told c.drop_half.new.watch) (g.W.Watch.told c.drop_half-2.new.watch)
-    (c.in-Ok.ensures.told all within left) failed
-    (h all (omega (arith, within, half.1)) (c.in-Ok.ensures.leaves all within left)))
+    (c.in-Ok-drop_half.ensures.told all within left) failed
+    (h all (omega (arith, within, half.1)) (c.in-Ok-drop_half.ensures.leaves all within left)))
     c.drop_half-2.ensures.failed

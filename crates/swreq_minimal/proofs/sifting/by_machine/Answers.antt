@@ -10,13 +10,13 @@ returns-in-Err-clause-failed g c =
     one_failure c.args.setting.now.limits (plan_in c.args.setting.now)
     (said_in c.args.setting.now c.args.list.now) (g.W.Watch.told c.args.watch.now) (g.W.Watch.told c.core.new.watch) c.in-Err.failed c.in-Err.ensures.answer
 
-pub returns-in-Ok-holds-clause-answer : goal.returns-in-Ok-holds-clause-answer
-returns-in-Ok-holds-clause-answer g c =
-    c.in-Ok-holds.ensures (said_in c.args.setting.now c.args.list.now)
+pub returns-in-Ok-is_derivable_by-clause-answer : goal.returns-in-Ok-is_derivable_by-clause-answer
+returns-in-Ok-is_derivable_by-clause-answer g c =
+    c.in-Ok-is_derivable_by.ensures (said_in c.args.setting.now c.args.list.now)
     (of_machine c.args.setting.now (said_in c.args.setting.now c.args.list.now) c.in-Ok.machine c.rules.result.now c.in-Ok.ensures.machine c.in-Ok.ensures.params c.rules.ensures)
 
-pub returns-in-Ok-holds-clause-told : goal.returns-in-Ok-holds-clause-told
-returns-in-Ok-holds-clause-told g c =
+pub returns-in-Ok-is_derivable_by-clause-told : goal.returns-in-Ok-is_derivable_by-clause-told
+returns-in-Ok-is_derivable_by-clause-told g c =
     one_part c.args.setting.now.limits (plan_in c.args.setting.now)
     (said_in c.args.setting.now c.args.list.now) (g.W.Watch.told c.args.watch.now) (g.W.Watch.told c.core.new.watch) (last_rules c.in-Ok.machine.rounds) c.in-Ok.ensures.answer
 

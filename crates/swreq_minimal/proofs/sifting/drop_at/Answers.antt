@@ -17,13 +17,13 @@ use Rattle.swreq_minimal.proofs.Passing.{LeavesNow, one_dropped, one_kept, parte
 use Rattle.swreq_minimal.proofs.Telling.{failure_of, tells_of, wants_memory}
 use Rattle.swreq_minimal.proofs.sifting.drop_at.Goals as goal
 
-pub follows-requires-clause-list : goal.follows-requires-clause-list
-follows-requires-clause-list g c =
+pub is_derivable-requires-clause-list : goal.is_derivable-requires-clause-list
+is_derivable-requires-clause-list g c =
     subst (AreKnown c.args.setting.now.table.now c.args.setting.now.world.now.lexicon) (sym (c.deref.ensures.value ∙ c.remove-one.ensures.items))
     (λ r h. c.requires.left r (there_before c.args.setting.now.table.now c.args.left.now.items c.args.place c.remove-one.result c.requires.place r h))
 
-pub follows-requires-clause-r : goal.follows-requires-clause-r
-follows-requires-clause-r g c =
+pub is_derivable-requires-clause-r : goal.is_derivable-requires-clause-r
+is_derivable-requires-clause-r g c =
     subst (IsRequirementIn c.args.setting.now.table.now c.args.setting.now.world.now.lexicon) (sym c.remove-one.ensures.value)
     (c.requires.left (get_or c.args.left.now.items c.args.place c.remove-one.result) (Contains-get_or c.args.left.now.items c.args.place c.remove-one.result c.requires.place))
 
@@ -32,7 +32,7 @@ returns-in-Err-clause-failed g c =
     failure_of c.args.setting.now.limits (plan_in c.args.setting.now)
     (λ l. l ≡ listed c.args.setting.now.table.now c.deref.result.now) (λ l. l ≡ listed c.args.setting.now.table.now (remove c.args.left.now.items c.args.place))
     (λ l e. e ∙ ap (listed c.args.setting.now.table.now) (c.deref.ensures.value ∙ c.remove-one.ensures.items))
-    (g.W.Watch.told c.args.watch.now) (g.W.Watch.told c.follows.new.watch) c.in-Err.failed c.in-Err.ensures.failed
+    (g.W.Watch.told c.args.watch.now) (g.W.Watch.told c.is_derivable.new.watch) c.in-Err.failed c.in-Err.ensures.failed
 
 pub returns-then-derivable-clause-leaves : goal.returns-then-derivable-clause-leaves
 returns-then-derivable-clause-leaves g c =
@@ -56,7 +56,7 @@ returns-then-derivable-clause-told g c =
     tells_of c.args.setting.now.limits (plan_in c.args.setting.now)
     (λ l. l ≡ listed c.args.setting.now.table.now c.deref.result.now) (λ l. l ≡ listed c.args.setting.now.table.now (remove c.args.left.now.items c.args.place))
     (λ l e. e ∙ ap (listed c.args.setting.now.table.now) (c.deref.ensures.value ∙ c.remove-one.ensures.items))
-    (g.W.Watch.told c.args.watch.now) (g.W.Watch.told c.follows.new.watch) c.in-Ok.ensures.told
+    (g.W.Watch.told c.args.watch.now) (g.W.Watch.told c.is_derivable.new.watch) c.in-Ok.ensures.told
 
 pub returns-clause-leaves : goal.returns-clause-leaves
 returns-clause-leaves g c =
@@ -91,7 +91,7 @@ returns-clause-told g c =
     tells_of c.args.setting.now.limits (plan_in c.args.setting.now)
     (λ l. l ≡ listed c.args.setting.now.table.now c.deref.result.now) (λ l. l ≡ listed c.args.setting.now.table.now (remove c.args.left.now.items c.args.place))
     (λ l h. h ∙ ap (listed c.args.setting.now.table.now) (c.deref.ensures.value ∙ c.remove-one.ensures.items))
-    (g.W.Watch.told c.args.watch.now) (g.W.Watch.told c.follows.new.watch) c.in-Ok.ensures.told) c.put_at.ensures.put
+    (g.W.Watch.told c.args.watch.now) (g.W.Watch.told c.is_derivable.new.watch) c.in-Ok.ensures.told) c.put_at.ensures.put
 
 pub returns-clause-failed : goal.returns-clause-failed
 returns-clause-failed g c =
@@ -99,14 +99,14 @@ returns-clause-failed g c =
     let told = tells_of c.args.setting.now.limits plan
     (λ l. l ≡ listed c.args.setting.now.table.now c.deref.result.now) (λ l. l ≡ listed c.args.setting.now.table.now (remove c.args.left.now.items c.args.place))
     (λ l h. h ∙ ap (listed c.args.setting.now.table.now) (c.deref.ensures.value ∙ c.remove-one.ensures.items))
-    (g.W.Watch.told c.args.watch.now) (g.W.Watch.told c.follows.new.watch) c.in-Ok.ensures.told in
+    (g.W.Watch.told c.args.watch.now) (g.W.Watch.told c.is_derivable.new.watch) c.in-Ok.ensures.told in
     IfErr-weaker c.put_at.result _ _ (λ failed e.
-    subst (TellsFailure c.args.setting.now.limits plan (λ l. l ≡ listed c.args.setting.now.table.now (remove c.args.left.now.items c.args.place)) (g.W.Watch.told c.args.watch.now) (g.W.Watch.told c.follows.new.watch)) (sym e)
-    (wants_memory c.args.setting.now.limits plan (λ l. l ≡ listed c.args.setting.now.table.now (remove c.args.left.now.items c.args.place)) (g.W.Watch.told c.args.watch.now) (g.W.Watch.told c.follows.new.watch) told))
+    subst (TellsFailure c.args.setting.now.limits plan (λ l. l ≡ listed c.args.setting.now.table.now (remove c.args.left.now.items c.args.place)) (g.W.Watch.told c.args.watch.now) (g.W.Watch.told c.is_derivable.new.watch)) (sym e)
+    (wants_memory c.args.setting.now.limits plan (λ l. l ≡ listed c.args.setting.now.table.now (remove c.args.left.now.items c.args.place)) (g.W.Watch.told c.args.watch.now) (g.W.Watch.told c.is_derivable.new.watch) told))
     c.put_at.ensures.memory
 
-pub follows-requires-clause-rules : goal.follows-requires-clause-rules
-follows-requires-clause-rules g c =
+pub is_derivable-requires-clause-rules : goal.is_derivable-requires-clause-rules
+is_derivable-requires-clause-rules g c =
     subst (λ (z : List Requirement). IfSome c.args.rules (λ (rules : Bor ListRulesView). AreOfList c.args.setting.now (said_in c.args.setting.now z) rules.now))
     (sym (c.deref.ensures.value ∙ c.remove-one.ensures.items)) c.requires.rules
 

@@ -23,12 +23,12 @@ loop-k-init g c = record {
       (IsTakenBefore (facts_in c.args.setting.now) (params_in c.args.setting.now) (listed c.args.setting.now.table.now c.args.candidates.now)) (g.W.Watch.told c.args.watch.now);
 }
 
-pub take-requires-clause-candidate : goal.take-requires-clause-candidate
-take-requires-clause-candidate g c =
+pub take_underivable-requires-clause-candidate : goal.take_underivable-requires-clause-candidate
+take_underivable-requires-clause-candidate g c =
     c.requires.candidates (get_or c.args.candidates.now c.loop-k.k any) (Contains-get_or c.args.candidates.now c.loop-k.k any c.loop-k-test.true)
 
-pub returns-in-Err-take-clause-failed : goal.returns-in-Err-take-clause-failed
-returns-in-Err-take-clause-failed g c =
+pub returns-in-Err-take_underivable-clause-failed : goal.returns-in-Err-take_underivable-clause-failed
+returns-in-Err-take_underivable-clause-failed g c =
     let terms = c.args.setting.now.table.now in
     let f = facts_in c.args.setting.now in
     let ps = params_in c.args.setting.now in
@@ -36,7 +36,7 @@ returns-in-Err-take-clause-failed g c =
     fails_next c.args.setting.now.limits (plan_in c.args.setting.now)
     (IsTakenBefore f ps (listed terms c.args.candidates.now)) out
     (taken_before f ps terms c.args.candidates.now c.loop-k.k any c.loop-k-test.true out c.loop-k.invariant.takes)
-    (g.W.Watch.told c.args.watch.now) (g.W.Watch.told c.loop-k.watch) (g.W.Watch.told c.take.new.watch) c.loop-k.invariant.told c.in-Err-take.failed c.in-Err-take.ensures.failed
+    (g.W.Watch.told c.args.watch.now) (g.W.Watch.told c.loop-k.watch) (g.W.Watch.told c.take_underivable.new.watch) c.loop-k.invariant.told c.in-Err-take_underivable.failed c.in-Err-take_underivable.ensures.failed
 
 pub loop-k-preserved : goal.loop-k-preserved
 loop-k-preserved g c =
@@ -45,14 +45,14 @@ loop-k-preserved g c =
     let ps = params_in c.args.setting.now in
     let out = listed terms c.loop-k.taken.items in
     record {
-      takes = next_taken f ps terms c.args.candidates.now c.loop-k.k any c.loop-k-test.true (listed terms c.take.new.taken.items)
-          (c.in-Ok-take.ensures.takes (listed terms (take c.loop-k.k c.args.candidates.now)) c.loop-k.invariant.takes);
-      known = c.in-Ok-take.ensures.known;
-      rules = c.in-Ok-take.ensures.rules;
+      takes = next_taken f ps terms c.args.candidates.now c.loop-k.k any c.loop-k-test.true (listed terms c.take_underivable.new.taken.items)
+          (c.in-Ok-take_underivable.ensures.takes (listed terms (take c.loop-k.k c.args.candidates.now)) c.loop-k.invariant.takes);
+      known = c.in-Ok-take_underivable.ensures.known;
+      rules = c.in-Ok-take_underivable.ensures.rules;
       told = tells_next c.args.setting.now.limits (plan_in c.args.setting.now)
           (IsTakenBefore f ps (listed terms c.args.candidates.now)) out
           (taken_before f ps terms c.args.candidates.now c.loop-k.k any c.loop-k-test.true out c.loop-k.invariant.takes)
-          (g.W.Watch.told c.args.watch.now) (g.W.Watch.told c.loop-k.watch) (g.W.Watch.told c.take.new.watch) c.loop-k.invariant.told c.in-Ok-take.ensures.told;
+          (g.W.Watch.told c.args.watch.now) (g.W.Watch.told c.loop-k.watch) (g.W.Watch.told c.take_underivable.new.watch) c.loop-k.invariant.told c.in-Ok-take_underivable.ensures.told;
     }
 
 pub returns-clause-takes : goal.returns-clause-takes
