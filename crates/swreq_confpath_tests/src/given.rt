@@ -64,7 +64,7 @@ fn given(
     Ok(format!(in alloc; "{numbers} {text}")?)
 }
 
-/// The same of a query for a conformance.
+/// What `paths` prints for a query for a conformance.
 fn given_to(
     alloc: Global,
     world: &World,
@@ -87,7 +87,7 @@ fn given_to(
     }
 }
 
-/// The same of all queries, each on a line.
+/// What is printed for all queries, each on a line.
 fn given_to_all(
     alloc: Global,
     world: &World,
@@ -110,7 +110,7 @@ fn given_to_all(
     Ok(lines)
 }
 
-/// The same of the queries of a world.
+/// What is printed for the queries of a world.
 fn given_over(alloc: Global, world: &World, table: &ParamTable) -> Result<String, Fail>
     requires text { IsTextOver table.now world.now }
     requires short { IsShort world.now }
@@ -119,7 +119,7 @@ fn given_over(alloc: Global, world: &World, table: &ParamTable) -> Result<String
     given_to_all(alloc, world, table, &protocols)
 }
 
-/// The same of the queries of a text.
+/// What is printed for the queries of a text.
 fn given_in(alloc: Global, text: &str) -> Result<String, Fail> {
     let bytes = text.as_bytes();
     if bytes.len() > 1_048_576 {

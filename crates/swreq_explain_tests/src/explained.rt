@@ -207,7 +207,7 @@ fn said_to(
     }
 }
 
-/// The same of all queries of a world.
+/// What is said of all queries of a world.
 fn said_over(
     alloc: Global,
     said: Said,
@@ -229,7 +229,7 @@ fn said_over(
     Ok(out)
 }
 
-/// The same of the queries of a text.
+/// What is said of the queries of a text.
 fn said_in(alloc: Global, said: Said, text: &str) -> Result<String, Fail> {
     let bytes = text.as_bytes();
     if bytes.len() > 1_048_576 {

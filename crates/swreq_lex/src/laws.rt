@@ -18,7 +18,7 @@ pub fn one_reading(text: &[u8])
     one_reading_from(text, 0)
 }
 
-/// The same of a text from an offset on.
+/// From an offset on, a text has a list of tokens or a refusal, not both, and only one.
 pub fn one_reading_from(text: &[u8], from: u32)
     requires { from ≤ length text.now }
     ensures some { ((ts : List Token) × HasTokensFrom text.now from ts) ⊎ ((e : LexErr) × HasRefusalFrom text.now from e) }
@@ -38,7 +38,8 @@ pub fn tokens_are_slices(text: &[u8])
     tokens_from_are_slices(text, 0)
 }
 
-/// The same of the tokens from an offset on.
+/// The tokens of a text from an offset on are in order, each is its slice of the text, and between them stand white space
+/// and comments alone.
 pub fn tokens_from_are_slices(text: &[u8], from: u32)
     requires { from ≤ length text.now }
     ensures { (ts : List Token) → HasTokensFrom text.now from ts → AreSlices text.now (begin_from text.now from) ts }

@@ -54,7 +54,7 @@ fn told(alloc: Global, kept: Result<Vec<Requirement>, Failed>) -> Result<String,
     }
 }
 
-/// The same of the list of the first signature.
+/// How many requirements minimising keeps of the list of the first signature, or why it fails.
 fn kept_of(
     alloc: Global,
     world: &World,
@@ -78,7 +78,7 @@ fn kept_of(
     }
 }
 
-/// The same of the list of the first signature of a world.
+/// How many requirements minimising keeps of the list of the first signature of a world, or why it fails.
 fn kept_of_first(
     alloc: Global,
     world: &World,

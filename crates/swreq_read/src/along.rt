@@ -16,7 +16,7 @@ use swreq_param::{NameId, ProtoId, TermId};
 use swreq_sheet::Sheet;
 use swreq_word::Symbol;
 
-/// The same of a member symbol. `members` are what one reads by it behind T and U.
+/// Where a member symbol is read behind T, and `[T == U]`, it is read behind U, and what one reads by it are equal. `members` are these.
 fn carry_member(
     ground: &Ground,
     sheet: &mut Sheet,

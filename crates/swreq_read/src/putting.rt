@@ -69,7 +69,7 @@ pub fn replace(
     Ok(())
 }
 
-/// The same where the two words are known to be read alike the other way round.
+/// Replaces a side in a word as `replace` does, where lines state that the second side is read as the first.
 pub fn replace_back(
     ground: &Ground,
     sheet: &mut Sheet,

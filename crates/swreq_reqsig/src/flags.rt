@@ -12,7 +12,7 @@ use swreq_text::Seq;
 use swreq_valid::Kept;
 use swreq_world::World;
 
-/// So many of the flags from the first on, or all where there are no more.
+/// The first `count` flags, or all if there are fewer.
 fn first(flags: &[bool], count: usize) -> &[bool]
     ensures { result.now ≡ take count flags.now }
 {
@@ -23,7 +23,7 @@ fn first(flags: &[bool], count: usize) -> &[bool]
     }
 }
 
-/// The flags behind so many.
+/// The flags after the first `count`.
 fn behind(flags: &[bool], count: usize) -> &[bool]
     ensures { result.now ≡ drop count flags.now }
 {

@@ -13,7 +13,7 @@ use std::alloc::{AllocError, Global};
 use swreq_complete::Failed;
 use swreq_watch::Watch;
 
-/// So many flags, all of them set.
+/// `count` flags, all of them set.
 fn all_set(alloc: Global, count: usize) -> Result<Vec<bool>, AllocError>
     ensures { IfOk result (λ flags. flags.items ≡ replicate count true) }
 {

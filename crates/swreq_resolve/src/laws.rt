@@ -39,8 +39,8 @@ pub fn refusals_are_the_refused(text: &[u8], s: &Skeleton)
     tokens_are_slices(text);
 }
 
-/// The same of one type on a signature, which may be written in another text: the list of its refusals has exactly its refused
-/// names. What is refused of a type of the text itself, in a signature or in a query on it, is refused of the text.
+/// The list of the refusals of one type on a signature, which may be written in another text, has exactly the refused names
+/// of that type. What is refused of a type of the text itself, in a signature or in a query on it, is refused of the text.
 pub fn refusals_of_types_are_the_refused(text: &[u8], s: &Skeleton)
     ensures all { StandsFor text.now s.now → (g : Signature) (written : List ℕ) (t : TypeDecl) (r : Refusal)
         → Contains (of_type_on (spaces text.now s.now) g written t) r ↔ IsRefusedOn text.now s.now g written t r }

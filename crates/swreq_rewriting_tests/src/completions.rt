@@ -203,7 +203,7 @@ fn put_reduced(
     put_rules(out, &rules.canonical(alloc)?)
 }
 
-/// The same of the completion of the equations.
+/// How many rules are born in the completion of the equations, which, and the reduced ones.
 fn put_reduced_of(alloc: Global, text: &str, out: &mut String) -> Result<(), Fail> {
     let mut counter = Counter::new();
     let rules = ended(alloc, CompleteRules::empty(alloc), text, &mut counter)?;

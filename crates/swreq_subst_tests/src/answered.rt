@@ -105,7 +105,7 @@ fn answered_from(
     }
 }
 
-/// The same of an input in two parts.
+/// What is answered for an input in two parts.
 fn answered_in(alloc: Global, input: &[u8], parts: TwoParts<'_>) -> Result<String, Fail> {
     let limit = input.len() <= 1_048_576 && parts.first.len() <= input.len();
     if !limit || parts.second.len() > input.len() {

@@ -68,7 +68,7 @@ fn put_conf(sheet: &mut Sheet, origin: Origin, u: TermId, q: ProtoId) -> Result<
     }
 }
 
-/// The same of `[U : AnyObject]`.
+/// A line for `[U : AnyObject]`, of which it is the requirement. `u` is U where it is read.
 fn put_layout(sheet: &mut Sheet, origin: Origin, u: TermId) -> Result<(), AllocError>
     requires sheet { IsSheet sheet.old }
     requires origin { IsOrigin sheet.old origin }
@@ -85,7 +85,7 @@ fn put_layout(sheet: &mut Sheet, origin: Origin, u: TermId) -> Result<(), AllocE
     }
 }
 
-/// The same of `[U == V]`. `sides` are U and V where they are read.
+/// A line for `[U == V]`, of which it is the requirement. `sides` are U and V where they are read.
 fn put_same(sheet: &mut Sheet, origin: Origin, sides: (TermId, TermId)) -> Result<(), AllocError>
     requires sheet { IsSheet sheet.old }
     requires origin { IsOrigin sheet.old origin }

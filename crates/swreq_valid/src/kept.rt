@@ -159,7 +159,7 @@ fn usable_of(
     Ok(flags)
 }
 
-/// The same of each protocol, by rank.
+/// Which requirements of each protocol are usable, by rank of the protocol.
 pub(crate) fn usable_lists(
     alloc: Global,
     world: &World,

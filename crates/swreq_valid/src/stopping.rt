@@ -87,7 +87,7 @@ fn are_few(world: &World, limits: Limits) -> bool {
     (world.protocols() as u64).saturating_add(world.members()) <= limits.max_rules as u64
 }
 
-/// The same of the first equations, where they pass a limit before a pair, and None where they are not seen to.
+/// How completing these equations fails if they pass a limit before a pair, or None where they are not seen to.
 fn stop_among<W: Watch>(
     alloc: Global,
     equations: &[(Word, Word)],

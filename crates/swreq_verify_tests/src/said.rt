@@ -53,7 +53,7 @@ fn said(alloc: Global, world: &World, table: &mut ParamTable, second: &[u8]) -> 
     }
 }
 
-/// The same of the parts of an input.
+/// What is said of the parts of an input.
 fn said_of(alloc: Global, parts: TwoParts) -> Result<String, Fail> {
     if parts.first.len() > 1_048_576 {
         return Err("a text that is too long".into());
@@ -64,7 +64,7 @@ fn said_of(alloc: Global, parts: TwoParts) -> Result<String, Fail> {
     said(alloc, &world, &mut table, parts.second)
 }
 
-/// The same of an input, which may have one part.
+/// What is said of an input, which may have one part.
 fn said_of_input(alloc: Global, input: &[u8]) -> Result<String, Fail> {
     match parts(input) {
         None => Ok(format!(in alloc; "no second part\n")?),
