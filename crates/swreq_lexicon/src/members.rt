@@ -149,7 +149,7 @@ fn add(alloc: Global, heirs: &Bits, a: NameId, rows: &mut Vec<Bits>) -> Result<(
     Ok(())
 }
 
-/// The rows of the first `names` names.
+/// The rows of the first `names` names. The heirs of protocols are found only where there are pairs.
 fn rows(
     alloc: Global,
     protocols: &Protocols,
@@ -161,8 +161,11 @@ fn rows(
     requires all { (p : ProtoId) → p.rank < length protocols.now.protocols → Contains ordered.now p }
     ensures { IfOk result (λ rows. AreRows ordered.now (has_member (inherits_by protocols.now.places protocols.now.resolved.inherits) pairs.now) rows.items) }
 {
-    let heirs = Heirs::of(alloc, protocols, ordered)?;
     let mut rows = no_rows(alloc, names)?;
+    if pairs.is_empty() {
+        return Ok(rows);
+    }
+    let heirs = Heirs::of(alloc, protocols, ordered)?;
     for d in pairs {
         let places = places_of(alloc, protocols, ordered, &heirs, d.proto)?;
         add(alloc, &places, d.name, &mut rows)?;
