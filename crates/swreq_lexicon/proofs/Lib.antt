@@ -3,6 +3,7 @@ pub mod Declarers
 pub mod KeyOrders
 pub mod SymbolPlaces
 pub mod SymbolMembers
+pub mod OneLexicon
 pub mod OrderKeys
 pub mod SymbolRanks
 pub mod Declared
@@ -16,6 +17,7 @@ pub mod Mapped
 pub mod Keyed
 pub mod PairKeys
 pub mod PairPlaces
+pub mod Rankings
 pub mod Rows
 pub mod Upwards
 pub mod PlaceSets

@@ -8,7 +8,7 @@ use Rattle.std.proofs.lemmas.List.{length-map}
 use Rattle.std.proofs.lemmas.Option.{slice_get_within, slice_get-get_or, same_Some}
 use Rattle.swreq_orders.proofs.Numbers.{last_or_below}
 use Rattle.swreq_closure.specs.Bits.{has, room, count_below}
-use Rattle.swreq_closure.specs.Chains.{Rows, leads}
+use Rattle.swreq_closure.specs.Chains.{Matrix, leads}
 use Rattle.swreq_closure.specs.Walks.{AreApart}
 use Rattle.swreq_closure.proofs.Counts.{count_le, count_none, count_same}
 use Rattle.swreq_names.specs.Spaces.{place}
@@ -90,7 +90,7 @@ module _ (all ranks : List Bytes) (ds : List Declaration) (places : List ℕ) (n
 
 -- ---- how many protocols a protocol inherits
 
-module _ (rows : Rows) (places set : List ℕ) (n : ℕ) (p : ProtoId) (size : length places ≡ n) (are : IsSetOf places set) where
+module _ (rows : Matrix) (places set : List ℕ) (n : ℕ) (p : ProtoId) (size : length places ≡ n) (are : IsSetOf places set) where
   pub depth_counted : count_below (λ to. leads rows (place_by places p) to && has set to) (room set) ≡ depth (inherits_by places rows) n p
   depth_counted = are (leads rows (place_by places p)) ∙ ap (count_below (λ q. inherits_by places rows p (protocol q))) size
 

@@ -5,7 +5,7 @@ use Rattle.std.proofs.lemmas.Bool.{cases_eq, cases_lt, false_from_ne_true}
 use Rattle.std.proofs.lemmas.List.{get_or-set_same, get_or-set_other, length-set, take_more}
 use Rattle.std.proofs.lemmas.List.Elements.{Contains-append_left, Contains-push, Contains-push_cases}
 use Rattle.std.proofs.lemmas.Option.{none-some, same_Some, slice_get_within}
-use Rattle.swreq_closure.specs.Chains.{Leads, Rows, next, leads, AreWithin, IsClosureOf}
+use Rattle.swreq_closure.specs.Chains.{Leads, Matrix, next, leads, AreWithin, IsClosureOf}
 use Rattle.swreq_closure.specs.Chains.Leads.{step, more}
 use Rattle.swreq_closure.proofs.Marks.{joined_chains}
 use Rattle.swreq_orders.proofs.Elements.{contains_get}
@@ -83,7 +83,7 @@ module _ (order : List ProtoId) (places : List ℕ) (positions : List (Option �
         let t = target i j c in
         joined_chains up (chain_up j b l t.0 m t.1 t.3 t.4 at) (step_up i j k t.0 p c at_k is t.2)
 
-    pub all_heirs : (rows inherits : Rows) → IsClosureOf up rows → IsClosureOf graph inherits
+    pub all_heirs : (rows inherits : Matrix) → IsClosureOf up rows → IsClosureOf graph inherits
         → AreAllHeirs order places inherits (record { positions = positions; rows = rows })
     all_heirs rows inherits upwards downwards k place p at = by (position_at positions place) refl
       where

@@ -49,13 +49,15 @@ module _ (text : Bytes) (s : Skeleton) (ps : ProtocolsView) (names : List Bytes)
     }
 
     pub lexicon_is : IsRanking bytes_cmp (Contains (protocol_names text s.protocols)) ps.protocols → IsRanking bytes_cmp (Contains (mentioned text s)) names
+        → length ps.places ≡ length ps.protocols
         → ps.written_order ≡ map (λ p. proto_by ps.protocols (word text p.name)) s.protocols
         → ((p : ProtoId) (name : Bytes) → slice_get ps.protocols p.rank ≡ Some name → position_from (bytes_eq name) 0 (protocol_names text s.protocols) ≡ Some (place_by ps.places p))
         → HasDeclared text s ps.resolved → pairs ≡ declared_in text ps.protocols names s.protocols
         → IsStrictlySortedBy (over.assoc_cmp inherits associated) associated → IsLexiconOf text s whole
-    lexicon_is protocols named written places declared is sorted = record {
+    lexicon_is protocols named placed written places declared is sorted = record {
       protocols = protocols;
       names = named;
+      placed = placed;
       written_order = written;
       places = λ p name h. ap (position_from (bytes_eq name) 0) (declared_names text s.protocols) ∙ places p name h;
       inheritance = λ p q. declared.tells (place_by ps.places p) (place_by ps.places q);

@@ -1,6 +1,6 @@
 -- The protocols that inherit each protocol, by places in an order.
 use Rattle.std.specs.Prelude.{◌≡◌, ◌↔◌, ◌<◌, ℕ, Bool, false, List, Option, None, Some, length, slice_get, slice_index_or, Contains}
-use Rattle.swreq_closure.specs.Chains.{Rows, leads, next}
+use Rattle.swreq_closure.specs.Chains.{Matrix, leads, next}
 use Rattle.swreq_names.specs.declared.directory.Declaration.{Declaration}
 use Rattle.swreq_names.specs.Spaces.{place}
 use Rattle.swreq_param.specs.declared.ids.ProtoId.{ProtoId}
@@ -21,13 +21,13 @@ LeadToProtocols places count graph = (i j : ℕ) → Contains (next graph i) j
 -- each place in order.
 pub record HeirsView : Type 0 where
   pub positions : List (Option ℕ)
-  pub rows : Rows
+  pub rows : Matrix
 
 -- the place in order of a protocol that stands at this place in written order, if one does
 abbrev pub position_at : List (Option ℕ) → ℕ → Option ℕ
 position_at positions place = slice_index_or positions place None
 
-abbrev pub leads_up : Rows → Option ℕ → ℕ → Bool
+abbrev pub leads_up : Matrix → Option ℕ → ℕ → Bool
 leads_up rows None k = false
 leads_up rows (Some m) k = leads rows m k
 
@@ -55,6 +55,6 @@ module _ (order : List ProtoId) (places : List ℕ) where
   AreDirectHeirs positions graph n lists = (m k : ℕ) → Contains (next lists m) k ↔ ((k < n) × IsDirectHeir positions graph m k)
 
   -- From the position of each place chains lead to the protocols that inherit the one that stands there.
-  abbrev pub AreAllHeirs : Rows → HeirsView → Type 0
+  abbrev pub AreAllHeirs : Matrix → HeirsView → Type 0
   AreAllHeirs inherits h = (k place : ℕ) (p : ProtoId) → slice_get order k ≡ Some p
       → leads_up h.rows (position_at h.positions place) k ≡ leads inherits (place_by places p) place

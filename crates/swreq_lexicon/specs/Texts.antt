@@ -38,7 +38,8 @@ pub record IsLexiconOf (text : Bytes) (s : Skeleton) (x : LexiconView) : Type 0 
   pub protocols : IsRanking bytes_cmp (Contains (protocol_names text s.protocols)) x.protocols
   pub names : IsRanking bytes_cmp (Contains (mentioned text s)) x.names
   pub written_order : x.written_order ≡ map (λ p. proto_by x.protocols (word text p.name)) s.protocols
-  -- each protocol is at the first place of its name
+  -- each protocol has one place, the first of its name
+  pub placed : length x.places ≡ length x.protocols
   pub places : (p : ProtoId) (name : Bytes) → slice_get x.protocols p.rank ≡ Some name → place (spaces text s).protocols name ≡ Some (place_of x p)
   -- and inherits what the protocol at this place inherits
   pub inheritance : (p q : ProtoId) → IsTrue (inherits x p q) ↔ Inherits text s (place_of x p) (place_of x q)

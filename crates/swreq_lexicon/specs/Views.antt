@@ -1,7 +1,7 @@
 -- What contracts see of a lexicon.
 use Rattle.std.specs.Prelude.{◌<◌, ℕ, Bool, List, length, slice_index_or}
 use Rattle.std.specs.declared.cmp.Ordering.{Ordering}
-use Rattle.swreq_closure.specs.Chains.{Rows, leads}
+use Rattle.swreq_closure.specs.Chains.{Matrix, leads}
 use Rattle.swreq_names.specs.Names.{NamesView}
 use Rattle.swreq_param.specs.declared.ids.NameId.{NameId}
 use Rattle.swreq_param.specs.declared.ids.ProtoId.{ProtoId}
@@ -50,7 +50,7 @@ IsName x a = a.rank < length x.names
 abbrev pub place_by : List ℕ → ProtoId → ℕ
 place_by places p = slice_index_or places p.rank 0
 
-abbrev pub inherits_by : List ℕ → Rows → ProtoId → ProtoId → Bool
+abbrev pub inherits_by : List ℕ → Matrix → ProtoId → ProtoId → Bool
 inherits_by places rows p q = leads rows (place_by places p) (place_by places q)
 
 -- the place of P in written order

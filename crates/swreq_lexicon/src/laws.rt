@@ -16,6 +16,8 @@ ghost use Rattle.swreq_rank.specs.Ranks.{Bytes};
 ghost use Rattle.swreq_lexicon.specs.Texts.{IsLexiconOf, protocol_names, declared_in};
 ghost use Rattle.swreq_lexicon.specs.Views.{LexiconView, IsProtocol, place_of, inherits, depth, InheritsName};
 
+use swreq_names::laws::names_are_one;
+
 /// Each name of a protocol, each name of an associated type or of a member, and each associated type has its rank.
 pub fn names_have_ranks(text: &[u8])
     ensures protocols { (s : Skeleton) (x : LexiconView) → IsLexiconOf text.now s x → (name : Bytes) → Contains (protocol_names text.now s.protocols) name
@@ -75,3 +77,10 @@ pub fn heirs_come_first(text: &[u8])
         → slice_get x.symbols i ≡ Some (pair p a) → slice_get x.symbols j ≡ Some (pair q a)
         → depth x p ≡ depth x q → p.rank < q.rank → i < j }
 {}
+
+/// A text has one lexicon.
+pub fn lexicon_is_one(text: &[u8])
+    ensures { (s : Skeleton) (x y : LexiconView) → IsLexiconOf text.now s x → IsLexiconOf text.now s y → x ≡ y }
+{
+    names_are_one(text);
+}

@@ -67,6 +67,7 @@ impl Protocols {
         requires small { length protocols.now ≤ 1048576 }
         requires declared { resolved.declared.protocols ≡ declarations text.now (map (λ p. p.name) protocols.now) }
         ensures ranking { IfOk result (λ x. IsRanking bytes_cmp (Contains (protocol_names text.now protocols.now)) x.protocols) }
+        ensures placed { IfOk result (λ x. length x.places ≡ length x.protocols) }
         ensures places { IfOk result (λ x. (p : ProtoId) (name : Bytes) → slice_get x.protocols p.rank ≡ Some name
             → position_from (bytes_eq name) 0 (protocol_names text.now protocols.now) ≡ Some (place_by x.places p)) }
         ensures written { IfOk result (λ x. x.written_order ≡ map (λ p. proto_by x.protocols (word text.now p.name)) protocols.now) }
@@ -147,6 +148,7 @@ impl Protocols {
 
     /// The protocols that each one inherits directly, by places in written order.
     pub fn direct(&self) -> &[Seq<usize>]
+        ensures is { result.now ≡ self.now.resolved.direct }
         ensures closure { IsClosureOf result.now self.now.resolved.inherits }
         ensures within { AreWithin result.now }
         ensures protocols { LeadToProtocols self.now.places (length self.now.protocols) result.now }

@@ -1,11 +1,12 @@
 //! What holds of the names of each text, and of the bytes of each word.
 
-ghost use Rattle.std.specs.Prelude.{List, ℕ, Contains, map};
+ghost use Rattle.std.specs.Prelude.{◌≡◌, List, ℕ, Contains, map};
 ghost use Rattle.swreq_lex.specs.declared.token.TokenKind.TheVariants.{Name};
 ghost use Rattle.swreq_lex.specs.Slices.{IsSpelled, IsSpelledWord};
 ghost use Rattle.swreq_decl.specs.declared.skeleton.Skeleton.{Skeleton};
 ghost use Rattle.swreq_decl.specs.Skeletons.{StandsFor};
 ghost use Rattle.swreq_names.specs.Mentioned.{mentioned};
+ghost use Rattle.swreq_names.specs.Names.{HasDeclared, NamesView};
 ghost use Rattle.swreq_names.specs.Spaces.{word};
 ghost use Rattle.swreq_names.specs.WordBytes.{HasWordBytes};
 
@@ -24,4 +25,9 @@ pub fn names_are_words(text: &[u8])
 /// The bytes of a word are letters, digits and `_`, and bytes of characters beyond ASCII.
 pub fn words_have_word_bytes()
     ensures { (bytes : List ℕ) → IsSpelledWord bytes → HasWordBytes bytes }
+{}
+
+/// A skeleton has its names in one way: what it declares, and which protocol inherits which.
+pub fn names_are_one(text: &[u8])
+    ensures { (s : Skeleton) (m n : NamesView) → HasDeclared text.now s m → HasDeclared text.now s n → m ≡ n }
 {}

@@ -55,7 +55,7 @@ impl Model for Names {
 
     ghost Value = { NamesView };
 
-    ghost view = { λ n. record { declared = n.declared.value; inherits = n.inherits } };
+    ghost view = { λ n. record { declared = n.declared.value; direct = n.direct.items; inherits = n.inherits } };
 
     ghost invariant = { λ n. IsClosureOf n.direct.items n.inherits × AreWithin n.direct.items
         × LeadToDeclared n.declared.value.protocols n.direct.items };
@@ -86,6 +86,7 @@ impl Names {
 
     /// The protocols that each one inherits directly, by places in written order.
     pub fn direct(&self) -> &[Seq<usize>]
+        ensures is { result.now ≡ self.now.direct }
         ensures closure { IsClosureOf result.now self.now.inherits }
         ensures within { AreWithin result.now }
         ensures declared { LeadToDeclared self.now.declared.protocols result.now }

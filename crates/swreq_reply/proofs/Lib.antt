@@ -16,7 +16,6 @@ pub mod OneWorld
 pub mod PiecesMade
 pub mod Placed
 pub mod Printed
-pub mod Rankings
 pub mod Settled
 pub mod Verdicts
 pub mod Written

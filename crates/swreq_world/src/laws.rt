@@ -29,6 +29,7 @@ ghost use Rattle.swreq_world.specs.WorldOf.{IsWorldOf, words_of};
 ghost use Rattle.swreq_world.specs.Worlds.{IdWorld, TextWorld, signature_at};
 
 use swreq_lex::laws::tokens_are_slices;
+use swreq_lexicon::laws::lexicon_is_one;
 use swreq_lowering::laws::{lists_are_short, requirements_are_few};
 
 /// Each signature that a skeleton declares stands at its place among the signatures, and nowhere else.
@@ -111,4 +112,11 @@ pub fn worlds_are_short(text: &[u8])
 {
     lists_are_short(text);
     requirements_are_few(text);
+}
+
+/// A text has one world.
+pub fn world_is_one(text: &[u8])
+    ensures { (s : Skeleton) (w v : TextWorld) → IsWorldOf text.now s w → IsWorldOf text.now s v → w ≡ v }
+{
+    lexicon_is_one(text);
 }

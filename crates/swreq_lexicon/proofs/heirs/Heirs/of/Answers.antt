@@ -31,7 +31,7 @@ returns c =
     (ap length c.deref.ensures.value ∙ c.in_ok-positions.ensures.len)
     (subst (λ xs. HavePositions order places xs (length order)) (sym c.deref.ensures.value) c.in_ok-positions.ensures.all)
     (λ p h. rw c.protos-order.ensures (c.requires p h))
-    c.in_ok-closure.closure inherits c.in_ok-closure.ensures c.direct-direct.ensures.closure in
+    c.in_ok-closure.closure inherits c.in_ok-closure.ensures.closure c.direct-direct.ensures.closure in
     let rows = c.in_ok-closure.closure in
     subst (λ xs. AreAllHeirs c.args.ordered.now places inherits (record { positions = xs; rows = rows })) c.deref.ensures.value
     (subst (λ ps. AreAllHeirs ps places inherits (record { positions = positions; rows = rows })) c.protos-order.ensures all)
