@@ -1,22 +1,19 @@
 -- A text has one lexicon.
-use Rattle.std.proofs.Common.{◌≡◌, ◌∙◌, refl, sym, ap, ap₂, subst, ℕ, ◌<◌, Bool, true, cond, not, ◌&&◌, nat_eq, List, [], ◌∷◌, length, map, slice_get, Contains, Some, get_or, true≢false, inl, inr}
+use Rattle.std.proofs.Common.{◌≡◌, ◌∙◌, refl, sym, ap, ap₂, subst, ℕ, ◌<◌, Bool, cond, not, ◌&&◌, nat_eq, List, [], length, map, slice_get, Contains, Some, get_or}
 use Rattle.std.specs.Cmp.{IsTotalOrder}
 use Rattle.std.specs.declared.cmp.Ordering.{Ordering}
-use Rattle.std.specs.List.{list_any}
 use Rattle.std.specs.Ordering.{nat_cmp, ordering_then}
-use Rattle.std.proofs.lemmas.Bool.{or_cases, or_left, or_right}
 use Rattle.std.proofs.lemmas.Cmp.{back_total, nat_cmp_total, nat_list_cmp_total, on_total, then_total}
 use Rattle.std.proofs.lemmas.Grind.{same_number_lists}
 use Rattle.std.proofs.lemmas.Option.{same_Some, slice_get-get_or}
 use Rattle.swreq_decl.specs.declared.skeleton.ProtocolDecl.{ProtocolDecl}
 use Rattle.swreq_decl.specs.declared.skeleton.Skeleton.{Skeleton}
-use Rattle.swreq_orders.proofs.Members.{first_member, later_member, member_cases, no_member}
 use Rattle.swreq_names.specs.Mentioned.{mentioned}
 use Rattle.swreq_names.specs.Names.{HasDeclared, NamesView}
 use Rattle.swreq_names.specs.Spaces.{word}
 use Rattle.swreq_param.specs.declared.ids.ProtoId.{ProtoId}
 use Rattle.swreq_rank.specs.Ranks.{Bytes, IsRanking, bytes_cmp}
-use Rattle.swreq_rank.proofs.Tests.{same_bool}
+use Rattle.swreq_rank.proofs.Tests.{same_members}
 use Rattle.swreq_lexicon.specs.Associated as over
 use Rattle.swreq_lexicon.specs.declared.pair.ProtocolName.{ProtocolName}
 use Rattle.swreq_lexicon.specs.Lexicons.{proto_by}
@@ -25,31 +22,12 @@ use Rattle.swreq_lexicon.specs.Views.{HasMember, IsProtocol, LexiconView, assoc_
 use Rattle.swreq_lexicon.proofs.RankLaws.{assoc_total}
 use Rattle.swreq_lexicon.proofs.Rankings.{one_ranking}
 
-any_of : {X : Type 0} (p : X → Bool) (xs : List X) → list_any p xs ≡ true → (x : X) × Contains xs x × (p x ≡ true)
-any_of p [] h = absurd (true≢false (sym h))
-any_of p (x ∷ xs) h = elim (or_cases (p x) (list_any p xs) h) [
-  | inl e ↦ (x, first_member x xs, e)
-  | inr k ↦ (let z = any_of p xs k in (z.0, later_member x z.0 xs z.1, z.2))
-]
-
-any_in : {X : Type 0} (p : X → Bool) (xs : List X) (x : X) → Contains xs x → p x ≡ true → list_any p xs ≡ true
-any_in p [] x c h = no_member x c
-any_in p (y ∷ xs) x c h = elim (member_cases y x xs c) [
-  | inl e ↦ or_left (p y) (list_any p xs) (ap p (sym e) ∙ h)
-  | inr d ↦ or_right (p y) (list_any p xs) (any_in p xs x d h)
-]
-
-any_same : {X : Type 0} (p : X → Bool) (xs ys : List X) → ((x : X) → Contains xs x → Contains ys x) → ((x : X) → Contains ys x → Contains xs x)
-    → list_any p xs ≡ list_any p ys
-any_same p xs ys to from = same_bool (list_any p xs) (list_any p ys)
-    (λ h. let z = any_of p xs h in any_in p ys z.0 (to z.0 z.1) z.2) (λ h. let z = any_of p ys h in any_in p xs z.0 (from z.0 z.1) z.2)
-
 -- the order of associated types is that by which they are sorted, also where other ones are so sorted
 module _ (inherits : ProtoId → ProtoId → Bool) (P : ProtocolName → Type 0) (xs ys : List ProtocolName)
     (of_xs : IsRanking (over.assoc_cmp inherits xs) P xs) (of_ys : IsRanking (over.assoc_cmp inherits ys) P ys) where
   same_roots : (d : ProtocolName) → over.is_root inherits xs d ≡ over.is_root inherits ys d
-  same_roots d = ap not (any_same (λ e. nat_eq d.name.rank e.name.rank && inherits d.proto e.proto) xs ys
-      (λ e c. (of_ys.same e).1 ((of_xs.same e).0 c)) (λ e c. (of_xs.same e).1 ((of_ys.same e).0 c)))
+  same_roots d = ap not (same_members (λ e. nat_eq d.name.rank e.name.rank && inherits d.proto e.proto) xs ys
+      (λ e. (λ c. (of_ys.same e).1 ((of_xs.same e).0 c), λ c. (of_xs.same e).1 ((of_ys.same e).0 c))))
 
   one_list : xs ≡ ys
   one_list = one_ranking (over.assoc_cmp inherits xs) (over.assoc_cmp inherits ys) (assoc_total inherits xs) P P xs ys of_xs of_ys

@@ -39,7 +39,7 @@ fn lines_of_family(
     Ok(out)
 }
 
-/// The same of a world whose protocols are well formed where they are built.
+/// The lines of the family of a world, or why it has none, where its protocols are built.
 fn lines_of_world(
     alloc: Global,
     world: &World,
@@ -57,7 +57,7 @@ fn lines_of_world(
     }
 }
 
-/// The same of a text, where a completion may have so many rules.
+/// The lines of the family of a text, or why it has none, where a completion may have so many rules.
 fn lines_within(
     alloc: Global,
     text: &[u8],

@@ -32,8 +32,8 @@ use Rattle.swreq_world.specs.Worlds.{TextWorld}
 use Rattle.swreq_valid.specs.Machines.{IsMachineOf, MachineView}
 use Rattle.swreq_valid.specs.Rounds.{last_rules}
 use Rattle.swreq_minimal.specs.OfParams.{AreOfParams, BeginsWithParam}
-use Rattle.swreq_minimal.specs.Sorted.{IsSaidBefore, IsSaidList}
-use Rattle.swreq_minimal.specs.Typed.{SaysBy}
+use Rattle.swreq_minimal.specs.Sorted.{IsOfFirstRules, IsListOfFirstRules}
+use Rattle.swreq_minimal.specs.Typed.{IsRequirementOfRule}
 use Rattle.swreq_minimal.proofs.ByParams.{read_begins}
 use Rattle.swreq_minimal.proofs.Lifting.{from_said, to_said}
 use Rattle.swreq_minimal.proofs.Speaking.{one_said}
@@ -41,23 +41,23 @@ use Rattle.swreq_minimal.proofs.Speaking.{one_said}
 -- ---- what one rule says, beside what was there
 
 module _ (x : LexiconView) (rules : List Rule) (params : Params) (l r : Word) (old new : List TermRequirement) (same : new ≡ old) where
-  pub nothing_more : ((q : TermRequirement) → SaysBy x rules params l r q → ⊥) → (q : TermRequirement)
-      → Contains new q ↔ (Contains old q ⊎ SaysBy x rules params l r q)
+  pub nothing_more : ((q : TermRequirement) → IsRequirementOfRule x rules params l r q → ⊥) → (q : TermRequirement)
+      → Contains new q ↔ (Contains old q ⊎ IsRequirementOfRule x rules params l r q)
   nothing_more n q = ((λ h. inl (subst (λ z. Contains z q) same h)), λ h. elim h [ inl i ↦ subst (λ z. Contains z q) (sym same) i | inr i ↦ absurd (n q i) ])
 
-  module _ (now : List TermRequirement) (said : TermRequirement) (says : SaysBy x rules params l r said) where
-    as_said : (q : TermRequirement) → Contains new q ⊎ (q ≡ said) → Contains old q ⊎ SaysBy x rules params l r q
-    as_said q h = elim h [ inl i ↦ inl (subst (λ z. Contains z q) same i) | inr i ↦ inr (subst (SaysBy x rules params l r) (sym i) says) ]
+  module _ (now : List TermRequirement) (said : TermRequirement) (says : IsRequirementOfRule x rules params l r said) where
+    as_said : (q : TermRequirement) → Contains new q ⊎ (q ≡ said) → Contains old q ⊎ IsRequirementOfRule x rules params l r q
+    as_said q h = elim h [ inl i ↦ inl (subst (λ z. Contains z q) same i) | inr i ↦ inr (subst (IsRequirementOfRule x rules params l r) (sym i) says) ]
 
     pub one_more : ((q : TermRequirement) → Contains now q ↔ (Contains new q ⊎ (q ≡ said)))
-        → (q : TermRequirement) → Contains now q ↔ (Contains old q ⊎ SaysBy x rules params l r q)
+        → (q : TermRequirement) → Contains now q ↔ (Contains old q ⊎ IsRequirementOfRule x rules params l r q)
     one_more h q = (
       (λ i. as_said q ((h q).0 i)),
       λ i. (h q).1 (elim i [ inl j ↦ inl (subst (λ z. Contains z q) (sym same) j) | inr j ↦ inr (one_said x rules params l r q said j says) ]),
     )
 
     pub one_more_sorted : ((f : TermFacts) (s : Source) → ((q : TermRequirement) → Contains new q ⊎ (q ≡ said) → IsCanonical f s q) → IsStrictlySorted new → IsStrictlySorted now)
-        → (f : TermFacts) (s : Source) → ((q : TermRequirement) → Contains old q ⊎ SaysBy x rules params l r q → IsCanonical f s q)
+        → (f : TermFacts) (s : Source) → ((q : TermRequirement) → Contains old q ⊎ IsRequirementOfRule x rules params l r q → IsCanonical f s q)
         → IsStrictlySorted old → IsStrictlySorted now
     one_more_sorted h f s can was = h f s (λ q i. can q (as_said q i)) (subst IsStrictlySorted (sym same) was)
 
@@ -65,30 +65,30 @@ module _ (x : LexiconView) (rules : List Rule) (params : Params) (l r : Word) (o
 
 module _ (x : LexiconView) (rules : List Rule) (params : Params) (system : List Rule) where
   abbrev Said : ℕ → TermRequirement → Type 0
-  Said n q = IsSaidBefore x rules params system n q
+  Said n q = IsOfFirstRules x rules params system n q
 
-  pub none_said : (found : List TermRequirement) → found ≡ [] → IsSaidList x rules params system 0 found
+  pub none_said : (found : List TermRequirement) → found ≡ [] → IsListOfFirstRules x rules params system 0 found
   none_said found e = record {
     members = λ q. ((λ h. no_member q (subst (λ z. Contains z q) e h)), λ h. let (k, rule, l, at, s) = h in absurd (omega (arith, l)));
     sorted = λ f s h. subst IsStrictlySorted (sym e) tt;
   }
 
   module _ (k : ℕ) (rule : Rule) (at : slice_get system k ≡ Some rule) where
-    said_next : (q : TermRequirement) → Said k q ⊎ SaysBy x rules params rule.left rule.right q → Said (k + 1) q
+    said_next : (q : TermRequirement) → Said k q ⊎ IsRequirementOfRule x rules params rule.left rule.right q → Said (k + 1) q
     said_next q (inl (j, r, l, e, s)) = (j, r, omega (arith, l), e, s)
     said_next q (inr s) = (k, rule, omega arith, at, s)
 
-    said_back : (q : TermRequirement) → Said (k + 1) q → Said k q ⊎ SaysBy x rules params rule.left rule.right q
+    said_back : (q : TermRequirement) → Said (k + 1) q → Said k q ⊎ IsRequirementOfRule x rules params rule.left rule.right q
     said_back q (j, r, l, e, s) = elim (cases_eq j k) [
       | inl h ↦ (let one : rule ≡ r = same_Some rule r (sym at ∙ (ap (slice_get system) (sym h) ∙ e)) in
-          inr (subst (λ (z : Rule). SaysBy x rules params z.left z.right q) (sym one) s))
+          inr (subst (λ (z : Rule). IsRequirementOfRule x rules params z.left z.right q) (sym one) s))
       | inr h ↦ inl (j, r, omega (arith, l, h), e, s)
     ]
 
-    pub more_said : (old new : List TermRequirement) → IsSaidList x rules params system k old
-        → ((q : TermRequirement) → Contains new q ↔ (Contains old q ⊎ SaysBy x rules params rule.left rule.right q))
-        → ((f : TermFacts) (s : Source) → ((q : TermRequirement) → Contains old q ⊎ SaysBy x rules params rule.left rule.right q → IsCanonical f s q)
-        → IsStrictlySorted old → IsStrictlySorted new) → IsSaidList x rules params system (k + 1) new
+    pub more_said : (old new : List TermRequirement) → IsListOfFirstRules x rules params system k old
+        → ((q : TermRequirement) → Contains new q ↔ (Contains old q ⊎ IsRequirementOfRule x rules params rule.left rule.right q))
+        → ((f : TermFacts) (s : Source) → ((q : TermRequirement) → Contains old q ⊎ IsRequirementOfRule x rules params rule.left rule.right q → IsCanonical f s q)
+        → IsStrictlySorted old → IsStrictlySorted new) → IsListOfFirstRules x rules params system (k + 1) new
     more_said old new was h sorted = record {
       members = λ q. (
         (λ i. said_next q (elim ((h q).0 i) [ inl j ↦ inl ((was.members q).0 j) | inr j ↦ inr j ])),
@@ -119,12 +119,12 @@ module _ (w : TextWorld) (closed : IsClosed w) (machine : MachineView) (list : L
     least_along D C (λ u v. (is.rules u v).0) (λ u v. (is.rules u v).1) rule.right l,
   )
 
-  from_rules : (n : ℕ) (q : TermRequirement) → IsSaidBefore w.lexicon (last_rules machine.rounds) machine.params system n q → IsCandidate (symbols_of w.lexicon) (facts_of w) L q
+  from_rules : (n : ℕ) (q : TermRequirement) → IsOfFirstRules w.lexicon (last_rules machine.rounds) machine.params system n q → IsCandidate (symbols_of w.lexicon) (facts_of w) L q
   from_rules n q (k, rule, l, at, s) =
       let reduced = in_class rule (of_params.each k rule at) in
       (rule.left, rule.right, reduced, from_said w closed machine list is rule.left rule.right reduced.1 q s)
 
-  to_rules : (n : ℕ) → length system ≤ n → (q : TermRequirement) → IsCandidate (symbols_of w.lexicon) (facts_of w) L q → IsSaidBefore w.lexicon (last_rules machine.rounds) machine.params system n q
+  to_rules : (n : ℕ) → length system ≤ n → (q : TermRequirement) → IsCandidate (symbols_of w.lexicon) (facts_of w) L q → IsOfFirstRules w.lexicon (last_rules machine.rounds) machine.params system n q
   to_rules n far q (l, r, (minimal, c, least), off) =
       let minimal_too = minimal_along C D (λ u v. (is.rules u v).1) (λ u v. (is.rules u v).0) l minimal in
       let (j, there, at, e) = minimal_there (last_rules machine.rounds) (locally (last_rules machine.rounds) complete.meet) l minimal_too in
@@ -146,7 +146,7 @@ module _ (w : TextWorld) (closed : IsClosed w) (machine : MachineView) (list : L
       )
 
   pub are_candidates : IsCompleted (symbols_of w.lexicon) (facts_of w) (generic_params machine.params) list → (found : List TermRequirement)
-      → IsSaidList w.lexicon (last_rules machine.rounds) machine.params system (length system) found
+      → IsListOfFirstRules w.lexicon (last_rules machine.rounds) machine.params system (length system) found
       → IsCandidateList (symbols_of w.lexicon) (facts_of w) L found
   are_candidates ended found said = record {
     sorted = said.sorted (facts_of w) L

@@ -33,7 +33,7 @@ use Rattle.swreq_valid.specs.Machines.{IsMachineOf, MachineView}
 use Rattle.swreq_valid.specs.Rounds.{last_rules}
 use Rattle.swreq_symbols.specs.Vanishing.{IsFirstBehind}
 use Rattle.swreq_valid.proofs.Reducing.{first_behind, vanishing}
-use Rattle.swreq_minimal.specs.Typed.{IsTypeBy, SaysBy, SpeaksBy}
+use Rattle.swreq_minimal.specs.Typed.{IsTypeBy, IsRequirementOfRule, IsSubjectOf}
 
 -- ---- the fronts of words of a type
 
@@ -101,14 +101,14 @@ module _ (w : TextWorld) (closed : IsClosed w) (machine : MachineView) (list : L
       )
   from_type (Member t (Name a)) u h = absurd h
 
-  to_spoken : (v : Term) (l : Word) → Derivable f L (IsValid v) → SpeaksOf m f L v l → SpeaksBy w.lexicon rules machine.params l v
+  to_spoken : (v : Term) (l : Word) → Derivable f L (IsValid v) → SpeaksOf m f L v l → IsSubjectOf w.lexicon rules machine.params l v
   to_spoken (Generic g) l v h = (valid_generic v, h)
   to_spoken (Member t (Bound d)) l v (u, x, a, e, h, n, i) =
       let b = valid_base (Bound d) v in
       (u, x, a, e, to_type t u b h, n, (firsts t u h b a d).0 i)
   to_spoken (Member t (Name a)) l v h = absurd h
 
-  from_spoken : (v : Term) (l : Word) → SpeaksBy w.lexicon rules machine.params l v → Derivable f L (IsValid v) × SpeaksOf m f L v l
+  from_spoken : (v : Term) (l : Word) → IsSubjectOf w.lexicon rules machine.params l v → Derivable f L (IsValid v) × SpeaksOf m f L v l
   from_spoken (Generic g) l (c, e) = (generic c, e)
   from_spoken (Member t (Bound d)) l (u, x, a, e, h, n, i) =
       let (b, j) = from_type t u h in
@@ -126,12 +126,12 @@ module _ (w : TextWorld) (closed : IsClosed w) (machine : MachineView) (list : L
         let shown = chained_usable m (symbols_law w closed) (text_law w closed) is.in_text ((conforming t r h v p).1 vanishes) in
         (closed.ids.written_order p).0 shown.0
 
-    pub to_said : (q : TermRequirement) → IsReadOff m f L l r q → SaysBy w.lexicon rules machine.params l r q
+    pub to_said : (q : TermRequirement) → IsReadOff m f L l r q → IsRequirementOfRule w.lexicon rules machine.params l r q
     to_said (Conforms t p) (v, h, e) = (to_type t r v h, of_text t p v h e, e)
     to_said (IsAnyObject t) (v, h, e) = (to_type t r v h, e)
     to_said (Equals t u) (v, k, n, h, s) = (to_type t r v h, to_spoken u l k s, n)
 
-    pub from_said : (q : TermRequirement) → SaysBy w.lexicon rules machine.params l r q → IsReadOff m f L l r q
+    pub from_said : (q : TermRequirement) → IsRequirementOfRule w.lexicon rules machine.params l r q → IsReadOff m f L l r q
     from_said (Conforms t p) (h, i, e) = let (v, j) = from_type t r h in (v, j, e)
     from_said (IsAnyObject t) (h, e) = let (v, j) = from_type t r h in (v, j, e)
     from_said (Equals t u) (h, s, n) = let (v, j) = from_type t r h in let (k, o) = from_spoken u l s in (v, k, n, j, o)

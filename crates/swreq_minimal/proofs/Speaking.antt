@@ -30,7 +30,7 @@ use Rattle.swreq_symbols.specs.Meaning.{symbols_of}
 use Rattle.swreq_world.specs.Closed.{IsTermOf}
 use Rattle.swreq_lowering.proofs.Growing.{of_stays}
 use Rattle.swreq_symbols.specs.Vanishing.{IsFirstBehind, IsGivenBehind}
-use Rattle.swreq_minimal.specs.Typed.{Finds, Identifies, IsTypeBy, SaysBy, SpeaksBy}
+use Rattle.swreq_minimal.specs.Typed.{Finds, Identifies, IsTypeBy, IsRequirementOfRule, IsSubjectOf}
 use Rattle.swreq_minimal.proofs.Passing.{parted}
 use Rattle.swreq_minimal.proofs.Typing.{given_of_text, none_of_nothing, nothing_before, one_type, type_of_text}
 
@@ -55,34 +55,34 @@ front_least Class l k minimal w =
 module _ (x : LexiconView) (rules : List Rule) (params : Params) where
   -- ---- of what a left side speaks
 
-  pub nothing_spoken : (t : Term) → SpeaksBy x rules params [] t → ⊥
+  pub nothing_spoken : (t : Term) → IsSubjectOf x rules params [] t → ⊥
   nothing_spoken (Generic g) (c, e) = cc
   nothing_spoken (Member t (Bound d)) (front, y, a, e, h, n, f) = not_empty front y e
   nothing_spoken (Member t (Name a)) h = absurd h
 
-  spoken_typed : (z : Symbol) (t : Term) → SpeaksBy x rules params (z ∷ []) t → IsTypeBy x rules params (z ∷ []) t
+  spoken_typed : (z : Symbol) (t : Term) → IsSubjectOf x rules params (z ∷ []) t → IsTypeBy x rules params (z ∷ []) t
   spoken_typed z (Generic g) h = h
   spoken_typed z (Member t (Bound d)) (front, y, a, e, h, n, f) =
       absurd (none_of_nothing x rules params t (subst (λ u. IsTypeBy x rules params u t) (nothing_before z y front e).0 h))
   spoken_typed z (Member t (Name a)) h = absurd h
 
-  typed_spoken : (z : Symbol) (t : Term) → IsTypeBy x rules params (z ∷ []) t → SpeaksBy x rules params (z ∷ []) t
+  typed_spoken : (z : Symbol) (t : Term) → IsTypeBy x rules params (z ∷ []) t → IsSubjectOf x rules params (z ∷ []) t
   typed_spoken z (Generic g) h = h
   typed_spoken z (Member t (Bound d)) (front, y, e, h, m) =
       absurd (none_of_nothing x rules params t (subst (λ u. IsTypeBy x rules params u t) (nothing_before z y front e).0 h))
   typed_spoken z (Member t (Name a)) h = absurd h
 
   pub one_symbol_spoken : (z : Symbol) (terms : List Term) (o : Option TermId) → Identifies (IsTypeBy x rules params (z ∷ [])) terms o
-      → Identifies (SpeaksBy x rules params (z ∷ [])) terms o
+      → Identifies (IsSubjectOf x rules params (z ∷ [])) terms o
   one_symbol_spoken z terms None n = λ t h. n t (spoken_typed z t h)
   one_symbol_spoken z terms (Some id) (of, h) = (of, typed_spoken z (term_at terms id) h)
 
-  pub spoken_empty : (l : Word) → length l ≡ 0 → (t : Term) → SpeaksBy x rules params l t → ⊥
+  pub spoken_empty : (l : Word) → length l ≡ 0 → (t : Term) → IsSubjectOf x rules params l t → ⊥
   spoken_empty [] e = nothing_spoken
   spoken_empty (z ∷ l) e = absurd (omega arith)
 
   pub spoken_single : (l : Word) (d : Symbol) → length l ≡ 1 → (terms : List Term) (o : Option TermId)
-      → Identifies (IsTypeBy x rules params (get_or l 0 d ∷ [])) terms o → Identifies (SpeaksBy x rules params l) terms o
+      → Identifies (IsTypeBy x rules params (get_or l 0 d ∷ [])) terms o → Identifies (IsSubjectOf x rules params l) terms o
   spoken_single [] d e terms o h = absurd (omega arith)
   spoken_single (z ∷ []) d e terms o h = one_symbol_spoken z terms o h
   spoken_single (z ∷ y ∷ l) d e terms o h = absurd (omega arith)
@@ -95,7 +95,7 @@ module _ (x : LexiconView) (rules : List Rule) (params : Params) where
   named_first front y a named None n = λ b d m f. n d (subst (λ z. IsGivenBehind x rules front z d) (one_name (symbols_of x) y b a m named) f.given)
   named_first front y a named (Some d) f = (a, named, f)
 
-  member_subject : (front : Word) (y : Symbol) (t : Term) → 0 < length front → SpeaksBy x rules params (front ++ y ∷ []) t
+  member_subject : (front : Word) (y : Symbol) (t : Term) → 0 < length front → IsSubjectOf x rules params (front ++ y ∷ []) t
       → (z : Term) × (d : AssocId) × (a : NameId) × (t ≡ Member z (Bound d)) × IsTypeBy x rules params front z × IsNamed (symbols_of x) y a
       × IsFirstBehind x rules front a d
   member_subject front y (Generic g) l (c, e) =
@@ -114,19 +114,19 @@ module _ (x : LexiconView) (rules : List Rule) (params : Params) where
   member_subject front y (Member z (Name a)) l h = absurd h
 
   pub none_behind : (front : Word) (y : Symbol) → 0 < length front → ((t : Term) → IsTypeBy x rules params front t → ⊥)
-      → (t : Term) → SpeaksBy x rules params (front ++ y ∷ []) t → ⊥
+      → (t : Term) → IsSubjectOf x rules params (front ++ y ∷ []) t → ⊥
   none_behind front y l n t h = let (z, d, a, e, k, m, f) = member_subject front y t l h in n z k
 
   pub some_behind : (front : Word) (y : Symbol) → 0 < length front → (old new : List Term) (id : TermId) → IsTypeBy x rules params front (term_at old id) → (o : Option TermId)
       → MatchOption o ((a : NameId) (d : AssocId) → IsNamed (symbols_of x) y a → IsFirstBehind x rules front a d → ⊥)
       (λ u. (a : NameId) × (d : AssocId) × IsNamed (symbols_of x) y a × IsFirstBehind x rules front a d × IsOf new u × (term_at new u ≡ Member (term_at old id) (Bound d)))
-      → Identifies (SpeaksBy x rules params (front ++ y ∷ [])) new o
+      → Identifies (IsSubjectOf x rules params (front ++ y ∷ [])) new o
   some_behind front y l old new id h None n = λ t k. let (z, d, a, e, j, m, f) = member_subject front y t l k in n a d m f
   some_behind front y l old new id h (Some u) (a, d, n, f, of, is) =
-      (of, subst (SpeaksBy x rules params (front ++ y ∷ [])) (sym is) (front, y, a, refl, h, n, f))
+      (of, subst (IsSubjectOf x rules params (front ++ y ∷ [])) (sym is) (front, y, a, refl, h, n, f))
 
   -- a left side speaks of one type parameter
-  pub one_spoken : (v w : Term) (l : Word) → SpeaksBy x rules params l v → SpeaksBy x rules params l w → v ≡ w
+  pub one_spoken : (v w : Term) (l : Word) → IsSubjectOf x rules params l v → IsSubjectOf x rules params l w → v ≡ w
   one_spoken (Generic g) (Generic h) l p q = one_type x rules params (Generic g) (Generic h) l p q
   one_spoken (Generic g) (Member t (Bound d)) l (c, e) (front, y, a, k, h, n, f) =
       absurd (none_of_nothing x rules params t (subst (λ u. IsTypeBy x rules params u t) (nothing_before (Param g.depth g.index) y front (sym e ∙ k)).0 h))
@@ -143,7 +143,7 @@ module _ (x : LexiconView) (rules : List Rule) (params : Params) where
   one_spoken (Generic g) (Member t (Name a)) l h k = absurd k
   one_spoken (Member t (Bound d)) (Member z (Name a)) l h k = absurd k
 
-  spoken_of_text : (v : Term) (l : Word) → SpeaksBy x rules params l v → IsTermOf x v
+  spoken_of_text : (v : Term) (l : Word) → IsSubjectOf x rules params l v → IsTermOf x v
   spoken_of_text (Generic g) l h = tt
   spoken_of_text (Member t (Bound d)) l (front, y, a, e, h, n, f) = (type_of_text x rules params t front h, given_of_text x rules params front a d f)
   spoken_of_text (Member t (Name a)) l h = absurd h
@@ -153,18 +153,18 @@ module _ (x : LexiconView) (rules : List Rule) (params : Params) where
   -- the same-type requirement, or that there is none
   abbrev pub SaysSame : Word → List Term → List Term → TermId → Option Requirement → Type 0
   SaysSame l old new t o = MatchOption o
-      ((v : Term) → SpeaksBy x rules params l v → term_at old t ≡ v)
-      (λ r. (v : TermId) × (r ≡ Same t v) × IsOf new v × SpeaksBy x rules params l (term_at new v) × (term_at old t ≡ term_at new v → ⊥))
+      ((v : Term) → IsSubjectOf x rules params l v → term_at old t ≡ v)
+      (λ r. (v : TermId) × (r ≡ Same t v) × IsOf new v × IsSubjectOf x rules params l (term_at new v) × (term_at old t ≡ term_at new v → ⊥))
 
-  pub none_same : (l : Word) (old new : List Term) (t : TermId) → ((v : Term) → SpeaksBy x rules params l v → ⊥) → SaysSame l old new t None
+  pub none_same : (l : Word) (old new : List Term) (t : TermId) → ((v : Term) → IsSubjectOf x rules params l v → ⊥) → SaysSame l old new t None
   none_same l old new t n v h = absurd (n v h)
 
-  pub some_same : (l : Word) (old new : List Term) (t v : TermId) → Extends old new → IsOf old t → IsOf new v → SpeaksBy x rules params l (term_at new v) → (o : Option Requirement)
+  pub some_same : (l : Word) (old new : List Term) (t v : TermId) → Extends old new → IsOf old t → IsOf new v → IsSubjectOf x rules params l (term_at new v) → (o : Option Requirement)
       → MatchOption o (term_at new t ≡ term_at new v) (λ r. (r ≡ Same t v) × (term_at new t ≡ term_at new v → ⊥)) → SaysSame l old new t o
   some_same l old new t v b of ov h None e = λ w k. sym (b.stands t of) ∙ (e ∙ one_spoken (term_at new v) w l h k)
   some_same l old new t v b of ov h (Some r) (i, n) = (v, i, ov, h, λ e. n (b.stands t of ∙ e))
 
-  pub nothing_said : (l r : Word) → ((t : Term) → IsTypeBy x rules params r t → ⊥) → (q : TermRequirement) → SaysBy x rules params l r q → ⊥
+  pub nothing_said : (l r : Word) → ((t : Term) → IsTypeBy x rules params r t → ⊥) → (q : TermRequirement) → IsRequirementOfRule x rules params l r q → ⊥
   nothing_said l r n (Conforms t p) h = n t h.0
   nothing_said l r n (IsAnyObject t) h = n t h.0
   nothing_said l r n (Equals t v) h = n t h.0
@@ -176,26 +176,26 @@ module _ (x : LexiconView) (rules : List Rule) (params : Params) where
       (λ q. ((p : ProtoId) × (l ≡ r ++ Proto p.rank ∷ []) × IsProtocol x p × (q ≡ Conf t p)) ⊎ ((l ≡ r ++ Layout ∷ []) × (q ≡ LayoutOf t)))
 
   pub property_requirement : (l r : Word) (terms : List Term) (t : TermId) → IsOf terms t → IsTypeBy x rules params r (term_at terms t) → (q : Requirement)
-      → SaysProperty l r t (Some q) → IsRequirementIn terms x q × SaysBy x rules params l r (requirement_of terms q)
+      → SaysProperty l r t (Some q) → IsRequirementIn terms x q × IsRequirementOfRule x rules params l r (requirement_of terms q)
   property_requirement l r terms t of h q (inl (p, e, i, s)) =
-      subst (λ z. IsRequirementIn terms x z × SaysBy x rules params l r (requirement_of terms z)) (sym s)
+      subst (λ z. IsRequirementIn terms x z × IsRequirementOfRule x rules params l r (requirement_of terms z)) (sym s)
       ((of, (type_of_text x rules params (term_at terms t) r h, i)), (h, i, e))
   property_requirement l r terms t of h q (inr (e, s)) =
-      subst (λ z. IsRequirementIn terms x z × SaysBy x rules params l r (requirement_of terms z)) (sym s)
+      subst (λ z. IsRequirementIn terms x z × IsRequirementOfRule x rules params l r (requirement_of terms z)) (sym s)
       ((of, type_of_text x rules params (term_at terms t) r h), (h, e))
 
   pub same_type_requirement : (l r : Word) (old new : List Term) (t : TermId) → Extends old new → IsOf old t → IsTypeBy x rules params r (term_at old t)
-      → SaysProperty l r t None → (o : Option Requirement) → SaysSame l old new t o → Finds (SaysBy x rules params l r) new x o
+      → SaysProperty l r t None → (o : Option Requirement) → SaysSame l old new t o → Finds (IsRequirementOfRule x rules params l r) new x o
   same_type_requirement l r old new t b of h none None n = unsaid
     where
-      unsaid : (q : TermRequirement) → SaysBy x rules params l r q → ⊥
+      unsaid : (q : TermRequirement) → IsRequirementOfRule x rules params l r q → ⊥
       unsaid (Conforms z p) (k, i, e) = none.0 p e i
       unsaid (IsAnyObject z) (k, e) = none.1 e
       unsaid (Equals z v) (k, s, d) = d (one_type x rules params z (term_at old t) r k h ∙ n v s)
   same_type_requirement l r old new t b of h none (Some q) (v, e, ov, s, d) =
       let is = b.stands t of in
       let typed : IsTypeBy x rules params r (term_at new t) = subst (IsTypeBy x rules params r) (sym is) h in
-      subst (λ z. IsRequirementIn new x z × SaysBy x rules params l r (requirement_of new z)) (sym e) (
+      subst (λ z. IsRequirementIn new x z × IsRequirementOfRule x rules params l r (requirement_of new z)) (sym e) (
         ((of_stays old new t b of, ov), (type_of_text x rules params (term_at new t) r typed, spoken_of_text (term_at new v) l s)),
         (typed, s, λ k. d (sym is ∙ k)),
       )
@@ -203,7 +203,7 @@ module _ (x : LexiconView) (rules : List Rule) (params : Params) where
   -- ---- a rule says at most one thing
 
   not_spoken : (l r : Word) (y : Symbol) (t v : Term) → IsTypeBy x rules params r t → l ≡ r ++ y ∷ [] → ((a : NameId) → IsNamed (symbols_of x) y a → ⊥)
-      → SpeaksBy x rules params l v → ⊥
+      → IsSubjectOf x rules params l v → ⊥
   not_spoken l r y t (Generic g) h e none (c, k) =
       none_of_nothing x rules params t (subst (λ u. IsTypeBy x rules params u t) (nothing_before (Param g.depth g.index) y r (sym k ∙ e)).0 h)
   not_spoken l r y t (Member z (Bound d)) h e none (front, s, a, k, j, n, f) =
@@ -219,7 +219,7 @@ module _ (x : LexiconView) (rules : List Rule) (params : Params) where
   no_layout : {p : ProtoId} → Proto p.rank ≡ Layout → ⊥
   no_layout e = cc
 
-  pub one_said : (l r : Word) (q o : TermRequirement) → SaysBy x rules params l r q → SaysBy x rules params l r o → q ≡ o
+  pub one_said : (l r : Word) (q o : TermRequirement) → IsRequirementOfRule x rules params l r q → IsRequirementOfRule x rules params l r o → q ≡ o
   one_said l r (Conforms t p) (Conforms u g) (h, i, e) (k, j, s) =
       ap₂ Conforms (one_type x rules params t u r h k) (one_proto (same_from_push r r (Proto p.rank) (Proto g.rank) (sym e ∙ s)).1)
   one_said l r (Conforms t p) (IsAnyObject u) (h, i, e) (k, s) = absurd (no_layout {p = p} (same_from_push r r (Proto p.rank) Layout (sym e ∙ s)).1)

@@ -28,7 +28,7 @@ use Rattle.swreq_world.specs.ByTable.{world_by}
 use Rattle.swreq_world.specs.Worlds.{IdWorld, TextWorld}
 use Rattle.swreq_valid.specs.Machines.{AreRulesOf, IsMachineOf, MachineView, list_of}
 use Rattle.swreq_valid.specs.Rounds.{last_rules}
-use Rattle.swreq_minimal.specs.Passed.{IsPassed, IsPassedOf, IsSifted}
+use Rattle.swreq_minimal.specs.Passed.{IsPassed, IsPassedOf, AreMinimisedCandidates}
 use Rattle.swreq_minimal.specs.Told.{TellsFailure, TellsParts}
 use Rattle.swreq_minimal.proofs.Completing.{completed}
 use Rattle.swreq_symbols.proofs.Growing.{world_stays}
@@ -65,9 +65,9 @@ module _ (old new : List Term) (w : IdWorld) (protocols : List Rule) (machine : 
   enough : AreEnough f ps list found
   enough = enough_here m f ps list ended found candidates
 
-  module _ (out : List TermRequirement) (sifted : IsSifted (facts_of (world_by new w)) ps found out) where
-    here : IsSifted f ps found out
-    here = subst (λ (z : TextWorld). IsSifted (facts_of z) ps found out) (world_stays old new read.more w read.text.table) sifted
+  module _ (out : List TermRequirement) (sifted : AreMinimisedCandidates (facts_of (world_by new w)) ps found out) where
+    here : AreMinimisedCandidates f ps found out
+    here = subst (λ (z : TextWorld). AreMinimisedCandidates (facts_of z) ps found out) (world_stays old new read.more w read.text.table) sifted
 
     pub is_minimised : IsMinimised f ps list out
     is_minimised = record {

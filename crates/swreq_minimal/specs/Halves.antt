@@ -5,8 +5,8 @@ use Rattle.swreq_derive.specs.Derivation.{TermRequirement}
 use Rattle.swreq_list_rules.specs.declared.setting.Setting.{Setting}
 use Rattle.swreq_list_rules.specs.ListRules.{AreOfList, ListRulesView}
 use Rattle.swreq_list_rules.specs.Settings.{said_in}
-use Rattle.swreq_minimal.specs.declared.sifting.Half.{Half}
-use Rattle.swreq_minimal.specs.declared.sifting.Span.{Span}
+use Rattle.swreq_minimal.specs.declared.generators.Half.{Half}
+use Rattle.swreq_minimal.specs.declared.generators.Span.{Span}
 
 -- Of each list of which these are the rules, the new ones are the rules of the list with these members more.
 abbrev pub AreGrownBy : Setting → ListRulesView → List Requirement → ListRulesView → Type 0

@@ -50,7 +50,7 @@ IsPassedOf m f params list passed =
 
 -- What is left of candidates: of those that one takes going through them in order, those that are left when one then drops from the last to
 -- the first.
-pub record IsSifted (f : TermFacts) (params : List ParamId) (candidates left : List TermRequirement) : Type 0 where
+pub record AreMinimisedCandidates (f : TermFacts) (params : List ParamId) (candidates left : List TermRequirement) : Type 0 where
   pub generators : List TermRequirement
   pub takes : Takes f params [] candidates generators
   pub leaves : Leaves f params [] generators left

@@ -1,4 +1,4 @@
--- Where a requirement belongs among others, and what was said by the first rules of a system.
+-- Where a requirement belongs among others, and the requirements of the first rules of a system.
 use Rattle.std.specs.Prelude.{◌≡◌, ◌↔◌, ◌<◌, ℕ, List, ◌∷◌, ◌++◌, Some, length, slice_get, Contains}
 use Rattle.swreq_param.specs.Terms.{Term}
 use Rattle.swreq_derive.specs.declared.known.Params.{Params}
@@ -10,7 +10,7 @@ use Rattle.swreq_lexicon.specs.Views.{LexiconView}
 use Rattle.swreq_lowering.specs.ByTable.{HasIdsOf}
 use Rattle.swreq_canonical.specs.Canonical.{IsCanonical}
 use Rattle.swreq_canonical.specs.CanonicalOrder.{IsStrictlySorted, RequirementBefore}
-use Rattle.swreq_minimal.specs.Typed.{SaysBy}
+use Rattle.swreq_minimal.specs.Typed.{IsRequirementOfRule}
 
 -- The ids of the requirements are of the table.
 abbrev pub AreHere : List Term → List Requirement → Type 0
@@ -27,14 +27,14 @@ pub record BelongsAt (terms : List Term) (found : List Requirement) (r : Require
   pub next : (q : Requirement) (rest : List Requirement) → after ≡ q ∷ rest
       → RequirementBefore (requirement_of terms r) (requirement_of terms q)
 
--- one of the first so many rules of the system says it
-abbrev pub IsSaidBefore : LexiconView → List Rule → Params → List Rule → ℕ → TermRequirement → Type 0
-IsSaidBefore x rules params system n q =
-    (k : ℕ) × (rule : Rule) × (k < n) × (slice_get system k ≡ Some rule) × SaysBy x rules params rule.left rule.right q
+-- It is the requirement of one of the first so many rules of the system.
+abbrev pub IsOfFirstRules : LexiconView → List Rule → Params → List Rule → ℕ → TermRequirement → Type 0
+IsOfFirstRules x rules params system n q =
+    (k : ℕ) × (rule : Rule) × (k < n) × (slice_get system k ≡ Some rule) × IsRequirementOfRule x rules params rule.left rule.right q
 
--- What the first so many rules say, and only that. It is strictly sorted where it is canonical.
-pub record IsSaidList (x : LexiconView) (rules : List Rule) (params : Params) (system : List Rule) (n : ℕ)
+-- The requirements of the first so many rules, and no others. They are strictly sorted where they are canonical.
+pub record IsListOfFirstRules (x : LexiconView) (rules : List Rule) (params : Params) (system : List Rule) (n : ℕ)
     (found : List TermRequirement) : Type 0 where
-  pub members : (q : TermRequirement) → Contains found q ↔ IsSaidBefore x rules params system n q
-  pub sorted : (f : TermFacts) (s : Source) → ((q : TermRequirement) → IsSaidBefore x rules params system n q → IsCanonical f s q)
+  pub members : (q : TermRequirement) → Contains found q ↔ IsOfFirstRules x rules params system n q
+  pub sorted : (f : TermFacts) (s : Source) → ((q : TermRequirement) → IsOfFirstRules x rules params system n q → IsCanonical f s q)
       → IsStrictlySorted found

@@ -1,4 +1,4 @@
--- What the rules of a machine say of words: their types, and what is read off rules.
+-- What the rules of a machine tell of words: their types, and the requirements of rules.
 use Rattle.std.specs.Prelude.{◌≡◌, ℕ, List, [], ◌∷◌, ◌++◌, Option, MatchOption, Contains}
 use Rattle.swreq_param.specs.declared.ids.AssocId.{AssocId}
 use Rattle.swreq_param.specs.declared.ids.NameId.{NameId}
@@ -37,20 +37,20 @@ IsTypeBy x rules params u (Member t (Bound d)) =
     (front : Word) × (y : Symbol) × (u ≡ front ++ y ∷ []) × IsTypeBy x rules params front t × IsMemberBehind x rules front y d
 IsTypeBy x rules params u (Member t (Name a)) = ⊥
 
--- By the rules a left side speaks of V: it is the symbol of a generic parameter V, or the symbol of a member or a name behind a word, where
--- V is the bound member of the word's type with the first associated type of that name given there.
-abbrev pub SpeaksBy : LexiconView → List Rule → Params → Word → Term → Type 0
-SpeaksBy x rules params l (Generic g) = IsTypeBy x rules params l (Generic g)
-SpeaksBy x rules params l (Member t (Bound d)) =
+-- By the rules V is the subject of a left side: it is the symbol of a generic parameter V, or the symbol of a member or a name behind a word,
+-- where V is the bound member of the word's type with the first associated type of that name given there.
+abbrev pub IsSubjectOf : LexiconView → List Rule → Params → Word → Term → Type 0
+IsSubjectOf x rules params l (Generic g) = IsTypeBy x rules params l (Generic g)
+IsSubjectOf x rules params l (Member t (Bound d)) =
     (front : Word) × (y : Symbol) × (a : NameId) × (l ≡ front ++ y ∷ []) × IsTypeBy x rules params front t × IsNamed (symbols_of x) y a
     × IsFirstBehind x rules front a d
-SpeaksBy x rules params l (Member t (Name a)) = ⊥
+IsSubjectOf x rules params l (Member t (Name a)) = ⊥
 
--- By the rules this is what the rule `l => r` says.
-abbrev pub SaysBy : LexiconView → List Rule → Params → Word → Word → TermRequirement → Type 0
-SaysBy x rules params l r (Conforms t p) = IsTypeBy x rules params r t × IsProtocol x p × (l ≡ r ++ Proto p.rank ∷ [])
-SaysBy x rules params l r (IsAnyObject t) = IsTypeBy x rules params r t × (l ≡ r ++ Layout ∷ [])
-SaysBy x rules params l r (Equals u v) = IsTypeBy x rules params r u × SpeaksBy x rules params l v × (u ≡ v → ⊥)
+-- By the rules this is the requirement of the rule `l => r`.
+abbrev pub IsRequirementOfRule : LexiconView → List Rule → Params → Word → Word → TermRequirement → Type 0
+IsRequirementOfRule x rules params l r (Conforms t p) = IsTypeBy x rules params r t × IsProtocol x p × (l ≡ r ++ Proto p.rank ∷ [])
+IsRequirementOfRule x rules params l r (IsAnyObject t) = IsTypeBy x rules params r t × (l ≡ r ++ Layout ∷ [])
+IsRequirementOfRule x rules params l r (Equals u v) = IsTypeBy x rules params r u × IsSubjectOf x rules params l v × (u ≡ v → ⊥)
 
 -- ---- what the code answers
 

@@ -18,8 +18,8 @@ ghost use Rattle.swreq_symbols.specs.Vanishing.{IsLeastBy, Links};
 ghost use Rattle.swreq_world.specs.ByTable.{world_by};
 ghost use Rattle.swreq_valid.specs.Machines.{IsMachineOf};
 ghost use Rattle.swreq_valid.specs.Plans.{AreKnown, listed};
-ghost use Rattle.swreq_minimal.specs.Sorted.{AreHere, BelongsAt, IsSaidList};
-ghost use Rattle.swreq_minimal.specs.Typed.{SaysBy};
+ghost use Rattle.swreq_minimal.specs.Sorted.{AreHere, BelongsAt, IsListOfFirstRules};
+ghost use Rattle.swreq_minimal.specs.Typed.{IsRequirementOfRule};
 
 use crate::of_params::of_params;
 use crate::order::{is_before, is_same};
@@ -95,10 +95,10 @@ fn add(
     requires least { IsLeastBy by.now.rules.now rule.now.right }
     requires known { AreKnown table.old by.now.world.now.lexicon found.old.items }
     ensures members { OnOk result ((q : TermRequirement) → Contains (listed table.new found.new.items) q
-        ↔ (Contains (listed table.old found.old.items) q ⊎ SaysBy by.now.world.now.lexicon by.now.rules.now by.now.params rule.now.left rule.now.right q)) }
+        ↔ (Contains (listed table.old found.old.items) q ⊎ IsRequirementOfRule by.now.world.now.lexicon by.now.rules.now by.now.params rule.now.left rule.now.right q)) }
     ensures sorted { OnOk result ((f : TermFacts) (s : Source)
         → ((q : TermRequirement) → Contains (listed table.old found.old.items) q
-        ⊎ SaysBy by.now.world.now.lexicon by.now.rules.now by.now.params rule.now.left rule.now.right q → IsCanonical f s q)
+        ⊎ IsRequirementOfRule by.now.world.now.lexicon by.now.rules.now by.now.params rule.now.left rule.now.right q → IsCanonical f s q)
         → IsStrictlySorted (listed table.old found.old.items) → IsStrictlySorted (listed table.new found.new.items)) }
     ensures known { OnOk result (AreKnown table.new by.now.world.now.lexicon found.new.items) }
     ensures extends { Extends table.old table.new }
@@ -119,7 +119,7 @@ fn collect(
     system: &[Rule],
 ) -> Result<Vec<Requirement>, AllocError>
     requires { (k : ℕ) (rule : Rule) → slice_get system.now k ≡ Some rule → IsReduced (Links by.now.rules.now) rule }
-    ensures said { IfOk result (λ v. IsSaidList by.now.world.now.lexicon by.now.rules.now by.now.params system.now (length system.now)
+    ensures said { IfOk result (λ v. IsListOfFirstRules by.now.world.now.lexicon by.now.rules.now by.now.params system.now (length system.now)
         (listed table.new v.items)) }
     ensures known { IfOk result (λ v. AreKnown table.new by.now.world.now.lexicon v.items) }
     ensures extends { Extends table.old table.new }

@@ -3,6 +3,8 @@
 
 mod candidates;
 mod evidence;
+mod generators;
+mod generators;
 mod given;
 mod minimised;
 mod of_params;
@@ -10,7 +12,6 @@ mod order;
 mod plain;
 mod reader;
 mod rule_requirement;
-mod sifting;
 mod typed;
 
 pub use minimised::minimise;

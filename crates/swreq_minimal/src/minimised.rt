@@ -19,7 +19,7 @@ ghost use Rattle.swreq_minimal.specs.Passed.{IsPassedOf};
 ghost use Rattle.swreq_minimal.specs.Told.{TellsFailure, TellsParts};
 
 use crate::candidates::candidates;
-use crate::sifting::minimised_candidates;
+use crate::generators::minimised_candidates;
 use std::alloc::Global;
 use swreq_complete::{Failed, Limits};
 use swreq_derive::Requirement;

@@ -16,7 +16,7 @@ ghost use Rattle.swreq_candidates.specs.Candidates.{IsNamed};
 ghost use Rattle.swreq_lexicon.specs.Views.{IsProtocol};
 ghost use Rattle.swreq_symbols.specs.Meaning.{symbols_of};
 ghost use Rattle.swreq_symbols.specs.Vanishing.{IsFirstBehind, IsLeastBy, Links};
-ghost use Rattle.swreq_minimal.specs.Typed.{Finds, Identifies, IsTypeBy, SaysBy, SpeaksBy};
+ghost use Rattle.swreq_minimal.specs.Typed.{Finds, Identifies, IsTypeBy, IsRequirementOfRule, IsSubjectOf};
 
 use crate::reader::Reader;
 use crate::typed::{bound, symbol_type, type_of};
@@ -96,7 +96,7 @@ fn member_subject(
 ) -> Result<Option<TermId>, AllocError>
     requires some { 0 < length front.now }
     requires least { IsLeastBy by.now.rules.now front.now }
-    ensures subject { IfOk result (Identifies (SpeaksBy by.now.world.now.lexicon by.now.rules.now by.now.params (front.now ++ symbol ∷ [])) table.new) }
+    ensures subject { IfOk result (Identifies (IsSubjectOf by.now.world.now.lexicon by.now.rules.now by.now.params (front.now ++ symbol ∷ [])) table.new) }
     ensures extends { Extends table.old table.new }
 {
     let at = type_of(by, table, front)?;
@@ -113,7 +113,7 @@ fn subject(
     left: &[Symbol],
 ) -> Result<Option<TermId>, AllocError>
     requires { IsMinimal (Links by.now.rules.now) left.now }
-    ensures subject { IfOk result (Identifies (SpeaksBy by.now.world.now.lexicon by.now.rules.now by.now.params left.now) table.new) }
+    ensures subject { IfOk result (Identifies (IsSubjectOf by.now.world.now.lexicon by.now.rules.now by.now.params left.now) table.new) }
     ensures extends { Extends table.old table.new }
 {
     if left.is_empty() {
@@ -216,8 +216,8 @@ fn same_type_requirement(
     requires minimal { IsMinimal (Links by.now.rules.now) left.now }
     requires t { IsOf table.old t }
     ensures same { IfOk result (λ o. MatchOption o
-        ((v : Term) → SpeaksBy by.now.world.now.lexicon by.now.rules.now by.now.params left.now v → term_at table.old t ≡ v)
-        (λ r. (v : TermId) × (r ≡ Same t v) × IsOf table.new v × SpeaksBy by.now.world.now.lexicon by.now.rules.now by.now.params left.now (term_at table.new v)
+        ((v : Term) → IsSubjectOf by.now.world.now.lexicon by.now.rules.now by.now.params left.now v → term_at table.old t ≡ v)
+        (λ r. (v : TermId) × (r ≡ Same t v) × IsOf table.new v × IsSubjectOf by.now.world.now.lexicon by.now.rules.now by.now.params left.now (term_at table.new v)
         × (term_at table.old t ≡ term_at table.new v → ⊥))) }
     ensures extends { Extends table.old table.new }
 {
@@ -239,7 +239,7 @@ fn requirement_at(
     requires minimal { IsMinimal (Links by.now.rules.now) left.now }
     requires t { IsOf table.old t }
     requires typed { IsTypeBy by.now.world.now.lexicon by.now.rules.now by.now.params right.now (term_at table.old t) }
-    ensures requirement { IfOk result (Finds (SaysBy by.now.world.now.lexicon by.now.rules.now by.now.params left.now right.now) table.new by.now.world.now.lexicon) }
+    ensures requirement { IfOk result (Finds (IsRequirementOfRule by.now.world.now.lexicon by.now.rules.now by.now.params left.now right.now) table.new by.now.world.now.lexicon) }
     ensures extends { Extends table.old table.new }
 {
     match property_requirement(by.world, left, right, t) {
@@ -257,7 +257,7 @@ pub(crate) fn rule_requirement(
 ) -> Result<Option<Requirement>, AllocError>
     requires minimal { IsMinimal (Links by.now.rules.now) left.now }
     requires least { IsLeastBy by.now.rules.now right.now }
-    ensures requirement { IfOk result (Finds (SaysBy by.now.world.now.lexicon by.now.rules.now by.now.params left.now right.now) table.new by.now.world.now.lexicon) }
+    ensures requirement { IfOk result (Finds (IsRequirementOfRule by.now.world.now.lexicon by.now.rules.now by.now.params left.now right.now) table.new by.now.world.now.lexicon) }
     ensures extends { Extends table.old table.new }
 {
     let at = type_of(by, table, right)?;

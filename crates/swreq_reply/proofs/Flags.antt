@@ -22,7 +22,7 @@ use Rattle.swreq_reply.specs.Outputs.{signature_of}
 use Rattle.swreq_reply.specs.Told.{IsMinimisedFor}
 use Rattle.swreq_reply.specs.Wanted.{AreFlags, function_of, is_at, is_list_asked, list_asked, wants_list}
 use Rattle.swreq_reply.proofs.Lines.{query_signature}
-use Rattle.swreq_reply.proofs.OneWorld.{any_in, any_of}
+use Rattle.swreq_rank.proofs.Tests.{passes, some_passes}
 
 -- the query asks for the minimised list of the signature at this place
 abbrev lists_at : ℕ → Query → Bool
@@ -82,7 +82,7 @@ listed_function (queries.Same g t u) f is = absurd (let clash : (let o : Option 
 
 -- a query for a list asks for it
 pub is_listed : (qs : List Query) (f : FuncId) → Contains qs (queries.Signature f) → is_list_asked qs f.place ≡ true
-is_listed qs f c = any_in (lists_at f.place) qs (queries.Signature f) c (eq-eqb _ _ refl)
+is_listed qs f c = passes (lists_at f.place) qs (queries.Signature f) c (eq-eqb _ _ refl)
 
 -- and where one is asked, there is a query for it
 asking_list : (k : ℕ) (q : Query) → lists_at k q ≡ true → (f : FuncId) × (q ≡ queries.Signature f) × (f.place ≡ k)
@@ -94,7 +94,7 @@ asking_list k (queries.Same f t u) h = absurd (true≢false (sym h))
 
 any_list : (qs : List Query) (k : ℕ) → is_list_asked qs k ≡ true → (f : FuncId) × Contains qs (queries.Signature f) × (f.place ≡ k)
 any_list qs k h =
-    let q = any_of (lists_at k) qs h in
+    let q = some_passes (lists_at k) qs h in
     let f = asking_list k q.0 q.2 in (f.0, subst (Contains qs) f.1 q.1, f.2)
 
 module _ (w : IdWorld) (terms : List Term) (f : FuncId) where

@@ -1,6 +1,5 @@
 pub mod Checked
 pub mod Explained
-pub mod Families
 pub mod Flags
 pub mod Lines
 pub mod Misfits
@@ -11,12 +10,9 @@ pub mod OfQueries
 pub mod OfSignatures
 pub mod OneCheck
 pub mod OneRefusal
-pub mod OneTrace
-pub mod OneWorld
 pub mod PiecesMade
 pub mod Placed
 pub mod Printed
 pub mod Settled
 pub mod Verdicts
-pub mod Written
 pub mod Inside

@@ -29,7 +29,6 @@ use Rattle.swreq_reply.specs.Reports.{name_refusal, refusal_of}
 use Rattle.swreq_reply.specs.Verdict.{RefusesSecond}
 use Rattle.swreq_reply.specs.Verdict.RefusesSecond.{bad_name, no_calls}
 use Rattle.swreq_reply.proofs.Lines.{lines_end}
-use Rattle.swreq_reply.proofs.OneWorld.{core_of}
 
 -- ---- lines
 
@@ -87,30 +86,25 @@ module _ (text : List ℕ) (from : ℕ) (one : IsOnePart text from) where
   no_reason ds (grammar.Syntax at) real stands h = one.no_token ds at stands h
   no_reason ds (grammar.Unsupported at kind) real stands h = h
 
--- worlds with the same names and signatures refuse the same
-pub refuses_there : (w v : TextWorld) → core_of w ≡ core_of v → (text : List ℕ) (ds : List CallDecl) (e : NameErr) → RefusesCalls w text ds e
-    → RefusesCalls v text ds e
-refuses_there w v same text ds e h = subst (λ (z : TextWorld). RefusesCalls z text ds e) same h
-
 one_name : (w : TextWorld) (text : List ℕ) (ds : List CallDecl) (e f : NameErr) → RefusesCalls w text ds e → RefusesCalls w text ds f → e ≡ f
 one_name w text ds e f (q, first, is) (r, too, same) = is ∙ ap error_of (one_first (refusals w text ds) q r first too) ∙ sym same
 
-module _ (w v : TextWorld) (same : core_of w ≡ core_of v) (p : Parts) (one : IsOnePart p.input (second_at p)) where
+module _ (w : TextWorld) (p : Parts) (one : IsOnePart p.input (second_at p)) where
   -- a second part is refused in one way
-  pub one_second : (a b : RefusalKind) → RefusesSecond w p a → RefusesSecond v p b → a ≡ b
+  pub one_second : (a b : RefusalKind) → RefusesSecond w p a → RefusesSecond w p b → a ≡ b
   one_second a b (no_calls d real h is) (no_calls e too k other) =
       is ∙ ap refusal_of (one_reason p.input (second_at p) one d e real too h k) ∙ sym other
   one_second a b (no_calls d real h is) (bad_name es f stands refuses other) = absurd (no_reason p.input (second_at p) one es d real stands h)
   one_second a b (bad_name ds e stands refuses is) (no_calls d real h other) = absurd (no_reason p.input (second_at p) one ds d real stands h)
   one_second a b (bad_name ds e stands refuses is) (bad_name es f also too other) =
-      is ∙ ap name_refusal (one_name v p.input es e f
-      (refuses_there w v same p.input es e (subst (λ (cs : List CallDecl). RefusesCalls w p.input cs e) (one.calls ds es stands also) refuses)) too) ∙ sym other
+      is ∙ ap name_refusal (one_name w p.input es e f
+      (subst (λ (cs : List CallDecl). RefusesCalls w p.input cs e) (one.calls ds es stands also) refuses) too) ∙ sym other
 
   -- and not where no name of its calls is refused
-  pub never_second : (a : RefusalKind) (ds : List CallDecl) → RefusesSecond w p a → StandsFor p.input (second_at p) ds → refusals v p.input ds ≡ [] → ⊥
+  pub never_second : (a : RefusalKind) (ds : List CallDecl) → RefusesSecond w p a → StandsFor p.input (second_at p) ds → refusals w p.input ds ≡ [] → ⊥
   never_second a ds (no_calls d real h is) stands nothing = no_reason p.input (second_at p) one ds d real stands h
-  never_second a ds (bad_name es e also refuses is) stands empty = absent
-      (refuses_there w v same p.input ds e (subst (λ (cs : List CallDecl). RefusesCalls w p.input cs e) (one.calls es ds also stands) refuses))
+  never_second a ds (bad_name es e also refuses is) stands empty =
+      absent (subst (λ (cs : List CallDecl). RefusesCalls w p.input cs e) (one.calls es ds also stands) refuses)
     where
-      absent : RefusesCalls v p.input ds e → ⊥
+      absent : RefusesCalls w p.input ds e → ⊥
       absent (r, first, of) = no_member r (subst (λ (rs : List Refusal). Contains rs r) empty first.is)

@@ -20,7 +20,6 @@ use Rattle.swreq_print.specs.Names.{Text}
 use Rattle.swreq_print.specs.Refusals.{refusal_line}
 use Rattle.swreq_rule.specs.declared.rules.Rule.{Rule}
 use Rattle.swreq_watch.specs.declared.events.Event.{Event}
-use Rattle.swreq_world.specs.Closed.{AreIds, IsClosed}
 use Rattle.swreq_world.specs.WorldOf.{IsWorldOf}
 use Rattle.swreq_world.specs.Worlds.{TextWorld}
 use Rattle.swreq_valid.specs.declared.refused.Refused.{Refused}
@@ -59,10 +58,8 @@ use Rattle.swreq_reply.specs.Verdict.IsRefused.{bad_calls, in_one_part, misfit, 
 use Rattle.swreq_reply.specs.Verdict.IsVerdict.{answered as is_answered, cut_short as is_cut_short, judged as is_judged, refused as is_refused}
 use Rattle.swreq_reply.proofs.OfCalls.{IsOnePart, never_second, one_second}
 use Rattle.swreq_reply.proofs.Checked.{built_checked}
-use Rattle.swreq_reply.proofs.Families.{outcome}
-use Rattle.swreq_reply.proofs.Misfits.{misfit_of, no_sections, one_misfit}
+use Rattle.swreq_reply.proofs.Misfits.{no_sections, one_misfit}
 use Rattle.swreq_reply.proofs.OneCheck.{one_check}
-use Rattle.swreq_reply.proofs.OneWorld.{AreAlike, one_world}
 use Rattle.swreq_reply.proofs.Verdicts.{IsExact}
 
 -- what the crates below say of every text
@@ -76,7 +73,7 @@ pub record AreOne (text : List ℕ) : Type 0 where
   pub token : (at place : ℕ) (kind other : Option Kind) → RefusedFor text at kind → RefusedFor text place other
       → (at ≡ place) × (kind ≡ other)
   pub no_token : (s : Skeleton) (at : ℕ) (kind : Option Kind) → StandsFor text s → ¬ (RefusedFor text at kind)
-  pub closed : (s : Skeleton) (w : TextWorld) → StandsFor text s → IsWorldOf text s w → Resolve text s → IsClosed w
+  pub world : (s : Skeleton) (w v : TextWorld) → IsWorldOf text s w → IsWorldOf text s v → w ≡ v
 
 -- the reading of a text, where there is memory for it
 pub record Reading (text : List ℕ) : Type 0 where
@@ -257,7 +254,7 @@ module _ (line : CommandLine) (input : List ℕ) (p : Parts) (are : AreParts lin
 
   -- The names resolve, and of a world of the text this holds.
   abbrev OfWorld : Skeleton → (TextWorld → Type 0) → Type 0
-  OfWorld s P = Resolve p.source s × ((w : TextWorld) × IsWorldOf p.source s w × AreIds w.lexicon × P w)
+  OfWorld s P = Resolve p.source s × ((w : TextWorld) × IsWorldOf p.source s w × P w)
 
   -- A text with this reading is refused for what was read, for its names, or for its world.
   abbrev IsReadAs : Result Skeleton ParseErr → Outcome → Type 0
@@ -276,7 +273,7 @@ module _ (line : CommandLine) (input : List ℕ) (p : Parts) (are : AreParts lin
   told P r answer (inr none) read = absurd (r.real none)
 
   of_world : (w : TextWorld) (has : IsWorldOfText p.source w) (P : TextWorld → Type 0) → P w → OfWorld has.skeleton P
-  of_world w has P holds = (has.resolve, (w, has.world, (one.closed has.skeleton w has.stands has.world has.resolve).ids, holds))
+  of_world w has P holds = (has.resolve, (w, has.world, holds))
 
   -- a world of the input is one of this source
   here : (w : TextWorld) → HasWorld line input w → IsWorldOfText p.source w
@@ -374,77 +371,54 @@ module _ (line : CommandLine) (input : List ℕ) (p : Parts) (are : AreParts lin
   never_judgements : {A : Type 0} → printed ≡ Calls → printed ≡ Judgements → A
   never_judgements called judges = absurd (let clash : Calls ≡ Judgements = sym called ∙ judges in cc)
 
-  -- worlds that are alike are refused with the same outcome
-  alike_stop : (w v : TextWorld) → AreAlike w v → (which : Which) (trace : List Rule)
-      → stopped_with line w.lexicon which trace ≡ stopped_with line v.lexicon which trace
-  alike_stop w v alike which trace =
-      ap (λ (texts : Text). let o : Outcome = record {
-        status = 3;
-        output = refusal_line (limit_refusal (limits_of line) which) ++ (if line.trace then texts else []);
-      } in o) (alike.names trace)
-
-  alike_outcome : (w v : TextWorld) → AreAlike w v → (r : Refused) → machine_outcome line w.lexicon r ≡ machine_outcome line v.lexicon r
-  alike_outcome w v alike (Limit which trace) = alike_stop w v alike which trace
-  alike_outcome w v alike (NotATypeParameter at) = refl
-  alike_outcome w v alike Memory = refl
-
-  misfit_there : (w v : TextWorld) → AreAlike w v → (n : ℕ) → IsFirstMisfit w.lexicon (length w.queries) (lines p.second) n
-      → IsFirstMisfit v.lexicon (length v.queries) (lines p.second) n
-  misfit_there w v alike n h =
-      subst (λ (count : ℕ). IsFirstMisfit v.lexicon count (lines p.second) n) (ap length alike.queries)
-      (misfit_of w.lexicon v.lexicon alike.protocols alike.member_names alike.associated (length w.queries) (lines p.second) n h)
-
   same_limit : (which kind : Which) (trace other : List Rule)
       → (let r : Result Family Failed = Err (failed.Limit which trace) in r) ≡ Err (failed.Limit kind other) → (which ≡ kind) × (trace ≡ other)
   same_limit which kind trace other e = ((cc), (cc))
 
-  one_stopped : (w v : TextWorld) → AreAlike w v → (o q : Outcome) → IsStoppedAs w o → IsStoppedAs v q → q ≡ o
-  one_stopped w v alike o q (IsStoppedAs.by_check a r t h is) (IsStoppedAs.by_check b s u k same) =
-      same ∙ sym (ap (machine_outcome line v.lexicon) (same_refused r s (one_check (limits_of line) v (alike.checked h) k)))
-      ∙ sym (alike_outcome w v alike r) ∙ sym is
-  one_stopped w v alike o q (IsStoppedAs.by_check a r t h is) (IsStoppedAs.by_line b n k same) = never_both a b
-  one_stopped w v alike o q (IsStoppedAs.by_check a r t h is) (IsStoppedAs.by_family b c u k which trace stops same) =
-      never_none r (one_check (limits_of line) v (alike.checked h) k)
-  one_stopped w v alike o q (IsStoppedAs.by_line a n h is) (IsStoppedAs.by_check b s u k same) = never_both b a
-  one_stopped w v alike o q (IsStoppedAs.by_line a n h is) (IsStoppedAs.by_line b m k same) =
+  one_stopped : (w : TextWorld) (o q : Outcome) → IsStoppedAs w o → IsStoppedAs w q → q ≡ o
+  one_stopped w o q (IsStoppedAs.by_check a r t h is) (IsStoppedAs.by_check b s u k same) =
+      same ∙ sym (ap (machine_outcome line w.lexicon) (same_refused r s (one_check (limits_of line) w h k))) ∙ sym is
+  one_stopped w o q (IsStoppedAs.by_check a r t h is) (IsStoppedAs.by_line b n k same) = never_both a b
+  one_stopped w o q (IsStoppedAs.by_check a r t h is) (IsStoppedAs.by_family b c u k which trace stops same) =
+      never_none r (one_check (limits_of line) w h k)
+  one_stopped w o q (IsStoppedAs.by_line a n h is) (IsStoppedAs.by_check b s u k same) = never_both b a
+  one_stopped w o q (IsStoppedAs.by_line a n h is) (IsStoppedAs.by_line b m k same) =
       same ∙ ap (λ (i : ℕ). refused_with (refusals.DerivationSyntax i))
-      (sym (one_misfit v.lexicon (length v.queries) (lines p.second) n m (misfit_there w v alike n h) k)) ∙ sym is
-  one_stopped w v alike o q (IsStoppedAs.by_line a n h is) (IsStoppedAs.by_family b c u k which trace stops same) = other_content b a
-  one_stopped w v alike o q (IsStoppedAs.by_family a c t h which trace stops is) (IsStoppedAs.by_check b s u k same) =
-      never_none s (sym (one_check (limits_of line) v (alike.checked h) k))
-  one_stopped w v alike o q (IsStoppedAs.by_family a c t h which trace stops is) (IsStoppedAs.by_line b n k same) = other_content a b
-  one_stopped w v alike o q (IsStoppedAs.by_family a c t h which trace stops is) (IsStoppedAs.by_family b d u k kind other too same) =
-      elim (family_outcomes_are_one (limits_of line) v (Err (failed.Limit which trace)) (Err (failed.Limit kind other)) t u
-      (outcome w v alike.core (limits_of line) (Err (failed.Limit which trace)) t stops) too) [
+      (sym (one_misfit w.lexicon (length w.queries) (lines p.second) n m h k)) ∙ sym is
+  one_stopped w o q (IsStoppedAs.by_line a n h is) (IsStoppedAs.by_family b c u k which trace stops same) = other_content b a
+  one_stopped w o q (IsStoppedAs.by_family a c t h which trace stops is) (IsStoppedAs.by_check b s u k same) =
+      never_none s (sym (one_check (limits_of line) w h k))
+  one_stopped w o q (IsStoppedAs.by_family a c t h which trace stops is) (IsStoppedAs.by_line b n k same) = other_content a b
+  one_stopped w o q (IsStoppedAs.by_family a c t h which trace stops is) (IsStoppedAs.by_family b d u k kind other too same) =
+      elim (family_outcomes_are_one (limits_of line) w (Err (failed.Limit which trace)) (Err (failed.Limit kind other)) t u stops too) [
         | inl e ↦ (let one = same_limit which kind trace other e.0 in
-            same ∙ sym (ap₂ (λ (x : Which) (y : List Rule). stopped_with line v.lexicon x y) one.0 one.1) ∙ sym (alike_stop w v alike which trace) ∙ sym is)
+            same ∙ sym (ap₂ (λ (x : Which) (y : List Rule). stopped_with line w.lexicon x y) one.0 one.1) ∙ sym is)
         | inr e ↦ elim e [ inl m ↦ absurd (no_limit which trace m) | inr m ↦ absurd (no_limit kind other m) ]
       ]
     where
       no_limit : (z : Which) (y : List Rule) → (let r : Result Family Failed = Err (failed.Limit z y) in r) ≡ Err failed.Memory → ⊥
       no_limit z y e = cc
-  one_stopped w v alike o q (IsStoppedAs.by_check a r t h is) (IsStoppedAs.by_calls b u k refusal too same) =
-      never_none r (one_check (limits_of line) v (alike.checked h) k)
-  one_stopped w v alike o q (IsStoppedAs.by_line a n h is) (IsStoppedAs.by_calls b u k refusal too same) = never_judgements b a
-  one_stopped w v alike o q (IsStoppedAs.by_family a c t h which trace stops is) (IsStoppedAs.by_calls b u k refusal too same) = never_families b a
-  one_stopped w v alike o q (IsStoppedAs.by_calls a t h refusal refuses is) (IsStoppedAs.by_check b s u k same) =
-      never_none s (sym (one_check (limits_of line) v (alike.checked h) k))
-  one_stopped w v alike o q (IsStoppedAs.by_calls a t h refusal refuses is) (IsStoppedAs.by_line b n k same) = never_judgements a b
-  one_stopped w v alike o q (IsStoppedAs.by_calls a t h refusal refuses is) (IsStoppedAs.by_family b c u k which trace stops same) = never_families a b
-  one_stopped w v alike o q (IsStoppedAs.by_calls a t h refusal refuses is) (IsStoppedAs.by_calls b u k other too same) =
-      same ∙ sym (ap refused_with (one_second w v alike.core p part refusal other refuses too)) ∙ sym is
+  one_stopped w o q (IsStoppedAs.by_check a r t h is) (IsStoppedAs.by_calls b u k refusal too same) =
+      never_none r (one_check (limits_of line) w h k)
+  one_stopped w o q (IsStoppedAs.by_line a n h is) (IsStoppedAs.by_calls b u k refusal too same) = never_judgements b a
+  one_stopped w o q (IsStoppedAs.by_family a c t h which trace stops is) (IsStoppedAs.by_calls b u k refusal too same) = never_families b a
+  one_stopped w o q (IsStoppedAs.by_calls a t h refusal refuses is) (IsStoppedAs.by_check b s u k same) =
+      never_none s (sym (one_check (limits_of line) w h k))
+  one_stopped w o q (IsStoppedAs.by_calls a t h refusal refuses is) (IsStoppedAs.by_line b n k same) = never_judgements a b
+  one_stopped w o q (IsStoppedAs.by_calls a t h refusal refuses is) (IsStoppedAs.by_family b c u k which trace stops same) = never_families a b
+  one_stopped w o q (IsStoppedAs.by_calls a t h refusal refuses is) (IsStoppedAs.by_calls b u k other too same) =
+      same ∙ sym (ap refused_with (one_second w p part refusal other refuses too)) ∙ sym is
 
-  never_stopped : (w v : TextWorld) → AreAlike w v → (o : Outcome) → IsStoppedAs w o → IsUnstopped v → ⊥
-  never_stopped w v alike o (IsStoppedAs.by_check a r t h is) (IsUnstopped.by_check b u k families called) =
-      never_none r (one_check (limits_of line) v (alike.checked h) k)
-  never_stopped w v alike o (IsStoppedAs.by_check a r t h is) (IsUnstopped.by_sections b ss k) = never_both a b
-  never_stopped w v alike o (IsStoppedAs.by_line a n h is) (IsUnstopped.by_check b u k families called) = never_both b a
-  never_stopped w v alike o (IsStoppedAs.by_line a n h is) (IsUnstopped.by_sections b ss k) =
-      no_sections v.lexicon (length v.queries) n (lines p.second) ss (misfit_there w v alike n h) k
-  never_stopped w v alike o (IsStoppedAs.by_family a c t h which trace stops is) (IsUnstopped.by_check b u k families called) =
+  never_stopped : (w : TextWorld) (o : Outcome) → IsStoppedAs w o → IsUnstopped w → ⊥
+  never_stopped w o (IsStoppedAs.by_check a r t h is) (IsUnstopped.by_check b u k families called) =
+      never_none r (one_check (limits_of line) w h k)
+  never_stopped w o (IsStoppedAs.by_check a r t h is) (IsUnstopped.by_sections b ss k) = never_both a b
+  never_stopped w o (IsStoppedAs.by_line a n h is) (IsUnstopped.by_check b u k families called) = never_both b a
+  never_stopped w o (IsStoppedAs.by_line a n h is) (IsUnstopped.by_sections b ss k) =
+      no_sections w.lexicon (length w.queries) n (lines p.second) ss h k
+  never_stopped w o (IsStoppedAs.by_family a c t h which trace stops is) (IsUnstopped.by_check b u k families called) =
       let (family, gone, given) = families a in
-      elim (family_outcomes_are_one (limits_of line) v (Err (failed.Limit which trace)) (Ok family) t gone
-      (outcome w v alike.core (limits_of line) (Err (failed.Limit which trace)) t stops) given) [
+      elim (family_outcomes_are_one (limits_of line) w (Err (failed.Limit which trace)) (Ok family) t gone stops given) [
         | inl e ↦ clash e.0
         | inr e ↦ elim e [ inl m ↦ lost m | inr m ↦ kept m ]
       ]
@@ -457,10 +431,10 @@ module _ (line : CommandLine) (input : List ℕ) (p : Parts) (are : AreParts lin
 
       kept : {family : Family} → (let r : Result Family Failed = Ok family in r) ≡ Err failed.Memory → ⊥
       kept e = cc
-  never_stopped w v alike o (IsStoppedAs.by_family a c t h which trace stops is) (IsUnstopped.by_sections b ss k) = other_content a b
-  never_stopped w v alike o (IsStoppedAs.by_calls a t h refusal refuses is) (IsUnstopped.by_check b u k families called) =
-      let (ds, stands, none) = called a in never_second w v alike.core p part refusal ds refuses stands none
-  never_stopped w v alike o (IsStoppedAs.by_calls a t h refusal refuses is) (IsUnstopped.by_sections b ss k) = never_judgements a b
+  never_stopped w o (IsStoppedAs.by_family a c t h which trace stops is) (IsUnstopped.by_sections b ss k) = other_content a b
+  never_stopped w o (IsStoppedAs.by_calls a t h refusal refuses is) (IsUnstopped.by_check b u k families called) =
+      let (ds, stands, none) = called a in never_second w p part refusal ds refuses stands none
+  never_stopped w o (IsStoppedAs.by_calls a t h refusal refuses is) (IsUnstopped.by_sections b ss k) = never_judgements a b
 
   -- a reading is refused in one way at most
   one_read : (parsed : Result Skeleton ParseErr) (o q : Outcome) → IsReadAs parsed o → IsReadAs parsed q → q ≡ o
@@ -468,15 +442,15 @@ module _ (line : CommandLine) (input : List ℕ) (p : Parts) (are : AreParts lin
       same ∙ ap (λ (n : NameErr). refused_with (name_refusal n)) (one_name p.source s f e too refuses) ∙ sym is
   one_read (Ok s) o q (inl (e, refuses, is)) (inr (resolve, world)) = absurd (not_refused p.source s e resolve refuses)
   one_read (Ok s) o q (inr (resolve, world)) (inl (e, refuses, is)) = absurd (not_refused p.source s e resolve refuses)
-  one_read (Ok s) o q (inr (resolve, (w, h, ids, stopped))) (inr (also, (v, k, others, too))) =
-      one_stopped w v (one_world p.source s w v h k ids others) o q stopped too
+  one_read (Ok s) o q (inr (resolve, (w, h, stopped))) (inr (also, (v, k, too))) =
+      one_stopped v o q (subst (λ (z : TextWorld). IsStoppedAs z o) (one.world s w v h k) stopped) too
   one_read (Err e) o q is same = same ∙ sym is
 
   -- and then it is not whole
   never_whole : (parsed : Result Skeleton ParseErr) (o : Outcome) → IsReadAs parsed o → IsReadWhole parsed → ⊥
   never_whole (Ok s) o (inl (e, refuses, is)) (resolve, world) = not_refused p.source s e resolve refuses
-  never_whole (Ok s) o (inr (resolve, (w, h, ids, stopped))) (also, (v, k, others, unstopped)) =
-      never_stopped w v (one_world p.source s w v h k ids others) o stopped unstopped
+  never_whole (Ok s) o (inr (resolve, (w, h, stopped))) (also, (v, k, unstopped)) =
+      never_stopped v o (subst (λ (z : TextWorld). IsStoppedAs z o) (one.world s w v h k) stopped) unstopped
   never_whole (Err e) o is whole = whole
 
   module _ (o q : Outcome) (events also : List Event) (refused : IsRefused line input o events) where

@@ -18,7 +18,7 @@ use Rattle.swreq_world.specs.ByTable.{signature_by}
 use Rattle.swreq_world.specs.Worlds.{SignatureOver, TextWorld, no_signature, signature_at}
 use Rattle.swreq_reply.specs.declared.content.Backing.{Backing}
 use Rattle.swreq_reply.specs.declared.content.Content.TheVariants.{Answers, Signatures, Systems}
-use Rattle.swreq_reply.specs.declared.printing.Made.{Made}
+use Rattle.swreq_reply.specs.declared.printing.MadePieces.{MadePieces}
 use Rattle.swreq_reply.specs.Lines.{AreLines}
 use Rattle.swreq_reply.specs.Made.{AreLinesKept, IsLineKept}
 use Rattle.swreq_words.specs.declared.command.Command.{Command}
@@ -43,7 +43,7 @@ put_more all k d old out new below so_far e =
 
 -- ---- what stands at a place
 
-module _ (m : Made) where
+module _ (m : MadePieces) where
   pub answer_count : (k : ℕ) (qs : List Query) → length (answers_from m k qs) ≡ length qs
   answer_count k [] = refl
   answer_count k (q ∷ qs) = ap suc (answer_count (suc k) qs)
@@ -69,7 +69,7 @@ module _ (m : Made) where
       named_is (suc k) i gs d e (omega (arith, l))
       ∙ ap (λ (n : ℕ). full_name (world_of m) (get_or gs i d) ++ (codes ": " ++ text_at m.lists.now n)) (let s : suc k + i ≡ k + suc i = omega arith in s)
 
-module _ (m : Made) where
+module _ (m : MadePieces) where
   -- of all of them
   pub answer_there : (k : ℕ) (d : Query) (e : Text) → k < length m.world.now.queries
       → get_or (answers m) k e ≡ answer_by m k (list_asked (get_or m.world.now.queries k d))
@@ -99,7 +99,7 @@ kept_line w wants lists f kept l wanted = by (get_or lists f.place None) (kept f
     by (Some line) h = h
     by None h = absurd (true≢false (sym wanted ∙ h))
 
-module _ (b : Backing) (m : Made) (whole : IsWhole (Answers b) m) where
+module _ (b : Backing) (m : MadePieces) (whole : IsWhole (Answers b) m) where
   abbrev qs : List Query
   qs = m.world.now.queries
 
@@ -143,7 +143,7 @@ module _ (b : Backing) (m : Made) (whole : IsWhole (Answers b) m) where
           (sym (answer_there m k kq d below ∙ ap (λ (z : Query). answer_by m k (list_asked z)) there))
           (answer_right k kq below (k, below, there) (at ∙ ap Some (sym same)) own))
 
-module _ (m : Made) where
+module _ (m : MadePieces) where
   pub systems_right : IsWhole Systems m → AreLines (IsSystemText (world_of m)) (world_of m).signatures (all_pieces m)
   systems_right whole =
       lines_by_place (IsSystemText (world_of m)) (world_of m).signatures (all_pieces m)
@@ -177,7 +177,7 @@ module _ (m : Made) where
 -- ---- the output
 
 -- what is made for answers has a place for each query, and a list for each signature
-pub made_for : (b : Backing) (m : Made) → IsWhole (Answers b) m → IsMadeFor m
+pub made_for : (b : Backing) (m : MadePieces) → IsWhole (Answers b) m → IsMadeFor m
 made_for b m whole = record { text = whole.text; pieces = whole.pieces.counted; lists = whole.counted }
 
 -- pieces are the output of a command that prints them

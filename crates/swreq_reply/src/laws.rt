@@ -16,7 +16,7 @@ pub fn one_verdict(input: &[u8], source: &[u8], from: u32)
     swreq_lex::laws::one_reading(source);
     swreq_decl::laws::one_skeleton(source);
     swreq_decl::laws::one_verdict(source);
-    swreq_world::laws::worlds_are_closed(source);
+    swreq_world::laws::world_is_one(source);
     swreq_lex::laws::one_reading_from(input, from);
     swreq_calls::laws::one_list_of_calls(input, from);
     swreq_calls::laws::one_verdict(input, from);

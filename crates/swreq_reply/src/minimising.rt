@@ -25,7 +25,7 @@ use swreq_world::World;
 
 /// A text that has passed its check, and of which of its signatures the minimised list is wanted.
 #[derive(Clone, Copy)]
-pub(crate) struct Lists<'a> {
+pub(crate) struct Minimising<'a> {
     pub alloc: Global,
     pub world: &'a World,
     /// The rules of the protocols.
@@ -39,7 +39,7 @@ pub(crate) struct Lists<'a> {
 
 /// The line of the minimised list of a signature.
 fn line_of<W: Watch>(
-    l: &Lists<'_>,
+    l: &Minimising<'_>,
     table: &mut ParamTable,
     f: FuncId,
     watch: &mut W,
@@ -80,7 +80,7 @@ fn line_of<W: Watch>(
 
 /// The line of the minimised list of a signature, or None where it is not wanted.
 fn line_if_wanted<W: Watch>(
-    l: &Lists<'_>,
+    l: &Minimising<'_>,
     table: &mut ParamTable,
     f: FuncId,
     watch: &mut W,
@@ -109,7 +109,7 @@ fn line_if_wanted<W: Watch>(
 /// `Failed::Limit` comes only where the rounds of a list that minimising meets pass a limit, with the trace of the round that passes it.
 /// The watcher is told the events of the rounds of such lists.
 pub(crate) fn minimised_lines<W: Watch>(
-    l: &Lists<'_>,
+    l: &Minimising<'_>,
     table: &mut ParamTable,
     watch: &mut W,
 ) -> Result<Vec<Option<Seq<u8>>>, Failed>

@@ -30,10 +30,10 @@ use crate::calling::lines_of_calls;
 use crate::checking::{Asked, Checked, check};
 use crate::content::{Content, content_of};
 use crate::laws::one_verdict;
-use crate::minimising::{Lists, minimised_lines};
+use crate::minimising::{Minimising, minimised_lines};
 use crate::passed::Passed;
 use crate::places::places;
-use crate::printing::{Made, output};
+use crate::printing::{MadePieces, output};
 use crate::refusal::{limit_refusal, name_refusal, refusal_of};
 use crate::request::{Request, parts_of, second_at};
 use crate::wanted::lists_wanted;
@@ -390,7 +390,7 @@ fn pieces<W: Watch>(
 {
     let content = content_of(r.line.command);
     let wanted = lists_wanted(r.alloc, world, content)?;
-    let lists = Lists {
+    let lists = Minimising {
         alloc: r.alloc,
         world,
         protocols: &checked.protocols,
@@ -426,7 +426,7 @@ fn answered(
     requires made { IsWhole (printed_of r.now) (record { alloc = r.now.alloc; world = world; table = table; pieces = pieces; lists = lists }) }
     ensures { IfOk result (λ o. (o.status ≡ 0) × IsOutput (world_by table.now world.now) true (line_of r.now).command (parts_of r.now) o.output) }
 {
-    let made = Made {
+    let made = MadePieces {
         alloc: r.alloc,
         world,
         table,

@@ -19,7 +19,7 @@ use swreq_world::World;
 
 /// What was made of a text: the pieces of its machines, each at its place, and the lines of the minimised lists that are wanted.
 #[derive(Clone, Copy)]
-pub(crate) struct Made<'a> {
+pub(crate) struct MadePieces<'a> {
     pub alloc: Global,
     pub world: &'a World,
     pub table: &'a ParamTable,
@@ -40,7 +40,7 @@ fn text_at<'a>(pieces: &'a [Option<Seq<u8>>], k: usize) -> &'a [u8]
 }
 
 /// What answers the query at this place: a piece of a machine, or the line of a minimised list.
-fn answer_at<'a>(m: &Made<'a>, k: usize) -> &'a [u8]
+fn answer_at<'a>(m: &MadePieces<'a>, k: usize) -> &'a [u8]
     requires k { k < length m.now.world.now.queries }
     requires made { IsMadeFor m.now }
     ensures { result.now ≡ answer_at m.now k }
@@ -52,7 +52,7 @@ fn answer_at<'a>(m: &Made<'a>, k: usize) -> &'a [u8]
 }
 
 /// Appends the answers to all queries, one after the other.
-fn put_answers(m: &Made<'_>, out: &mut Vec<u8>) -> Result<(), AllocError>
+fn put_answers(m: &MadePieces<'_>, out: &mut Vec<u8>) -> Result<(), AllocError>
     requires { IsMadeFor m.now }
     ensures { OnOk result (out.new.items ≡ out.old.items ++ concat (answers m.now)) }
 {
@@ -63,7 +63,7 @@ fn put_answers(m: &Made<'_>, out: &mut Vec<u8>) -> Result<(), AllocError>
 }
 
 /// How many of the answers are this line.
-fn count_of(m: &Made<'_>, line: &[u8]) -> usize
+fn count_of(m: &MadePieces<'_>, line: &[u8]) -> usize
     requires { IsMadeFor m.now }
     ensures { result ≡ count_of line.now (answers m.now) }
 {
@@ -77,7 +77,12 @@ fn count_of(m: &Made<'_>, line: &[u8]) -> usize
 }
 
 /// Appends a word and how many of the answers are this line.
-fn put_count(m: &Made<'_>, word: &str, line: &[u8], out: &mut Vec<u8>) -> Result<(), AllocError>
+fn put_count(
+    m: &MadePieces<'_>,
+    word: &str,
+    line: &[u8],
+    out: &mut Vec<u8>,
+) -> Result<(), AllocError>
     requires { IsMadeFor m.now }
     ensures { OnOk result (out.new.items ≡ out.old.items ++ (word.now ++ decimal (count_of line.now (answers m.now)))) }
 {
@@ -86,7 +91,7 @@ fn put_count(m: &Made<'_>, word: &str, line: &[u8], out: &mut Vec<u8>) -> Result
 }
 
 /// Appends the last of the answers.
-fn put_last(m: &Made<'_>, out: &mut Vec<u8>) -> Result<(), AllocError>
+fn put_last(m: &MadePieces<'_>, out: &mut Vec<u8>) -> Result<(), AllocError>
     requires { IsMadeFor m.now }
     ensures { OnOk result (out.new.items ≡ out.old.items ++ last_line (answers m.now)) }
 {
@@ -98,7 +103,7 @@ fn put_last(m: &Made<'_>, out: &mut Vec<u8>) -> Result<(), AllocError>
 }
 
 /// The counts of the answers to the queries of the generated text of n, and the last answer.
-fn counts(m: &Made<'_>, n: u32) -> Result<Vec<u8>, AllocError>
+fn counts(m: &MadePieces<'_>, n: u32) -> Result<Vec<u8>, AllocError>
     requires made { IsMadeFor m.now }
     requires count { n ≤ 100 }
     ensures { IfOk result (λ v. v.items ≡ counts_text n (answers m.now)) }
@@ -117,7 +122,7 @@ fn counts(m: &Made<'_>, n: u32) -> Result<Vec<u8>, AllocError>
 }
 
 /// Appends all pieces of machines, one after the other.
-fn put_pieces(m: &Made<'_>, out: &mut Vec<u8>) -> Result<(), AllocError>
+fn put_pieces(m: &MadePieces<'_>, out: &mut Vec<u8>) -> Result<(), AllocError>
     ensures { OnOk result (out.new.items ≡ out.old.items ++ concat (all_pieces m.now)) }
 {
     for k in 0..m.pieces.len() {
@@ -127,7 +132,7 @@ fn put_pieces(m: &Made<'_>, out: &mut Vec<u8>) -> Result<(), AllocError>
 }
 
 /// Appends the line of a signature: its name, and its minimised list.
-fn put_named(m: &Made<'_>, f: FuncId, out: &mut Vec<u8>) -> Result<(), AllocError>
+fn put_named(m: &MadePieces<'_>, f: FuncId, out: &mut Vec<u8>) -> Result<(), AllocError>
     requires lists { length m.now.lists.now ≡ length m.now.world.now.signatures }
     requires f { f.place < length m.now.world.now.signatures }
     ensures { OnOk result (out.new.items ≡ out.old.items ++ named_line m.now f.place) }
@@ -138,7 +143,7 @@ fn put_named(m: &Made<'_>, f: FuncId, out: &mut Vec<u8>) -> Result<(), AllocErro
 }
 
 /// Appends the lines of the signatures, in written order.
-fn put_signatures(m: &Made<'_>, out: &mut Vec<u8>) -> Result<(), AllocError>
+fn put_signatures(m: &MadePieces<'_>, out: &mut Vec<u8>) -> Result<(), AllocError>
     requires { length m.now.lists.now ≡ length m.now.world.now.signatures }
     ensures { OnOk result (out.new.items ≡ out.old.items ++ concat (named_lines m.now)) }
 {
@@ -149,7 +154,7 @@ fn put_signatures(m: &Made<'_>, out: &mut Vec<u8>) -> Result<(), AllocError>
 }
 
 /// The answers to all queries, one after the other.
-fn all_answers(m: &Made<'_>) -> Result<Vec<u8>, AllocError>
+fn all_answers(m: &MadePieces<'_>) -> Result<Vec<u8>, AllocError>
     requires { IsMadeFor m.now }
     ensures { IfOk result (λ v. v.items ≡ concat (answers m.now)) }
 {
@@ -159,7 +164,7 @@ fn all_answers(m: &Made<'_>) -> Result<Vec<u8>, AllocError>
 }
 
 /// The lines of the signatures, in written order.
-fn all_signatures(m: &Made<'_>) -> Result<Vec<u8>, AllocError>
+fn all_signatures(m: &MadePieces<'_>) -> Result<Vec<u8>, AllocError>
     requires { length m.now.lists.now ≡ length m.now.world.now.signatures }
     ensures { IfOk result (λ v. v.items ≡ concat (named_lines m.now)) }
 {
@@ -169,7 +174,7 @@ fn all_signatures(m: &Made<'_>) -> Result<Vec<u8>, AllocError>
 }
 
 /// All pieces of machines, one after the other.
-fn pieces(m: &Made<'_>) -> Result<Vec<u8>, AllocError>
+fn pieces(m: &MadePieces<'_>) -> Result<Vec<u8>, AllocError>
     ensures { IfOk result (λ v. v.items ≡ concat (all_pieces m.now)) }
 {
     let mut out = Vec::new(m.alloc);
@@ -178,7 +183,7 @@ fn pieces(m: &Made<'_>) -> Result<Vec<u8>, AllocError>
 }
 
 /// What a command prints that prints pieces of machines or minimised lists.
-pub(crate) fn output(m: &Made<'_>, command: Command) -> Result<Vec<u8>, AllocError>
+pub(crate) fn output(m: &MadePieces<'_>, command: Command) -> Result<Vec<u8>, AllocError>
     requires made { IsWhole (content_of command) m.now }
     requires count { HasCount command }
     ensures { IfOk result (λ v. (parts : Parts) → IsOutput (world_of m.now) true command parts v.items) }

@@ -140,7 +140,8 @@ fn put_told(
     put_answer(out, &answer)
 }
 
-/// The same of the equations and the base that are written so, once where the base is borrowed and once where it is not.
+/// What completion tells and answers of the equations and the base that are written so, once where the base is borrowed and once where it
+/// is not.
 fn put_told_of(
     rt: &impl Abort,
     alloc: Global,
@@ -248,7 +249,7 @@ fn put_ways(
     Ok(())
 }
 
-/// The same by the rules that complete the base by the equations, over the base, and over a base that is itself over another.
+/// The ways of these letters by the rules that complete the base by the equations, over the base, and over a base that is itself over another.
 fn put_ways_of(
     alloc: Global,
     base: &str,

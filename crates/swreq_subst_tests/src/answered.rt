@@ -83,7 +83,7 @@ pub(crate) fn answered_by_name(
     }
 }
 
-/// The same of the calls that are read from an offset on, or where reading is refused.
+/// The lines of the calls that are read from an offset on, or the line of the refusal.
 fn answered_from(
     alloc: Global,
     world: &World,

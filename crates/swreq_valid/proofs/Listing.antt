@@ -22,8 +22,8 @@ use Rattle.swreq_world.specs.Worlds.{IdWorld, TextWorld}
 use Rattle.swreq_symbols.specs.Known.{IsRequirementIn}
 use Rattle.swreq_symbols.specs.Meaning.{facts_of, symbols_of}
 use Rattle.swreq_symbols.proofs.Symbols as shown
-use Rattle.swreq_valid.specs.declared.wanted.Start.{Start}
-use Rattle.swreq_valid.specs.declared.wanted.Wanted.{Wanted}
+use Rattle.swreq_valid.specs.declared.wanted.RoundStart.{RoundStart}
+use Rattle.swreq_valid.specs.declared.wanted.RoundRequirement.{RoundRequirement}
 use Rattle.swreq_valid.specs.Answers.{Answers}
 use Rattle.swreq_valid.specs.Machines.{AreRulesOf, IsMachineOf, list_of}
 use Rattle.swreq_valid.specs.Plans.{AreKnown, AreWanted, in_signature, item_of, items_of, listed, plan_of, says}
@@ -46,13 +46,13 @@ module _ {A B : Type 0} (of : List A → List B) (part : A → List B) (none : o
 
 -- ---- the plan of a list
 
-module _ (w : IdWorld) (terms : List Term) (base : List Rule) (start : Start) (params : Params) (list : List Requirement)
+module _ (w : IdWorld) (terms : List Term) (base : List Rule) (start : RoundStart) (params : Params) (list : List Requirement)
     (basic_is : start.basic.items ≡ []) (all_is : start.all.items ≡ map (in_signature params) list) where
   abbrev rs : List TermRequirement
   rs = listed terms list
 
   says_list : says terms start.all.items ≡ rs
-  says_list = ap (says terms) all_is ∙ map-map (λ (x : Wanted). requirement_of terms x.requirement) (in_signature params) list
+  says_list = ap (says terms) all_is ∙ map-map (λ (x : RoundRequirement). requirement_of terms x.requirement) (in_signature params) list
 
   items_list : items_of terms start.all.items ≡ map (of_list (generic_params params) rs) rs
   items_list =
@@ -69,7 +69,7 @@ module _ (w : IdWorld) (terms : List Term) (base : List Rule) (start : Start) (p
   pub list_wanted : AreKnown terms w.lexicon list → AreWanted terms w.lexicon start.all.items
   list_wanted h x k =
       let r = contains_of_map (in_signature params) list x (subst (λ z. Contains z x) all_is k) in
-      subst (λ (z : Wanted). IsRequirementIn terms w.lexicon z.requirement) (sym r.2) (h r.0 r.1)
+      subst (λ (z : RoundRequirement). IsRequirementIn terms w.lexicon z.requirement) (sym r.2) (h r.0 r.1)
 
 -- ---- the machine of a list
 

@@ -33,8 +33,8 @@ use Rattle.swreq_world.specs.ByTable.{world_by}
 use Rattle.swreq_world.specs.Closed.{IsClosed}
 use Rattle.swreq_world.specs.Worlds.{IdWorld, TextWorld, requirements_of}
 use Rattle.swreq_lowering.specs.declared.ids.Written.{Written}
-use Rattle.swreq_valid.specs.declared.wanted.Start.{Start}
-use Rattle.swreq_valid.specs.declared.wanted.Wanted.{Wanted}
+use Rattle.swreq_valid.specs.declared.wanted.RoundStart.{RoundStart}
+use Rattle.swreq_valid.specs.declared.wanted.RoundRequirement.{RoundRequirement}
 use Rattle.swreq_valid.specs.Answers.{Answers}
 use Rattle.swreq_valid.specs.Flags.{Tells, chosen}
 use Rattle.swreq_valid.specs.Keeping.{AreFlags, IsUsableBy, TellEach, TellUsable, flags_of, kept_facts, kept_in, kept_plan}
@@ -86,7 +86,7 @@ module _ (w : IdWorld) (terms : List Term) (keep : List (List Bool)) where
       (kept_items rs ps ks (omega (arith, l)) (λ k q fs e h. each (suc k) q fs e h))
 
   module _ (text : IsTextOver terms w) (are : AreFlags w keep) where
-    pub kept_plan_is : (base : List Rule) (start : Start) → base ≡ [] → start.basic.items ≡ basic_equations (symbols_of w.lexicon)
+    pub kept_plan_is : (base : List Rule) (start : RoundStart) → base ≡ [] → start.basic.items ≡ basic_equations (symbols_of w.lexicon)
         → start.all.items ≡ kept_in w w.lexicon.written_order keep → with_facts (plan_of w terms base start) g ≡ kept_plan W keep
     kept_plan_is base start none basic_is all_is =
         let order = w.lexicon.written_order in
@@ -102,12 +102,12 @@ module _ (w : IdWorld) (terms : List Term) (keep : List (List Bool)) where
     kept_wanted (p ∷ ps) (flags ∷ ks) x c = elim (Contains-append_cases (map (in_protocol p) (chosen (bare (requirements_of w p)) flags)) (kept_in w ps ks) x c) [
       | inl k ↦ (let r = contains_of_map (in_protocol p) (chosen (bare (requirements_of w p)) flags) x k in
           let q = contains_of_map (λ (z : Written). z.requirement) (requirements_of w p) r.0 (chosen_in (bare (requirements_of w p)) flags r.0 r.1) in
-          subst (λ (z : Wanted). IsRequirementIn terms w.lexicon z.requirement) (sym r.2)
+          subst (λ (z : RoundRequirement). IsRequirementIn terms w.lexicon z.requirement) (sym r.2)
           (subst (IsRequirementIn terms w.lexicon) (sym q.2) (protocol_written w terms text p q.0 q.1)))
       | inr k ↦ kept_wanted ps ks x k
     ]
 
-    pub kept_all_wanted : (all : List Wanted) → all ≡ kept_in w w.lexicon.written_order keep → AreWanted terms w.lexicon all
+    pub kept_all_wanted : (all : List RoundRequirement) → all ≡ kept_in w w.lexicon.written_order keep → AreWanted terms w.lexicon all
     kept_all_wanted all e = subst (AreWanted terms w.lexicon) (sym e) (kept_wanted w.lexicon.written_order keep)
 
 -- ---- the rules
@@ -226,7 +226,7 @@ one_kept g xs bs k d c v w all l m f h =
 pub all_kept : {A B : Type 0} (g : A → B) (xs : List A) (bs : List Bool) (k : ℕ) (v all : List B) → length xs ≤ k → v ++ map g (chosen (drop k xs) (drop k bs)) ≡ all → v ≡ all
 all_kept g xs bs k v all l h = sym (append-nil v) ∙ ap (λ z. v ++ map g (chosen z (drop k bs))) (sym (drop_all k xs l)) ∙ h
 
-pub one_list : (w : IdWorld) (ps : List ProtoId) (ks : List (List Bool)) (k : ℕ) (p : ProtoId) (flags : List Bool) (v u all : List Wanted)
+pub one_list : (w : IdWorld) (ps : List ProtoId) (ks : List (List Bool)) (k : ℕ) (p : ProtoId) (flags : List Bool) (v u all : List RoundRequirement)
     → slice_get ps k ≡ Some p → slice_get ks k ≡ Some flags → u ≡ v ++ map (in_protocol p) (chosen (bare (requirements_of w p)) flags)
     → v ++ kept_in w (drop k ps) (drop k ks) ≡ all → u ++ kept_in w (drop (k + 1) ps) (drop (k + 1) ks) ≡ all
 one_list w ps ks k p flags v u all e h f i =
@@ -236,5 +236,5 @@ one_list w ps ks k p flags v u all e h f i =
     ∙ ap (λ z. v ++ z) (sym (ap₂ (kept_in w) (drop_at ps k p e) (drop_at ks k flags h)))
     ∙ i
 
-pub all_lists : (w : IdWorld) (ps : List ProtoId) (ks : List (List Bool)) (k : ℕ) (v all : List Wanted) → length ps ≤ k → v ++ kept_in w (drop k ps) (drop k ks) ≡ all → v ≡ all
+pub all_lists : (w : IdWorld) (ps : List ProtoId) (ks : List (List Bool)) (k : ℕ) (v all : List RoundRequirement) → length ps ≤ k → v ++ kept_in w (drop k ps) (drop k ks) ≡ all → v ≡ all
 all_lists w ps ks k v all l h = sym (append-nil v) ∙ ap (λ z. v ++ kept_in w z (drop k ks)) (sym (drop_all k ps l)) ∙ h

@@ -33,8 +33,8 @@ use Rattle.swreq_symbols.proofs.OfText.{own_requirements, protocol_written, requ
 use Rattle.swreq_symbols.proofs.Symbols.{symbols_law, text_law}
 use Rattle.swreq_symbols.specs.Known.{IsRequirementIn, IsTextOver}
 use Rattle.swreq_symbols.specs.Meaning.{facts_of, member_name, symbols_of}
-use Rattle.swreq_valid.specs.declared.wanted.Start.{Start}
-use Rattle.swreq_valid.specs.declared.wanted.Wanted.{Wanted}
+use Rattle.swreq_valid.specs.declared.wanted.RoundStart.{RoundStart}
+use Rattle.swreq_valid.specs.declared.wanted.RoundRequirement.{RoundRequirement}
 use Rattle.swreq_valid.specs.Answers.{Answers}
 use Rattle.swreq_valid.specs.Machines.{AreRulesOf, protocols_of}
 use Rattle.swreq_valid.specs.Plans.{AreWanted, AreWritten, bare, in_protocol, in_protocols, item_of, items_of, plan_of, says}
@@ -108,7 +108,7 @@ protocols_wanted w terms text [] x c = no_member x c
 protocols_wanted w terms text (p ∷ ps) x c = elim (Contains-append_cases (map (in_protocol p) (bare (requirements_of w p))) (in_protocols w ps) x c) [
   | inl k ↦ (let r = contains_of_map (in_protocol p) (bare (requirements_of w p)) x k in
       let q = contains_of_map (λ (z : Written). z.requirement) (requirements_of w p) r.0 r.1 in
-      subst (λ (z : Wanted). IsRequirementIn terms w.lexicon z.requirement) (sym r.2)
+      subst (λ (z : RoundRequirement). IsRequirementIn terms w.lexicon z.requirement) (sym r.2)
       (subst (IsRequirementIn terms w.lexicon) (sym q.2) (protocol_written w terms text p q.0 q.1)))
   | inr k ↦ protocols_wanted w terms text ps x k
 ]
@@ -130,14 +130,14 @@ module _ (w : IdWorld) (terms : List Term) where
       map-append (item_of terms rs) (map (in_protocol p) (bare (requirements_of w p))) (in_protocols w ps)
       ∙ ap₂ (λ a b. a ++ b) (own_items rs p) (items_are rs ps)
 
-  pub protocols_plan_is : (base : List Rule) (start : Start) → base ≡ [] → start.basic.items ≡ basic_equations (symbols_of w.lexicon)
+  pub protocols_plan_is : (base : List Rule) (start : RoundStart) → base ≡ [] → start.basic.items ≡ basic_equations (symbols_of w.lexicon)
       → start.all.items ≡ in_protocols w w.lexicon.written_order → plan_of w terms base start ≡ protocols_of (world_by terms w)
   protocols_plan_is base start none basic_is all_is =
       let items : items_of terms start.all.items ≡ items_from f w.lexicon.written_order =
       ap (items_of terms) all_is ∙ items_are (says terms (in_protocols w w.lexicon.written_order)) w.lexicon.written_order in
       λ i. record { symbols = symbols_of w.lexicon; facts = f; base = none i; basic = basic_is i; all = items i }
 
-pub protocols_wanted_all : (w : IdWorld) (terms : List Term) → IsTextOver terms w → (all : List Wanted) → all ≡ in_protocols w w.lexicon.written_order → AreWanted terms w.lexicon all
+pub protocols_wanted_all : (w : IdWorld) (terms : List Term) → IsTextOver terms w → (all : List RoundRequirement) → all ≡ in_protocols w w.lexicon.written_order → AreWanted terms w.lexicon all
 protocols_wanted_all w terms text all e = subst (AreWanted terms w.lexicon) (sym e) (protocols_wanted w terms text w.lexicon.written_order)
 
 pub protocols_rules : (w : TextWorld) → IsClosed w → (limits : Limits) (old new : Option (List Event)) (answer : Result (List RoundView) Failed)

@@ -20,8 +20,8 @@ use Rattle.swreq_symbols.specs.Overs.{source_over}
 use Rattle.swreq_symbols.specs.Vanishing.{Links}
 use Rattle.swreq_world.specs.ByTable.{world_by}
 use Rattle.swreq_world.specs.Worlds.{IdWorld}
-use Rattle.swreq_valid.specs.declared.wanted.Start.{Start}
-use Rattle.swreq_valid.specs.declared.wanted.Wanted.{Wanted}
+use Rattle.swreq_valid.specs.declared.wanted.RoundStart.{RoundStart}
+use Rattle.swreq_valid.specs.declared.wanted.RoundRequirement.{RoundRequirement}
 use Rattle.swreq_valid.specs.Flags.{chosen, Tells}
 use Rattle.swreq_valid.specs.Plans.{item_of, items_of, plan_of, says, within}
 use Rattle.swreq_valid.proofs.Flagged.{chosen_from, chosen_map, map_one_if, tells_to, tells_map, tells_one_more}
@@ -52,10 +52,10 @@ module _ (w : IdWorld) (terms : List Term) where
   f = facts_of (world_by terms w)
 
   -- the rules show the requirement usable
-  abbrev pub IsTold : List Rule → Wanted → Type 0
+  abbrev pub IsTold : List Rule → RoundRequirement → Type 0
   IsTold rules x = ShowsUsable m f (source_over x.over) (Links rules) (requirement_of terms x.requirement)
 
-  pub told_shown : (start : Start) (rules base : List Rule) (bs : List Bool) → Tells (IsTold rules) start.all.items bs
+  pub told_shown : (start : RoundStart) (rules base : List Rule) (bs : List Bool) → Tells (IsTold rules) start.all.items bs
       → Tells (AreShown (plan_of w terms base start) rules) (items_of terms start.all.items) bs
   told_shown start rules base bs t =
       let rs = says terms start.all.items in
@@ -66,14 +66,14 @@ module _ (w : IdWorld) (terms : List Term) where
       start.all.items bs t)
 
   -- the equation of what the code has of a requirement
-  abbrev pub equation_for : Start → Wanted → Word × Word
+  abbrev pub equation_for : RoundStart → RoundRequirement → Word × Word
   equation_for start x = equation_of m (item_of terms (says terms start.all.items) x)
 
   -- the equations of those that are left from a place on
-  abbrev pub left_from : Start → List Bool → ℕ → List (Word × Word)
+  abbrev pub left_from : RoundStart → List Bool → ℕ → List (Word × Word)
   left_from start used k = map (equation_for start) (chosen (drop k start.all.items) (drop k used))
 
-  pub joined_one : (start : Start) (used : List Bool) (k : ℕ) (x d : Wanted) (b c : Bool) (v v' : List (Word × Word))
+  pub joined_one : (start : RoundStart) (used : List Bool) (k : ℕ) (x d : RoundRequirement) (b c : Bool) (v v' : List (Word × Word))
       → k < length start.all.items → k < length used → get_or start.all.items k d ≡ x → get_or used k c ≡ b
       → v' ≡ v ++ (if b then equation_for start x ∷ [] else []) → v' ++ left_from start used (k + 1) ≡ v ++ left_from start used k
   joined_one start used k x d b c v v' l n e h g =
@@ -84,7 +84,7 @@ module _ (w : IdWorld) (terms : List Term) where
       ∙ sym (map-append (equation_for start) (if b then x ∷ [] else []) (chosen (drop (k + 1) start.all.items) (drop (k + 1) used)))
       ∙ ap (map (equation_for start)) (sym (chosen_from start.all.items used k x d b c l n e h)))
 
-  pub given_is : (start : Start) (base : List Rule) (used : List Bool)
+  pub given_is : (start : RoundStart) (base : List Rule) (used : List Bool)
       → given (plan_of w terms base start) (chosen (items_of terms start.all.items) used) ≡ start.basic.items ++ left_from start used 0
   given_is start base used =
       let rs = says terms start.all.items in
@@ -93,30 +93,30 @@ module _ (w : IdWorld) (terms : List Term) where
       ∙ map-map (equation_of m) (item_of terms rs) (chosen start.all.items used))
 
   -- past the end nothing is left
-  pub none_left : (start : Start) (used : List Bool) (k : ℕ) (v : List (Word × Word)) → length start.all.items ≤ k → v ≡ v ++ left_from start used k
+  pub none_left : (start : RoundStart) (used : List Bool) (k : ℕ) (v : List (Word × Word)) → length start.all.items ≤ k → v ≡ v ++ left_from start used k
   none_left start used k v l =
       sym (ap (λ z. v ++ map (equation_for start) (chosen z (drop k used))) (drop_all k start.all.items l) ∙ append-nil v)
 
 -- flags of one more, and of all
-pub told_more : (P : Wanted → Type 0) (xs : List Wanted) (k : ℕ) (x : Wanted) (bs cs : List Bool) (b : Bool) → k < length xs → x ≡ get_or xs k x
+pub told_more : (P : RoundRequirement → Type 0) (xs : List RoundRequirement) (k : ℕ) (x : RoundRequirement) (bs cs : List Bool) (b : Bool) → k < length xs → x ≡ get_or xs k x
     → cs ≡ bs ++ b ∷ [] → Tells P (take k xs) bs → Decides b (P x) → Tells P (take (k + 1) xs) cs
 told_more P xs k x bs cs b l e f t d =
     let one : suc k ≡ k + 1 = omega arith in
     let g : take (k + 1) xs ≡ take k xs ++ x ∷ [] = subst (λ n. take n xs ≡ take k xs ++ x ∷ []) one (take_one xs k x (slice_get_read xs (length xs) k x refl l e)) in
     subst₂ (Tells P) (sym g) (sym f) (tells_one_more P (take k xs) bs x b t d)
 
-pub told_all : (P : Wanted → Type 0) (xs : List Wanted) (k : ℕ) (bs : List Bool) → length xs ≤ k → Tells P (take k xs) bs → Tells P xs bs
+pub told_all : (P : RoundRequirement → Type 0) (xs : List RoundRequirement) (k : ℕ) (bs : List Bool) → length xs ≤ k → Tells P (take k xs) bs → Tells P xs bs
 told_all P xs k bs l t = subst (λ z. Tells P z bs) (take_past xs k l) t
   where
-    take_past : (ys : List Wanted) (n : ℕ) → length ys ≤ n → take n ys ≡ ys
+    take_past : (ys : List RoundRequirement) (n : ℕ) → length ys ≤ n → take n ys ≡ ys
     take_past [] zero h = refl
     take_past [] (suc n) h = refl
     take_past (y ∷ ys) zero h = absurd (omega (arith, h))
     take_past (y ∷ ys) (suc n) h = ap (λ z. y ∷ z) (take_past ys n (omega (arith, h)))
 
-pub items_length : (terms : List Term) (xs : List Wanted) → length (items_of terms xs) ≡ length xs
+pub items_length : (terms : List Term) (xs : List RoundRequirement) → length (items_of terms xs) ≡ length xs
 items_length terms xs = go xs
   where
-    go : (ys : List Wanted) → length (map (item_of terms (says terms xs)) ys) ≡ length ys
+    go : (ys : List RoundRequirement) → length (map (item_of terms (says terms xs)) ys) ≡ length ys
     go [] = refl
     go (y ∷ ys) = ap suc (go ys)

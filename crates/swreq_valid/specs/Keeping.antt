@@ -13,7 +13,7 @@ use Rattle.swreq_rounds.specs.Plan.{Plan}
 use Rattle.swreq_world.specs.Worlds.{IdWorld, TextWorld, requirements_of}
 use Rattle.swreq_symbols.specs.Meaning.{facts_of, symbols_of}
 use Rattle.swreq_symbols.specs.Vanishing.{Links}
-use Rattle.swreq_valid.specs.declared.wanted.Wanted.{Wanted}
+use Rattle.swreq_valid.specs.declared.wanted.RoundRequirement.{RoundRequirement}
 use Rattle.swreq_valid.specs.Flags.{Tells, chosen}
 use Rattle.swreq_valid.specs.Machines.{ProtocolsView}
 use Rattle.swreq_valid.specs.Plans.{bare, in_protocol}
@@ -43,7 +43,7 @@ abbrev pub kept_plan : TextWorld → List (List Bool) → Plan
 kept_plan w keep = protocols_plan (symbols_of w.lexicon) (kept_facts w keep)
 
 -- the kept requirements of these protocols
-abbrev pub kept_in : IdWorld → List ProtoId → List (List Bool) → List Wanted
+abbrev pub kept_in : IdWorld → List ProtoId → List (List Bool) → List RoundRequirement
 kept_in w [] keep = []
 kept_in w (p ∷ ps) [] = []
 kept_in w (p ∷ ps) (flags ∷ keep) = map (in_protocol p) (chosen (bare (requirements_of w p)) flags) ++ kept_in w ps keep

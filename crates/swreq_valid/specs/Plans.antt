@@ -17,25 +17,25 @@ use Rattle.swreq_symbols.specs.Meaning.{facts_of, symbols_of}
 use Rattle.swreq_world.specs.ByTable.{world_by}
 use Rattle.swreq_world.specs.Worlds.{IdWorld, requirements_of}
 use Rattle.swreq_lowering.specs.declared.ids.Written.{Written}
-use Rattle.swreq_valid.specs.declared.wanted.Start.{Start}
-use Rattle.swreq_valid.specs.declared.wanted.Wanted.{Wanted}
+use Rattle.swreq_valid.specs.declared.wanted.RoundStart.{RoundStart}
+use Rattle.swreq_valid.specs.declared.wanted.RoundRequirement.{RoundRequirement}
 
 -- what the requirements say
-abbrev pub says : List Term → List Wanted → List TermRequirement
-says terms xs = map (λ (x : Wanted). requirement_of terms x.requirement) xs
+abbrev pub says : List Term → List RoundRequirement → List TermRequirement
+says terms xs = map (λ (x : RoundRequirement). requirement_of terms x.requirement) xs
 
 -- the list of a signature with these requirements, or [τ_0_0 : P]
 abbrev pub within : List TermRequirement → Over → Source
 within rs (Signature params) = WrittenList (generic_params params) rs
 within rs (Protocol p) = SelfOf p
 
-abbrev pub item_of : List Term → List TermRequirement → Wanted → Item
+abbrev pub item_of : List Term → List TermRequirement → RoundRequirement → Item
 item_of terms rs x = record { source = within rs x.over; requirement = requirement_of terms x.requirement }
 
-abbrev pub items_of : List Term → List Wanted → List Item
+abbrev pub items_of : List Term → List RoundRequirement → List Item
 items_of terms xs = map (item_of terms (says terms xs)) xs
 
-abbrev pub plan_of : IdWorld → List Term → List Rule → Start → Plan
+abbrev pub plan_of : IdWorld → List Term → List Rule → RoundStart → Plan
 plan_of w terms base start = record {
   symbols = symbols_of w.lexicon;
   facts = facts_of (world_by terms w);
@@ -45,8 +45,8 @@ plan_of w terms base start = record {
 }
 
 -- The requirements are of the table and of the text.
-abbrev pub AreWanted : List Term → LexiconView → List Wanted → Type 0
-AreWanted terms x wants = (want : Wanted) → Contains wants want → IsRequirementIn terms x want.requirement
+abbrev pub AreWanted : List Term → LexiconView → List RoundRequirement → Type 0
+AreWanted terms x wants = (want : RoundRequirement) → Contains wants want → IsRequirementIn terms x want.requirement
 
 -- Written requirements of the table and of the text.
 abbrev pub AreWritten : List Term → LexiconView → List Written → Type 0
@@ -58,14 +58,14 @@ AreKnown terms x list = (r : Requirement) → Contains list r → IsRequirementI
 
 -- ---- what the code keeps of requirements
 
-abbrev pub in_signature : Params → Requirement → Wanted
+abbrev pub in_signature : Params → Requirement → RoundRequirement
 in_signature params r = record { over = Signature params; requirement = r }
 
-abbrev pub in_protocol : ProtoId → Requirement → Wanted
+abbrev pub in_protocol : ProtoId → Requirement → RoundRequirement
 in_protocol p r = record { over = Protocol p; requirement = r }
 
 -- the requirements of these protocols
-abbrev pub in_protocols : IdWorld → List ProtoId → List Wanted
+abbrev pub in_protocols : IdWorld → List ProtoId → List RoundRequirement
 in_protocols w [] = []
 in_protocols w (p ∷ ps) = map (in_protocol p) (map (λ (r : Written). r.requirement) (requirements_of w p)) ++ in_protocols w ps
 

@@ -8,7 +8,7 @@ ghost use Rattle.swreq_valid.specs.Early.{IsFront};
 ghost use Rattle.swreq_valid.specs.Named.{IsNameAdded};
 ghost use Rattle.swreq_valid.specs.Plans.{in_protocol, in_protocols};
 
-use crate::wanted::Wanted;
+use crate::wanted::RoundRequirement;
 use std::alloc::{AllocError, Global};
 use swreq_derive::Requirement;
 use swreq_param::{NameId, ProtoId};
@@ -151,12 +151,16 @@ pub(crate) fn first_basic(
 }
 
 /// Puts the requirements of the protocol last.
-fn add_requirements(p: ProtoId, list: &[Requirement], v: &mut Vec<Wanted>) -> Result<(), AllocError>
+fn add_requirements(
+    p: ProtoId,
+    list: &[Requirement],
+    v: &mut Vec<RoundRequirement>,
+) -> Result<(), AllocError>
     ensures { OnOk result (v.new.items ≡ v.old.items ++ map (in_protocol p) list.now) }
 {
     for k in 0..list.len() {
         let requirement = list[k];
-        v.push(Wanted {
+        v.push(RoundRequirement {
             over: Over::Protocol(p),
             requirement,
         })?;
@@ -165,7 +169,10 @@ fn add_requirements(p: ProtoId, list: &[Requirement], v: &mut Vec<Wanted>) -> Re
 }
 
 /// The requirements of the protocols, protocols and requirements in written order.
-pub(crate) fn requirements(alloc: Global, world: &World) -> Result<Vec<Wanted>, AllocError>
+pub(crate) fn requirements(
+    alloc: Global,
+    world: &World,
+) -> Result<Vec<RoundRequirement>, AllocError>
     requires { AreIds world.now.lexicon }
     ensures { IfOk result (λ v. v.items ≡ in_protocols world.now world.now.lexicon.written_order) }
 {

@@ -18,7 +18,7 @@ use crate::round::Rounds;
 use crate::rounds::run;
 use crate::stopping::limit_of_basic;
 use crate::usable::is_usable;
-use crate::wanted::{Start, Wanted};
+use crate::wanted::{RoundRequirement, RoundStart};
 use std::alloc::{AllocError, Global};
 use swreq_complete::{CompleteRules, Failed, Limits};
 use swreq_derive::Requirement;
@@ -39,7 +39,7 @@ fn add_kept(
     p: ProtoId,
     list: &[Requirement],
     flags: &[bool],
-    v: &mut Vec<Wanted>,
+    v: &mut Vec<RoundRequirement>,
 ) -> Result<(), AllocError>
     requires { length flags.now ≡ length list.now }
     ensures { OnOk result (v.new.items ≡ v.old.items ++ map (in_protocol p) (chosen list.now flags.now)) }
@@ -56,12 +56,12 @@ fn add_one(
     p: ProtoId,
     requirement: Requirement,
     kept: bool,
-    v: &mut Vec<Wanted>,
+    v: &mut Vec<RoundRequirement>,
 ) -> Result<(), AllocError>
     ensures { OnOk result (v.new.items ≡ v.old.items ++ (if kept then in_protocol p requirement ∷ [] else [])) }
 {
     if kept {
-        v.push(Wanted {
+        v.push(RoundRequirement {
             over: Over::Protocol(p),
             requirement,
         })?;
@@ -70,7 +70,11 @@ fn add_one(
 }
 
 /// The kept requirements of the protocols, protocols and requirements in written order.
-fn kept_requirements(alloc: Global, world: &World, keep: &Kept) -> Result<Vec<Wanted>, AllocError>
+fn kept_requirements(
+    alloc: Global,
+    world: &World,
+    keep: &Kept,
+) -> Result<Vec<RoundRequirement>, AllocError>
     requires ids { AreIds world.now.lexicon }
     requires keep { AreFlags world.now keep.now.lists }
     ensures { IfOk result (λ v. v.items ≡ kept_in world.now world.now.lexicon.written_order keep.now.lists) }
@@ -107,7 +111,7 @@ fn run_kept<W: Watch>(
 {
     let basic = basic(alloc, world)?;
     let all = kept_requirements(alloc, world, keep)?;
-    let start = Start { basic, all, limits };
+    let start = RoundStart { basic, all, limits };
     run(alloc, world, table, None, &start, watch)
 }
 

@@ -11,7 +11,7 @@ ghost use Rattle.swreq_valid.specs.Rounds.{AreRounds, last_rules};
 use crate::protocols::Protocols;
 use crate::round::{Round, Rounds};
 use crate::rounds::run;
-use crate::wanted::{Start, Wanted};
+use crate::wanted::{RoundRequirement, RoundStart};
 use std::alloc::{AllocError, Global};
 use std::marker::Model;
 use swreq_complete::{CompleteRules, Failed, Limits};
@@ -71,13 +71,13 @@ fn in_signature(
     alloc: Global,
     params: Params,
     list: &[Requirement],
-) -> Result<Vec<Wanted>, AllocError>
+) -> Result<Vec<RoundRequirement>, AllocError>
     ensures { IfOk result (λ v. v.items ≡ map (in_signature params) list.now) }
 {
-    let mut wanted: Vec<Wanted> = Vec::new(alloc);
+    let mut wanted: Vec<RoundRequirement> = Vec::new(alloc);
     for k in 0..list.len() {
         let requirement = list[k];
-        wanted.push(Wanted {
+        wanted.push(RoundRequirement {
             over: Over::Signature(params),
             requirement,
         })?;
@@ -113,7 +113,7 @@ pub fn core<'b, W: Watch>(
 {
     let all = in_signature(alloc, params, list)?;
     let basic = Vec::new(alloc);
-    let start = Start { basic, all, limits };
+    let start = RoundStart { basic, all, limits };
     let rounds = run(alloc, world, table, Some(protocols.rules()), &start, watch)?;
     Ok(Machine::new(params, rounds))
 }

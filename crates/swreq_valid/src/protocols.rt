@@ -16,7 +16,7 @@ use crate::basic::{basic, requirements};
 use crate::round::{Round, Rounds};
 use crate::rounds::run;
 use crate::stopping::limit_of_basic;
-use crate::wanted::Start;
+use crate::wanted::RoundStart;
 use std::alloc::{AllocError, Global};
 use std::marker::Model;
 use swreq_complete::{CompleteRules, Failed, Limits};
@@ -116,7 +116,7 @@ fn run_protocols<W: Watch>(
 {
     let basic = basic(alloc, world)?;
     let all = requirements(alloc, world)?;
-    let start = Start { basic, all, limits };
+    let start = RoundStart { basic, all, limits };
     run(alloc, world, table, None, &start, watch)
 }
 

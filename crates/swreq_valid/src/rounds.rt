@@ -17,7 +17,7 @@ ghost use Rattle.swreq_valid.specs.Rounds.{AreRounds, first_rules, rules_of};
 
 use crate::round::{Round, Rounds};
 use crate::usable::usable;
-use crate::wanted::{Start, Wanted};
+use crate::wanted::{RoundRequirement, RoundStart};
 use std::alloc::{AllocError, Global};
 use swreq_complete::{CompleteRules, Failed, extend};
 use swreq_param::ParamTable;
@@ -44,7 +44,7 @@ fn join(
     alloc: Global,
     world: &World,
     table: &ParamTable,
-    want: &Wanted,
+    want: &RoundRequirement,
     used: bool,
     v: &mut Vec<(Word, Word)>,
 ) -> Result<(), AllocError>
@@ -65,7 +65,7 @@ fn given_by(
     alloc: Global,
     world: &World,
     table: &ParamTable,
-    start: &Start,
+    start: &RoundStart,
     used: &[bool],
 ) -> Result<Vec<(Word, Word)>, AllocError>
     requires text { IsTextOver table.now world.now }
@@ -100,7 +100,7 @@ fn complete<'b, W: Watch>(
     alloc: Global,
     text: &Text<'_>,
     below: Option<&'b CompleteRules<'b>>,
-    start: &Start,
+    start: &RoundStart,
     used: &[bool],
     watch: &mut W,
 ) -> Result<CompleteRules<'b>, Failed>
@@ -147,7 +147,7 @@ fn next_used(
     alloc: Global,
     world: &World,
     table: &ParamTable,
-    start: &Start,
+    start: &RoundStart,
     used: &[bool],
     rules: &CompleteRules<'_>,
 ) -> Result<Option<Vec<bool>>, AllocError>
@@ -178,7 +178,7 @@ pub(crate) fn run<'b, W: Watch>(
     world: &World,
     table: &ParamTable,
     below: Option<&'b CompleteRules<'b>>,
-    start: &Start,
+    start: &RoundStart,
     watch: &mut W,
 ) -> Result<Rounds<'b>, Failed>
     requires text { IsTextOver table.now world.now }

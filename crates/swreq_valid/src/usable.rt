@@ -13,7 +13,7 @@ ghost use Rattle.swreq_world.specs.ByTable.{world_by};
 ghost use Rattle.swreq_valid.specs.Flags.{Tells};
 ghost use Rattle.swreq_valid.specs.Plans.{AreWanted, items_of, plan_of};
 
-use crate::wanted::Start;
+use crate::wanted::RoundStart;
 use std::alloc::{AllocError, Global};
 use swreq_complete::CompleteRules;
 use swreq_derive::Requirement;
@@ -80,7 +80,7 @@ pub(crate) fn usable(
     alloc: Global,
     world: &World,
     table: &ParamTable,
-    start: &Start,
+    start: &RoundStart,
     rules: &CompleteRules<'_>,
 ) -> Result<Vec<bool>, AllocError>
     requires text { IsTextOver table.now world.now }

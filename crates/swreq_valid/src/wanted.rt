@@ -6,15 +6,15 @@ use swreq_word::Word;
 
 /// A requirement that rounds may use, and over what its type parameters are read.
 #[derive(Clone, Copy, Debug, PartialEq, Eq)]
-pub(crate) struct Wanted {
+pub(crate) struct RoundRequirement {
     pub over: Over,
     pub requirement: Requirement,
 }
 
 /// What rounds start from beside their base: the equations of every round, the requirements that may join them, in order, and the limits.
 #[derive(Drop)]
-pub(crate) struct Start {
+pub(crate) struct RoundStart {
     pub basic: Vec<(Word, Word)>,
-    pub all: Vec<Wanted>,
+    pub all: Vec<RoundRequirement>,
     pub limits: Limits,
 }

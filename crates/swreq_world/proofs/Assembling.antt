@@ -22,7 +22,7 @@ use Rattle.swreq_world.specs.declared.entry.Entry.{Entry}
 use Rattle.swreq_world.specs.ByTable.{world_by, IsOverTable}
 use Rattle.swreq_world.specs.Declarations.{HasSignature}
 use Rattle.swreq_world.specs.Entries.{entry_view, entry_meant, IsEntryOf, FillsEntries}
-use Rattle.swreq_world.specs.declared.made.Lists.{Lists}
+use Rattle.swreq_world.specs.declared.made.WorldLists.{WorldLists}
 use Rattle.swreq_world.specs.Made.{AreListsOf}
 use Rattle.swreq_world.specs.Own.{own_signature}
 use Rattle.swreq_world.specs.Ready.{IsReady}
@@ -81,7 +81,7 @@ module _ (text : List ℕ) (s : Skeleton) (lexicon : LexiconView) (order : List 
 
 -- ---- the lists of a text
 
-module _ (text : List ℕ) (s : Skeleton) (lexicon : LexiconView) (old new : List Term) (words : WordsView) (lists : Lists) where
+module _ (text : List ℕ) (s : Skeleton) (lexicon : LexiconView) (old new : List Term) (words : WordsView) (lists : WorldLists) where
   pub ready : words ≡ record { text = text; skeleton = s; lexicon = lexicon } → HasShortLists text s → IsLexiconOf text s lexicon → AreListsOf old new words lists → IsReady lexicon lists
   ready e short is made =
       let standing = order_is made.third words lists.order lists.signatures.items made.signatures.means in

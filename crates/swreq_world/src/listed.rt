@@ -9,12 +9,12 @@ use swreq_text::Seq;
 
 /// Written requirements, with the places of their sides and without.
 #[derive(Drop)]
-pub struct Listed {
+pub struct RequirementList {
     written: Seq<Written>,
     bare: Seq<Requirement>,
 }
 
-impl Model for Listed {
+impl Model for RequirementList {
     ghost use Rattle.std.specs.Prelude.{◌≡◌, List, map};
     ghost use Rattle.swreq_lowering.specs.declared.ids.Written.{Written};
 
@@ -25,13 +25,13 @@ impl Model for Listed {
     ghost invariant = { λ r. r.bare ≡ map (λ w. w.requirement) r.written };
 }
 
-impl Listed {
+impl RequirementList {
     /// The requirements of the list.
-    pub fn of(alloc: Global, written: Vec<Written>) -> Result<Listed, AllocError>
+    pub fn of(alloc: Global, written: Vec<Written>) -> Result<RequirementList, AllocError>
         ensures { IfOk result (λ r. r ≡ written.items) }
     {
         let bare = bare_of(alloc, &written)?;
-        Ok(Listed {
+        Ok(RequirementList {
             written: Seq::new(written),
             bare: Seq::new(bare),
         })

@@ -7,7 +7,7 @@ ghost use Rattle.swreq_lowering.specs.Short.{HasShortLists};
 ghost use Rattle.swreq_lowering.specs.Words.{words_by};
 
 use crate::entries::entries;
-use crate::made::Lists;
+use crate::made::WorldLists;
 use crate::order::Order;
 use crate::protocols::requirements;
 use crate::queries::queries;
@@ -21,7 +21,7 @@ pub fn lists_of(
     alloc: Global,
     table: &mut ParamTable,
     words: &Words<'_>,
-) -> Result<Lists, AllocError>
+) -> Result<WorldLists, AllocError>
     requires short { HasShortLists words.now.text.now words.now.skeleton.now }
     requires declared { HasDeclared words.now.text.now words.now.skeleton.now words.now.lexicon.now.resolved }
     ensures lists { IfOk result (AreListsOf table.old table.new (words_by words.now)) }
@@ -31,7 +31,7 @@ pub fn lists_of(
     let requirements = requirements(alloc, table, words)?;
     let signatures = entries(alloc, table, words, &order)?;
     let queries = queries(alloc, table, words, &order)?;
-    Ok(Lists {
+    Ok(WorldLists {
         order,
         requirements,
         signatures,

@@ -7,7 +7,7 @@ ghost use Rattle.swreq_lowering.specs.Adding.{Lists};
 ghost use Rattle.swreq_lowering.specs.ByTable.{AreOf, placed};
 ghost use Rattle.swreq_lowering.specs.Words.{words_by};
 
-use crate::listed::Listed;
+use crate::listed::RequirementList;
 use std::alloc::{AllocError, Global};
 use swreq_lowering::{Words, Written, of_protocol};
 use swreq_param::{ParamTable, ProtoId};
@@ -48,13 +48,13 @@ fn listed(
     table: &mut ParamTable,
     words: &Words<'_>,
     name: &[u8],
-) -> Result<Listed, AllocError>
+) -> Result<RequirementList, AllocError>
     ensures extends { Extends table.old table.new }
     ensures of { IfOk result (AreOf table.new) }
     ensures means { IfOk result (λ l. placed table.new l ≡ requirements_named (words_by words.now) name.now) }
 {
     let written = named(alloc, table, words, name)?;
-    Listed::of(alloc, written)
+    RequirementList::of(alloc, written)
 }
 
 /// The requirements of each protocol, by rank.
@@ -63,7 +63,7 @@ pub fn requirements(
     alloc: Global,
     table: &mut ParamTable,
     words: &Words<'_>,
-) -> Result<Vec<Listed>, AllocError>
+) -> Result<Vec<RequirementList>, AllocError>
     ensures fills { IfOk result (λ v. FillsLists table.old table.new
         (map (requirements_named (words_by words.now)) words.now.lexicon.now.protocols) v.items) }
     ensures extends { Extends table.old table.new }

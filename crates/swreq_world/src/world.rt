@@ -11,8 +11,8 @@ ghost use Rattle.swreq_world.specs.Ready.{IsReady};
 ghost use Rattle.swreq_world.specs.Worlds.{requirements_of, signature_at};
 
 use crate::entry::{Entry, adds_nothing, whole, whole_after};
-use crate::listed::{Listed, bare_of};
-use crate::made::Lists;
+use crate::listed::{RequirementList, bare_of};
+use crate::made::WorldLists;
 use crate::order::Order;
 use std::alloc::{AllocError, Global};
 use std::marker::Model;
@@ -32,7 +32,7 @@ use swreq_text::Seq;
 pub struct World {
     lexicon: Lexicon,
     order: Order,
-    requirements: Seq<Listed>,
+    requirements: Seq<RequirementList>,
     signatures: Seq<Entry>,
     queries: Seq<Query>,
 }
@@ -50,11 +50,11 @@ impl Model for World {
 
 impl World {
     /// The world with this lexicon and these lists.
-    pub(crate) fn of(lexicon: Lexicon, made: Lists) -> World
+    pub(crate) fn of(lexicon: Lexicon, made: WorldLists) -> World
         requires { IsReady lexicon made }
         ensures { result ≡ record { lexicon = lexicon; requirements = made.requirements.items; signatures = map (entry_view made.signatures.items) made.signatures.items; queries = made.queries.items } }
     {
-        let Lists {
+        let WorldLists {
             order,
             requirements,
             signatures,

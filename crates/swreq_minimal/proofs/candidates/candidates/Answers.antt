@@ -8,7 +8,7 @@ use Rattle.swreq_symbols.specs.Vanishing.{Links}
 use Rattle.swreq_valid.specs.Plans.{listed}
 use Rattle.swreq_world.specs.ByTable.{world_by}
 use Rattle.swreq_minimal.specs.OfParams.{AreOfParams}
-use Rattle.swreq_minimal.specs.Sorted.{IsSaidList}
+use Rattle.swreq_minimal.specs.Sorted.{IsListOfFirstRules}
 use Rattle.swreq_minimal.proofs.Collecting.{are_candidates}
 use Rattle.swreq_minimal.proofs.candidates.candidates.Goals as goal
 
@@ -27,7 +27,7 @@ returns-clause-candidates c list is ended =
     are_candidates w c.requires.closed c.args.machine.now list is
     (subst IsComplete c.rules-rules.ensures c.in_ok-system.ensures.complete) system
     (subst (λ (z : List Rule). AreOfParams (Links z) z (length z) system) c.rules-rules.ensures c.in_ok-system.ensures.system) ended (listed new v.items)
-    (subst (λ (z : List Rule). IsSaidList x z c.args.machine.now.params system (length system) (listed new v.items)) c.rules-rules.ensures
-    (subst (λ (z : Params). IsSaidList x c.rules-rules.result.now z system (length system) (listed new v.items)) c.params.ensures
-    (subst (λ (z : List Rule). IsSaidList x c.rules-rules.result.now c.params.result z (length z) (listed new v.items)) c.deref.ensures.value said))))
+    (subst (λ (z : List Rule). IsListOfFirstRules x z c.args.machine.now.params system (length system) (listed new v.items)) c.rules-rules.ensures
+    (subst (λ (z : Params). IsListOfFirstRules x c.rules-rules.result.now z system (length system) (listed new v.items)) c.params.ensures
+    (subst (λ (z : List Rule). IsListOfFirstRules x c.rules-rules.result.now c.params.result z (length z) (listed new v.items)) c.deref.ensures.value said))))
     c.collect.ensures.said

@@ -3,7 +3,7 @@ use Rattle.std.proofs.lemmas.Option.{slice_get_read}
 use Rattle.swreq_param.proofs.Growing.{onward, unchanged}
 use Rattle.swreq_orders.proofs.Members.{no_member}
 use Rattle.swreq_valid.specs.Plans.{listed}
-use Rattle.swreq_minimal.specs.Sorted.{IsSaidList}
+use Rattle.swreq_minimal.specs.Sorted.{IsListOfFirstRules}
 use Rattle.swreq_minimal.proofs.Collecting.{more_said, none_said}
 use Rattle.swreq_minimal.proofs.candidates.collect.Goals as goal
 
@@ -40,4 +40,4 @@ loop-k-preserved c =
 pub returns-clause-said : goal.returns-clause-said
 returns-clause-said c =
     let whole : c.loop-k.k ≡ length c.args.system.now = omega (arith, c.loop-k-test.false, c.loop-k.auto.k-end) in
-    subst (λ n. IsSaidList c.args.by.now.world.now.lexicon c.args.by.now.rules.now c.args.by.now.params c.args.system.now n (listed c.loop-k.table c.loop-k.found.items)) whole c.loop-k.invariant.said
+    subst (λ n. IsListOfFirstRules c.args.by.now.world.now.lexicon c.args.by.now.rules.now c.args.by.now.params c.args.system.now n (listed c.loop-k.table c.loop-k.found.items)) whole c.loop-k.invariant.said

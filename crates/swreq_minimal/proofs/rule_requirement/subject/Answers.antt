@@ -2,7 +2,7 @@ use Rattle.std.proofs.Common.{◌≡◌, ◌<◌, ◌-◌, length, rules, arith,
 use Rattle.std.proofs.lemmas.Result.{IfOk-weaker}
 use Rattle.swreq_word.specs.declared.symbols.Symbol.TheVariants.{Proto}
 use Rattle.swreq_symbols.specs.Vanishing.{Links}
-use Rattle.swreq_minimal.specs.Typed.{Identifies, SpeaksBy}
+use Rattle.swreq_minimal.specs.Typed.{Identifies, IsSubjectOf}
 use Rattle.swreq_minimal.proofs.Speaking.{front_least, spoken_empty, spoken_single, with_last}
 use Rattle.swreq_minimal.proofs.rule_requirement.subject.Goals as goal
 
@@ -34,5 +34,5 @@ member_subject-requires-clause-least c =
 pub returns-clause-subject : goal.returns-clause-subject
 returns-clause-subject c =
     let l : 0 < length c.args.left.now = search rules in
-    subst (λ z. IfOk c.member_subject.result (Identifies (SpeaksBy c.args.by.now.world.now.lexicon c.args.by.now.rules.now c.args.by.now.params z) c.member_subject.new.table))
+    subst (λ z. IfOk c.member_subject.result (Identifies (IsSubjectOf c.args.by.now.world.now.lexicon c.args.by.now.rules.now c.args.by.now.params z) c.member_subject.new.table))
     (sym (with_last c.args.left.now (length c.args.left.now - 1) (Proto 0) (omega (arith, l)))) c.member_subject.ensures.subject

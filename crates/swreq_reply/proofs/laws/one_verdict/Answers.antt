@@ -12,7 +12,7 @@ source c = record {
   verdict = c.one_verdict.ensures.some;
   token = c.one_verdict.ensures.one;
   no_token = c.one_verdict.ensures.never_both;
-  closed = c.worlds_are_closed.ensures.closed;
+  world = c.world_is_one.ensures;
 }
 
 part : (c : goal.After-one_verdict-2) → IsOnePart c.args.input.now c.args.from
