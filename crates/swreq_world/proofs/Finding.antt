@@ -105,6 +105,9 @@ module _ (text : Bytes) (s : Skeleton) (v : TextWorld) (is : IsWorldOf text s v)
         let place = own_place s g f.place named.is_in there in
         ap (option_map (func_id (order_of v))) so ∙ ap (λ gs. Some (func_id gs h)) order_same ∙ ap (λ k. Some (func_id order k)) same ∙ (λ i. Some (record { place = place i }))
 
+    pub found_in_text : (outer : Option Bytes) (name : Bytes) (f : FuncId) → (func_named v outer name ≡ Some f) ↔ IsNamedAt v outer name f
+    found_in_text outer name f = (found_named outer name f, named_found outer name f)
+
   -- ---- generic parameters
 
   param_meant : (f : FuncId) (g : Signature) → slice_get order f.place ≡ Some g → (name : Bytes) → param_of_signature v f name ≡ meant text s g name
@@ -157,10 +160,11 @@ module _ (terms : List Term) (w : IdWorld) where
   module _ (text : Bytes) (s : Skeleton) (is : IsWorldOf text s (world_by terms w)) where
     pub signature_found : HasNames text s → StandApart (words_of text s (world_by terms w)) → ((k : ℕ) (g : Signature) → slice_get (in_order s) k ≡ Some g → HasSignature s g)
         → (outer : Option Bytes) (name : Bytes) (f : FuncId) → (func_named w outer name ≡ Some f) ↔ IsNamedAt w outer name f
-    signature_found names stand has outer name f = (
-      λ e. named_by outer name f (found_named text s (world_by terms w) is outer name f (func_by outer name ∙ e)),
-      λ at. sym (func_by outer name) ∙ named_found text s (world_by terms w) is names stand has outer name f (named_from outer name f at),
-    )
+    signature_found names stand has outer name f =
+        let found = found_in_text text s (world_by terms w) is names stand has outer name f in (
+          λ e. named_by outer name f (found.0 (func_by outer name ∙ e)),
+          λ at. sym (func_by outer name) ∙ found.1 (named_from outer name f at),
+        )
 
     -- the signature that stands at a place
     signature_here : (f : FuncId) → f.place < length w.signatures → (g : Signature) × (slice_get (in_order s) f.place ≡ Some g) × (g ≡ (signature_at w f).signature)

@@ -47,7 +47,9 @@ pub fn world_signatures_in_written_order(text: &[u8])
 
 /// Where the names of a text resolve, what is found by names is the one signature that has them.
 pub fn signatures_are_found_by_name(text: &[u8])
-    ensures { (terms : List Term) (s : Skeleton) (w : IdWorld) → StandsFor text.now s → IsWorldOf text.now s (world_by terms w) → Resolve text.now s
+    ensures in_text { (s : Skeleton) (w : TextWorld) → StandsFor text.now s → IsWorldOf text.now s w → Resolve text.now s
+        → (outer : Option (List ℕ)) (name : List ℕ) (f : FuncId) → (func_named w outer name ≡ Some f) ↔ IsNamedAt w outer name f }
+    ensures by_table { (terms : List Term) (s : Skeleton) (w : IdWorld) → StandsFor text.now s → IsWorldOf text.now s (world_by terms w) → Resolve text.now s
         → (outer : Option (List ℕ)) (name : List ℕ) (f : FuncId) → (func_named w outer name ≡ Some f) ↔ IsNamedAt w outer name f }
 {
     tokens_are_slices(text);
