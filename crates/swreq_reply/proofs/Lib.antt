@@ -9,6 +9,7 @@ pub mod OfMinimising
 pub mod OfQueries
 pub mod OfSignatures
 pub mod OneCheck
+pub mod OneOutput
 pub mod OneRefusal
 pub mod PiecesMade
 pub mod Placed

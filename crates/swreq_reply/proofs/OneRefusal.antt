@@ -174,7 +174,7 @@ module _ (text : List ℕ) (one : AreOne text) (within : length text ≤ 1048576
 -- ---- one verdict
 
 -- an input has its parts in one way
-one_split : (c : Command) (input : List ℕ) (p q : Parts) → AreParts c input p → AreParts c input q → p ≡ q
+pub one_split : (c : Command) (input : List ℕ) (p q : Parts) → AreParts c input p → AreParts c input q → p ≡ q
 one_split c input p q a b = by (reads c) a.divided b.divided
   where
     whole : p.input ≡ q.input

@@ -6,10 +6,10 @@ mod Named
 pub mod Staying
 mod Calling
 mod Lining
-mod Uses
+pub mod Uses
 mod Unknown
 mod Ordering
 mod Ids
 mod Refused
 pub mod ByTable
-mod OneCall
+pub mod OneCall

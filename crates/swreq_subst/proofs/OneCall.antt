@@ -19,11 +19,11 @@ use Rattle.swreq_rank.specs.Ranks.{Bytes}
 use Rattle.swreq_lexicon.specs.Views.{LexiconView}
 use Rattle.swreq_lowering.specs.declared.ids.FuncId.{FuncId}
 use Rattle.swreq_print.specs.Reading.{TellsApart}
+use Rattle.swreq_world.specs.Lookups.{IsNamedAt}
 use Rattle.swreq_world.specs.ReadBack.{SaysAssociated, SaysName, SaysProtocol, SaysStep, SaySteps}
-use Rattle.swreq_world.specs.Worlds.{IdWorld}
+use Rattle.swreq_world.specs.Worlds.{WorldOver}
 use Rattle.swreq_subst.specs.Calls.{TermCall}
-use Rattle.swreq_subst.specs.Refused.{IsCalled}
-use Rattle.swreq_subst.specs.Saying.{HaveIds, OneByOne, SayCalls, SaysArgument, SaysCall}
+use Rattle.swreq_subst.specs.Saying.{FindSignatures, OneByOne, SayCalls, SaysArgument, SaysCall}
 use Rattle.swreq_subst.proofs.Unknown.{are_known}
 
 -- ---- steps
@@ -76,7 +76,7 @@ one_by_one Is one (x ∷ xs) zs [] h k = absurd h
 one_by_one Is one (x ∷ xs) [] (y ∷ ys) h k = absurd k
 one_by_one Is one (x ∷ xs) (z ∷ zs) (y ∷ ys) h k = ap₂ ◌∷◌ (one x z y h.0 k.0) (one_by_one Is one xs zs ys h.1 k.1)
 
-module _ (w : IdWorld) (text : Bytes) (ids : HaveIds w) (apart : TellsApart w.lexicon) where
+module _ {R Q : Type 0} (w : WorldOver R Q) (text : Bytes) (found : FindSignatures w) (apart : TellsApart w.lexicon) where
   one_argument : (f : FuncId) (a b : Option Term) (t : TypeDecl) → SaysArgument w text f a t → SaysArgument w text f b t → a ≡ b
   one_argument f None None t h k = refl
   one_argument f None (Some u) t h k = absurd (are_known w text k.steps.steps t.steps k.steps.say h)
@@ -86,10 +86,11 @@ module _ (w : IdWorld) (text : Bytes) (ids : HaveIds w) (apart : TellsApart w.le
       let same = one_steps text w.lexicon apart t.steps h.steps.steps k.steps.steps h.steps.say k.steps.say in
       ap (λ (z : Term). Some z) (h.steps.is ∙ (λ i. with_steps (Generic (param i)) (same i)) ∙ sym k.steps.is)
 
-  one_signature : (outer : Option Span) (name : Span) (f g : FuncId) → IsCalled w text outer name f → IsCalled w text outer name g → f ≡ g
+  one_signature : (outer : Option Span) (name : Span) (f g : FuncId) → IsNamedAt w (option_map (word text) outer) (word text name) f
+      → IsNamedAt w (option_map (word text) outer) (word text name) g → f ≡ g
   one_signature outer name f g h k =
       let o = option_map (word text) outer in
-      same_Some f g (sym ((ids.signatures o (word text name) f).1 h) ∙ (ids.signatures o (word text name) g).1 k)
+      same_Some f g (sym ((found o (word text name) f).1 h) ∙ (found o (word text name) g).1 k)
 
   one_call : (a b : TermCall) (d : CallDecl) → SaysCall w text a d → SaysCall w text b d → a ≡ b
   one_call a b d h k =

@@ -22,10 +22,10 @@ use Rattle.swreq_correspondence.proofs.Readings.{valid_base, valid_bound, valid_
 use Rattle.swreq_world.specs.Closed.{IsClosed, IsStepOf, IsTermOf}
 use Rattle.swreq_world.specs.FactsAt.{facts_of}
 use Rattle.swreq_world.specs.ReadBack.{SaySteps, SaysStep}
-use Rattle.swreq_world.specs.Worlds.{IdWorld, TextWorld}
+use Rattle.swreq_world.specs.Worlds.{IdWorld, TextWorld, WorldOver}
 use Rattle.swreq_subst.specs.Saying.{HasUnknown, IsUnknown}
 
-module _ (w : IdWorld) (text : Bytes) where
+module _ {R Q : Type 0} (w : WorldOver R Q) (text : Bytes) where
   is_known : (y : Step) (d : StepDecl) → SaysStep text w.lexicon y d → IsUnknown w text d → ⊥
   is_known (steps.Name id) (decls.Plain a) h unknown = unknown (get_contains w.lexicon.names id.rank (word text a) h)
   is_known (steps.Name id) (decls.Bound p a) h unknown = unknown

@@ -37,6 +37,6 @@ AreFailingWith w c ts ns =
     (c.args ≡ map (λ (t : Term). Some t) ts)
     × AreFailing (facts_of w) (source_of (signature_at w c.f)) (signature_at w c.g).params ts (written_list (signature_at w c.g)) ns
 
--- The same of a call of which each type is there.
+-- So they are where each type of the call is there.
 abbrev pub AreFailingIn : TextWorld → TermCall → List ℕ → Type 0
 AreFailingIn w c ns = (ts : List Term) × AreFailingWith w c ts ns

@@ -28,11 +28,14 @@ pub record HasAssociated (x : LexiconView) (p a : Bytes) : Type 0 where
   pub associated : slice_get x.associated (assoc_by x.associated (proto_by x.protocols p) (name_by x.names a)).rank
       ≡ Some (pair (proto_by x.protocols p) (name_by x.names a))
 
+-- What is found by name is the one signature that has the name.
+abbrev pub FindSignatures : {R Q : Type 0} → WorldOver R Q → Type 0
+FindSignatures w = (outer : Option Bytes) (name : Bytes) (f : FuncId) → (func_named w outer name ≡ Some f) ↔ IsNamedAt w outer name f
+
 -- What names refer to has ids. So it is in the world of each text whose names resolve.
 pub record HaveIds {R Q : Type 0} (w : WorldOver R Q) : Type 0 where
-  -- What is found by name is the one signature that has the name,
-  pub signatures : (outer : Option Bytes) (name : Bytes) (f : FuncId) → (func_named w outer name ≡ Some f) ↔ IsNamedAt w outer name f
-  -- and to which the name refers.
+  pub signatures : FindSignatures w
+  -- What is found by name is the signature to which the name refers.
   pub referred : (outer : Option Bytes) (name : Bytes) (g : Signature) (f : FuncId)
       → signature_named w.lexicon.resolved.declared outer name ≡ Some g → func_named w outer name ≡ Some f → (signature_at w f).signature ≡ g
   -- A name that a protocol declares is that of an associated type of it.

@@ -18,20 +18,10 @@ use Rattle.swreq_top.specs.Steps.{Answers, AnswersText}
 use Rattle.swreq_reply.specs.Verdict.{IsRefused, IsVerdict, answered_text, refused_with}
 use Rattle.swreq_reply.specs.Verdict.IsRefused.{bad_calls, in_one_part, misfit, not_a_type_parameter, past_a_limit, past_a_limit_of_families, too_long, without_world}
 use Rattle.swreq_reply.specs.Verdict.IsVerdict.{answered as is_answered, cut_short as is_cut_short, judged as is_judged, refused as is_refused}
+use Rattle.swreq_reply.proofs.OneOutput.{refused_status}
 use Rattle.swreq_reply.proofs.OneRefusal.{long_refused}
 
 -- ---- statuses
-
-pub refused_status : (line : CommandLine) (text : Text) (o : Outcome) (told : List Event) → IsRefused line text o told
-    → (o.status ≡ 1) ⊎ (o.status ≡ 3)
-refused_status line text o told (too_long long is none) = inl (ap (λ (p : Outcome). p.status) is)
-refused_status line text o told (in_one_part within two lacks is none) = inl (ap (λ (p : Outcome). p.status) is)
-refused_status line text o told (without_world p are refusal has is none) = inl (ap (λ (p : Outcome). p.status) is)
-refused_status line text o told (not_a_type_parameter w at checks has checked is) = inl (ap (λ (p : Outcome). p.status) is)
-refused_status line text o told (past_a_limit w which trace checks has checked is) = inr (ap (λ (p : Outcome). p.status) is)
-refused_status line text o told (misfit w n judges has first is none) = inl (ap (λ (p : Outcome). p.status) is)
-refused_status line text o told (past_a_limit_of_families which trace c asked stops is) = inr (ap (λ (p : Outcome). p.status) is)
-refused_status line text o told (bad_calls refusal c asked refuses untold is) = inl (ap (λ (p : Outcome). p.status) is)
 
 -- the status of a verdict is 0, 1 or 3
 pub verdict_status : (line : CommandLine) (text : Text) (o : Outcome) (told : List Event) → IsVerdict line text o told → IsOfVerdict o.status

@@ -47,7 +47,7 @@ use Rattle.swreq_top.specs.Run.{HasVerdict, Run, known_text}
 use Rattle.swreq_reply.specs.Verdict.{IsAnswered, IsJudged, IsVerdict, limits_of}
 use Rattle.swreq_reply.specs.Verdict.IsVerdict.{answered as is_answered, cut_short as is_cut_short, judged as is_judged, refused as is_refused}
 use Rattle.swreq_reqsig.proofs.Signatures.{numbered_signatures}
-use Rattle.swreq_top.proofs.Delivering.{refused_status}
+use Rattle.swreq_reply.proofs.OneOutput.{refused_status}
 use Rattle.swreq_top.proofs.Passed.{HasPassed, formed, has_ended, is_closed}
 use Rattle.swreq_reply.proofs.Lines.{asked_list, lines_by, query_signature}
 

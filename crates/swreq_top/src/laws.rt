@@ -49,3 +49,11 @@ pub fn runs_in_memory_never_fail()
 {
     some_streams_never_fail();
 }
+
+/// A text has one world. So what a run says of a world of its text it says of each.
+pub fn one_world(text: &[u8])
+    ensures { (w v : TextWorld) → IsWorldOfText text.now w → IsWorldOfText text.now v → w ≡ v }
+{
+    swreq_decl::laws::one_skeleton(text);
+    swreq_world::laws::world_is_one(text);
+}
