@@ -4,5 +4,6 @@ mod Lines
 mod Minimising
 mod OfText
 pub mod PrintingAlike
+mod PrintingOnce
 mod Reading
 mod Systems

@@ -7,8 +7,20 @@ ghost use Rattle.swreq_lowering.specs.Requirements.{PlacedRequirement};
 ghost use Rattle.swreq_world.specs.Worlds.{SignatureOver, TextWorld};
 ghost use Rattle.swreq_symbols.specs.Meaning.{facts_of};
 ghost use Rattle.swreq_output.specs.Ended.{HasEnded, IsWorldOfText};
-ghost use Rattle.swreq_output.specs.Signatures.{IsMinimisedLine};
+ghost use Rattle.swreq_output.specs.Signatures.{IsMinimisedLine, IsNamedLine};
+ghost use Rattle.swreq_output.specs.Systems.{IsSystemText};
 ghost use Rattle.swreq_world.specs.FactsAt.{written_list};
+
+/// A signature has one minimised line, one line with its name, and one printed system. The reduced systems of its congruence are one but
+/// for the births of their rules, which are not printed.
+pub fn signatures_print_once()
+    ensures line { (w : TextWorld) (g : SignatureOver PlacedRequirement) (line other : List ℕ)
+        → IsMinimisedLine w g line → IsMinimisedLine w g other → line ≡ other }
+    ensures named { (w : TextWorld) (g : SignatureOver PlacedRequirement) (line other : List ℕ)
+        → IsNamedLine w g line → IsNamedLine w g other → line ≡ other }
+    ensures system { (w : TextWorld) (g : SignatureOver PlacedRequirement) (text other : List ℕ)
+        → IsSystemText w g text → IsSystemText w g other → text ≡ other }
+{}
 
 /// Equivalent signatures with the same generic parameters have one minimised line.
 pub fn equivalent_signatures_print_alike()
