@@ -34,7 +34,8 @@ use Rattle.swreq_lines.proofs.StatementWords.{by_text}
 number_read : IsRead decimal IsShort (Stops in_number)
 number_read a b v w o k sv sw e = decimal_read a b v w (omega (arith, o)) (omega (arith, k)) sv sw e
 
-premises_read : (ns ms : List ℕ) → AllByRecursion IsShort ns → AllByRecursion IsShort ms → premises_text ns ≡ premises_text ms → ns ≡ ms
+premises_read : (ns ms : List ℕ) → AllByRecursion IsShort ns → AllByRecursion IsShort ms
+    → premises_text ns ≡ premises_text ms → ns ≡ ms
 unfolding rest_of
 premises_read [] [] o k e = refl
 premises_read [] (m ∷ ms) o k e = absurd (empty_not _ _ e)
@@ -71,7 +72,8 @@ module _ {A : Type 0} (text : A → Text) where
 -- the rule of this name that has these fields, or some of them
 abbrev with_fields : Fields → Text → DerivRule
 with_fields f name =
-    rule_named (rules_with (unwrap_or f.protocol (record { rank = 0 })) (unwrap_or f.name (record { rank = 0 })) (unwrap_or f.number 0) (unwrap_or f.number 0)) name
+    let n = unwrap_or f.number 0 in
+    rule_named (rules_with (unwrap_or f.protocol (record { rank = 0 })) (unwrap_or f.name (record { rank = 0 })) n n) name
 
 -- which fields there are
 abbrev which : Fields → Bool × Bool × Bool
@@ -80,7 +82,8 @@ which f = (is_some f.protocol, is_some f.name, is_some f.number)
 -- The name of a rule says which fields it has, and with the fields which rule it is.
 abbrev IsNamed : DerivRule → Type 0
 IsNamed r =
-    (with_fields (fields_of r) (rule_name r) ≡ r) × (which (fields_of (with_fields no_fields (rule_name r))) ≡ which (fields_of r))
+    (with_fields (fields_of r) (rule_name r) ≡ r)
+    × (which (fields_of (with_fields no_fields (rule_name r))) ≡ which (fields_of r))
     × (list_all in_name (rule_name r) ≡ true)
 
 named : (r : DerivRule) → IsNamed r
@@ -105,36 +108,47 @@ named (Rule.SameDecl p a) = (refl, refl, refl)
 module _ (x : LexiconView) (names : TellsApart x) where
   -- ---- rules
 
+  abbrev protocol_of : Fields → Text
+  protocol_of f = field_text (protocol_name x) f.protocol
+
+  abbrev name_of : Fields → Text
+  name_of f = field_text (name_text x) f.name
+
+  abbrev number_of : Fields → Text
+  number_of f = field_text decimal f.number
+
   -- the fields one by one
-  fields_apart : (f : Fields) (v : Text)
-      → fields_text x f ++ v ≡ field_text (protocol_name x) f.protocol ++ (field_text (name_text x) f.name ++ (field_text decimal f.number ++ v))
+  fields_apart : (f : Fields) (v : Text) → fields_text x f ++ v ≡ protocol_of f ++ (name_of f ++ (number_of f ++ v))
   fields_apart f v =
-      append_assoc (field_text (protocol_name x) f.protocol) (field_text (name_text x) f.name ++ field_text decimal f.number) v
-      ∙ ap (λ z. field_text (protocol_name x) f.protocol ++ z) (append_assoc (field_text (name_text x) f.name) (field_text decimal f.number) v)
+      append_assoc (protocol_of f) (name_of f ++ number_of f) v
+      ∙ ap (λ z. protocol_of f ++ z) (append_assoc (name_of f) (number_of f) v)
 
   fields_end : (f : Fields) (v : Text) → Ends 32 v → Ends 32 (fields_text x f ++ v)
   fields_end f v h =
       subst (Ends 32) (sym (fields_apart f v))
       (field_ends (protocol_name x) f.protocol _ (field_ends (name_text x) f.name _ (field_ends decimal f.number v h)))
 
-  fields_read : (f g : Fields) (v w : Text) → which f ≡ which g → HasReadableFields x f → HasReadableFields x g → Ends 32 v → Ends 32 w
-      → fields_text x f ++ v ≡ fields_text x g ++ w → (f ≡ g) × (v ≡ w)
+  fields_read : (f g : Fields) (v w : Text) → which f ≡ which g → HasReadableFields x f → HasReadableFields x g
+      → Ends 32 v → Ends 32 w → fields_text x f ++ v ≡ fields_text x g ++ w → (f ≡ g) × (v ≡ w)
   fields_read f g v w same o k ev ew e =
       let fv = field_ends decimal f.number v ev in
       let gw = field_ends decimal g.number w ew in
-      let p = field_read (protocol_name x) (IsProtocol x) in_name refl (protocol_read x names) f.protocol g.protocol _ _ (ap (λ z. z.0) same) o.0.0 k.0.0
-      (field_ends (name_text x) f.name _ fv) (field_ends (name_text x) g.name _ gw) (sym (fields_apart f v) ∙ e ∙ fields_apart g w) in
-      let a = field_read (name_text x) (IsName x) in_name refl (name_read x names) f.name g.name _ _ (ap (λ z. z.1) same) o.0.1 k.0.1 fv gw p.1 in
-      let n = field_read decimal IsShort in_number refl number_read f.number g.number v w (ap (λ z. z.2) same) o.1 k.1 ev ew a.1 in
+      let p = field_read (protocol_name x) (IsProtocol x) in_name refl (protocol_read x names) f.protocol g.protocol _ _
+      (ap (λ z. z.0) same) o.0.0 k.0.0 (field_ends (name_text x) f.name _ fv) (field_ends (name_text x) g.name _ gw)
+      (sym (fields_apart f v) ∙ e ∙ fields_apart g w) in
+      let a = field_read (name_text x) (IsName x) in_name refl (name_read x names) f.name g.name _ _
+      (ap (λ z. z.1) same) o.0.1 k.0.1 fv gw p.1 in
+      let n = field_read decimal IsShort in_number refl number_read f.number g.number v w
+      (ap (λ z. z.2) same) o.1 k.1 ev ew a.1 in
       ((λ i. record { protocol = p.0 i; name = a.0 i; number = n.0 i }), n.1)
 
-  rule_read : (r s : DerivRule) (v w : Text) → HasReadableFields x (fields_of r) → HasReadableFields x (fields_of s) → Ends 32 v → Ends 32 w
-      → rule_text x r ++ v ≡ rule_text x s ++ w → (r ≡ s) × (v ≡ w)
+  rule_read : (r s : DerivRule) (v w : Text) → HasReadableFields x (fields_of r) → HasReadableFields x (fields_of s)
+      → Ends 32 v → Ends 32 w → rule_text x r ++ v ≡ rule_text x s ++ w → (r ≡ s) × (v ≡ w)
   rule_read r s v w o k ev ew e =
       let f = fields_of r in
       let g = fields_of s in
-      let name = cut in_name (rule_name r) (rule_name s) (fields_text x f ++ v) (fields_text x g ++ w) (named r).2 (named s).2
-      (stops in_name refl _ (fields_end f v ev)) (stops in_name refl _ (fields_end g w ew))
+      let name = cut in_name (rule_name r) (rule_name s) (fields_text x f ++ v) (fields_text x g ++ w)
+      (named r).2 (named s).2 (stops in_name refl _ (fields_end f v ev)) (stops in_name refl _ (fields_end g w ew))
       (sym (append_assoc (rule_name r) (fields_text x f) v) ∙ e ∙ append_assoc (rule_name s) (fields_text x g) w) in
       let same = sym (named r).1 ∙ ap (λ z. which (fields_of (with_fields no_fields z))) name.0 ∙ (named s).1 in
       let fields = fields_read f g v w same o k ev ew name.1 in
@@ -148,10 +162,12 @@ module _ (x : LexiconView) (names : TellsApart x) where
   unfolding rest_of
   not_valid t r v w o k e = by r k e
     where
-      behind : (u : Term) (c : ℕ) (rest : Text) → IsReadableType x u → (98 ≡ c → ⊥) → type_text x t ++ by_text v ≡ (type_text x u ++ (32 ∷ c ∷ rest)) ++ w → ⊥
+      behind : (u : Term) (c : ℕ) (rest : Text) → IsReadableType x u → (98 ≡ c → ⊥)
+          → type_text x t ++ by_text v ≡ (type_text x u ++ (32 ∷ c ∷ rest)) ++ w → ⊥
       behind u c rest k n e =
-          numbers_apart 98 c n _ _
-          (ap rest_of (type_read x names t u (by_text v) (32 ∷ c ∷ (rest ++ w)) o k (refl, refl) (refl, refl) (e ∙ append_assoc (type_text x u) (32 ∷ c ∷ rest) w)).1)
+          let one = type_read x names t u (by_text v) (32 ∷ c ∷ (rest ++ w)) o k (refl, refl) (refl, refl)
+          (e ∙ append_assoc (type_text x u) (32 ∷ c ∷ rest) w) in
+          numbers_apart 98 c n _ _ (ap rest_of one.1)
 
       by : (r : TermRequirement) → IsReadableRequirement x r → type_text x t ++ by_text v ≡ requirement_text x r ++ w → ⊥
       by (Conforms u p) k e = behind u 58 (32 ∷ protocol_name x p) k.0 (λ i. omega arith) e
@@ -172,7 +188,8 @@ module _ (x : LexiconView) (names : TellsApart x) where
 
   -- ---- lines
 
-  pub line_read : (n : ℕ) (l k : TermLine) → IsReadableLine x l → IsReadableLine x k → line_text x n l ≡ line_text x n k → l ≡ k
+  pub line_read : (n : ℕ) (l k : TermLine) → IsReadableLine x l → IsReadableLine x k → line_text x n l ≡ line_text x n k
+      → l ≡ k
   unfolding rest_of
   line_read n l k h j e =
       let behind = append_cancel_left (decimal n) _ _ (ap (λ z. rest_of (rest_of z)) e) in

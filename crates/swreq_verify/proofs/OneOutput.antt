@@ -1,6 +1,5 @@
 -- A second part has one output.
-use Rattle.std.proofs.Common.{◌≡◌, ◌≢◌, ◌⊎◌, inl, inr, ◌∙◌, refl, sym, ap, subst, ℕ, suc, ◌+◌, ◌-◌, ◌<◌, arith, List, [], ◌∷◌, ◌++◌, length, Some, None, slice_get}
-use Rattle.std.specs.List.{AllByRecursion}
+use Rattle.std.proofs.Common.{◌≡◌, ◌≢◌, ◌⊎◌, inl, inr, ◌∙◌, refl, sym, ap, subst, ℕ, suc, ◌-◌, ◌<◌, arith, List, [], ◌∷◌, ◌++◌, length, Some, None, slice_get}
 use Rattle.std.proofs.lemmas.Bool.{cases_eq, cases_lt}
 use Rattle.std.proofs.lemmas.List.{map-id}
 use Rattle.std.proofs.lemmas.Option.{slice_get_within}
@@ -27,8 +26,8 @@ use Rattle.swreq_verify.proofs.Sectioned.{Each, Readable, flat, flat_headed, tex
 -- ---- sections
 
 module _ (x : LexiconView) (names : TellsApart x) where
-  derivation_one : (n : ℕ) (ls ks : List TermLine) (t u : List Text) → Readable x ls → Readable x ks → AreHeaded t → AreHeaded u
-      → texts_from x n ls ++ t ≡ texts_from x n ks ++ u → (ls ≡ ks) × (t ≡ u)
+  derivation_one : (n : ℕ) (ls ks : List TermLine) (t u : List Text) → Readable x ls → Readable x ks
+      → AreHeaded t → AreHeaded u → texts_from x n ls ++ t ≡ texts_from x n ks ++ u → (ls ≡ ks) × (t ≡ u)
   derivation_one n [] [] t u h j ht hu e = (refl, e)
   derivation_one n [] (k ∷ ks) t u h j ht hu e = absurd ((texts_under x n (k ∷ ks)).0 (subst AreHeaded e ht))
   derivation_one n (l ∷ ls) [] t u h j ht hu e = absurd ((texts_under x n (l ∷ ls)).0 (subst AreHeaded (sym e) hu))
@@ -44,13 +43,13 @@ module _ (x : LexiconView) (names : TellsApart x) where
   flat_one (s ∷ ss) (u ∷ us) h j e =
       let heading : s.heading ≡ u.heading = cc in
       let tail : texts_from x 1 s.derivation ++ flat x ss ≡ texts_from x 1 u.derivation ++ flat x us = cc in
-      let one = derivation_one 1 s.derivation u.derivation (flat x ss) (flat x us) h.0.derivation j.0.derivation (flat_headed x ss h.1)
-      (flat_headed x us j.1) tail in
+      let one = derivation_one 1 s.derivation u.derivation (flat x ss) (flat x us) h.0.derivation j.0.derivation
+      (flat_headed x ss h.1) (flat_headed x us j.1) tail in
       let more = flat_one ss us h.1 j.1 one.1 in
       λ i. record { heading = heading i; derivation = one.0 i } ∷ more i
 
-  sections_one : (count : ℕ) (lines : List Text) (ss us : List TermSection) → AreSections x count lines ss → AreSections x count lines us
-      → ss ≡ us
+  sections_one : (count : ℕ) (lines : List Text) (ss us : List TermSection) → AreSections x count lines ss
+      → AreSections x count lines us → ss ≡ us
   sections_one count lines ss us a b = flat_one ss us a.each b.each (sym a.lines_are ∙ b.lines_are)
 
 module _ (w : TextWorld) where
@@ -115,10 +114,11 @@ module _ (w : TextWorld) where
     judgement_one Derived Skipped h k = judgement_by h.0 Derived Skipped h.1 h k
     judgement_one NotThis Skipped h k = judgement_by h.0 NotThis Skipped h.1 h k
 
-  judgements_one : (ss : List TermSection) (is js : List Judgement) → length ss ≡ length w.queries → AreJudged w ss is → AreJudged w ss js
-      → is ≡ js
+  judgements_one : (ss : List TermSection) (is js : List Judgement) → length ss ≡ length w.queries
+      → AreJudged w ss is → AreJudged w ss js → is ≡ js
   judgements_one ss is js count a b =
-      sym (map-id is) ∙ alike_at (λ (j : Judgement). j) (λ (j : Judgement). j) is js (a.count ∙ sym b.count) at ∙ map-id js
+      let same : Judgement → Judgement = λ j. j in
+      sym (map-id is) ∙ alike_at same same is js (a.count ∙ sym b.count) at ∙ map-id js
     where
       at : (k : ℕ) (i j : Judgement) → slice_get is k ≡ Some i → slice_get js k ≡ Some j → i ≡ j
       at k i j e g =
@@ -130,8 +130,10 @@ module _ (w : TextWorld) where
 
   -- ---- outputs
 
-  pub output_one : (second out other : Text) → TellsApart w.lexicon → IsOutput w second out → IsOutput w second other → out ≡ other
+  pub output_one : (second out other : Text) → TellsApart w.lexicon → IsOutput w second out → IsOutput w second other
+      → out ≡ other
   output_one second out other names a b =
       let sections = sections_one w.lexicon names _ _ b.sections a.sections b.fits a.fits in
       let judged = subst (λ z. AreJudged w z b.judgements) sections b.judged in
-      a.printed ∙ ap judgement_lines (judgements_one a.sections a.judgements b.judgements a.fits.counted a.judged judged) ∙ sym b.printed
+      let one = judgements_one a.sections a.judgements b.judgements a.fits.counted a.judged judged in
+      a.printed ∙ ap judgement_lines one ∙ sym b.printed

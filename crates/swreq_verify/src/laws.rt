@@ -28,5 +28,6 @@ pub fn misfits_are_no_sections()
 
 /// A second part has at most one output, where names tell ids apart.
 pub fn one_output()
-    ensures { (w : TextWorld) (second out other : Text) → TellsApart w.lexicon → IsOutput w second out → IsOutput w second other → out ≡ other }
+    ensures { (w : TextWorld) (second out other : Text) → TellsApart w.lexicon → IsOutput w second out → IsOutput w second other
+        → out ≡ other }
 {}
