@@ -46,7 +46,7 @@ premises_read (n ∷ ns) (m ∷ ms) o k e =
 
 -- ---- fields
 
--- What ends with a space stops what has none.
+-- A space, or the end, stops a text that has no space.
 stops : (inside : ℕ → Bool) → inside 32 ≡ false → (v : Text) → Ends 32 v → Stops inside v
 stops inside n [] h = tt
 stops inside n (c ∷ v) h = ap inside h ∙ n
