@@ -8,6 +8,7 @@ pub mod NamesOfText
 pub mod Numbered
 pub mod OneLine
 pub mod OneStep
+pub mod ReadLines
 pub mod ReadNumbers
 pub mod RuleNames
 pub mod RuleWords

@@ -13,7 +13,7 @@ ghost use Rattle.swreq_param.specs.Tables.{AreDistinct, Extends};
 ghost use Rattle.swreq_param.specs.Terms.{Term};
 ghost use Rattle.swreq_print.specs.Reading.{TellsApart};
 ghost use Rattle.swreq_lines.specs.GoodLines.{AreLinesOf, IsFirstNotGood, IsReadableLine};
-ghost use Rattle.swreq_lines.specs.LineTexts.{HasLineIds, lines_text};
+ghost use Rattle.swreq_lines.specs.LineTexts.{HasLineIds, line_text, lines_text};
 ghost use Rattle.swreq_lines.specs.Writing.{AreNamesOfOneLine};
 
 use swreq_names::laws::{names_are_words, words_have_word_bytes};
@@ -38,4 +38,10 @@ pub fn written_lines_are_read_back()
         → Extends old new → AreDistinct new → ((l : Line) → Contains written l → HasLineIds x old l) → ((l : Line) → Contains read l → HasLineIds x new l)
         → AllByRecursion (IsReadableLine x) (map (line_of old) written) → length (lines_text x (map (line_of old) written)) ≤ 1048576
         → AreLinesOf x new (lines_text x (map (line_of old) written)) read → read ≡ written }
+{}
+
+/// The text of a line, with its number, determines the line.
+pub fn texts_tell_lines_apart()
+    ensures { (x : LexiconView) (n : ℕ) (l k : TermLine) → TellsApart x → IsReadableLine x l → IsReadableLine x k
+        → line_text x n l ≡ line_text x n k → l ≡ k }
 {}

@@ -1,7 +1,7 @@
-mod Cutting
+pub mod Cutting
 pub mod Digits
 pub mod ReadSignatures
-mod ReadTypes
+pub mod ReadTypes
 pub mod Steps
 pub mod Telling
 mod Where

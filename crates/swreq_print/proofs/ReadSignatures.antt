@@ -34,7 +34,7 @@ module _ (x : LexiconView) (names : TellsApart x) where
       names.no_any_object p op
       (cut in_name (protocol_name x p) (codes "AnyObject") v w (names.protocols p op).bytes refl (stops_name v sv.0) (stops_name w sw.0) e).0
 
-  requirement_read : (r q : TermRequirement) (v w : Text) → IsReadableRequirement x r → IsReadableRequirement x q → EndsType v → EndsType w
+  pub requirement_read : (r q : TermRequirement) (v w : Text) → IsReadableRequirement x r → IsReadableRequirement x q → EndsType v → EndsType w
       → requirement_text x r ++ v ≡ requirement_text x q ++ w → (r ≡ q) × (v ≡ w)
   unfolding rest_of
   requirement_read (Conforms t p) (Conforms u q) v w (ot, op) (ou, oq) sv sw e =

@@ -26,7 +26,7 @@ use Rattle.swreq_print.proofs.Steps.{by_steps, each_step}
 
 -- ---- numbers and generic parameters
 
-decimal_read : (a b : ℕ) (x y : Text) → a < 2 ^ 64 → b < 2 ^ 64 → Stops in_number x → Stops in_number y → decimal a ++ x ≡ decimal b ++ y
+pub decimal_read : (a b : ℕ) (x y : Text) → a < 2 ^ 64 → b < 2 ^ 64 → Stops in_number x → Stops in_number y → decimal a ++ x ≡ decimal b ++ y
     → (a ≡ b) × (x ≡ y)
 decimal_read a b x y la lb sx sy e =
     let c = cut in_number (decimal a) (decimal b) x y (digits_only a la) (digits_only b lb) sx sy e in

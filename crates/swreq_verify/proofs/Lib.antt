@@ -5,3 +5,4 @@ pub mod Staying
 pub mod Laid
 pub mod Judged
 pub mod InTurn
+pub mod OneOutput

@@ -1,14 +1,16 @@
 //! What is said by an output, over the definitions alone.
-ghost use Rattle.std.specs.Prelude.{ℕ, List};
+ghost use Rattle.std.specs.Prelude.{◌≡◌, ℕ, List};
 ghost use Rattle.swreq_derive.specs.Derivation.{BookDerivable};
 ghost use Rattle.swreq_derive.specs.Derivation.TermStatement.{Requires};
 ghost use Rattle.swreq_lexicon.specs.Views.{LexiconView};
 ghost use Rattle.swreq_lowering.specs.Queries.{TermQuery};
 ghost use Rattle.swreq_print.specs.Names.{Text};
+ghost use Rattle.swreq_print.specs.Reading.{TellsApart};
 ghost use Rattle.swreq_world.specs.FactsAt.{facts_of, source_of};
 ghost use Rattle.swreq_world.specs.Worlds.{TextWorld, signature_at};
 ghost use Rattle.swreq_verify.specs.declared.judging.Judgement.TheVariants.{Derived};
 ghost use Rattle.swreq_verify.specs.Judgements.{Asked, IsJudged, IsToDerive};
+ghost use Rattle.swreq_verify.specs.Outputs.{IsOutput};
 ghost use Rattle.swreq_verify.specs.SecondParts.{AreSections, IsFirstMisfit, TermSection};
 
 /// `ok` says that the requirement that the query asks is derivable by the book's rules from the written list of its signature: the
@@ -22,4 +24,10 @@ pub fn ok_says_derivable()
 pub fn misfits_are_no_sections()
     ensures { (x : LexiconView) (count n : ℕ) (lines : List Text) (ss : List TermSection)
         → IsFirstMisfit x count lines n → AreSections x count lines ss → ⊥ }
+{}
+
+/// A second part has at most one output, where names tell ids apart.
+pub fn one_output()
+    ensures { (w : TextWorld) (second out other : Text) → TellsApart w.lexicon → IsOutput w second out → IsOutput w second other
+        → out ≡ other }
 {}
