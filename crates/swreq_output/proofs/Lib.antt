@@ -4,6 +4,6 @@ mod Lines
 mod Minimising
 mod OfText
 pub mod PrintingAlike
-mod PrintingOnce
+pub mod PrintingOnce
 mod Reading
 mod Systems
