@@ -4,7 +4,6 @@
 mod candidates;
 mod evidence;
 mod generators;
-mod generators;
 mod given;
 mod minimised;
 mod of_params;

@@ -57,7 +57,7 @@ use Rattle.swreq_reply.proofs.OneRefusal.{one_split}
 one_lines : {A : Type 0} (P : A → Text → Type 0) → ((x : A) (l m : Text) → P x l → P x m → l ≡ m) → {xs : List A} {ls ms : List Text}
     → AreLines P xs ls → AreLines P xs ms → ls ≡ ms
 one_lines P one none none = refl
-one_lines P one (more {x} {xs} {l} {ls} h rest) (more {line = m} k others) = ap₂ (λ (a : Text) (as : List Text). a ∷ as) (one x l m h k) (one_lines P one rest others)
+one_lines P one (more {x} {xs} {l} {ls} h rest) (more {line = m} k others) = ap₂ (λ (a : Text) (rest : List Text). a ∷ rest) (one x l m h k) (one_lines P one rest others)
 
 module _ (w : TextWorld) where
   -- ---- answers

@@ -11,11 +11,11 @@ use Rattle.swreq_world.specs.Worlds.{TextWorld}
 use Rattle.swreq_world.proofs.laws.world_is_one.Goals as goal
 
 module _ (text : List ℕ) (s : Skeleton) where
-  words : LexiconView → WordsView
+  abbrev words : LexiconView → WordsView
   words x = record { text = text; skeleton = s; lexicon = x }
 
   -- all of a world but its lexicon is said of its lexicon
-  of_lexicon : LexiconView → TextWorld
+  abbrev of_lexicon : LexiconView → TextWorld
   of_lexicon x = record {
     lexicon = x;
     requirements = map (requirements_named (words x)) x.protocols;
