@@ -1,5 +1,5 @@
 -- What a command prints of a world is one, but for the derivations behind its answers.
-use Rattle.std.proofs.Common.{◌≡◌, ◌≢◌, ◌⊎◌, ◌∙◌, arith, false, inl, inr, refl, sym, ap, ap₂, cc, subst, ℕ, Bool, List, [], ◌∷◌, ◌++◌, codes}
+use Rattle.std.proofs.Common.{◌≡◌, ◌≢◌, ◌⊎◌, ◌∙◌, arith, false, inl, inr, refl, sym, ap, ap₂, subst, ℕ, Bool, List, [], ◌∷◌, ◌++◌, codes}
 use Rattle.swreq_decl.specs.declared.skeleton.Skeleton.{Skeleton}
 use Rattle.swreq_decl.specs.Skeletons as decl
 use Rattle.swreq_param.specs.declared.ids.ProtoId.{ProtoId}
@@ -46,7 +46,7 @@ use Rattle.swreq_reply.specs.declared.content.Content.TheVariants.{Answers, Sign
 use Rattle.swreq_reply.specs.Contents.{content_of}
 use Rattle.swreq_reply.specs.Inputs.{AreParts, Parts, second_at}
 use Rattle.swreq_reply.specs.Lines.{AreLines}
-use Rattle.swreq_reply.specs.Lines.AreLines.{none, more}
+use Rattle.swreq_reply.specs.Lines.AreLines.{none as no_line, more}
 use Rattle.swreq_reply.specs.Outputs.{AnswersByTypes, AreCallLines, ArePrinted, Backs, BacksYes, IsLineOf, IsOutput, IsPathLine, printed_text, signature_of}
 use Rattle.swreq_reply.specs.Verdict.{HasWorld, IsRefused, IsVerdict}
 use Rattle.swreq_reply.specs.Verdict.IsRefused.{bad_calls, in_one_part, misfit, not_a_type_parameter, past_a_limit, past_a_limit_of_families, too_long, without_world}
@@ -56,8 +56,8 @@ use Rattle.swreq_reply.proofs.OneRefusal.{one_split}
 -- one line of each member, where each member has one
 one_lines : {A : Type 0} (P : A → Text → Type 0) → ((x : A) (l m : Text) → P x l → P x m → l ≡ m) → {xs : List A} {ls ms : List Text}
     → AreLines P xs ls → AreLines P xs ms → ls ≡ ms
-one_lines P one none none = refl
-one_lines P one (more {x} {xs} {l} {ls} h rest) (more {line = m} k others) = ap₂ (λ (a : Text) (rest : List Text). a ∷ rest) (one x l m h k) (one_lines P one rest others)
+one_lines P one no_line no_line = refl
+one_lines P one (more {x = x} {line = l} h rest) (more {line = m} k others) = ap₂ (λ (a : Text) (rest : List Text). a ∷ rest) (one x l m h k) (one_lines P one rest others)
 
 module _ (w : TextWorld) where
   -- ---- answers
