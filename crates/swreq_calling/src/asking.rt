@@ -78,12 +78,12 @@ fn is_derivable(
     world: &World,
     table: &ParamTable,
     protocols: &Protocols,
-    m: &Machine,
+    machine: &Machine,
     f: FuncId,
     r: Requirement,
 ) -> Result<bool, Failed>
     requires text { IsTextOver table.now world.now }
-    requires rounds { AreRoundsFor table.now world.now f protocols.now m.now }
+    requires rounds { AreRoundsFor table.now world.now f protocols.now machine.now }
     requires asked { IsRequirementIn table.now world.now.lexicon r }
     ensures { IfOk result (λ b. IsTrue b → Derivable (facts_of (world_by table.now world.now))
         (source_of (signature_at (world_by table.now world.now) f)) (Requires (requirement_of table.now r))) }
@@ -92,18 +92,18 @@ fn is_derivable(
         Requirement::Conf { subject, proto } => {
             let members = members_of(table, subject)?;
             let mut s = scratch_for(alloc, members)?;
-            Ok(m.conforms(world, table, subject, proto, &mut s))
+            Ok(machine.conforms(world, table, subject, proto, &mut s))
         }
         Requirement::Layout { subject } => {
             let members = members_of(table, subject)?;
             let mut s = scratch_for(alloc, members)?;
-            Ok(m.any_object(world, table, subject, &mut s))
+            Ok(machine.any_object(world, table, subject, &mut s))
         }
         Requirement::Same { left, right } => {
             let first = members_of(table, left)?;
             let last = members_of(table, right)?;
             let mut s = scratch_for(alloc, first.max(last))?;
-            Ok(m.equal(world, table, left, right, &mut s))
+            Ok(machine.equal(world, table, left, right, &mut s))
         }
     }
 }

@@ -55,14 +55,14 @@ pub fn shortest(
     alloc: Global,
     world: &World,
     table: &ParamTable,
-    m: &Machine,
+    machine: &Machine,
     f: FuncId,
     t: TermId,
     p: ProtoId,
 ) -> Result<ConfPath, AllocError>
     requires text { IsTextOver table.now world.now }
     requires short { IsShort world.now }
-    requires machine { IsMachineFor table.now world.now f m.now }
+    requires machine { IsMachineFor table.now world.now f machine.now }
     requires asked { IsRequirementIn table.now world.now.lexicon (Conf t p) }
     requires derivable { Derivable (facts_of (world_by table.now world.now)) (source_of (signature_at (world_by table.now world.now) f))
         (Requires (Conforms (term_at table.now t) p)) }
@@ -76,7 +76,7 @@ pub fn shortest(
         alloc,
         world,
         table,
-        machine: m,
+        machine,
         list: &list,
         subject: t,
         proto: p,

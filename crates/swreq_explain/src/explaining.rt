@@ -32,10 +32,10 @@ use swreq_valid::{Machine, Protocols};
 use swreq_world::World;
 
 /// What a query asks of its signature, or None for a query of a type or of a signature.
-fn asked(q: &Query) -> Option<Requirement>
-    ensures { (f : FuncId) (r : RequirementView) → Asks q.now f r → result ≡ Some r }
+fn asked(query: &Query) -> Option<Requirement>
+    ensures { (f : FuncId) (r : RequirementView) → Asks query.now f r → result ≡ Some r }
 {
-    match *q {
+    match *query {
         Query::Signature { .. } => None,
         Query::Reduced { .. } => None,
         Query::Conf { t, p, .. } => Some(Requirement::Conf {
@@ -83,20 +83,20 @@ pub fn explain_by(
     world: &World,
     table: &mut ParamTable,
     book: &Book,
-    q: &Query,
+    query: &Query,
 ) -> Result<Vec<Line>, AllocError>
     requires text { IsTextOver table.old world.now }
     requires yes { (f : FuncId) × (f.place < length world.now.signatures) × IsBookFor (world_by table.old world.now) f book.now
-        × IsYes table.old world.now f q.now }
-    ensures derived { IfOk result (λ v. (f : FuncId) (r : RequirementView) → Asks q.now f r
+        × IsYes table.old world.now f query.now }
+    ensures derived { IfOk result (λ v. (f : FuncId) (r : RequirementView) → Asks query.now f r
         → AreDerived table.new (facts_at world.now f) v.items) }
-    ensures last { IfOk result (λ v. (f : FuncId) (r : RequirementView) → Asks q.now f r → EndIn v.items (Holds r)) }
-    ensures lines { IfOk result (λ v. (f : FuncId) (r : RequirementView) → Asks q.now f r
+    ensures last { IfOk result (λ v. (f : FuncId) (r : RequirementView) → Asks query.now f r → EndIn v.items (Holds r)) }
+    ensures lines { IfOk result (λ v. (f : FuncId) (r : RequirementView) → Asks query.now f r
         → AreLinesOf table.new (facts_at world.now f) v.items) }
     ensures ids { IfOk result (λ v. (l : LineView) → Contains v.items l → HasLineIds world.now.lexicon table.new l) }
     ensures extends { OnOk result (Extends table.old table.new) }
 {
-    match asked(q) {
+    match asked(query) {
         None => unreachable!(),
         Some(r) => {
             let lines = derive(alloc, world, table, book, r)?;
@@ -115,21 +115,21 @@ pub fn explain(
     world: &World,
     table: &mut ParamTable,
     protocols: &Protocols,
-    m: &Machine,
+    machine: &Machine,
     f: FuncId,
-    q: &Query,
+    query: &Query,
 ) -> Result<Vec<Line>, AllocError>
     requires text { IsTextOver table.old world.now }
     requires short { IsShort world.now }
-    requires rounds { AreRoundsFor table.old world.now f protocols.now m.now }
-    requires yes { IsYes table.old world.now f q.now }
+    requires rounds { AreRoundsFor table.old world.now f protocols.now machine.now }
+    requires yes { IsYes table.old world.now f query.now }
     ensures derived { IfOk result (λ v. AreDerived table.new (facts_at world.now f) v.items) }
-    ensures last { IfOk result (λ v. (r : RequirementView) → Asks q.now f r → EndIn v.items (Holds r)) }
+    ensures last { IfOk result (λ v. (r : RequirementView) → Asks query.now f r → EndIn v.items (Holds r)) }
     ensures lines { IfOk result (λ v. AreLinesOf table.new (facts_at world.now f) v.items) }
     ensures ids { IfOk result (λ v. (l : LineView) → Contains v.items l → HasLineIds world.now.lexicon table.new l) }
     ensures extends { OnOk result (Extends table.old table.new) }
 {
-    let book = book_of(alloc, world, table, protocols, m, f)?;
-    let lines = explain_by(alloc, world, table, &book, q)?;
+    let book = book_of(alloc, world, table, protocols, machine, f)?;
+    let lines = explain_by(alloc, world, table, &book, query)?;
     Ok(lines)
 }

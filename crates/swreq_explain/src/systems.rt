@@ -172,17 +172,17 @@ fn assemble(
     world: &World,
     table: &ParamTable,
     protocols: &Protocols,
-    m: &Machine,
+    machine: &Machine,
     f: FuncId,
 ) -> Result<Book, AllocError>
     requires text { IsTextOver table.now world.now }
     requires short { IsShort world.now }
-    requires rounds { AreRoundsFor table.now world.now f protocols.now m.now }
-    ensures { IfOk result (IsBookOf table.now world.now f protocols.now m.now) }
+    requires rounds { AreRoundsFor table.now world.now f protocols.now machine.now }
+    ensures { IfOk result (IsBookOf table.now world.now f protocols.now machine.now) }
 {
-    let ground = ground_of(alloc, world, table, m.params())?;
+    let ground = ground_of(alloc, world, table, machine.params())?;
     let mut systems = world_systems(alloc, world, table, protocols)?;
-    let own = Own { f, machine: m };
+    let own = Own { f, machine };
     add_machine(alloc, world, table, protocols, own, &mut systems)?;
     Ok(Book {
         ground,
@@ -196,14 +196,14 @@ pub fn book_of(
     world: &World,
     table: &ParamTable,
     protocols: &Protocols,
-    m: &Machine,
+    machine: &Machine,
     f: FuncId,
 ) -> Result<Book, AllocError>
     requires text { IsTextOver table.now world.now }
     requires short { IsShort world.now }
-    requires rounds { AreRoundsFor table.now world.now f protocols.now m.now }
+    requires rounds { AreRoundsFor table.now world.now f protocols.now machine.now }
     ensures { IfOk result (IsBookFor (world_by table.now world.now) f) }
 {
-    let book = assemble(alloc, world, table, protocols, m, f)?;
+    let book = assemble(alloc, world, table, protocols, machine, f)?;
     Ok(book)
 }

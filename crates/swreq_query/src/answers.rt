@@ -28,31 +28,31 @@ pub fn answer(
     alloc: Global,
     world: &World,
     table: &ParamTable,
-    m: &Machine,
+    machine: &Machine,
     map: &PropertyMap,
-    q: &Query,
-    s: &mut Scratch,
+    query: &Query,
+    scratch: &mut Scratch,
     out: &mut Vec<u8>,
 ) -> Result<(), AllocError>
     requires text { IsTextOver table.now world.now }
-    requires query { IsQueryIn table.now world.now q.now }
-    requires of_types { IsOfTypes (query_by table.now q.now) }
-    requires map { IsMapOf (last_rules m.now.rounds) map.now }
+    requires query { IsQueryIn table.now world.now query.now }
+    requires of_types { IsOfTypes (query_by table.now query.now) }
+    requires map { IsMapOf (last_rules machine.now.rounds) map.now }
     requires protocols { map.now.protocols ≡ length world.now.lexicon.protocols }
-    requires room { IsRoomFor (query_by table.now q.now) s.old.room }
-    ensures ok { OnOk result ((list : List TermRequirement) → IsMachineOf (world_by table.now world.now) list m.now
-        → AppendsAnswer world.now.lexicon (IsDerivable (world_by table.now world.now) m.now list) (query_by table.now q.now) out.old.items out.new.items) }
+    requires room { IsRoomFor (query_by table.now query.now) scratch.old.room }
+    ensures ok { OnOk result ((list : List TermRequirement) → IsMachineOf (world_by table.now world.now) list machine.now
+        → AppendsAnswer world.now.lexicon (IsDerivable (world_by table.now world.now) machine.now list) (query_by table.now query.now) out.old.items out.new.items) }
     ensures err { OnErr result (out.new.items ≡ out.old.items) }
-    ensures room { s.new.room ≡ s.old.room }
+    ensures room { scratch.new.room ≡ scratch.old.room }
 {
-    match *q {
+    match *query {
         Query::Signature { .. } => unreachable!(),
         Query::Reduced { t, .. } => {
             let text = Text { world, table };
-            reduced_line(alloc, &text, m, t, s, out)
+            reduced_line(alloc, &text, machine, t, scratch, out)
         }
         _ => {
-            let verdict = judge(world, table, m, map, q, s);
+            let verdict = judge(world, table, machine, map, query, scratch);
             append_bytes(out, verdict.line())
         }
     }

@@ -43,22 +43,28 @@ fn type_line(
 pub(crate) fn reduced_line(
     alloc: Global,
     text: &Text<'_>,
-    m: &Machine,
+    machine: &Machine,
     t: TermId,
-    s: &mut Scratch,
+    scratch: &mut Scratch,
     out: &mut Vec<u8>,
 ) -> Result<(), AllocError>
     requires text { IsTextOver text.now.table.now text.now.world.now }
     requires t { IsTypeIn text.now.table.now text.now.world.now.lexicon t }
-    requires room { 4 * (member_count (term_at text.now.table.now t) + 2) ≤ s.old.room }
-    ensures ok { OnOk result ((f : FuncId) (list : List TermRequirement) → IsMachineOf (world_by text.now.table.now text.now.world.now) list m.now
-        → AppendsAnswer text.now.world.now.lexicon (IsDerivable (world_by text.now.table.now text.now.world.now) m.now list) (AsksReduced f (term_at text.now.table.now t)) out.old.items out.new.items) }
+    requires room { 4 * (member_count (term_at text.now.table.now t) + 2) ≤ scratch.old.room }
+    ensures ok { OnOk result ((f : FuncId) (list : List TermRequirement) → IsMachineOf (world_by text.now.table.now text.now.world.now) list machine.now
+        → AppendsAnswer text.now.world.now.lexicon (IsDerivable (world_by text.now.table.now text.now.world.now) machine.now list) (AsksReduced f (term_at text.now.table.now t)) out.old.items out.new.items) }
     ensures err { OnErr result (out.new.items ≡ out.old.items) }
-    ensures room { s.new.room ≡ s.old.room }
+    ensures room { scratch.new.room ≡ scratch.old.room }
 {
-    if m.is_valid(text.world, text.table, t, s) {
-        m.reduced(text.world, text.table, t, s);
-        type_line(alloc, text.world.lexicon(), s.param(), s.steps(), out)
+    if machine.is_valid(text.world, text.table, t, scratch) {
+        machine.reduced(text.world, text.table, t, scratch);
+        type_line(
+            alloc,
+            text.world.lexicon(),
+            scratch.param(),
+            scratch.steps(),
+            out,
+        )
     } else {
         append_bytes(out, Verdict::Invalid.line())
     }

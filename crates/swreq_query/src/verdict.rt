@@ -62,49 +62,49 @@ fn verdict_of(derivable: Option<bool>) -> Verdict
 /// Whether t is valid and has the property.
 fn judge_property(
     text: &Text<'_>,
-    m: &Machine,
+    machine: &Machine,
     map: &PropertyMap,
     t: TermId,
     property: Property,
-    s: &mut Scratch,
+    scratch: &mut Scratch,
 ) -> Verdict
     requires text { IsTextOver text.now.table.now text.now.world.now }
     requires t { IsTypeIn text.now.table.now text.now.world.now.lexicon t }
-    requires map { IsMapOf (last_rules m.now.rounds) map.now }
+    requires map { IsMapOf (last_rules machine.now.rounds) map.now }
     requires property { IsBelow map.now.protocols property }
-    requires room { 4 * (member_count (term_at text.now.table.now t) + 2) ≤ s.old.room }
-    ensures answer { (f : FuncId) (list : List TermRequirement) → IsMachineOf (world_by text.now.table.now text.now.world.now) list m.now
-        → IsAnswer (IsDerivable (world_by text.now.table.now text.now.world.now) m.now list) (asks f (term_at text.now.table.now t) property) (answer_of result) }
-    ensures room { s.new.room ≡ s.old.room }
+    requires room { 4 * (member_count (term_at text.now.table.now t) + 2) ≤ scratch.old.room }
+    ensures answer { (f : FuncId) (list : List TermRequirement) → IsMachineOf (world_by text.now.table.now text.now.world.now) list machine.now
+        → IsAnswer (IsDerivable (world_by text.now.table.now text.now.world.now) machine.now list) (asks f (term_at text.now.table.now t) property) (answer_of result) }
+    ensures room { scratch.new.room ≡ scratch.old.room }
 {
-    verdict_of(m.has(text, map, t, property, s))
+    verdict_of(machine.has(text, map, t, property, scratch))
 }
 
 /// Whether a and b are valid and equal.
 fn judge_equality(
     world: &World,
     table: &ParamTable,
-    m: &Machine,
+    machine: &Machine,
     a: TermId,
     b: TermId,
-    s: &mut Scratch,
+    scratch: &mut Scratch,
 ) -> Verdict
     requires text { IsTextOver table.now world.now }
     requires a { IsTypeIn table.now world.now.lexicon a }
     requires b { IsTypeIn table.now world.now.lexicon b }
-    requires room_a { 4 * (member_count (term_at table.now a) + 2) ≤ s.old.room }
-    requires room_b { 4 * (member_count (term_at table.now b) + 2) ≤ s.old.room }
-    ensures answer { (f : FuncId) (list : List TermRequirement) → IsMachineOf (world_by table.now world.now) list m.now
-        → IsAnswer (IsDerivable (world_by table.now world.now) m.now list) (AsksEquals f (term_at table.now a) (term_at table.now b)) (answer_of result) }
-    ensures room { s.new.room ≡ s.old.room }
+    requires room_a { 4 * (member_count (term_at table.now a) + 2) ≤ scratch.old.room }
+    requires room_b { 4 * (member_count (term_at table.now b) + 2) ≤ scratch.old.room }
+    ensures answer { (f : FuncId) (list : List TermRequirement) → IsMachineOf (world_by table.now world.now) list machine.now
+        → IsAnswer (IsDerivable (world_by table.now world.now) machine.now list) (AsksEquals f (term_at table.now a) (term_at table.now b)) (answer_of result) }
+    ensures room { scratch.new.room ≡ scratch.old.room }
 {
-    if !m.is_valid(world, table, a, s) {
+    if !machine.is_valid(world, table, a, scratch) {
         return Verdict::Invalid;
     }
-    if !m.is_valid(world, table, b, s) {
+    if !machine.is_valid(world, table, b, scratch) {
         return Verdict::Invalid;
     }
-    if m.equal(world, table, a, b, s) {
+    if machine.equal(world, table, a, b, scratch) {
         Verdict::Yes
     } else {
         Verdict::No
@@ -117,26 +117,35 @@ fn judge_equality(
 pub fn judge(
     world: &World,
     table: &ParamTable,
-    m: &Machine,
+    machine: &Machine,
     map: &PropertyMap,
-    q: &Query,
-    s: &mut Scratch,
+    query: &Query,
+    scratch: &mut Scratch,
 ) -> Verdict
     requires text { IsTextOver table.now world.now }
-    requires query { IsQueryIn table.now world.now q.now }
-    requires asks { AsksRequirement (query_by table.now q.now) }
-    requires map { IsMapOf (last_rules m.now.rounds) map.now }
+    requires query { IsQueryIn table.now world.now query.now }
+    requires asks { AsksRequirement (query_by table.now query.now) }
+    requires map { IsMapOf (last_rules machine.now.rounds) map.now }
     requires protocols { map.now.protocols ≡ length world.now.lexicon.protocols }
-    requires room { IsRoomFor (query_by table.now q.now) s.old.room }
-    ensures answer { (list : List TermRequirement) → IsMachineOf (world_by table.now world.now) list m.now
-        → IsAnswer (IsDerivable (world_by table.now world.now) m.now list) (query_by table.now q.now) (answer_of result) }
-    ensures room { s.new.room ≡ s.old.room }
+    requires room { IsRoomFor (query_by table.now query.now) scratch.old.room }
+    ensures answer { (list : List TermRequirement) → IsMachineOf (world_by table.now world.now) list machine.now
+        → IsAnswer (IsDerivable (world_by table.now world.now) machine.now list) (query_by table.now query.now) (answer_of result) }
+    ensures room { scratch.new.room ≡ scratch.old.room }
 {
     let text = Text { world, table };
-    match *q {
-        Query::Conf { t, p, .. } => { judge_property(&text, m, map, t, Property::Protocol(p), s) }
-        Query::Layout { t, .. } => judge_property(&text, m, map, t, Property::Layout, s),
-        Query::Same { a, b, .. } => judge_equality(world, table, m, a, b, s),
+    match *query {
+        Query::Conf { t, p, .. } => {
+            judge_property(&text, machine, map, t, Property::Protocol(p), scratch)
+        }
+        Query::Layout { t, .. } => judge_property(
+            &text,
+            machine,
+            map,
+            t,
+            Property::Layout,
+            scratch,
+        ),
+        Query::Same { a, b, .. } => judge_equality(world, table, machine, a, b, scratch),
         Query::Signature { .. } | Query::Reduced { .. } => unreachable!(),
     }
 }

@@ -49,16 +49,16 @@ pub(crate) fn is_valid(
     alloc: Global,
     world: &World,
     table: &ParamTable,
-    m: &Machine,
+    machine: &Machine,
     t: TermId,
 ) -> Result<bool, AllocError>
     requires text { IsTextOver table.now world.now }
     requires t { IsTypeIn table.now world.now.lexicon t }
-    ensures { IfOk result (λ b. (list : List TermRequirement) → IsMachineOf (world_by table.now world.now) list m.now
-        → IsTrue b ↔ IsDerivable (world_by table.now world.now) m.now list (IsValid (term_at table.now t))) }
+    ensures { IfOk result (λ b. (list : List TermRequirement) → IsMachineOf (world_by table.now world.now) list machine.now
+        → IsTrue b ↔ IsDerivable (world_by table.now world.now) machine.now list (IsValid (term_at table.now t))) }
 {
     let mut s = room_for(alloc, table, t)?;
-    let valid = m.is_valid(world, table, t, &mut s);
+    let valid = machine.is_valid(world, table, t, &mut s);
     Ok(valid)
 }
 
@@ -67,26 +67,26 @@ pub(crate) fn is_derivable(
     alloc: Global,
     world: &World,
     table: &ParamTable,
-    m: &Machine,
+    machine: &Machine,
     r: Requirement,
 ) -> Result<bool, AllocError>
     requires text { IsTextOver table.now world.now }
     requires r { IsRequirementIn table.now world.now.lexicon r }
-    ensures { IfOk result (λ b. (list : List TermRequirement) → IsMachineOf (world_by table.now world.now) list m.now
-        → IsTrue b ↔ IsDerivable (world_by table.now world.now) m.now list (Requires (requirement_of table.now r))) }
+    ensures { IfOk result (λ b. (list : List TermRequirement) → IsMachineOf (world_by table.now world.now) list machine.now
+        → IsTrue b ↔ IsDerivable (world_by table.now world.now) machine.now list (Requires (requirement_of table.now r))) }
 {
     match r {
         Requirement::Conf { subject, proto } => {
             let mut s = room_for(alloc, table, subject)?;
-            Ok(m.conforms(world, table, subject, proto, &mut s))
+            Ok(machine.conforms(world, table, subject, proto, &mut s))
         }
         Requirement::Layout { subject } => {
             let mut s = room_for(alloc, table, subject)?;
-            Ok(m.any_object(world, table, subject, &mut s))
+            Ok(machine.any_object(world, table, subject, &mut s))
         }
         Requirement::Same { left, right } => {
             let mut s = room_for_two(alloc, table, left, right)?;
-            Ok(m.equal(world, table, left, right, &mut s))
+            Ok(machine.equal(world, table, left, right, &mut s))
         }
     }
 }

@@ -112,14 +112,14 @@ pub fn failing(
     alloc: Global,
     world: &World,
     table: &mut ParamTable,
-    m: &Machine,
+    machine: &Machine,
     c: &Call,
 ) -> Result<Vec<u32>, AllocError>
     requires text { IsTextOver table.old world.now }
     requires short { IsShort world.now }
     requires call { IsCallIn table.old world.now c.now }
     requires there { AreThere c.now.args }
-    requires machine { IsMachineOn (world_by table.old world.now) c.now.f m.now }
+    requires machine { IsMachineOn (world_by table.old world.now) c.now.f machine.now }
     ensures failing { IfOk result (λ numbers. AreFailingIn (world_by table.old world.now) (call_by table.old c.now) numbers.items) }
     ensures extends { Extends table.old table.new }
 {
@@ -128,7 +128,7 @@ pub fn failing(
     let by = Judging {
         alloc,
         world,
-        machine: m,
+        machine,
         params: world.params(c.g),
         args: &types,
     };

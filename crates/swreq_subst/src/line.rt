@@ -29,16 +29,16 @@ fn is_valid_there(
     alloc: Global,
     world: &World,
     table: &ParamTable,
-    m: &Machine,
+    machine: &Machine,
     argument: Option<TermId>,
 ) -> Result<bool, AllocError>
     requires text { IsTextOver table.now world.now }
     requires argument { IsArgumentIn table.now world.now.lexicon argument }
-    ensures { IfOk result (λ b. (list : List TermRequirement) → IsMachineOf (world_by table.now world.now) list m.now
-        → IsTrue b ↔ IsValidThere (IsDerivable (world_by table.now world.now) m.now list) table.now argument) }
+    ensures { IfOk result (λ b. (list : List TermRequirement) → IsMachineOf (world_by table.now world.now) list machine.now
+        → IsTrue b ↔ IsValidThere (IsDerivable (world_by table.now world.now) machine.now list) table.now argument) }
 {
     match argument {
-        Some(t) => is_valid(alloc, world, table, m, t),
+        Some(t) => is_valid(alloc, world, table, machine, t),
         None => Ok(false),
     }
 }
@@ -48,18 +48,18 @@ fn are_valid(
     alloc: Global,
     world: &World,
     table: &ParamTable,
-    m: &Machine,
+    machine: &Machine,
     args: &[Option<TermId>],
 ) -> Result<bool, AllocError>
     requires text { IsTextOver table.now world.now }
     requires args { All (IsArgumentIn table.now world.now.lexicon) args.now }
-    ensures { IfOk result (λ b. (list : List TermRequirement) → IsMachineOf (world_by table.now world.now) list m.now
-        → MatchBool b (AreAllValid (IsDerivable (world_by table.now world.now) m.now list) table.now args.now)
-        (IsOneInvalid (IsDerivable (world_by table.now world.now) m.now list) table.now args.now)) }
+    ensures { IfOk result (λ b. (list : List TermRequirement) → IsMachineOf (world_by table.now world.now) list machine.now
+        → MatchBool b (AreAllValid (IsDerivable (world_by table.now world.now) machine.now list) table.now args.now)
+        (IsOneInvalid (IsDerivable (world_by table.now world.now) machine.now list) table.now args.now)) }
 {
     for k in 0..args.len() {
         let argument = args[k];
-        if !is_valid_there(alloc, world, table, m, argument)? {
+        if !is_valid_there(alloc, world, table, machine, argument)? {
             return Ok(false);
         }
     }
@@ -129,22 +129,22 @@ pub fn call_text(
     alloc: Global,
     world: &World,
     table: &mut ParamTable,
-    m: &Machine,
+    machine: &Machine,
     c: &Call,
     out: &mut Vec<u8>,
 ) -> Result<(), AllocError>
     requires text { IsTextOver table.old world.now }
     requires short { IsShort world.now }
     requires call { IsCallIn table.old world.now c.now }
-    requires machine { IsMachineOn (world_by table.old world.now) c.now.f m.now }
+    requires machine { IsMachineOn (world_by table.old world.now) c.now.f machine.now }
     ensures line { OnOk result (AppendsLine (world_by table.old world.now) (call_by table.old c.now) out.old.items out.new.items) }
     ensures err { OnErr result (out.new.items ≡ out.old.items) }
     ensures extends { Extends table.old table.new }
 {
-    if !are_valid(alloc, world, table, m, c.args.items())? {
+    if !are_valid(alloc, world, table, machine, c.args.items())? {
         return append_bytes(out, b"invalid\n");
     }
-    let numbers = failing(alloc, world, table, m, c)?;
+    let numbers = failing(alloc, world, table, machine, c)?;
     let list = world.bare_signature(alloc, c.g)?;
     let mut line = Vec::new(alloc);
     put_verdict(alloc, world.lexicon(), table, &list, &numbers, &mut line)?;

@@ -49,15 +49,21 @@ impl Machine<'_> {
     }
 
     /// Whether t is a type parameter: whether it is derivable from the list of the machine.
-    pub fn is_valid(&self, world: &World, table: &ParamTable, t: TermId, s: &mut Scratch) -> bool
+    pub fn is_valid(
+        &self,
+        world: &World,
+        table: &ParamTable,
+        t: TermId,
+        scratch: &mut Scratch,
+    ) -> bool
         requires text { IsTextOver table.now world.now }
         requires t { IsTypeIn table.now world.now.lexicon t }
-        requires room { 4 * (member_count (term_at table.now t) + 2) ≤ s.old.room }
+        requires room { 4 * (member_count (term_at table.now t) + 2) ≤ scratch.old.room }
         ensures answer { (list : List TermRequirement) → IsMachineOf (world_by table.now world.now) list self.now
             → IsTrue result ↔ IsDerivable (world_by table.now world.now) self.now list (IsValid (term_at table.now t)) }
-        ensures room { s.new.room ≡ s.old.room }
+        ensures room { scratch.new.room ≡ scratch.old.room }
     {
-        self.walk(world, table, t, &mut s.word, &mut s.test)
+        self.walk(world, table, t, &mut scratch.word, &mut scratch.test)
     }
 
     /// Whether t is valid, and this symbol vanishes behind its word.
@@ -67,16 +73,16 @@ impl Machine<'_> {
         table: &ParamTable,
         t: TermId,
         x: Symbol,
-        s: &mut Scratch,
+        scratch: &mut Scratch,
     ) -> bool
         requires text { IsTextOver table.now world.now }
         requires t { IsTypeIn table.now world.now.lexicon t }
-        requires room { 4 * (member_count (term_at table.now t) + 2) ≤ s.old.room }
+        requires room { 4 * (member_count (term_at table.now t) + 2) ≤ scratch.old.room }
         ensures answer { IsTrue result ↔ IsBehind (world_by table.now world.now) self.now (term_at table.now t) x }
-        ensures room { s.new.room ≡ s.old.room }
+        ensures room { scratch.new.room ≡ scratch.old.room }
     {
-        if self.walk(world, table, t, &mut s.word, &mut s.test) {
-            vanishes(self.rules(), &s.word, x, &mut s.test)
+        if self.walk(world, table, t, &mut scratch.word, &mut scratch.test) {
+            vanishes(self.rules(), &scratch.word, x, &mut scratch.test)
         } else {
             false
         }
@@ -89,28 +95,34 @@ impl Machine<'_> {
         table: &ParamTable,
         t: TermId,
         p: ProtoId,
-        s: &mut Scratch,
+        scratch: &mut Scratch,
     ) -> bool
         requires text { IsTextOver table.now world.now }
         requires t { IsTypeIn table.now world.now.lexicon t }
-        requires room { 4 * (member_count (term_at table.now t) + 2) ≤ s.old.room }
+        requires room { 4 * (member_count (term_at table.now t) + 2) ≤ scratch.old.room }
         ensures answer { (list : List TermRequirement) → IsMachineOf (world_by table.now world.now) list self.now
             → IsTrue result ↔ IsDerivable (world_by table.now world.now) self.now list (Requires (Conforms (term_at table.now t) p)) }
-        ensures room { s.new.room ≡ s.old.room }
+        ensures room { scratch.new.room ≡ scratch.old.room }
     {
-        self.is_behind(world, table, t, Symbol::Proto(p.rank), s)
+        self.is_behind(world, table, t, Symbol::Proto(p.rank), scratch)
     }
 
     /// Whether `[t : AnyObject]` is derivable from the list of the machine.
-    pub fn any_object(&self, world: &World, table: &ParamTable, t: TermId, s: &mut Scratch) -> bool
+    pub fn any_object(
+        &self,
+        world: &World,
+        table: &ParamTable,
+        t: TermId,
+        scratch: &mut Scratch,
+    ) -> bool
         requires text { IsTextOver table.now world.now }
         requires t { IsTypeIn table.now world.now.lexicon t }
-        requires room { 4 * (member_count (term_at table.now t) + 2) ≤ s.old.room }
+        requires room { 4 * (member_count (term_at table.now t) + 2) ≤ scratch.old.room }
         ensures answer { (list : List TermRequirement) → IsMachineOf (world_by table.now world.now) list self.now
             → IsTrue result ↔ IsDerivable (world_by table.now world.now) self.now list (Requires (IsAnyObject (term_at table.now t))) }
-        ensures room { s.new.room ≡ s.old.room }
+        ensures room { scratch.new.room ≡ scratch.old.room }
     {
-        self.is_behind(world, table, t, Symbol::Layout, s)
+        self.is_behind(world, table, t, Symbol::Layout, scratch)
     }
 
     /// Whether `[a == b]` is derivable from the list of the machine.
@@ -120,24 +132,24 @@ impl Machine<'_> {
         table: &ParamTable,
         a: TermId,
         b: TermId,
-        s: &mut Scratch,
+        scratch: &mut Scratch,
     ) -> bool
         requires text { IsTextOver table.now world.now }
         requires a { IsTypeIn table.now world.now.lexicon a }
         requires b { IsTypeIn table.now world.now.lexicon b }
-        requires room_a { 4 * (member_count (term_at table.now a) + 2) ≤ s.old.room }
-        requires room_b { 4 * (member_count (term_at table.now b) + 2) ≤ s.old.room }
+        requires room_a { 4 * (member_count (term_at table.now a) + 2) ≤ scratch.old.room }
+        requires room_b { 4 * (member_count (term_at table.now b) + 2) ≤ scratch.old.room }
         ensures answer { (list : List TermRequirement) → IsMachineOf (world_by table.now world.now) list self.now
             → IsTrue result ↔ IsDerivable (world_by table.now world.now) self.now list (Requires (Equals (term_at table.now a)
             (term_at table.now b))) }
-        ensures room { s.new.room ≡ s.old.room }
+        ensures room { scratch.new.room ≡ scratch.old.room }
     {
-        if !self.walk(world, table, a, &mut s.word, &mut s.test) {
+        if !self.walk(world, table, a, &mut scratch.word, &mut scratch.test) {
             return false;
         }
-        if !self.walk(world, table, b, &mut s.other, &mut s.test) {
+        if !self.walk(world, table, b, &mut scratch.other, &mut scratch.test) {
             return false;
         }
-        s.word == s.other
+        scratch.word == scratch.other
     }
 }

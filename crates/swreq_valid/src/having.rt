@@ -48,21 +48,27 @@ impl Machine<'_> {
         map: &PropertyMap,
         t: TermId,
         x: Symbol,
-        s: &mut Scratch,
+        scratch: &mut Scratch,
     ) -> Option<bool>
         requires text { IsTextOver text.now.table.now text.now.world.now }
         requires t { IsTypeIn text.now.table.now text.now.world.now.lexicon t }
         requires map { IsMapOf (last_rules self.now.rounds) map.now }
         requires property { IsProperty map.now.protocols x }
-        requires room { 4 * (member_count (term_at text.now.table.now t) + 2) ≤ s.old.room }
+        requires room { 4 * (member_count (term_at text.now.table.now t) + 2) ≤ scratch.old.room }
         ensures answer { MatchOption result
             (IsShownBy (world_by text.now.table.now text.now.world.now) self.now (term_at text.now.table.now t) → ⊥)
             (λ b. IsShownBy (world_by text.now.table.now text.now.world.now) self.now (term_at text.now.table.now t)
             × (IsTrue b ↔ IsBehind (world_by text.now.table.now text.now.world.now) self.now (term_at text.now.table.now t) x)) }
-        ensures room { s.new.room ≡ s.old.room }
+        ensures room { scratch.new.room ≡ scratch.old.room }
     {
-        if self.walk(text.world, text.table, t, &mut s.word, &mut s.test) {
-            Some(map.has(self.rules(), &s.word, x, &mut s.test))
+        if self.walk(
+            text.world,
+            text.table,
+            t,
+            &mut scratch.word,
+            &mut scratch.test,
+        ) {
+            Some(map.has(self.rules(), &scratch.word, x, &mut scratch.test))
         } else {
             None
         }
@@ -75,17 +81,17 @@ impl Machine<'_> {
         map: &PropertyMap,
         t: TermId,
         property: Property,
-        s: &mut Scratch,
+        scratch: &mut Scratch,
     ) -> Option<bool>
         requires text { IsTextOver text.now.table.now text.now.world.now }
         requires t { IsTypeIn text.now.table.now text.now.world.now.lexicon t }
         requires map { IsMapOf (last_rules self.now.rounds) map.now }
         requires property { IsBelow map.now.protocols property }
-        requires room { 4 * (member_count (term_at text.now.table.now t) + 2) ≤ s.old.room }
+        requires room { 4 * (member_count (term_at text.now.table.now t) + 2) ≤ scratch.old.room }
         ensures answer { (list : List TermRequirement) → IsMachineOf (world_by text.now.table.now text.now.world.now) list self.now
             → TellsIfHas (IsDerivable (world_by text.now.table.now text.now.world.now) self.now list) (term_at text.now.table.now t) property result }
-        ensures room { s.new.room ≡ s.old.room }
+        ensures room { scratch.new.room ≡ scratch.old.room }
     {
-        self.vanishing(text, map, t, property.symbol(), s)
+        self.vanishing(text, map, t, property.symbol(), scratch)
     }
 }

@@ -133,23 +133,29 @@ fn head_of(word: &[Symbol]) -> ParamId
 
 impl Machine<'_> {
     /// Leaves the reduced type of a valid t, and the least word congruent to its word, in the scratch.
-    pub fn reduced(&self, world: &World, table: &ParamTable, t: TermId, s: &mut Scratch)
+    pub fn reduced(&self, world: &World, table: &ParamTable, t: TermId, scratch: &mut Scratch)
         requires text { IsTextOver table.now world.now }
         requires t { IsTypeIn table.now world.now.lexicon t }
-        requires room { 4 * (member_count (term_at table.now t) + 2) ≤ s.old.room }
+        requires room { 4 * (member_count (term_at table.now t) + 2) ≤ scratch.old.room }
         ensures reduced { (list : List TermRequirement) → IsMachineOf (world_by table.now world.now) list self.now
             → IsDerivable (world_by table.now world.now) self.now list (IsValid (term_at table.now t))
-            → IsReducedIn (world_by table.now world.now) self.now list (term_at table.now t) (with_steps (Generic s.new.head) s.new.steps) }
+            → IsReducedIn (world_by table.now world.now) self.now list (term_at table.now t) (with_steps (Generic scratch.new.head) scratch.new.steps) }
         ensures word { (list : List TermRequirement) → IsMachineOf (world_by table.now world.now) list self.now
             → IsDerivable (world_by table.now world.now) self.now list (IsValid (term_at table.now t))
-            → IsLeastOf (world_by table.now world.now) self.now list (term_at table.now t) s.new.word }
-        ensures room { s.new.room ≡ s.old.room }
+            → IsLeastOf (world_by table.now world.now) self.now list (term_at table.now t) scratch.new.word }
+        ensures room { scratch.new.room ≡ scratch.old.room }
     {
         let rules = self.rules();
         let _complete = rules.count();
-        if self.walk(world, table, t, &mut s.word, &mut s.test) {
-            s.head = head_of(&s.word);
-            read_steps(world, rules, &s.word, &mut s.steps, &mut s.test);
+        if self.walk(world, table, t, &mut scratch.word, &mut scratch.test) {
+            scratch.head = head_of(&scratch.word);
+            read_steps(
+                world,
+                rules,
+                &scratch.word,
+                &mut scratch.steps,
+                &mut scratch.test,
+            );
         }
     }
 }

@@ -9,7 +9,7 @@ returns-in_ok-s-in-Conf c = λ e.
     let terms = c.args.table.now in
     let w = c.args.world.now in
     let list = listed terms (bare (signature_at w c.args.f).requirements) in
-    answered terms w c.args.f c.args.protocols.now c.args.m.now c.args.r (Conf c.in-Conf.subject c.in-Conf.proto) c.in-Conf.is
+    answered terms w c.args.f c.args.protocols.now c.args.machine.now c.args.r (Conf c.in-Conf.subject c.in-Conf.proto) c.in-Conf.is
     c.requires.rounds ((c.conforms.ensures.answer list c.requires.rounds.machine).0 e)
 
 pub returns-in_ok-s-in-Layout : goal.returns-in_ok-s-in-Layout
@@ -17,7 +17,7 @@ returns-in_ok-s-in-Layout c = λ e.
     let terms = c.args.table.now in
     let w = c.args.world.now in
     let list = listed terms (bare (signature_at w c.args.f).requirements) in
-    answered terms w c.args.f c.args.protocols.now c.args.m.now c.args.r (Layout c.in-Layout.subject) c.in-Layout.is
+    answered terms w c.args.f c.args.protocols.now c.args.machine.now c.args.r (Layout c.in-Layout.subject) c.in-Layout.is
     c.requires.rounds ((c.any_object.ensures.answer list c.requires.rounds.machine).0 e)
 
 pub returns-in_ok-s-in-Same : goal.returns-in_ok-s-in-Same
@@ -25,5 +25,5 @@ returns-in_ok-s-in-Same c = λ e.
     let terms = c.args.table.now in
     let w = c.args.world.now in
     let list = listed terms (bare (signature_at w c.args.f).requirements) in
-    answered terms w c.args.f c.args.protocols.now c.args.m.now c.args.r (Same c.in-Same.left c.in-Same.right) c.in-Same.is
+    answered terms w c.args.f c.args.protocols.now c.args.machine.now c.args.r (Same c.in-Same.left c.in-Same.right) c.in-Same.is
     c.requires.rounds ((c.equal.ensures.answer list c.requires.rounds.machine).0 e)

@@ -7,7 +7,7 @@ use Rattle.swreq_confpath.proofs.given.shortest.Goals as goal
 
 pub find-requires-clause-known : goal.find-requires-clause-known
 find-requires-clause-known c =
-    let s : Sought = record { alloc = c.args.alloc; world = c.args.world; table = c.args.table; machine = c.args.m; list = c.deref.result; subject = c.args.t; proto = c.args.p } in
+    let s : Sought = record { alloc = c.args.alloc; world = c.args.world; table = c.args.table; machine = c.args.machine; list = c.deref.result; subject = c.args.t; proto = c.args.p } in
     known_of s c.args.f c.requires.text c.requires.short c.requires.machine (c.deref.ensures.value ∙ c.in_ok-list.ensures) c.requires.derivable
 
 pub find-requires-clause-target : goal.find-requires-clause-target
@@ -15,7 +15,7 @@ find-requires-clause-target c = c.in_ok-target.ensures.stands Start tt
 
 pub returns : goal.returns
 returns c =
-    let s : Sought = record { alloc = c.args.alloc; world = c.args.world; table = c.args.table; machine = c.args.m; list = c.deref.result; subject = c.args.t; proto = c.args.p } in
+    let s : Sought = record { alloc = c.args.alloc; world = c.args.world; table = c.args.table; machine = c.args.machine; list = c.deref.result; subject = c.args.t; proto = c.args.p } in
     record {
       path = IfOk-weaker c.find.result _ _
           (λ path h. given_of s c.args.f c.requires.text c.requires.short c.requires.machine (c.deref.ensures.value ∙ c.in_ok-list.ensures) path h) c.find.ensures;

@@ -41,7 +41,7 @@ returns-clause-derived c = λ f r asks.
     let ls = c.in_ok-lines-in-Some.lines.items in
     let written = c.in_ok-lines-in-Some.ensures.written in
     let (g, l, is, answer) = c.requires.yes in
-    let same = asks_one c.args.q.now g f answer.requirement r answer.asks asks in
+    let same = asks_one c.args.query.now g f answer.requirement r answer.asks asks in
     subst (λ z. AreDerived new (facts_at w z) ls) same
     (written.derived (basis_of (world_by old w) g) (facts_at w g) is.fits (basis_over old new w g written.extends c.requires.text.table))
 
@@ -53,7 +53,7 @@ returns-clause-lines c = λ f r asks.
     let ls = c.in_ok-lines-in-Some.lines.items in
     let written = c.in_ok-lines-in-Some.ensures.written in
     let (g, l, is, answer) = c.requires.yes in
-    let same = asks_one c.args.q.now g f answer.requirement r answer.asks asks in
+    let same = asks_one c.args.query.now g f answer.requirement r answer.asks asks in
     let derived = written.derived (basis_of (world_by old w) g) (facts_at w g) is.fits (basis_over old new w g written.extends c.requires.text.table) in
     subst (λ z. AreLinesOf new (facts_at w z) ls) same
     (lines_of_text new w g (text_stays old new written.extends w c.requires.text) l ls derived written.ids)

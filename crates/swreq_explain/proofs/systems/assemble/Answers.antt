@@ -15,7 +15,7 @@ world_systems-requires-clause-flags c =
     let w = c.args.world.now in
     let terms = c.args.table.now in
     let all = numbered_in w w.lexicon.written_order in
-    let gs = generic_params c.args.m.now.params in
+    let gs = generic_params c.args.machine.now.params in
     let rs = listed terms (bare (signature_at w c.args.f).requirements) in
     let h = flags_of c.requires.rounds.protocols.1 in
     subst (λ n. HaveFlags n c.args.protocols.now.rounds) (ap length (protocols_items terms w gs rs w.lexicon.written_order) ∙ length-map all (item_by terms gs rs)) h
@@ -26,10 +26,10 @@ add_machine-requires-clause-flags c =
     let terms = c.args.table.now in
     let list = bare (signature_at w c.args.f).requirements in
     let all = numbered_from None 1 list in
-    let gs = generic_params c.args.m.now.params in
+    let gs = generic_params c.args.machine.now.params in
     let rs = listed terms list in
     let h = flags_of c.requires.rounds.list.1 in
-    subst (λ n. HaveFlags n c.args.m.now.rounds) (ap length (sym (numbered_items terms gs rs None 1 list)) ∙ length-map all (item_by terms gs rs)) h
+    subst (λ n. HaveFlags n c.args.machine.now.rounds) (ap length (sym (numbered_items terms gs rs None 1 list)) ∙ length-map all (item_by terms gs rs)) h
 
 pub returns : goal.returns
 returns c =

@@ -11,7 +11,7 @@ pub judge-verdict-requires : goal.judge-verdict-requires
 judge-verdict-requires c = record {
   text = c.requires.text;
   query = c.requires.query;
-  asks = asks_requirement c.args.table.now c.args.q.now c.in_default.not-Signature c.in_default.not-Reduced;
+  asks = asks_requirement c.args.table.now c.args.query.now c.in_default.not-Signature c.in_default.not-Reduced;
   map = c.requires.map;
   protocols = c.requires.protocols;
   room = c.requires.room;
@@ -20,7 +20,7 @@ judge-verdict-requires c = record {
 pub returns-in-Reduced-clause-ok : goal.returns-in-Reduced-clause-ok
 returns-in-Reduced-clause-ok c = on_ok_weaker c.reduced_line.result
     (λ h list is. subst
-    (λ z. AppendsAnswer c.args.world.now.lexicon (IsDerivable (world_by c.args.table.now c.args.world.now) c.args.m.now list)
+    (λ z. AppendsAnswer c.args.world.now.lexicon (IsDerivable (world_by c.args.table.now c.args.world.now) c.args.machine.now list)
     (query_by c.args.table.now z) c.args.out.now.items c.reduced_line.new.out.items)
     (sym c.in-Reduced.is) (h c.in-Reduced.f list is))
     c.reduced_line.ensures.ok
@@ -28,8 +28,8 @@ returns-in-Reduced-clause-ok c = on_ok_weaker c.reduced_line.result
 pub returns-in_default : goal.returns-in_default
 returns-in_default c = record {
   ok = on_ok_weaker c.append_bytes.result
-      (λ n list is. line_appended (IsDerivable (world_by c.args.table.now c.args.world.now) c.args.m.now list) c.args.world.now.lexicon
-      (query_by c.args.table.now c.args.q.now) (answer_of c.judge-verdict.result) c.line.result.now c.args.out.now.items c.append_bytes.new.out.items
+      (λ n list is. line_appended (IsDerivable (world_by c.args.table.now c.args.world.now) c.args.machine.now list) c.args.world.now.lexicon
+      (query_by c.args.table.now c.args.query.now) (answer_of c.judge-verdict.result) c.line.result.now c.args.out.now.items c.append_bytes.new.out.items
       (c.judge-verdict.ensures.answer list is) (c.line.ensures c.args.world.now.lexicon) n)
       c.append_bytes.ensures.ok;
   err = c.append_bytes.ensures.err;

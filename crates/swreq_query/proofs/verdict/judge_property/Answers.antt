@@ -9,8 +9,8 @@ use Rattle.swreq_query.proofs.verdict.judge_property.Goals as goal
 
 pub returns-clause-answer : goal.returns-clause-answer
 returns-clause-answer c = λ f list is. subst
-    (λ v. IsAnswer (IsDerivable (world_by c.args.text.now.table.now c.args.text.now.world.now) c.args.m.now list) (asks f (term_at c.args.text.now.table.now c.args.t) c.args.property)
+    (λ v. IsAnswer (IsDerivable (world_by c.args.text.now.table.now c.args.text.now.world.now) c.args.machine.now list) (asks f (term_at c.args.text.now.table.now c.args.t) c.args.property)
     (answer_of v))
     (sym c.verdict_of.ensures)
-    (property_answer (IsDerivable (world_by c.args.text.now.table.now c.args.text.now.world.now) c.args.m.now list) f (term_at c.args.text.now.table.now c.args.t) c.args.property
+    (property_answer (IsDerivable (world_by c.args.text.now.table.now c.args.text.now.world.now) c.args.machine.now list) f (term_at c.args.text.now.table.now c.args.t) c.args.property
     c.has.result (c.has.ensures.answer list is))

@@ -23,7 +23,7 @@ pub returns-then-not-branch-clause-line : goal.returns-then-not-branch-clause-li
 returns-then-not-branch-clause-line c =
     let old = c.args.table.now in
     let v = world_by old c.args.world.now in
-    let m = c.args.m.now in
+    let m = c.args.machine.now in
     let list = written_list (signature_at v c.args.c.now.f) in
     let answer = c.in_ok-are_valid.ensures list c.requires.machine.machine in
     let is_false : c.in_ok-are_valid.field-0 ≡ false = (let n = c.if-not-branch.true in cc) in
@@ -36,7 +36,7 @@ pub failing-requires-clause-there : goal.failing-requires-clause-there
 failing-requires-clause-there c =
     let old = c.args.table.now in
     let v = world_by old c.args.world.now in
-    let m = c.args.m.now in
+    let m = c.args.machine.now in
     let list = written_list (signature_at v c.args.c.now.f) in
     let answer = c.in_ok-are_valid.ensures list c.requires.machine.machine in
     let is_true : c.in_ok-are_valid.field-0 ≡ true = (let n = c.if-not-branch.false in cc) in
@@ -68,7 +68,7 @@ returns-clause-line c =
     let old = c.args.table.now in
     let new = c.failing.new.table in
     let w = c.args.world.now in
-    let m = c.args.m.now in
+    let m = c.args.machine.now in
     let v = world_by old w in
     let f = signature_at v c.args.c.now.f in
     let g = c.args.c.now.g in
