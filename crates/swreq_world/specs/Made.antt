@@ -4,14 +4,14 @@ use Rattle.swreq_param.specs.Terms.{Term}
 use Rattle.swreq_lowering.specs.Queries.{query_of}
 use Rattle.swreq_lowering.specs.Signatures.{in_order}
 use Rattle.swreq_lowering.specs.Words.{WordsView}
-use Rattle.swreq_world.specs.declared.made.Lists.{Lists}
+use Rattle.swreq_world.specs.declared.made.WorldLists.{WorldLists}
 use Rattle.swreq_world.specs.Entries.{FillsEntries}
 use Rattle.swreq_world.specs.Filling.{FillsLists, FillsQueries}
 use Rattle.swreq_world.specs.Own.{own_signature}
 use Rattle.swreq_world.specs.Text.{requirements_named}
 
 -- The lists of the text with these words, made over the tables between these.
-pub record AreListsOf (old new : List Term) (w : WordsView) (made : Lists) : Type 0 where
+pub record AreListsOf (old new : List Term) (w : WordsView) (made : WorldLists) : Type 0 where
   pub second : List Term
   pub third : List Term
   pub order : made.order ≡ in_order w.skeleton

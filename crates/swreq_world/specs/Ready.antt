@@ -4,10 +4,10 @@ use Rattle.swreq_derive.specs.Facts.{AreOneToOne}
 use Rattle.swreq_lexicon.specs.Lexicons.{associated_types}
 use Rattle.swreq_lexicon.specs.Views.{LexiconView}
 use Rattle.swreq_lowering.specs.Small.{HasFewParams}
-use Rattle.swreq_world.specs.declared.made.Lists.{Lists}
+use Rattle.swreq_world.specs.declared.made.WorldLists.{WorldLists}
 
 -- Each protocol has its list, the signatures stand in their order, and places fit 32 bits. Each declared pair is one associated type.
-pub record IsReady (lexicon : LexiconView) (made : Lists) : Type 0 where
+pub record IsReady (lexicon : LexiconView) (made : WorldLists) : Type 0 where
   pub requirements : length made.requirements.items ≡ length lexicon.protocols
   pub order : made.order ≡ map (λ e. e.signature) made.signatures.items
   pub few : length made.signatures.items ≤ 1048576
