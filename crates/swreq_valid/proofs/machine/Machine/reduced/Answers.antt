@@ -17,10 +17,10 @@ returns-then-walk-clause-reduced c list is v =
     let u = c.walk.new.word.items in
     reduced_is (world_by c.args.table.now c.args.world.now) c.requires.text.closed c.args.self.now list is (term_at c.args.table.now c.args.t) u
     c.if-walk.ensures.least.0 c.if-walk.ensures.least.1 v (subst IsComplete c.rules-rules.ensures c.count-complete.ensures.complete)
-    (with_steps (Generic c.head_of-s-inside.result) c.read_steps.new.steps.items)
+    (with_steps (Generic c.head_of-scratch-inside.result) c.read_steps.new.steps.items)
     (λ q b.
-    let same : c.head_of-s-inside.result ≡ head q =
-    c.head_of-s-inside.ensures (head q).depth (head q).index _ (c.deref.ensures.value ∙ begins_head c.args.world.now.lexicon rules q [] u b) in
+    let same : c.head_of-scratch-inside.result ≡ head q =
+    c.head_of-scratch-inside.ensures (head q).depth (head q).index _ (c.deref.ensures.value ∙ begins_head c.args.world.now.lexicon rules q [] u b) in
     ap (λ g. with_steps (Generic g) c.read_steps.new.steps.items) same
     ∙ c.read_steps.ensures.steps q
     (subst₂ (λ r z. BeginsBy c.args.world.now.lexicon r q [] z) (sym c.rules-rules.ensures) (sym c.deref-then-walk.ensures.value) b))
