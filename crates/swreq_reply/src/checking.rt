@@ -11,7 +11,7 @@ ghost use Rattle.swreq_reply.specs.Made.{AreNone};
 ghost use Rattle.swreq_reply.specs.Settings.{AreMadeIn, IsAskedOf, IsKeptFor, IsLast, IsMachineFor, IsReady, world_in};
 
 use crate::content::Content;
-use crate::making::make;
+use crate::making::make_pieces;
 use crate::places::count_of;
 use crate::setting::{Kept, Own, Setting};
 use std::alloc::{AllocError, Global};
@@ -72,7 +72,7 @@ fn check_anew<'a, W: Watch>(
         f,
         machine: &machine,
     };
-    match make(s, table, &own, pieces) {
+    match make_pieces(s, table, &own, pieces) {
         Ok(()) => Ok(Kept { f, machine }),
         Err(_) => Err(Refused::Memory),
     }
@@ -94,7 +94,7 @@ fn check_again<W: Watch>(
     ensures extends { OnOk result (Extends table.old table.new) }
 {
     own.machine.tell_again(s.protocols, watch)?;
-    make(s, table, own, pieces).map_err(|_| Refused::Memory)
+    make_pieces(s, table, own, pieces).map_err(|_| Refused::Memory)
 }
 
 /// Checks a function that adds nothing to the struct whose machine is kept.

@@ -32,7 +32,7 @@ fn put_system(
 }
 
 /// Makes the pieces that the machine of the next signature makes.
-pub(crate) fn make(
+pub(crate) fn make_pieces(
     s: &Setting<'_>,
     table: &mut ParamTable,
     own: &Own<'_>,

@@ -26,7 +26,7 @@ pub(crate) struct Passed<'a> {
 }
 
 /// Why the machine of a list that has passed the check is refused: only since memory ran out.
-fn lost(_refused: &Refused) -> AllocError
+fn want_of_memory(_refused: &Refused) -> AllocError
     requires { _refused.now ≡ Memory }
 {
     AllocError
@@ -56,6 +56,6 @@ pub(crate) fn machine_of<'b>(
         &mut Quiet,
     ) {
         Ok(machine) => Ok(machine),
-        Err(refused) => Err(lost(&refused)),
+        Err(refused) => Err(want_of_memory(&refused)),
     }
 }

@@ -59,8 +59,8 @@ returns-in_err-machine-clause-check g c =
     (refused_one c.args.s.now.world.now c.args.table.now c.args.f c.args.s.now.limits (last_rules c.args.s.now.protocols.now.rounds) c.params.result
     c.deref.result.now c.params.ensures (c.deref.ensures.value ∙ c.in_ok-list.ensures) _ _ c.in_err-machine.field-0.0 c.in_err-machine.ensures.answer)
 
-pub make-requires-clause-machine : goal.make-requires-clause-machine
-make-requires-clause-machine g c =
+pub make_pieces-requires-clause-machine : goal.make_pieces-requires-clause-machine
+make_pieces-requires-clause-machine g c =
     machine_for c.args.table.now c.args.s.now c.args.f c.params.result c.deref.result.now c.in_ok-machine.machine _ _ c.requires.f c.params.ensures
     (c.deref.ensures.value ∙ c.in_ok-list.ensures) c.in_ok-machine.ensures.answer c.in_ok-machine.ensures.machine c.in_ok-machine.ensures.params
     c.in_ok-machine.ensures.rounds
@@ -73,7 +73,7 @@ returns-in-Ok-clause-check g c =
 
 pub returns-in-Ok-clause-kept : goal.returns-in-Ok-clause-kept
 returns-in-Ok-clause-kept g c =
-    machine_on c.args.table.now c.make.new.table c.args.s.now c.in-Ok.ensures.extends c.requires.ready c.args.f c.in_ok-machine.machine
+    machine_on c.args.table.now c.make_pieces.new.table c.args.s.now c.in-Ok.ensures.extends c.requires.ready c.args.f c.in_ok-machine.machine
     (machine_for c.args.table.now c.args.s.now c.args.f c.params.result c.deref.result.now c.in_ok-machine.machine _ _ c.requires.f c.params.ensures
     (c.deref.ensures.value ∙ c.in_ok-list.ensures) c.in_ok-machine.ensures.answer c.in_ok-machine.ensures.machine c.in_ok-machine.ensures.params
     c.in_ok-machine.ensures.rounds)
