@@ -15,7 +15,7 @@ pub returns-in-Ok-clause-params : goal.returns-in-Ok-clause-params
 returns-in-Ok-clause-params c =
     params_are c.args.p.now.world.now c.args.table.now c.args.f c.params.result c.in-Ok.machine.params c.in-Ok.ensures.params c.params.ensures
 
-pub lost-requires : goal.lost-requires
-lost-requires c =
+pub want_of_memory-requires : goal.want_of_memory-requires
+want_of_memory-requires c =
     only_memory c.args.p.now.world.now c.args.table.now c.args.f c.args.p.now.limits (rules_of c.args.p.now) c.params.result c.deref.result.now
     c.params.ensures (c.deref.ensures.value ∙ c.in_ok-list.ensures) _ c.requires.passed.passed.built.signatures c.requires.f _ c.in-Err.ensures.only c.in-Err.refused refl
