@@ -15,7 +15,7 @@ returns-then-is_valid-clause-ok c = on_ok_weaker c.type_line.result
     let valid = (c.is_valid.ensures.answer list is).0 c.if-is_valid.true in
     let least = c.reduced.ensures.reduced list is valid in
     type_appended (IsDerivable (world_by c.args.text.now.table.now c.args.text.now.world.now) c.args.machine.now list) c.args.text.now.world.now.lexicon f
-    (term_at c.args.text.now.table.now c.args.t) c.lexicon.result.now c.param.result c.reduced.new.s.head c.steps.result.now c.reduced.new.s.steps
+    (term_at c.args.text.now.table.now c.args.t) c.lexicon.result.now c.param.result c.reduced.new.scratch.head c.steps.result.now c.reduced.new.scratch.steps
     c.args.out.now.items c.type_line.new.out.items c.lexicon.ensures c.param.ensures c.steps.ensures valid (least.equal, least.least) n)
     c.type_line.ensures.ok
 

@@ -7,5 +7,5 @@ use Rattle.swreq_subst.specs.Calls.{AreAllValid}
 use Rattle.swreq_subst.proofs.line.are_valid.Given as goal
 
 abbrev pub invariant-loop-k : goal.invariant-loop-k
-invariant-loop-k l = (list : List TermRequirement) → IsMachineOf (world_by l.table l.world) list l.m
-    → AreAllValid (IsDerivable (world_by l.table l.world) l.m list) l.table (take l.k l.args)
+invariant-loop-k l = (list : List TermRequirement) → IsMachineOf (world_by l.table l.world) list l.machine
+    → AreAllValid (IsDerivable (world_by l.table l.world) l.machine list) l.table (take l.k l.args)
