@@ -1,29 +1,9 @@
 -- A second part first does not fit the queries at one line.
-use Rattle.std.proofs.Common.{◌≡◌, ◌≢◌, ◌⊎◌, ◌∙◌, inl, inr, refl, sym, ap, ap₂, subst, ℕ, suc, ◌+◌, ◌<◌, arith, List, [], ◌∷◌, ◌++◌, append-nil, append_assoc, length, slice_index_or, IfSome, Option, Some, None}
-use Rattle.std.specs.Prelude.{codes, decimal}
-use Rattle.std.specs.List.{AllByRecursion, flat_map}
+use Rattle.std.proofs.Common.{◌≡◌, ◌≢◌, ◌⊎◌, ◌∙◌, inl, inr, refl, sym, ap, ap₂, subst, ℕ, ◌+◌, ◌<◌, arith, List, [], ◌∷◌, ◌++◌, append-nil, append_assoc, length}
 use Rattle.std.proofs.lemmas.Bool.{cases_eq, cases_lt}
-use Rattle.swreq_param.specs.declared.ids.ProtoId.{ProtoId}
-use Rattle.swreq_param.specs.declared.ids.NameId.{NameId}
-use Rattle.swreq_param.specs.declared.ids.Step.{Step}
-use Rattle.swreq_param.specs.declared.ids.Step.TheVariants.{Bound, Name}
-use Rattle.swreq_param.specs.Terms.{Term}
-use Rattle.swreq_param.specs.Terms.Term.{Generic, Member}
-use Rattle.swreq_derive.specs.declared.lines.DerivRule.{DerivRule}
-use Rattle.swreq_derive.specs.Derivation.{TermRequirement, TermStatement}
-use Rattle.swreq_derive.specs.Derivation.TermRequirement.{Conforms, IsAnyObject, Equals}
-use Rattle.swreq_derive.specs.Derivation.TermStatement.{IsValid, Requires}
-use Rattle.swreq_derive.specs.Instances.{TermLine}
-use Rattle.swreq_lexicon.specs.declared.pair.ProtocolName.{ProtocolName}
-use Rattle.swreq_lexicon.specs.Views.{IsName, IsProtocol, LexiconView}
-use Rattle.swreq_lines.specs.GoodLines.{HasReadableFields, IsReadableLine, IsReadableStatement}
-use Rattle.swreq_lines.specs.LineTexts.{field_text, fields_of, line_text, premises_text, rule_name, rule_text, statement_text, texts_from}
-use Rattle.swreq_lowering.specs.OfText.{IsStepOf, IsTermOf}
-use Rattle.swreq_print.specs.Names.{Text, first_pair}
-use Rattle.swreq_print.specs.Reading.{IsReadableRequirement}
-use Rattle.swreq_print.specs.Signatures.{requirement_text}
-use Rattle.swreq_print.specs.Types.{step_text, type_text}
-use Rattle.swreq_verify.specs.SecondParts.{AreSections, Begin, IsFirstMisfit, IsSection, IsStuck, TermSection, section_lines}
+use Rattle.swreq_lexicon.specs.Views.{LexiconView}
+use Rattle.swreq_print.specs.Names.{Text}
+use Rattle.swreq_verify.specs.SecondParts.{AreSections, Begin, IsFirstMisfit, IsStuck, TermSection}
 
 -- ---- one line
 

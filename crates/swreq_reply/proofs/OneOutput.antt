@@ -1,5 +1,5 @@
 -- What a command prints of a world is one, but for the derivations behind its answers.
-use Rattle.std.proofs.Common.{◌≡◌, ◌≢◌, ◌⊎◌, ◌∙◌, arith, false, inl, inr, refl, sym, ap, ap₂, subst, ℕ, Bool, List, [], ◌∷◌, ◌++◌, codes}
+use Rattle.std.proofs.Common.{◌≡◌, ◌≢◌, ◌⊎◌, ◌∙◌, arith, false, inl, inr, refl, sym, ap, ap₂, subst, ℕ, List, [], ◌∷◌, ◌++◌, codes}
 use Rattle.swreq_decl.specs.declared.skeleton.Skeleton.{Skeleton}
 use Rattle.swreq_decl.specs.Skeletons as decl
 use Rattle.swreq_param.specs.declared.ids.ProtoId.{ProtoId}
@@ -104,7 +104,7 @@ module _ (w : TextWorld) where
     calls_once : (ls ms : List Text) → AreCallLines w p ls → AreCallLines w p ms → ls ≡ ms
     calls_once ls ms (ds, stands, none, (cs, say, are)) (es, also, too, (others, tell, lines)) =
         let same : cs ≡ others = one_list w p.input found apart cs others es
-            (subst (λ (z : List CallDecl). SayCalls w p.input cs z) (one_part ds es stands also) say) tell in
+        (subst (λ (z : List CallDecl). SayCalls w p.input cs z) (one_part ds es stands also) say) tell in
         one_lines (calls.IsLineOf w) (one_line w) (subst (λ (z : List TermCall). AreLines (calls.IsLineOf w) z ls) same are) lines
 
     pieces_once : (c : Content) → c ≢ Answers Derivation → (ls ms : List Text) → ArePrinted w false c p ls → ArePrinted w false c p ms → ls ≡ ms
@@ -169,7 +169,7 @@ module _ (line : CommandLine) (input : Text) where
         let f = here a.world a.has_world in
         let g = here b.world b.has_world in
         let same : a.world ≡ b.world = worlds g.skeleton a.world b.world
-            (subst (λ (s : Skeleton). IsWorldOf p.source s a.world) (skeletons f.skeleton g.skeleton f.stands g.stands) f.world) g.world in
+        (subst (λ (s : Skeleton). IsWorldOf p.source s a.world) (skeletons f.skeleton g.skeleton f.stands g.stands) f.world) g.world in
         output_once b.world p (names g.skeleton b.world.lexicon g.stands g.world.lexicon) (found g.skeleton b.world g.stands g.world g.resolve) one_part
         line.command real out other (subst (λ (w : TextWorld). IsOutput w false line.command p out) same (of_parts out a)) (of_parts other b)
 

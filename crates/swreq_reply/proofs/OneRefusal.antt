@@ -1,5 +1,5 @@
 -- Each text that is not too long is read in one way and has one world, and so it has one verdict where it is refused.
-use Rattle.std.proofs.Common.{false, ◌≡◌, ◌≢◌, ◌⊎◌, ℕ, ◌<◌, ◌≤◌, List, [], ◌∷◌, ◌++◌, length, Option, Some, None, Result, Ok, Err, Contains, refl, sym, ◌∙◌, ap, ap₂, inl, inr, subst, arith, length-append, if◌then◌else◌}
+use Rattle.std.proofs.Common.{false, ◌≡◌, ◌≢◌, ◌⊎◌, ℕ, ◌<◌, ◌≤◌, List, [], ◌∷◌, length, Option, Some, None, Result, Ok, Err, Contains, refl, sym, ◌∙◌, ap, ap₂, inl, inr, subst, arith, length-append}
 use Rattle.swreq_lex.specs.declared.refusal.LexErr.{LexErr}
 use Rattle.swreq_lex.specs.declared.refusal.LexErr.TheVariants as lexical
 use Rattle.swreq_lex.specs.declared.token.Token as lexed
@@ -16,8 +16,6 @@ use Rattle.swreq_resolve.specs.Resolving.{RefusesSkeleton, Resolve}
 use Rattle.swreq_resolve.proofs.Answers.{not_refused, one_refusal as one_name}
 use Rattle.swreq_print.specs.declared.refusal.RefusalKind.{RefusalKind}
 use Rattle.swreq_print.specs.declared.refusal.RefusalKind.TheVariants as refusals
-use Rattle.swreq_print.specs.Names.{Text}
-use Rattle.swreq_print.specs.Refusals.{refusal_line}
 use Rattle.swreq_rule.specs.declared.rules.Rule.{Rule}
 use Rattle.swreq_watch.specs.declared.events.Event.{Event}
 use Rattle.swreq_world.specs.WorldOf.{IsWorldOf}
@@ -51,7 +49,7 @@ use Rattle.swreq_reply.specs.Contents.{content_of}
 use Rattle.swreq_reply.specs.Inputs.{AreParts, HasParts, Parts, second_at}
 use Rattle.swreq_reply.specs.Machines.{IsChecked}
 use Rattle.swreq_reply.specs.Outputs.{ArePrinted}
-use Rattle.swreq_reply.specs.Reports.{limit_refusal, name_refusal, refusal_of}
+use Rattle.swreq_reply.specs.Reports.{name_refusal, refusal_of}
 use Rattle.swreq_reply.specs.Told.{IsMinimisedFor, TellsBehind}
 use Rattle.swreq_reply.specs.Verdict.{ChecksMachines, HasNoWorld, HasWorld, IsAnswered, IsCutShort, IsJudged, IsRefused, IsVerdict, PassesCheck, RefusesNames, RefusesSecond, limits_of, machine_outcome, refused_with, stopped_with}
 use Rattle.swreq_reply.specs.Verdict.IsRefused.{bad_calls, in_one_part, misfit, not_a_type_parameter, past_a_limit, past_a_limit_of_families, too_long, without_world}

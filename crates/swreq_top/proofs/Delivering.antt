@@ -1,5 +1,5 @@
 -- What a run delivers.
-use Rattle.std.proofs.Common.{◌≡◌, ◌⊎◌, ◌∙◌, ◌<◌, ◌≤◌, List, [], ◌++◌, length, Option, Some, None, IfSome, Result, Ok, Err, refl, sym, ap, inl, inr, subst, arith, length-append, append-nil}
+use Rattle.std.proofs.Common.{◌≡◌, ◌∙◌, ◌<◌, ◌≤◌, List, [], ◌++◌, length, Option, Some, None, IfSome, Result, Ok, Err, refl, sym, ap, inl, inr, subst, arith, length-append, append-nil}
 use Rattle.std.specs.Io.KnownBytes.{Consumes, IsAtEnd}
 use Rattle.swreq_text.specs.Given.{GivesCount}
 use Rattle.swreq_text.specs.declared.whole.ReadErr.{ReadErr}
@@ -15,8 +15,8 @@ use Rattle.swreq_reply.specs.declared.outcome.Outcome.{Outcome}
 use Rattle.swreq_reply.specs.Replies.{IsOnlyRefusal, IsToldVerdict, WasToldPart}
 use Rattle.swreq_top.specs.Run.{IsGen, IsOfVerdict, IsRead, LeavesSource, known_text}
 use Rattle.swreq_top.specs.Steps.{Answers, AnswersText}
-use Rattle.swreq_reply.specs.Verdict.{IsRefused, IsVerdict, answered_text, refused_with}
-use Rattle.swreq_reply.specs.Verdict.IsRefused.{bad_calls, in_one_part, misfit, not_a_type_parameter, past_a_limit, past_a_limit_of_families, too_long, without_world}
+use Rattle.swreq_reply.specs.Verdict.{IsVerdict, answered_text, refused_with}
+use Rattle.swreq_reply.specs.Verdict.IsRefused.{too_long}
 use Rattle.swreq_reply.specs.Verdict.IsVerdict.{answered as is_answered, cut_short as is_cut_short, judged as is_judged, refused as is_refused}
 use Rattle.swreq_reply.proofs.OneOutput.{refused_status}
 use Rattle.swreq_reply.proofs.OneRefusal.{long_refused}
