@@ -78,7 +78,7 @@ pub fn heirs_come_first(text: &[u8])
         → depth x p ≡ depth x q → p.rank < q.rank → i < j }
 {}
 
-/// A text has one lexicon.
+/// A text has at most one lexicon.
 pub fn lexicon_is_one(text: &[u8])
     ensures { (s : Skeleton) (x y : LexiconView) → IsLexiconOf text.now s x → IsLexiconOf text.now s y → x ≡ y }
 {

@@ -27,7 +27,7 @@ pub fn words_have_word_bytes()
     ensures { (bytes : List ℕ) → IsSpelledWord bytes → HasWordBytes bytes }
 {}
 
-/// A skeleton has its names in one way: what it declares, and which protocol inherits which.
+/// A skeleton has at most one view of its names: what it declares, the lists of direct inheritance, and which protocol inherits which.
 pub fn names_are_one(text: &[u8])
     ensures { (s : Skeleton) (m n : NamesView) → HasDeclared text.now s m → HasDeclared text.now s n → m ≡ n }
 {}

@@ -25,8 +25,8 @@ pub fn one_verdict(input: &[u8], source: &[u8], from: u32)
     swreq_calls::laws::one_verdict(input, from);
 }
 
-/// An input with this source text, and with its second part from this offset on, has one verdict with status 0. The derivations of `explain`
-/// alone may be others.
+/// An input with this source text, and with its second part from this offset on, has at most one outcome with status 0. The derivations of
+/// `explain` alone may be others.
 pub fn one_output(input: &[u8], source: &[u8], from: u32)
     requires { from ≤ length input.now }
     ensures { (line : CommandLine) (p : Parts) → AreParts line.command input.now p → p.source ≡ source.now → second_at p ≡ from

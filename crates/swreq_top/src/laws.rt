@@ -50,7 +50,7 @@ pub fn runs_in_memory_never_fail()
     some_streams_never_fail();
 }
 
-/// A text has one world. So what a run says of a world of its text it says of each.
+/// A text has at most one world. So what a run says of a world of its text it says of each.
 pub fn one_world(text: &[u8])
     ensures { (w v : TextWorld) → IsWorldOfText text.now w → IsWorldOfText text.now v → w ≡ v }
 {

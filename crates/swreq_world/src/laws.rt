@@ -116,7 +116,7 @@ pub fn worlds_are_short(text: &[u8])
     requirements_are_few(text);
 }
 
-/// A text has one world.
+/// A text has at most one world.
 pub fn world_is_one(text: &[u8])
     ensures { (s : Skeleton) (w v : TextWorld) → IsWorldOf text.now s w → IsWorldOf text.now s v → w ≡ v }
 {
