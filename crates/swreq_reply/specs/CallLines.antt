@@ -1,16 +1,15 @@
 -- The lines of calls, as they are printed.
-use Rattle.std.specs.Prelude.{◌≡◌, List}
-use Rattle.std.specs.List.{concat}
+use Rattle.std.specs.Prelude.{List}
 use Rattle.swreq_print.specs.Names.{Text}
 use Rattle.swreq_world.specs.Worlds.{TextWorld}
 use Rattle.swreq_subst.specs.Calls.{IsMachineOn, TermCall}
 use Rattle.swreq_subst.specs.Lines.{IsLineOf}
 use Rattle.swreq_reply.specs.declared.calling.Caller.{Caller}
-use Rattle.swreq_reply.specs.Lines.{AreLines}
+use Rattle.swreq_reply.specs.Lines.{AreLinesIn}
 
 -- The text is the lines of these calls, one after the other.
 abbrev pub AnswersCalls : TextWorld → List TermCall → Text → Type 0
-AnswersCalls w cs text = (pieces : List Text) × AreLines (IsLineOf w) cs pieces × (text ≡ concat pieces)
+AnswersCalls w = AreLinesIn (IsLineOf w)
 
 -- The machine is that of the signature.
 abbrev pub IsCallerOf : TextWorld → Caller → Type 0

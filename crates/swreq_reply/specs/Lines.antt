@@ -1,6 +1,6 @@
--- Lines, one after the other.
-use Rattle.std.specs.Prelude.{ℕ, suc, List, [], ◌∷◌, if◌then◌else◌}
-use Rattle.std.specs.Str.{bytes_eq}
+-- Lines, one after the other, and how many of what they stand for have a property.
+use Rattle.std.specs.Prelude.{◌≡◌, ℕ, suc, List, [], ◌∷◌}
+use Rattle.std.specs.List.{concat}
 use Rattle.swreq_print.specs.Names.{Text}
 
 -- These are lines, one of each member, in order.
@@ -9,13 +9,12 @@ pub data AreLines {A : Type 0} (IsLine : A → Text → Type 0) : List A → Lis
   more : {x : A} {xs : List A} {line : Text} {lines : List Text} → IsLine x line → AreLines IsLine xs lines
       → AreLines IsLine (x ∷ xs) (line ∷ lines)
 
--- how many of these lines are this one
-abbrev pub count_of : Text → List Text → ℕ
-count_of line [] = 0
-count_of line (l ∷ lines) = if bytes_eq l line then suc (count_of line lines) else count_of line lines
+-- The text is a line of each member, one after the other.
+abbrev pub AreLinesIn : {A : Type 0} → (A → Text → Type 0) → List A → Text → Type 0
+AreLinesIn IsLine xs text = (lines : List Text) × AreLines IsLine xs lines × (text ≡ concat lines)
 
--- the last of these lines
-abbrev pub last_line : List Text → Text
-last_line [] = []
-last_line (l ∷ []) = l
-last_line (l ∷ m ∷ lines) = last_line (m ∷ lines)
+-- So many of these have the property.
+pub data Counted {A : Type 0} (Has : A → Type 0) : List A → ℕ → Type 0 where
+  nothing : Counted Has [] 0
+  one : {x : A} {xs : List A} {n : ℕ} → Has x → Counted Has xs n → Counted Has (x ∷ xs) (suc n)
+  other : {x : A} {xs : List A} {n : ℕ} → (Has x → ⊥) → Counted Has xs n → Counted Has (x ∷ xs) n

@@ -9,6 +9,7 @@ use Rattle.swreq_output.specs.Signatures.{IsMinimisedLine}
 use Rattle.swreq_output.specs.Systems.{IsSystemText}
 use Rattle.swreq_reply.specs.declared.content.Content.{Content}
 use Rattle.swreq_reply.specs.declared.content.Content.TheVariants.{Answers, Signatures, Systems, Calls, Families, Judgements}
+use Rattle.swreq_reply.specs.Contents.{backed_by}
 use Rattle.swreq_reply.specs.Outputs.{IsLineOf}
 
 -- ---- pieces at their places
@@ -16,7 +17,7 @@ use Rattle.swreq_reply.specs.Outputs.{IsLineOf}
 module _ (w : TextWorld) where
   -- This is the piece at the place.
   abbrev pub IsPiece : Content → ℕ → Text → Type 0
-  IsPiece (Answers b) k piece = (q : TermQuery) → slice_get w.queries k ≡ Some q → IsLineOf w true b q piece
+  IsPiece (Answers s) k piece = (q : TermQuery) → slice_get w.queries k ≡ Some q → IsLineOf w true (backed_by s) q piece
   IsPiece Signatures k piece = Unit {0}
   IsPiece Systems k piece = IsSystemText w (signature_at w (record { place = k })) piece
   IsPiece Families k piece = Unit {0}

@@ -11,8 +11,6 @@ use Rattle.swreq_derive.specs.Paths.{IsGivenPath}
 use Rattle.swreq_print.specs.Names.{Text}
 use Rattle.swreq_calls.specs.declared.decl.CallDecl.{CallDecl}
 use Rattle.swreq_calls.specs.Calls.{StandsFor}
-use Rattle.swreq_words.specs.declared.command.Command.{Command}
-use Rattle.swreq_words.specs.declared.command.Command.TheVariants as command
 use Rattle.swreq_lowering.specs.declared.ids.FuncId.{FuncId}
 use Rattle.swreq_lowering.specs.Queries.{TermQuery}
 use Rattle.swreq_lowering.specs.Queries.TermQuery.{AsksSignature, AsksReduced, AsksConforms, AsksAnyObject, AsksEquals}
@@ -35,11 +33,11 @@ use Rattle.swreq_output.specs.Signatures.{IsMinimisedLine, IsNamedLine}
 use Rattle.swreq_output.specs.Systems.{IsSystemText}
 use Rattle.swreq_reply.specs.declared.content.Backing.{Backing}
 use Rattle.swreq_reply.specs.declared.content.Backing.TheVariants.{Nothing, Derivation, Path}
+use Rattle.swreq_reply.specs.declared.content.Shown.TheVariants.{Each, Counts}
 use Rattle.swreq_reply.specs.declared.content.Content.{Content}
 use Rattle.swreq_reply.specs.declared.content.Content.TheVariants.{Answers, Signatures, Systems, Calls, Families, Judgements}
-use Rattle.swreq_reply.specs.Contents.{content_of}
 use Rattle.swreq_reply.specs.Inputs.{Parts, second_at}
-use Rattle.swreq_reply.specs.Lines.{AreLines, count_of, last_line}
+use Rattle.swreq_reply.specs.Lines.{AreLines, Counted}
 
 -- the signature that a query asks
 abbrev pub signature_of : TermQuery → FuncId
@@ -49,19 +47,11 @@ signature_of (AsksConforms f t p) = f
 signature_of (AsksAnyObject f t) = f
 signature_of (AsksEquals f t u) = f
 
--- ---- the bytes of a command
-
--- what `gen` prints of the generated text of n, by the lines that answer its queries: how much it has of what, and the last answer
-abbrev pub counts_text : ℕ → List Text → Text
-counts_text n lines =
-    codes "protocols " ++ (decimal n ++ (codes "\nfunctions 1\nqueries " ++ (decimal (4 * n + 1)
-    ++ (codes "\nyes " ++ (decimal (count_of (codes "yes\n") lines) ++ (codes "\nno " ++ (decimal (count_of (codes "no\n") lines)
-    ++ (codes "\ninvalid " ++ (decimal (count_of (codes "invalid\n") lines) ++ (codes "\n" ++ last_line lines))))))))))
-
--- the bytes that a command makes of its pieces: one after the other, and of `gen` the counts
-abbrev pub printed_text : Command → List Text → Text
-printed_text (command.Gen n) pieces = counts_text n pieces
-printed_text _ pieces = concat pieces
+-- how much the generated text of n protocols has of what, and how many of its queries have each verdict
+abbrev pub counts_text : (n yes_count no_count invalid_count : ℕ) → Text
+counts_text n yes_count no_count invalid_count =
+    codes "protocols " ++ (decimal n ++ (codes "\nfunctions 1\nqueries " ++ (decimal (4 * n + 1) ++ (codes "\nyes " ++ (decimal yes_count
+    ++ (codes "\nno " ++ (decimal no_count ++ (codes "\ninvalid " ++ (decimal invalid_count ++ codes "\n")))))))))
 
 module _ (w : TextWorld) where
   -- ---- what stands behind a yes
@@ -105,10 +95,13 @@ module _ (w : TextWorld) where
   -- ---- answers
 
   module _ (guarded : Bool) where
-    -- The piece answers the query by what is derivable, with the guard or without it, from the written list of the signature that is asked.
+    -- By what is derivable, with the guard or without it, from the written list of the signature that is asked, the query has this answer.
+    abbrev pub HasAnswer : Answer → TermQuery → Type 0
+    HasAnswer a q = IsAnswer (Derives (facts_of w) guarded (source_of (signature_at w (signature_of q)))) q a
+
+    -- The piece is the line of the answer that the query has, and what backs it.
     abbrev pub AnswersByTypes : Backing → TermQuery → Text → Type 0
-    AnswersByTypes b q piece = (a : Answer) × (behind : Text) × IsAnswer (Derives (facts_of w) guarded (source_of (signature_at w (signature_of q)))) q a
-        × Backs b q a behind × (piece ≡ answer_line w.lexicon a ++ behind)
+    AnswersByTypes b q piece = (a : Answer) × (behind : Text) × HasAnswer a q × Backs b q a behind × (piece ≡ answer_line w.lexicon a ++ behind)
 
     -- The piece answers the query; where it asks for a signature, by the minimised list.
     abbrev pub IsLineOf : Backing → TermQuery → Text → Type 0
@@ -118,17 +111,36 @@ module _ (w : TextWorld) where
     IsLineOf b (AsksAnyObject f t) piece = AnswersByTypes b (AsksAnyObject f t) piece
     IsLineOf b (AsksEquals f t u) piece = AnswersByTypes b (AsksEquals f t u) piece
 
-    -- What is printed, piece for piece: the answer to each query in written order; of each signature its name and its minimised list, or its
-    -- reduced rewriting system; the requirement signatures of the protocols; what is said of the derivations in the second part; the line of
-    -- each call in it.
+    -- The line answers the last of the queries. Where there is none it is empty.
+    abbrev pub AnswersLast : List TermQuery → Text → Type 0
+    AnswersLast [] line = line ≡ []
+    AnswersLast (q ∷ []) line = IsLineOf Nothing q line
+    AnswersLast (q ∷ r ∷ qs) line = AnswersLast (r ∷ qs) line
+
+    -- Of a text of n protocols: how many queries have each verdict, and the line that answers the last query.
+    pub record AreCounts (n : ℕ) (pieces : List Text) : Type 0 where
+      pub yes_count : ℕ
+      pub no_count : ℕ
+      pub invalid_count : ℕ
+      pub last : Text
+      pub say_yes : Counted (HasAnswer Yes) w.queries yes_count
+      pub say_no : Counted (HasAnswer No) w.queries no_count
+      pub say_invalid : Counted (HasAnswer Invalid) w.queries invalid_count
+      pub ends : AnswersLast w.queries last
+      pub pieces_are : pieces ≡ counts_text n yes_count no_count invalid_count ∷ last ∷ []
+
+    -- What is printed, piece for piece: the answer to each query in written order, or their counts; of each signature its name and its
+    -- minimised list, or its reduced rewriting system; the requirement signatures of the protocols; what is said of the derivations in the
+    -- second part; the line of each call in it.
     abbrev pub ArePrinted : Content → Parts → List Text → Type 0
-    ArePrinted (Answers b) parts pieces = AreLines (IsLineOf b) w.queries pieces
+    ArePrinted (Answers (Each b)) parts pieces = AreLines (IsLineOf b) w.queries pieces
+    ArePrinted (Answers (Counts n)) parts pieces = AreCounts n pieces
     ArePrinted Signatures parts pieces = AreLines (IsNamedLine w) w.signatures pieces
     ArePrinted Systems parts pieces = AreLines (IsSystemText w) w.signatures pieces
     ArePrinted Families parts pieces = (kept : List (List ℕ)) × IsGivenFamily w kept × (pieces ≡ family_text w kept ∷ [])
     ArePrinted Judgements parts pieces = (said : Text) × verified.IsOutput w parts.second said × (pieces ≡ said ∷ [])
     ArePrinted Calls parts pieces = AreCallLines parts pieces
 
-    -- The output of the command is made of these.
-    abbrev pub IsOutput : Command → Parts → Text → Type 0
-    IsOutput c parts output = (pieces : List Text) × ArePrinted (content_of c) parts pieces × (output ≡ printed_text c pieces)
+    -- The output is made of these, one after the other.
+    abbrev pub IsOutput : Content → Parts → Text → Type 0
+    IsOutput c parts output = (pieces : List Text) × ArePrinted c parts pieces × (output ≡ concat pieces)

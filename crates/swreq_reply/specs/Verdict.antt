@@ -134,32 +134,30 @@ module _ (line : CommandLine) (input : Text) where
 
   -- The input is refused. It is looked at in this order: how long it is, its parts, its source text, the machines of the protocols and then
   -- of the signatures in written order, its second part. With it these events are told.
-  pub data IsRefused : Outcome → List Event → Type 0 where
+  pub data IsRefused (o : Outcome) (told : List Event) : Type 0 where
     -- It is too long.
-    too_long : {o : Outcome} {told : List Event} → 1048576 < length input → o ≡ refused_with refusals.TooLarge → told ≡ [] → IsRefused o told
+    too_long : 1048576 < length input → o ≡ refused_with refusals.TooLarge → told ≡ [] → IsRefused o told
     -- The command reads a second part, and it has none.
-    in_one_part : {o : Outcome} {told : List Event} → length input ≤ 1048576 → reads line.command ≡ TwoParts
-        → (Contains (lines input) divider → ⊥) → o ≡ refused_with refusals.MissingPart → told ≡ [] → IsRefused o told
+    in_one_part : length input ≤ 1048576 → reads line.command ≡ TwoParts → (Contains (lines input) divider → ⊥)
+        → o ≡ refused_with refusals.MissingPart → told ≡ [] → IsRefused o told
     -- Its source text has no world.
-    without_world : {o : Outcome} {told : List Event} (p : Parts) → AreParts line.command input p → (refusal : RefusalKind)
-        → HasNoWorld p.source refusal → o ≡ refused_with refusal → told ≡ [] → IsRefused o told
-    -- A side of a requirement is no type parameter.
-    not_a_type_parameter : {o : Outcome} {told : List Event} (w : TextWorld) (at : ℕ) → ChecksMachines line.command → HasWorld w
-        → machines.IsChecked (limits_of line) w (Some (NotATypeParameter at)) told → o ≡ refused_with (refusals.NotATypeParameter at) → IsRefused o told
-    -- A round of the protocols or of a signature passes a limit.
-    past_a_limit : {o : Outcome} {told : List Event} (w : TextWorld) (which : Which) (trace : List Rule) → ChecksMachines line.command → HasWorld w
-        → machines.IsChecked (limits_of line) w (Some (Limit which trace)) told → o ≡ stopped_with line w.lexicon which trace → IsRefused o told
+    without_world : (p : Parts) → AreParts line.command input p → (refusal : RefusalKind) → HasNoWorld p.source refusal
+        → o ≡ refused_with refusal → told ≡ [] → IsRefused o told
+    -- The check of its machines refuses it: a side of a requirement is no type parameter, or a round of the protocols or of a signature passes
+    -- a limit.
+    unchecked : (w : TextWorld) (refused : Refused) → ChecksMachines line.command → HasWorld w
+        → machines.IsChecked (limits_of line) w (Some refused) told → o ≡ machine_outcome line w.lexicon refused → IsRefused o told
     -- A line of the second part does not fit the queries.
-    misfit : {o : Outcome} {told : List Event} (w : TextWorld) (n : ℕ) → content_of line.command ≡ Judgements → (has : HasWorld w)
+    misfit : (w : TextWorld) (n : ℕ) → content_of line.command ≡ Judgements → (has : HasWorld w)
         → IsFirstMisfit w.lexicon (length w.queries) (lines has.parts.second) n → o ≡ refused_with (refusals.DerivationSyntax n) → told ≡ []
         → IsRefused o told
     -- The rounds of a family pass a limit that one meets, going through the requirements of the protocols.
-    past_a_limit_of_families : {o : Outcome} {told : List Event} (which : Which) (trace : List Rule) (c : PassesCheck told)
-        → content_of line.command ≡ Families → IsFamilyOutcome (limits_of line) c.world (Err (failed.Limit which trace)) c.more
-        → o ≡ stopped_with line c.world.lexicon which trace → IsRefused o told
+    past_a_limit_of_families : (which : Which) (trace : List Rule) (c : PassesCheck told) → content_of line.command ≡ Families
+        → IsFamilyOutcome (limits_of line) c.world (Err (failed.Limit which trace)) c.more → o ≡ stopped_with line c.world.lexicon which trace
+        → IsRefused o told
     -- The second part stands for no calls, or a name of its calls is refused. Behind the check nothing is told.
-    bad_calls : {o : Outcome} {told : List Event} (refusal : RefusalKind) (c : PassesCheck told) → content_of line.command ≡ Calls
-        → RefusesSecond c.world c.has_world.parts refusal → c.more ≡ [] → o ≡ refused_with refusal → IsRefused o told
+    bad_calls : (refusal : RefusalKind) (c : PassesCheck told) → content_of line.command ≡ Calls → RefusesSecond c.world c.has_world.parts refusal
+        → c.more ≡ [] → o ≡ refused_with refusal → IsRefused o told
 
   module _ (guarded : Bool) where
     -- The text is answered, by the rules with the guard or without it: it passes the check, and the output is what the command prints.
@@ -167,7 +165,7 @@ module _ (line : CommandLine) (input : Text) where
       pub check : PassesCheck told
       pub behind : TellsBehind (limits_of line) check.world (content_of line.command) check.rules check.more
       pub status : o.status ≡ 0
-      pub output : IsOutput check.world guarded line.command check.has_world.parts o.output
+      pub output : IsOutput check.world guarded (content_of line.command) check.has_world.parts o.output
 
   -- The derivations in the second part are judged by the checker of derivations alone. Nothing is told.
   pub record IsJudged (o : Outcome) (told : List Event) : Type 0 where
@@ -175,7 +173,7 @@ module _ (line : CommandLine) (input : Text) where
     pub world : TextWorld
     pub has_world : HasWorld world
     pub status : o.status ≡ 0
-    pub output : IsOutput world false line.command has_world.parts o.output
+    pub output : IsOutput world false (content_of line.command) has_world.parts o.output
     pub told_nothing : told ≡ []
 
   -- The text passes the check, and in minimising for the command a round passes a limit.

@@ -1,6 +1,8 @@
 //! What a command prints.
 ghost use Rattle.std.specs.Prelude.{◌≡◌};
-ghost use Rattle.swreq_reply.specs.Contents.{backing_of, content_of};
+ghost use Rattle.swreq_reply.specs.declared.content.Content.TheVariants.{Answers};
+ghost use Rattle.swreq_reply.specs.declared.content.Shown.TheVariants.{Each};
+ghost use Rattle.swreq_reply.specs.Contents.{backed_by, backing_of, content_of};
 
 use swreq_words::Command;
 
@@ -15,13 +17,28 @@ pub enum Backing {
     Path,
 }
 
+/// How the answers to the queries of a text are printed.
+#[derive(Clone, Copy, Debug, PartialEq, Eq)]
+pub enum Shown {
+    /// Each of them, and behind a `yes` what backs it.
+    Each {
+        /// What stands behind a `yes`.
+        backing: Backing,
+    },
+    /// How many there are of each verdict, and the last one.
+    Counts {
+        /// How many protocols the text has.
+        protocols: u32,
+    },
+}
+
 /// What a command prints of a text.
 #[derive(Clone, Copy, Debug, PartialEq, Eq)]
 pub enum Content {
-    /// The answer to each query, and behind a `yes` what backs it.
+    /// The answers to its queries.
     Answers {
-        /// What stands behind a `yes`.
-        backing: Backing,
+        /// How they are printed.
+        shown: Shown,
     },
     /// The minimised list of each signature, behind its name.
     Signatures,
@@ -35,20 +52,26 @@ pub enum Content {
     Calls,
 }
 
+/// Each answer, with this behind a `yes`.
+fn each(backing: Backing) -> Content
+    ensures { result ≡ Answers (Each backing) }
+{
+    Content::Answers {
+        shown: Shown::Each { backing },
+    }
+}
+
 /// What the command prints.
 pub(crate) fn content_of(command: Command) -> Content
     ensures { result ≡ content_of command }
 {
     match command {
-        Command::Answer | Command::Gen { .. } => Content::Answers {
-            backing: Backing::Nothing,
+        Command::Answer => each(Backing::Nothing),
+        Command::Gen { n } => Content::Answers {
+            shown: Shown::Counts { protocols: n },
         },
-        Command::Explain => Content::Answers {
-            backing: Backing::Derivation,
-        },
-        Command::Paths => Content::Answers {
-            backing: Backing::Path,
-        },
+        Command::Explain => each(Backing::Derivation),
+        Command::Paths => each(Backing::Path),
         Command::Signatures => Content::Signatures,
         Command::Rules => Content::Systems,
         Command::Requirements => Content::Families,
@@ -57,12 +80,22 @@ pub(crate) fn content_of(command: Command) -> Content
     }
 }
 
+/// What stands behind a `yes` that is shown so.
+fn backed_by(shown: Shown) -> Backing
+    ensures { result ≡ backed_by shown }
+{
+    match shown {
+        Shown::Each { backing } => backing,
+        Shown::Counts { .. } => Backing::Nothing,
+    }
+}
+
 /// What stands behind a `yes` of this content.
 pub(crate) fn backing_of(content: Content) -> Backing
     ensures { result ≡ backing_of content }
 {
     match content {
-        Content::Answers { backing } => backing,
+        Content::Answers { shown } => backed_by(shown),
         _ => Backing::Nothing,
     }
 }

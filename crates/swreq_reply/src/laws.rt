@@ -5,6 +5,7 @@ ghost use Rattle.swreq_print.specs.Names.{Text};
 ghost use Rattle.swreq_words.specs.declared.command.CommandLine.{CommandLine};
 ghost use Rattle.swreq_reply.specs.declared.outcome.Outcome.{Outcome};
 ghost use Rattle.swreq_reply.specs.declared.content.Backing.TheVariants.{Derivation};
+ghost use Rattle.swreq_reply.specs.declared.content.Shown.TheVariants.{Each};
 ghost use Rattle.swreq_reply.specs.declared.content.Content.TheVariants.{Answers};
 ghost use Rattle.swreq_reply.specs.Contents.{content_of};
 ghost use Rattle.swreq_reply.specs.Inputs.{AreParts, Parts, second_at};
@@ -30,7 +31,7 @@ pub fn one_verdict(input: &[u8], source: &[u8], from: u32)
 pub fn one_output(input: &[u8], source: &[u8], from: u32)
     requires { from ≤ length input.now }
     ensures { (line : CommandLine) (p : Parts) → AreParts line.command input.now p → p.source ≡ source.now → second_at p ≡ from
-        → content_of line.command ≢ Answers Derivation
+        → content_of line.command ≢ Answers (Each Derivation)
         → (o q : Outcome) (told also : List Event) → IsVerdict line input.now o told → IsVerdict line input.now q also
         → o.status ≡ 0 → q.status ≡ 0 → q ≡ o }
 {

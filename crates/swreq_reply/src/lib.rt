@@ -17,5 +17,5 @@ mod request;
 mod setting;
 mod wanted;
 
-pub use content::{Backing, Content};
+pub use content::{Backing, Content, Shown};
 pub use outcome::{Outcome, reply};

@@ -423,17 +423,18 @@ fn answered(
     lists: &[Option<Seq<u8>>],
 ) -> Result<Outcome, AllocError>
     requires request { IsRequest r.now }
-    requires made { IsWhole (printed_of r.now) (record { alloc = r.now.alloc; world = world; table = table; pieces = pieces; lists = lists }) }
-    ensures { IfOk result (λ o. (o.status ≡ 0) × IsOutput (world_by table.now world.now) true (line_of r.now).command (parts_of r.now) o.output) }
+    requires made { IsWhole (record { alloc = r.now.alloc; world = world; table = table; content = printed_of r.now; pieces = pieces; lists = lists }) }
+    ensures { IfOk result (λ o. (o.status ≡ 0) × IsOutput (world_by table.now world.now) true (printed_of r.now) (parts_of r.now) o.output) }
 {
     let made = MadePieces {
         alloc: r.alloc,
         world,
         table,
+        content: content_of(r.line.command),
         pieces,
         lists,
     };
-    let output = output(&made, r.line.command)?;
+    let output = output(&made)?;
     Ok(Outcome {
         status: 0,
         output: Seq::new(output),

@@ -1,20 +1,27 @@
 //! What a command prints of a checked text, by the pieces that were made of it.
-ghost use Rattle.std.specs.Prelude.{◌≡◌, ◌<◌, ◌≤◌, ◌++◌, decimal, length, IfOk, OnOk, true};
+ghost use Rattle.std.specs.Prelude.{◌≡◌, ◌<◌, ◌++◌, ℕ, false, true, decimal, get_or, length, List, IfOk, OnOk};
 ghost use Rattle.std.specs.List.{concat};
-ghost use Rattle.swreq_reply.specs.Contents.{content_of};
+ghost use Rattle.swreq_output.specs.Signatures.{IsNamedLine};
+ghost use Rattle.swreq_output.specs.Systems.{IsSystemText};
+ghost use Rattle.swreq_print.specs.Names.{Text};
+ghost use Rattle.swreq_query.specs.Asked.{answer_of};
+ghost use Rattle.swreq_world.specs.Worlds.{no_signature};
+ghost use Rattle.swreq_reply.specs.declared.content.Content.TheVariants.{Answers, Signatures, Systems};
+ghost use Rattle.swreq_reply.specs.declared.content.Shown.TheVariants.{Counts};
+ghost use Rattle.swreq_reply.specs.Contents.{AreAnswers, backing_of};
 ghost use Rattle.swreq_reply.specs.Inputs.{Parts};
-ghost use Rattle.swreq_reply.specs.Lines.{count_of, last_line};
-ghost use Rattle.swreq_reply.specs.Outputs.{IsOutput, counts_text};
-ghost use Rattle.swreq_reply.specs.Pieces.{IsMadeFor, IsWhole, answer_at, all_pieces, answers, named_lines, named_line, text_at, world_of};
-ghost use Rattle.swreq_reply.specs.Wanted.{HasCount};
+ghost use Rattle.swreq_reply.specs.Lines.{AreLinesIn, Counted};
+ghost use Rattle.swreq_reply.specs.Outputs.{AnswersLast, AreCounts, HasAnswer, IsLineOf, IsOutput};
+ghost use Rattle.swreq_reply.specs.Pieces.{IsWhole, query_at, text_at, world_of};
 
+use crate::content::{Content, Shown};
 use crate::wanted::list_asked;
 use std::alloc::{AllocError, Global};
 use swreq_lowering::FuncId;
 use swreq_output::full_name;
 use swreq_param::ParamTable;
+use swreq_query::Verdict;
 use swreq_text::{Seq, append_bytes, append_number};
-use swreq_words::Command;
 use swreq_world::World;
 
 /// What was made of a text: the pieces of its machines, each at its place, and the lines of the minimised lists that are wanted.
@@ -23,6 +30,7 @@ pub(crate) struct MadePieces<'a> {
     pub alloc: Global,
     pub world: &'a World,
     pub table: &'a ParamTable,
+    pub content: Content,
     pub pieces: &'a [Option<Seq<u8>>],
     /// Of each signature.
     pub lists: &'a [Option<Seq<u8>>],
@@ -42,8 +50,9 @@ fn text_at<'a>(pieces: &'a [Option<Seq<u8>>], k: usize) -> &'a [u8]
 /// What answers the query at this place: a piece of a machine, or the line of a minimised list.
 fn answer_at<'a>(m: &MadePieces<'a>, k: usize) -> &'a [u8]
     requires k { k < length m.now.world.now.queries }
-    requires made { IsMadeFor m.now }
-    ensures { result.now ≡ answer_at m.now k }
+    requires answers { AreAnswers m.now.content }
+    requires whole { IsWhole m.now }
+    ensures { IsLineOf (world_of m.now) true (backing_of m.now.content) (query_at m.now k) result.now }
 {
     match list_asked(&m.world.queries()[k]) {
         Some(f) => text_at(m.lists, f.place as usize),
@@ -51,148 +60,145 @@ fn answer_at<'a>(m: &MadePieces<'a>, k: usize) -> &'a [u8]
     }
 }
 
-/// Appends the answers to all queries, one after the other.
-fn put_answers(m: &MadePieces<'_>, out: &mut Vec<u8>) -> Result<(), AllocError>
-    requires { IsMadeFor m.now }
-    ensures { OnOk result (out.new.items ≡ out.old.items ++ concat (answers m.now)) }
+/// The answers to all queries, one after the other.
+fn all_answers(m: &MadePieces<'_>) -> Result<Vec<u8>, AllocError>
+    requires answers { AreAnswers m.now.content }
+    requires whole { IsWhole m.now }
+    ensures { IfOk result (λ v. AreLinesIn (IsLineOf (world_of m.now) true (backing_of m.now.content)) (world_of m.now).queries v.items) }
 {
+    let mut out = Vec::new(m.alloc);
     for k in 0..m.world.queries().len() {
-        append_bytes(out, answer_at(m, k))?;
+        append_bytes(&mut out, answer_at(m, k))?;
     }
-    Ok(())
+    Ok(out)
 }
 
-/// How many of the answers are this line.
-fn count_of(m: &MadePieces<'_>, line: &[u8]) -> usize
-    requires { IsMadeFor m.now }
-    ensures { result ≡ count_of line.now (answers m.now) }
+/// Whether the query at this place has this verdict: its line is that of no other answer.
+fn has_verdict(m: &MadePieces<'_>, k: usize, verdict: Verdict) -> bool
+    requires k { k < length m.now.world.now.queries }
+    requires counts { (n : ℕ) × (m.now.content ≡ Answers (Counts n)) }
+    requires whole { IsWhole m.now }
+    ensures has { result ≡ true → HasAnswer (world_of m.now) true (answer_of verdict) (query_at m.now k) }
+    ensures lacks { result ≡ false → HasAnswer (world_of m.now) true (answer_of verdict) (query_at m.now k) → ⊥ }
+{
+    answer_at(m, k) == verdict.line()
+}
+
+/// How many queries have this verdict.
+fn count_of(m: &MadePieces<'_>, verdict: Verdict) -> usize
+    requires counts { (n : ℕ) × (m.now.content ≡ Answers (Counts n)) }
+    requires whole { IsWhole m.now }
+    ensures { Counted (HasAnswer (world_of m.now) true (answer_of verdict)) (world_of m.now).queries result }
 {
     let mut count = 0;
     for k in 0..m.world.queries().len() {
-        if answer_at(m, k) == line {
+        if has_verdict(m, k, verdict) {
             count += 1;
         }
     }
     count
 }
 
-/// Appends a word and how many of the answers are this line.
-fn put_count(
-    m: &MadePieces<'_>,
-    word: &str,
-    line: &[u8],
-    out: &mut Vec<u8>,
-) -> Result<(), AllocError>
-    requires { IsMadeFor m.now }
-    ensures { OnOk result (out.new.items ≡ out.old.items ++ (word.now ++ decimal (count_of line.now (answers m.now)))) }
-{
-    append_bytes(out, word.as_bytes())?;
-    append_number(out, count_of(m, line) as u64)
-}
-
-/// Appends the last of the answers.
-fn put_last(m: &MadePieces<'_>, out: &mut Vec<u8>) -> Result<(), AllocError>
-    requires { IsMadeFor m.now }
-    ensures { OnOk result (out.new.items ≡ out.old.items ++ last_line (answers m.now)) }
+/// The answer to the last query, and nothing where there is none.
+fn last_answer<'a>(m: &MadePieces<'a>) -> &'a [u8]
+    requires counts { (n : ℕ) × (m.now.content ≡ Answers (Counts n)) }
+    requires whole { IsWhole m.now }
+    ensures { AnswersLast (world_of m.now) true (world_of m.now).queries result.now }
 {
     let count = m.world.queries().len();
     if count == 0 {
-        return Ok(());
+        return &[];
     }
-    append_bytes(out, answer_at(m, count - 1))
+    answer_at(m, count - 1)
 }
 
-/// The counts of the answers to the queries of the generated text of n, and the last answer.
+/// Appends a word and a number.
+fn put_count(word: &str, count: usize, out: &mut Vec<u8>) -> Result<(), AllocError>
+    ensures { OnOk result (out.new.items ≡ out.old.items ++ (word.now ++ decimal count)) }
+{
+    append_bytes(out, word.as_bytes())?;
+    append_number(out, count as u64)
+}
+
+/// The counts of the verdicts on the queries of the generated text of n protocols, and the last answer.
 fn counts(m: &MadePieces<'_>, n: u32) -> Result<Vec<u8>, AllocError>
-    requires made { IsMadeFor m.now }
-    requires count { n ≤ 100 }
-    ensures { IfOk result (λ v. v.items ≡ counts_text n (answers m.now)) }
+    requires counts { m.now.content ≡ Answers (Counts n) }
+    requires whole { IsWhole m.now }
+    ensures { IfOk result (λ v. (lines : List Text) × AreCounts (world_of m.now) true n lines × (v.items ≡ concat lines)) }
 {
     let mut out = Vec::new(m.alloc);
     append_bytes(&mut out, b"protocols ")?;
     append_number(&mut out, u64::from(n))?;
     append_bytes(&mut out, b"\nfunctions 1\nqueries ")?;
-    append_number(&mut out, u64::from(4 * n + 1))?;
-    put_count(m, "\nyes ", b"yes\n", &mut out)?;
-    put_count(m, "\nno ", b"no\n", &mut out)?;
-    put_count(m, "\ninvalid ", b"invalid\n", &mut out)?;
+    append_number(&mut out, 4 * u64::from(n) + 1)?;
+    put_count("\nyes ", count_of(m, Verdict::Yes), &mut out)?;
+    put_count("\nno ", count_of(m, Verdict::No), &mut out)?;
+    put_count("\ninvalid ", count_of(m, Verdict::Invalid), &mut out)?;
     append_bytes(&mut out, b"\n")?;
-    put_last(m, &mut out)?;
+    append_bytes(&mut out, last_answer(m))?;
     Ok(out)
 }
 
-/// Appends all pieces of machines, one after the other.
-fn put_pieces(m: &MadePieces<'_>, out: &mut Vec<u8>) -> Result<(), AllocError>
-    ensures { OnOk result (out.new.items ≡ out.old.items ++ concat (all_pieces m.now)) }
+/// The reduced rewriting systems of all signatures, in written order.
+fn all_systems(m: &MadePieces<'_>) -> Result<Vec<u8>, AllocError>
+    requires systems { m.now.content ≡ Systems }
+    requires whole { IsWhole m.now }
+    ensures { IfOk result (λ v. AreLinesIn (IsSystemText (world_of m.now)) (world_of m.now).signatures v.items) }
 {
+    let mut out = Vec::new(m.alloc);
     for k in 0..m.pieces.len() {
-        append_bytes(out, text_at(m.pieces, k))?;
+        append_bytes(&mut out, text_at(m.pieces, k))?;
     }
-    Ok(())
+    Ok(out)
 }
 
 /// Appends the line of a signature: its name, and its minimised list.
 fn put_named(m: &MadePieces<'_>, f: FuncId, out: &mut Vec<u8>) -> Result<(), AllocError>
-    requires lists { length m.now.lists.now ≡ length m.now.world.now.signatures }
+    requires signatures { m.now.content ≡ Signatures }
+    requires whole { IsWhole m.now }
     requires f { f.place < length m.now.world.now.signatures }
-    ensures { OnOk result (out.new.items ≡ out.old.items ++ named_line m.now f.place) }
+    ensures { OnOk result ((line : Text) × IsNamedLine (world_of m.now) (get_or (world_of m.now).signatures f.place no_signature) line
+        × (out.new.items ≡ out.old.items ++ line)) }
 {
     full_name(m.world, m.table, f, out)?;
     append_bytes(out, b": ")?;
     append_bytes(out, text_at(m.lists, f.place as usize))
 }
 
-/// Appends the lines of the signatures, in written order.
-fn put_signatures(m: &MadePieces<'_>, out: &mut Vec<u8>) -> Result<(), AllocError>
-    requires { length m.now.lists.now ≡ length m.now.world.now.signatures }
-    ensures { OnOk result (out.new.items ≡ out.old.items ++ concat (named_lines m.now)) }
-{
-    for k in 0..m.world.functions() {
-        put_named(m, FuncId { place: k }, out)?;
-    }
-    Ok(())
-}
-
-/// The answers to all queries, one after the other.
-fn all_answers(m: &MadePieces<'_>) -> Result<Vec<u8>, AllocError>
-    requires { IsMadeFor m.now }
-    ensures { IfOk result (λ v. v.items ≡ concat (answers m.now)) }
-{
-    let mut out = Vec::new(m.alloc);
-    put_answers(m, &mut out)?;
-    Ok(out)
-}
-
-/// The lines of the signatures, in written order.
+/// The lines of all signatures, in written order.
 fn all_signatures(m: &MadePieces<'_>) -> Result<Vec<u8>, AllocError>
-    requires { length m.now.lists.now ≡ length m.now.world.now.signatures }
-    ensures { IfOk result (λ v. v.items ≡ concat (named_lines m.now)) }
+    requires signatures { m.now.content ≡ Signatures }
+    requires whole { IsWhole m.now }
+    ensures { IfOk result (λ v. AreLinesIn (IsNamedLine (world_of m.now)) (world_of m.now).signatures v.items) }
 {
     let mut out = Vec::new(m.alloc);
-    put_signatures(m, &mut out)?;
+    for k in 0..m.world.functions() {
+        put_named(m, FuncId { place: k }, &mut out)?;
+    }
     Ok(out)
 }
 
-/// All pieces of machines, one after the other.
-fn pieces(m: &MadePieces<'_>) -> Result<Vec<u8>, AllocError>
-    ensures { IfOk result (λ v. v.items ≡ concat (all_pieces m.now)) }
+/// The answers to the queries, as they are shown.
+fn shown_answers(m: &MadePieces<'_>, shown: Shown) -> Result<Vec<u8>, AllocError>
+    requires shown { m.now.content ≡ Answers shown }
+    requires whole { IsWhole m.now }
+    ensures { IfOk result (λ v. (parts : Parts) → IsOutput (world_of m.now) true (Answers shown) parts v.items) }
 {
-    let mut out = Vec::new(m.alloc);
-    put_pieces(m, &mut out)?;
-    Ok(out)
+    match shown {
+        Shown::Each { .. } => all_answers(m),
+        Shown::Counts { protocols } => counts(m, protocols),
+    }
 }
 
 /// What a command prints that prints pieces of machines or minimised lists.
-pub(crate) fn output(m: &MadePieces<'_>, command: Command) -> Result<Vec<u8>, AllocError>
-    requires made { IsWhole (content_of command) m.now }
-    requires count { HasCount command }
-    ensures { IfOk result (λ v. (parts : Parts) → IsOutput (world_of m.now) true command parts v.items) }
+pub(crate) fn output(m: &MadePieces<'_>) -> Result<Vec<u8>, AllocError>
+    requires { IsWhole m.now }
+    ensures { IfOk result (λ v. (parts : Parts) → IsOutput (world_of m.now) true m.now.content parts v.items) }
 {
-    match command {
-        Command::Gen { n } => counts(m, n),
-        Command::Answer | Command::Explain | Command::Paths => all_answers(m),
-        Command::Signatures => all_signatures(m),
-        Command::Rules => pieces(m),
-        Command::Requirements | Command::Verify | Command::Calls => unreachable!(),
+    match m.content {
+        Content::Answers { shown } => shown_answers(m, shown),
+        Content::Signatures => all_signatures(m),
+        Content::Systems => all_systems(m),
+        Content::Families | Content::Judgements | Content::Calls => unreachable!(),
     }
 }

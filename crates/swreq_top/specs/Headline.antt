@@ -1,5 +1,6 @@
 -- What the lines say that a run with status 0 prints, in terms of the written signatures and of the book's rules.
 use Rattle.std.specs.Prelude.{◌≡◌, ◌↔◌, ℕ, false, List, [], ◌∷◌, ◌++◌, Option, Some, IfSome, codes, slice_get}
+use Rattle.std.specs.List.{concat}
 use Rattle.std.specs.Io.KnownBytes.{Appends}
 use Rattle.swreq_param.specs.Terms.{Term}
 use Rattle.swreq_derive.specs.Derivation.{BookDerivable, TermRequirement, TermStatement}
@@ -22,15 +23,16 @@ use Rattle.swreq_print.specs.Types.{type_text}
 use Rattle.swreq_query.specs.Answers.{IsLeastEqual, asked}
 use Rattle.swreq_output.specs.Signatures.{full_name}
 use Rattle.swreq_world.specs.FactsAt.{source_of, written_list}
-use Rattle.swreq_reply.specs.Lines.{AreLines}
+use Rattle.swreq_reply.specs.Lines.{AreLines, Counted}
 use Rattle.swreq_output.specs.Ended.{IsWorldOfText}
 use Rattle.swreq_reply.specs.declared.content.Backing.{Backing}
 use Rattle.swreq_reply.specs.declared.content.Content.{Content}
-use Rattle.swreq_reply.specs.declared.content.Content.TheVariants.{Answers, Calls, Families, Judgements, Signatures, Systems}
+use Rattle.swreq_reply.specs.declared.content.Content.TheVariants.{Answers, Calls, Families, Signatures}
 use Rattle.swreq_reply.specs.declared.content.Backing.TheVariants.{Derivation, Path}
+use Rattle.swreq_reply.specs.declared.content.Shown.TheVariants.{Counts, Each}
 use Rattle.swreq_reply.specs.Contents.{content_of}
 use Rattle.swreq_reply.specs.Inputs.{AreParts, Parts}
-use Rattle.swreq_reply.specs.Outputs.{AreCallLines, ArePrinted, BacksYes, IsDerivationText, IsPathLine, printed_text, signature_of}
+use Rattle.swreq_reply.specs.Outputs.{AreCallLines, ArePrinted, BacksYes, IsDerivationText, IsPathLine, counts_text, signature_of}
 use Rattle.swreq_reqsig.specs.Families.{AreRequirementSignatures, members}
 use Rattle.swreq_reqsig.specs.Texts.{family_text}
 use Rattle.swreq_top.specs.Run.{Run, known_text}
@@ -50,6 +52,15 @@ module _ (w : TextWorld) where
   -- The piece of a query for a requirement is that of a `yes` exactly where the requirement is implied.
   abbrev pub IsYesWhereImplied : Backing → TermQuery → Text → Type 0
   IsYesWhereImplied b q piece = IfSome (asked q) (λ r. IsYes b q piece ↔ IsImplied q (Requires r))
+
+  -- The query asks a requirement, and it is implied.
+  abbrev pub AsksImplied : TermQuery → Type 0
+  AsksImplied q = (r : TermRequirement) × (asked q ≡ Some r) × IsImplied q (Requires r)
+
+  -- The first line counts as yes the queries whose requirement is implied.
+  abbrev pub CountsImplied : ℕ → List Text → Type 0
+  CountsImplied n lines = (yes_count no_count invalid_count : ℕ) × Counted AsksImplied w.queries yes_count
+      × (slice_get lines 0 ≡ Some (counts_text n yes_count no_count invalid_count))
 
   -- The line of a query for a type parameter of the signature is the least one that is derivably equal to it.
   abbrev pub IsLeastWhereValid : TermQuery → Text → Type 0
@@ -71,16 +82,17 @@ module _ (w : TextWorld) where
   abbrev pub AreAlike : (g h : SignatureOver PlacedRequirement) → Type 0
   AreAlike g h = (g.params ≡ h.params) × AreEquivalent (facts_of w) (generic_params g.params) (written_list g) (written_list h)
 
-  -- In these lines the k-th prints this of the signature: it answers a query for it, or stands behind its name.
+  -- In these lines the k-th prints this of the signature: it answers a query for it, or stands behind its name. The answer to the last
+  -- query stands behind its counts.
   abbrev pub PrintsOf : Content → List Text → ℕ → SignatureOver PlacedRequirement → Text → Type 0
-  PrintsOf (Answers b) lines k g line =
+  PrintsOf (Answers (Each b)) lines k g line =
       (f : FuncId) × (slice_get w.queries k ≡ Some (AsksSignature f)) × (g ≡ signature_at w f) × (slice_get lines k ≡ Some line)
+  PrintsOf (Answers (Counts n)) lines k g line =
+      (f : FuncId) × (qs : List TermQuery) × (w.queries ≡ qs ++ AsksSignature f ∷ []) × (g ≡ signature_at w f) × (k ≡ 1)
+      × (slice_get lines k ≡ Some line)
   PrintsOf Signatures lines k g line =
       (slice_get w.signatures k ≡ Some g) × (slice_get lines k ≡ Some (full_name w g ++ (codes ": " ++ line)))
-  PrintsOf Systems lines k g line = ⊥
-  PrintsOf Families lines k g line = ⊥
-  PrintsOf Calls lines k g line = ⊥
-  PrintsOf Judgements lines k g line = ⊥
+  PrintsOf _ lines k g line = ⊥
 
   -- ---- what stands behind a yes
 
@@ -99,14 +111,15 @@ module _ (w : TextWorld) where
 
   -- ---- the sentences
 
-  -- Each query prints yes if and only if the book's rules derive it from the written signature.
+  -- Each query prints yes if and only if the book's rules derive it from the written signature; and as many count as yes.
   abbrev pub SayYesWhereImplied : Content → Parts → List Text → Type 0
-  SayYesWhereImplied (Answers b) p lines = AreLines (IsYesWhereImplied b) w.queries lines
+  SayYesWhereImplied (Answers (Each b)) p lines = AreLines (IsYesWhereImplied b) w.queries lines
+  SayYesWhereImplied (Answers (Counts n)) p lines = CountsImplied n lines
   SayYesWhereImplied _ p lines = Unit {0}
 
   -- Each type parameter prints as the least one derivably equal to it.
   abbrev pub SayTheLeast : Content → Parts → List Text → Type 0
-  SayTheLeast (Answers b) p lines = AreLines IsLeastWhereValid w.queries lines
+  SayTheLeast (Answers (Each b)) p lines = AreLines IsLeastWhereValid w.queries lines
   SayTheLeast _ p lines = Unit {0}
 
   -- Each printed signature derives what was written and is derived from it, no requirement derivable from the others.
@@ -121,12 +134,12 @@ module _ (w : TextWorld) where
 
   -- After each yes of `explain` stands a derivation that the checker accepts and that ends in what is asked.
   abbrev pub SayDerivations : Content → Parts → List Text → Type 0
-  SayDerivations (Answers Derivation) p lines = AreLines IsDerivedWhereImplied w.queries lines
+  SayDerivations (Answers (Each Derivation)) p lines = AreLines IsDerivedWhereImplied w.queries lines
   SayDerivations _ p lines = Unit {0}
 
   -- After each yes of `paths` to a conformance stands its conformance path, the shortest and of these the least.
   abbrev pub SayPaths : Content → Parts → List Text → Type 0
-  SayPaths (Answers Path) p lines = AreLines HasPathWhereImplied w.queries lines
+  SayPaths (Answers (Each Path)) p lines = AreLines HasPathWhereImplied w.queries lines
   SayPaths _ p lines = Unit {0}
 
   -- Of each call exactly the requirements of the callee are named that fail for its types; or one of these is no type parameter.
@@ -142,8 +155,8 @@ module _ (w : TextWorld) where
 -- The source text has a world, and the bytes that were taken are lines, by what the command prints, of which this is true.
 abbrev pub SaysOf : (TextWorld → Content → Parts → List Text → Type 0) → CommandLine → Parts → (old new : Option Text) → Type 0
 SaysOf Sentence line p old new = (w : TextWorld) × IsWorldOfText p.source w ×
-    ((lines : List Text) × ArePrinted w false (content_of line.command) p lines
-    × Appends old new (printed_text line.command lines) × Sentence w (content_of line.command) p lines)
+    ((lines : List Text) × ArePrinted w false (content_of line.command) p lines × Appends old new (concat lines)
+    × Sentence w (content_of line.command) p lines)
 
 -- The status is 0 only where the words say a command, and where its text is known, so says what was taken.
 abbrev pub Prints : Run → (TextWorld → Content → Parts → List Text → Type 0) → Type 0
