@@ -47,11 +47,16 @@ signature_of (AsksConforms f t p) = f
 signature_of (AsksAnyObject f t) = f
 signature_of (AsksEquals f t u) = f
 
--- how much the generated text of n protocols has of what, and how many of its queries have each verdict
+-- how many queries have each verdict
+abbrev pub verdicts_text : (yes_count no_count invalid_count : ℕ) → Text
+verdicts_text yes_count no_count invalid_count =
+    codes "yes " ++ (decimal yes_count ++ (codes "\nno " ++ (decimal no_count ++ (codes "\ninvalid " ++ (decimal invalid_count ++ codes "\n")))))
+
+-- and before that how much the generated text of n protocols has of what
 abbrev pub counts_text : (n yes_count no_count invalid_count : ℕ) → Text
 counts_text n yes_count no_count invalid_count =
-    codes "protocols " ++ (decimal n ++ (codes "\nfunctions 1\nqueries " ++ (decimal (4 * n + 1) ++ (codes "\nyes " ++ (decimal yes_count
-    ++ (codes "\nno " ++ (decimal no_count ++ (codes "\ninvalid " ++ (decimal invalid_count ++ codes "\n")))))))))
+    codes "protocols " ++ (decimal n ++ (codes "\nfunctions 1\nqueries " ++ (decimal (4 * n + 1) ++ (codes "\n"
+    ++ verdicts_text yes_count no_count invalid_count))))
 
 module _ (w : TextWorld) where
   -- ---- what stands behind a yes
