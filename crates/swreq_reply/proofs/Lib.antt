@@ -6,7 +6,6 @@ pub mod Misfits
 pub mod OfCalls
 pub mod OfLists
 pub mod OfMinimising
-pub mod OfQueries
 pub mod OfSignatures
 pub mod OneCheck
 pub mod OneOutput

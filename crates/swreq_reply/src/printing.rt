@@ -1,5 +1,6 @@
 //! What a command prints of a checked text, by the pieces that were made of it.
-ghost use Rattle.std.specs.Prelude.{◌≡◌, ◌<◌, ◌++◌, ℕ, false, true, decimal, get_or, length, List, IfOk, OnOk};
+ghost use Rattle.std.specs.Prelude.{◌≡◌, ◌<◌, ◌++◌, ℕ, true, decimal, get_or, length, List, IfOk, OnOk};
+ghost use Rattle.std.specs.Bool.{Decides};
 ghost use Rattle.std.specs.List.{concat};
 ghost use Rattle.swreq_output.specs.Signatures.{IsNamedLine};
 ghost use Rattle.swreq_output.specs.Systems.{IsSystemText};
@@ -78,8 +79,7 @@ fn has_verdict(m: &MadePieces<'_>, k: usize, verdict: Verdict) -> bool
     requires k { k < length m.now.world.now.queries }
     requires counts { (n : ℕ) × (m.now.content ≡ Answers (Counts n)) }
     requires whole { IsWhole m.now }
-    ensures has { result ≡ true → HasAnswer (world_of m.now) true (answer_of verdict) (query_at m.now k) }
-    ensures lacks { result ≡ false → HasAnswer (world_of m.now) true (answer_of verdict) (query_at m.now k) → ⊥ }
+    ensures { Decides result (HasAnswer (world_of m.now) true (answer_of verdict) (query_at m.now k)) }
 {
     answer_at(m, k) == verdict.line()
 }

@@ -1,7 +1,7 @@
 use Rattle.std.proofs.Common.{subst}
 use Rattle.swreq_lowering.specs.declared.ids.Query.{Query}
 use Rattle.swreq_query.specs.Asked.{IsQueryIn}
-use Rattle.swreq_reply.proofs.OfQueries.{query_in}
+use Rattle.swreq_reply.proofs.Flags.{query_in}
 use Rattle.swreq_reply.proofs.answering.put_backing.Goals as goal
 
 pub put_path-requires-clause-asked : goal.put_path-requires-clause-asked

@@ -7,7 +7,7 @@ use Rattle.swreq_lines.specs.LineTexts.{HasLineIds, lines_text}
 use Rattle.swreq_lowering.specs.ByTable.{query_by}
 use Rattle.swreq_reply.specs.Outputs.{signature_of}
 use Rattle.swreq_reply.proofs.Explained.{derivation_text, is_yes, signature_below}
-use Rattle.swreq_reply.proofs.OfQueries.{query_in}
+use Rattle.swreq_reply.proofs.Flags.{query_in}
 use Rattle.swreq_reply.proofs.answering.put_derivation.Goals as goal
 
 pub explain_by-requires-clause-yes : goal.explain_by-requires-clause-yes
