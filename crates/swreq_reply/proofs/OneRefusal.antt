@@ -107,25 +107,24 @@ split_divided c input p a two =
     subst (λ (z : List ℕ). Contains (lines z) divider) a.whole
     (divided_line p.input p.source p.second (subst (λ (how : Input). HasParts how p) two a.divided))
 
-module _ (line : CommandLine) (p : Parts) where
-  -- the source text is short enough
-  pub source_within : {input : List ℕ} → AreParts line.command input p → length p.source ≤ 1048576
-  source_within {input} are = by (reads line.command) are.divided
-    where
-      by : (how : Input) → HasParts how p → length p.source ≤ 1048576
-      by inputs.TwoParts d = omega (arith, ap length (sym are.whole ∙ d.whole), length-append p.source d.behind, are.within)
-      by _ (e, f) = omega (arith, ap length (e ∙ are.whole), are.within)
+-- the source text is short enough
+pub source_within : {c : Command} {input : List ℕ} {p : Parts} → AreParts c input p → length p.source ≤ 1048576
+source_within {c} {input} {p} are = by (reads c) are.divided
+  where
+    by : (how : Input) → HasParts how p → length p.source ≤ 1048576
+    by inputs.TwoParts d = omega (arith, ap length (sym are.whole ∙ d.whole), length-append p.source d.behind, are.within)
+    by _ (e, f) = omega (arith, ap length (e ∙ are.whole), are.within)
 
-  -- and so is what stands behind it
-  pub second_within : {input : List ℕ} → AreParts line.command input p → length p.second ≤ length p.input
-  second_within {input} are = by (reads line.command) are.divided
-    where
-      by : (how : Input) → HasParts how p → length p.second ≤ length p.input
-      by inputs.TwoParts d = elim d.divided [
-        | inl e ↦ omega (arith, ap length d.whole, length-append p.source d.behind, ap length e, length-append divider (line_feed ∷ p.second))
-        | inr e ↦ omega (arith, ap length e.1)
-      ]
-      by _ (e, f) = omega (arith, ap length f)
+-- and so is what stands behind it
+pub second_within : {c : Command} {input : List ℕ} {p : Parts} → AreParts c input p → length p.second ≤ length p.input
+second_within {c} {input} {p} are = by (reads c) are.divided
+  where
+    by : (how : Input) → HasParts how p → length p.second ≤ length p.input
+    by inputs.TwoParts d = elim d.divided [
+      | inl e ↦ omega (arith, ap length d.whole, length-append p.source d.behind, ap length e, length-append divider (line_feed ∷ p.second))
+      | inr e ↦ omega (arith, ap length e.1)
+    ]
+    by _ (e, f) = omega (arith, ap length f)
 
 -- ---- how an input ends: in a refusal with some outcome, or in none
 
