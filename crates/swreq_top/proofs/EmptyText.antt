@@ -1,8 +1,9 @@
 -- The empty text is answered: nothing refuses it, and no round of its machines passes a limit.
-use Rattle.std.proofs.Common.{◌≡◌, ◌≢◌, ◌∙◌, ◌⊎◌, refl, sym, ap, subst, inl, inr, ℕ, ◌≤◌, arith, le_refl, Bool, length, length-append, List, [], ◌∷◌, Option, Some, None}
+use Rattle.std.proofs.Common.{◌≡◌, ◌≢◌, ◌∙◌, ◌⊎◌, refl, sym, ap, subst, inl, inr, ℕ, ◌≤◌, arith, le_refl, Bool, length, length-append, List, [], ◌∷◌, Option, Some}
 use Rattle.std.proofs.lemmas.Option.{none-some}
 use Rattle.std.proofs.lemmas.Str.{IsUtf8-nil, chars-nil}
-use Rattle.swreq_lex.specs.declared.refusal.LexErr.TheVariants as lexical
+use Rattle.swreq_lex.specs.declared.refusal.LexErr.{LexErr}
+use Rattle.swreq_lex.specs.Refusals.{HasRefusal}
 use Rattle.swreq_lex.specs.Tokens.{HasTokens, Reads, after_byte_order_mark, first_offset}
 use Rattle.swreq_lex.specs.Tokens.Reads.{done}
 use Rattle.swreq_lex.proofs.TextLemmas.{never_both, one_list}
@@ -13,7 +14,6 @@ use Rattle.swreq_decl.specs.Source.{source}
 use Rattle.swreq_decl.proofs.Answering.{not_both, one_skeleton}
 use Rattle.swreq_orders.proofs.Members.{no_member}
 use Rattle.swreq_resolve.specs.declared.refusal.NameErr.{NameErr}
-use Rattle.swreq_resolve.specs.declared.refusal.NameErr.TheVariants as names
 use Rattle.swreq_resolve.specs.Resolving.{RefusesSkeleton}
 use Rattle.swreq_rule.specs.declared.rules.Birth.{Birth}
 use Rattle.swreq_rule.specs.declared.rules.Birth.TheVariants.{Given, Pair}
@@ -80,6 +80,9 @@ only_bare s stands = one_skeleton [] (one_list []) s bare_skeleton stands bare_s
 
 -- ---- the text has a world
 
+no_lexical_refusal : (e : LexErr) → HasRefusal [] e → ⊥
+no_lexical_refusal e = never_both [] [] e has_no_tokens
+
 no_token_refused : (at : ℕ) (kind : Option Kind) → RefusedFor [] at kind → ⊥
 no_token_refused at kind refused = not_both [] (one_list []) bare_skeleton at kind bare_stands refused
 
@@ -91,19 +94,8 @@ no_name_refused e (within, (s, stands, refuses)) = of_bare (subst (λ (t : Skele
     of_bare (inr (at, refuses, is)) = none-some refuses.protocol refuses.stands
 
 never_without_world : (refusal : RefusalKind) → HasNoWorld [] refusal → ⊥
-never_without_world (refusals.NotUtf8 at) has = never_both [] [] (lexical.NotUtf8 at) has_no_tokens has.1
-never_without_world (refusals.BadCharacter at) has = never_both [] [] (lexical.BadCharacter at) has_no_tokens has.1
-never_without_world (refusals.OpenComment at) has = never_both [] [] (lexical.OpenComment at) has_no_tokens has.1
-never_without_world (refusals.Syntax at) has = no_token_refused at None has.1
-never_without_world (refusals.Unsupported at kind) has = no_token_refused at (Some kind) has.1
-never_without_world (refusals.Duplicate at) has = no_name_refused (names.Duplicate at) has
-never_without_world (refusals.NotAProtocol at) has = no_name_refused (names.NotAProtocol at) has
-never_without_world (refusals.ConcreteType at) has = no_name_refused (names.ConcreteType at) has
-never_without_world (refusals.NoSuchMember at) has = no_name_refused (names.NoSuchMember at) has
-never_without_world (refusals.UnknownSignature at) has = no_name_refused (names.UnknownSignature at) has
-never_without_world (refusals.WrongArity at) has = no_name_refused (names.WrongArity at) has
-never_without_world (refusals.Cycle at) has = no_name_refused (names.Cycle at) has
-never_without_world _ has = has
+never_without_world refusals.Usage has = has
+never_without_world _ has = search (no_lexical_refusal, no_token_refused, no_name_refused)
 
 -- ---- its world has nothing
 
@@ -133,9 +125,9 @@ never_passes limits (rule ∷ trace) which passes = of_birth rule.birth (passes.
     of_birth (Given n) born = none-some (born.left, born.right) born.sides.2
     of_birth (Pair i j at) born = omega (arith, born.sides.0, born.settled.rules_at.knows)
 
-module _ (w : TextWorld) (limits : Limits) where
-  -- ---- the check
+-- ---- the check
 
+module _ (w : TextWorld) (limits : Limits) where
   -- no round has equations
   never_stopped : {used : List Item} {told : List Event} (which : Which) (trace : List Rule) → IsRound limits (protocols_of (emptied w)) used told
       → Passes limits 0 (given (protocols_of (emptied w)) used) trace which → ⊥
@@ -149,19 +141,17 @@ module _ (w : TextWorld) (limits : Limits) where
   unrefused (protocols_refused Memory real come) = real refl
   unrefused (protocols_built rules come rest told_is) = elim rest [ ]
 
-  -- ---- minimising
+-- ---- what is told behind the check
 
-  none_minimised : (c : Content) (g : SignatureOver PlacedRequirement) → IsMinimisedFor c (emptied w) g → ⊥
-  none_minimised (Answers s) g (f, has, is) = no_member (AsksSignature f) has
-  none_minimised Signatures g has = no_member g has
-  none_minimised _ g asked = asked
+none_minimised : (c : Content) (w : TextWorld) (g : SignatureOver PlacedRequirement) → IsMinimisedFor c (emptied w) g → ⊥
+none_minimised (Answers s) w g (f, has, is) = no_member (AsksSignature f) has
+none_minimised Signatures w g has = no_member g has
+none_minimised _ w g asked = asked
 
-  -- ---- requirement signatures
-
-  -- one goes through no more requirements than there are
-  gone_within : {n : ℕ} {flags : List Bool} {told : List Event} → HasGone limits w n flags told → n ≤ length (owned w)
-  gone_within (start e f untold) = omega (arith, e)
-  gone_within (further h m e) = omega (arith, gone_within h)
+-- one goes through no more requirements than there are
+gone_within : {limits : Limits} {w : TextWorld} {n : ℕ} {flags : List Bool} {told : List Event} → HasGone limits w n flags told → n ≤ length (owned w)
+gone_within (start e f untold) = omega (arith, e)
+gone_within (further h m e) = omega (arith, gone_within h)
 
 -- ---- its verdict
 
@@ -188,11 +178,11 @@ module _ (line : CommandLine) (one : reads line.command ≡ OnePart) where
       unrefused w (limits_of line) (subst (λ (z : TextWorld). IsChecked (limits_of line) z (Some refused) told) (empty_world w has) checked)
   empty_unrefused o told (inl (misfit w n judges has found is untold)) = (prints_of_one line.command one).0 judges
   empty_unrefused o told (inl (past_a_limit_of_families which trace c asked stops is)) =
-      omega (arith, gone_within c.world (limits_of line) stops.gone, ap (λ (w : TextWorld). length (owned w)) (empty_world c.world c.has_world))
+      omega (arith, gone_within stops.gone, ap (λ (w : TextWorld). length (owned w)) (empty_world c.world c.has_world))
   empty_unrefused o told (inl (bad_calls refusal c asked refuses untold is)) = (prints_of_one line.command one).1 asked
   empty_unrefused o told (inr cut) =
       let c = cut.check in
-      none_minimised c.world (limits_of line) (content_of line.command) cut.fails.g
+      none_minimised (content_of line.command) c.world cut.fails.g
       (subst (λ (z : TextWorld). IsMinimisedFor (content_of line.command) z cut.fails.g) (empty_world c.world c.has_world) cut.fails.asked)
 
 -- ---- runs over a source that has nothing left
