@@ -46,10 +46,12 @@ told_nothing line (Some text) old new grew = ([], inl refl, grew)
 -- ---- what a source has left
 
 -- a source that was read to its end had the text that was read
-read_whole : (left rest : Option Text) (text : Text) → Consumes left rest text → IsAtEnd rest → IfSome left (λ all. all ≡ text)
-read_whole None rest text came end = tt
-read_whole (Some all) None text came end = absurd came
-read_whole (Some all) (Some rest) text came end = came ∙ ap (λ (l : Text). text ++ l) end ∙ append-nil text
+pub read_whole : (left rest : Option Text) (text : Text) → Consumes left rest text → IsAtEnd rest → length text ≤ 1048576
+    → IsRead left rest × IfSome left (λ all. all ≡ text)
+read_whole None rest text came end within = (tt, tt)
+read_whole (Some all) None text came end within = absurd came
+read_whole (Some all) (Some rest) text came end within =
+    let same : all ≡ text = came ∙ ap (λ (l : Text). text ++ l) end ∙ append-nil text in (inl (omega (arith, ap length same, within), end), same)
 
 -- and one of which more was read than a text may have had a text that is too long
 read_long : (left rest : Option Text) → GivesCount left rest 1048577 → IfSome left (λ all. 1048576 < length all)
@@ -57,36 +59,30 @@ read_long None rest came = tt
 read_long (Some all) None came = absurd came.1
 read_long (Some all) (Some rest) came = omega (arith, ap length came.1, length-append came.0 rest, came.2)
 
--- a command that reads a source knows its text where the source tells it, and what is left of the source is left of what was read
-reads_source : (c : Command) → (IsGen c → ⊥) → (left rest : Option Text) → IsRead left rest → (P : Text → Type 0) → IfSome left P
+-- a command that reads a source knows its text where the source tells it, and leaves what is left of what was read
+reads_source : (c : Command) (left rest : Option Text) (P : Text → Type 0) → (IsGen c → ⊥) → IsRead left rest → IfSome left P
     → LeavesSource c left rest × IfSome (known_text c left) P
-reads_source (command.Gen n) reads left rest read P h = absurd (reads (n, refl))
-reads_source _ reads left rest read P h = (read, h)
+reads_source (command.Gen n) left rest P reads read h = absurd (reads (n, refl))
+reads_source _ left rest P reads read h = (read, h)
 
--- and its text is what it answers
-answers_source : (c : Command) → (IsGen c → ⊥) → (text : Text) → answered_text c text ≡ text
-answers_source (command.Gen n) reads text = absurd (reads (n, refl))
-answers_source _ reads text = refl
+-- what holds of the text that a command answers holds of the text that it knows: `gen` knows its own, and the others that of the source
+knows_answered : (c : Command) (left rest : Option Text) (text : Text) (P : Text → Type 0) → (IsGen c → rest ≡ left)
+    → ((IsGen c → ⊥) → IsRead left rest × IfSome left (λ all. all ≡ text)) → P (answered_text c text)
+    → LeavesSource c left rest × IfSome (known_text c left) P
+knows_answered (command.Gen n) left rest text P unread read h = (unread (n, refl), h)
+knows_answered _ left rest text P unread read h =
+    let had = read (λ gen. (cc gen.1)) in (had.0, IfSome_then left had.1 (λ all e. subst P (sym e) h))
 
--- what is answered of a text that was read to its end
-pub answers_read : (line : CommandLine) (left rest : Option Text) (old new : Option (List Event)) (text : Text) → (IsGen line.command → ⊥)
-    → Consumes left rest text → IsAtEnd rest → length text ≤ 1048576 → (result : Result Outcome ReadErr)
+-- what is answered of a text
+pub answers_text : (line : CommandLine) (left rest : Option Text) (old new : Option (List Event)) (text : Text) → (IsGen line.command → rest ≡ left)
+    → ((IsGen line.command → ⊥) → IsRead left rest × IfSome left (λ all. all ≡ text)) → (result : Result Outcome ReadErr)
     → AnswersText line (answered_text line.command text) old new result → Answers line left rest old new result
-answers_read line left rest old new text reads came end within result h = of_result result h
-  where
-    of_source : (P : Text → Type 0) → P (answered_text line.command text) → LeavesSource line.command left rest × IfSome (known_text line.command left) P
-    of_source P holds =
-        let had = read_whole left rest text came end in
-        reads_source line.command reads left rest (IfSome_then left had (λ all e. inl (omega (arith, ap length e, within), end))) P
-        (IfSome_then left had (λ all e. subst P (answers_source line.command reads text ∙ sym e) holds))
-
-    of_result : (result : Result Outcome ReadErr) → AnswersText line (answered_text line.command text) old new result
-        → Answers line left rest old new result
-    of_result (Ok o) h =
-        let said = of_source (λ t. IsToldVerdict line t old new o × IsOnlyRefusal line t o) h in
-        (said.0, said.1, verdict_status line (answered_text line.command text) o h.0.0 h.0.1)
-    of_result (Err Memory) h = (of_source (λ t. WasToldPart line t old new) h).1
-    of_result _ h = absurd h
+answers_text line left rest old new text unread read (Ok o) h =
+    let said = knows_answered line.command left rest text (λ t. IsToldVerdict line t old new o × IsOnlyRefusal line t o) unread read h in
+    (said.0, said.1, verdict_status line (answered_text line.command text) o h.0.0 h.0.1)
+answers_text line left rest old new text unread read (Err Memory) h =
+    (knows_answered line.command left rest text (λ t. WasToldPart line t old new) unread read h).1
+answers_text line left rest old new text unread read _ h = absurd h
 
 -- ---- what there is to print
 
@@ -126,8 +122,9 @@ module _ (r : Run) where
     to_print (Err TooLarge) (came, reads, grew) failed unread =
         let o : Outcome = refused_with refusals.TooLarge in
         let long = read_long r.before.left r.after.left came in
-        let said = reads_source line.command reads r.before.left r.after.left (IfSome_then r.before.left long (λ all l. inr (l, came)))
-        (λ text. IsToldVerdict line text r.before.told r.after.told o × IsOnlyRefusal line text o)
+        let said = reads_source line.command r.before.left r.after.left
+        (λ text. IsToldVerdict line text r.before.told r.after.told o × IsOnlyRefusal line text o) reads
+        (IfSome_then r.before.left long (λ all l. inr (l, came)))
         (IfSome_then r.before.left long (λ all l. (([], is_refused (too_long l refl refl), grew), λ p told refused. sym (long_refused line all l refused)))) in
         for_verdict o (said.0, said.1, inr (inl refl)) (unfailed (λ e. (cc)) unread)
     to_print (Err Fault) (reads, grew) failed unread = read_fault line says reads grew (failed refl)
