@@ -15,7 +15,7 @@ use Rattle.swreq_world.specs.Worlds.{TextWorld}
 use Rattle.swreq_reply.specs.Verdict.IsVerdict.{answered as is_answered, cut_short as is_cut_short, judged as is_judged, refused as is_refused}
 use Rattle.swreq_top.specs.Contract.{IsRun}
 use Rattle.swreq_top.specs.Headline.{Prints, SayAlike, SayDerivations, SayEqualLists, SayFailing, SayFamily, SayPaths, SayTheLeast, SayYesWhereImplied}
-use Rattle.swreq_top.specs.Run.{HasToPrint, HasVerdict, IsAnswerable, IsEnd, IsRefusedRun, NoWriteFailed, NothingFailed, ReadFailed, Run, WriteFailed, known_text}
+use Rattle.swreq_top.specs.Run.{HasToPrint, HasVerdict, IsEnd, NoWriteFailed, NothingFailed, ReadFailed, Run, WriteFailed, known_text}
 use Rattle.swreq_top.specs.Run.HasToPrint.{no_memory, read_fault, verdict, wrong_words}
 use Rattle.swreq_top.specs.Run.IsEnd.{cut_off, printed}
 use Rattle.swreq_top.proofs.Headlines.{Holds, IsAnsweredRun, say_alike, say_derivations, say_equal_lists, say_failing, say_family, say_least, say_paths, say_yes, taken_say}
@@ -40,23 +40,20 @@ module _ (r : Run) where
 
   -- ---- faults
 
-  read_failed_at : {status : ℕ} {bytes : Text} → HasToPrint r status bytes → status ≡ 4 → ReadFailed r
-  read_failed_at (read_fault line says reads untold failed) four = failed
-  read_failed_at (verdict line says has unread) four = absurd (omega (arith, four, has.status))
-  read_failed_at _ four = absurd (omega (arith, four))
+  -- what there is to print has status 4 only where a read has failed, and never status 5
+  statuses : {status : ℕ} {bytes : Text} → HasToPrint r status bytes → (status ≡ 4 → ReadFailed r) × (status ≢ 5)
+  statuses (read_fault line says reads untold failed) = (λ four. failed, λ five. omega (arith, five))
+  statuses (verdict line says has unread) = (λ four. absurd (omega (arith, four, has.status)), λ five. omega (arith, five, has.status))
+  statuses _ = (λ four. absurd (omega (arith, four)), λ five. omega (arith, five))
 
   -- with status 4 a read has failed
   pub four_read_failed : IsEnd r → r.status ≡ 4 → ReadFailed r
-  four_read_failed (printed bytes to_print taken same) four = read_failed_at to_print four
+  four_read_failed (printed bytes to_print taken same) four = (statuses to_print).0 four
   four_read_failed (cut_off status bytes to_print part failed is) four = absurd (omega (arith, is, four))
-
-  never_five : {status : ℕ} {bytes : Text} → HasToPrint r status bytes → status ≢ 5
-  never_five (verdict line says has unread) five = omega (arith, five, has.status)
-  never_five _ five = omega (arith, five)
 
   -- with status 5 a write has failed
   pub five_write_failed : IsEnd r → r.status ≡ 5 → WriteFailed r
-  five_write_failed (printed bytes to_print taken same) five = absurd (never_five to_print five)
+  five_write_failed (printed bytes to_print taken same) five = absurd ((statuses to_print).1 five)
   five_write_failed (cut_off status bytes to_print part failed is) five = failed
 
   -- and with no other
@@ -66,43 +63,30 @@ module _ (r : Run) where
 
   -- ---- runs in which nothing fails
 
-  -- the text has a verdict, or memory ran out
-  verdict_on : {status : ℕ} {bytes : Text} → HasToPrint r status bytes → (ReadFailed r → ⊥) → (line : CommandLine) (text : Text) → Says r.words line
-      → known_text line.command r.before.left ≡ Some text
-      → (IsToldVerdict line text r.before.told r.after.told (record { status = status; output = bytes })
-      × IsOnlyRefusal line text (record { status = status; output = bytes })) ⊎ (status ≡ 6)
-  verdict_on {status} {bytes} (verdict other also has unread) sound line text says known =
-      let o : Outcome = record { status = status; output = bytes } in
-      let one = subst (λ (l : CommandLine). HasVerdict r l o) (one_line r.words other line also says) has in
-      inl (rw known at one.verdict, rw known at one.refusal)
-  verdict_on (wrong_words wrong untold unread) sound line text says known = absurd (wrong line says)
-  verdict_on (read_fault other also reads untold failed) sound line text says known = absurd (sound failed)
-  verdict_on (no_memory told unread) sound line text says known = inr refl
+  -- where each verdict on the text has this status, the run has it, unless memory ran out
+  module _ (sound : NothingFailed r) (n : ℕ) (line : CommandLine) (text : Text) (says : Says r.words line)
+      (known : known_text line.command r.before.left ≡ Some text)
+      (of_verdict : (o : Outcome) → IsToldVerdict line text r.before.told r.after.told o → IsOnlyRefusal line text o → o.status ≡ n) where
+    status_printed : {status : ℕ} {bytes : Text} → HasToPrint r status bytes → (status ≡ n) ⊎ (status ≡ 6)
+    status_printed {status} {bytes} (verdict other also has unread) =
+        let o : Outcome = record { status = status; output = bytes } in
+        let mine = subst (λ (l : CommandLine). HasVerdict r l o) (one_line r.words other line also says) has in
+        inl (of_verdict o (rw known at mine.verdict) (rw known at mine.refusal))
+    status_printed (wrong_words wrong untold unread) = absurd (wrong line says)
+    status_printed (read_fault other also reads untold failed) = absurd (sound.0 failed)
+    status_printed (no_memory told unread) = inr refl
 
-  -- a text that is refused has the status of its refusal
-  ends_refused : IsEnd r → (o : Outcome) → IsRefusedRun r o → NothingFailed r → (r.status ≡ o.status) ⊎ (r.status ≡ 6)
-  ends_refused (printed bytes to_print taken same) o (line, says, (text, known, (told, refused))) sound =
-      elim (verdict_on to_print sound.0 line text says known) [
-        | inl has ↦ inl (ap (λ (p : Outcome). p.status) (has.1 o told refused))
-        | inr six ↦ inr six
-      ]
-  ends_refused (cut_off status bytes to_print part failed is) o refused sound = absurd (sound.1 failed)
+    status_ended : IsEnd r → (r.status ≡ n) ⊎ (r.status ≡ 6)
+    status_ended (printed bytes to_print taken same) = status_printed to_print
+    status_ended (cut_off status bytes to_print part failed is) = absurd (sound.1 failed)
 
   -- a text that nothing refuses has a verdict with status 0 alone
-  is_zero : (line : CommandLine) (text : Text) (o : Outcome) (told : List Event)
-      → ((p : Outcome) (t : List Event) → IsRefused line text p t ⊎ IsCutShort line text p t → ⊥) → IsVerdict line text o told → o.status ≡ 0
-  is_zero line text o told never (is_refused refused) = absurd (never o told (inl refused))
-  is_zero line text o told never (is_cut_short cut) = absurd (never o told (inr cut))
-  is_zero line text o told never (is_answered a) = a.status
-  is_zero line text o told never (is_judged j) = j.status
-
-  ends_answered : IsEnd r → IsAnswerable r → NothingFailed r → (r.status ≡ 0) ⊎ (r.status ≡ 6)
-  ends_answered (printed bytes to_print taken same) (line, says, (text, known, never)) sound =
-      elim (verdict_on to_print sound.0 line text says known) [
-        | inl has ↦ inl (is_zero line text (record { status = r.status; output = bytes }) has.0.0 never has.0.1)
-        | inr six ↦ inr six
-      ]
-  ends_answered (cut_off status bytes to_print part failed is) answerable sound = absurd (sound.1 failed)
+  is_zero : (line : CommandLine) (text : Text) → ((o : Outcome) (told : List Event) → IsRefused line text o told ⊎ IsCutShort line text o told → ⊥)
+      → (o : Outcome) (told : List Event) → IsVerdict line text o told → o.status ≡ 0
+  is_zero line text never o told (is_refused refused) = absurd (never o told (inl refused))
+  is_zero line text never o told (is_cut_short cut) = absurd (never o told (inr cut))
+  is_zero line text never o told (is_answered a) = a.status
+  is_zero line text never o told (is_judged j) = j.status
 
   -- ---- the contract
 
@@ -117,8 +101,10 @@ module _ (r : Run) where
     paths = prints end SayPaths say_paths;
     failing = prints end SayFailing say_failing;
     family = prints end SayFamily say_family;
-    refused = ends_refused end;
-    answered = ends_answered end;
+    refused = λ o (line, says, (text, known, (told, refused))) sound.
+        status_ended sound o.status line text says known (λ p verdict only. ap (λ (q : Outcome). q.status) (only o told refused)) end;
+    answered = λ (line, says, (text, known, never)) sound.
+        status_ended sound 0 line text says known (λ o told only. is_zero line text never o told.0 told.1) end;
   }
 
 -- a count of faults that is 0 has not risen
