@@ -53,6 +53,7 @@ use Rattle.swreq_reply.proofs.Lines.{asked_list, counted_by, lines_by}
 
 -- ---- answers of queries
 
+-- what follows for each value of an option holds if it has one
 if_some : {A : Type 0} (o : Option A) {P : A → Type 0} → ((x : A) → o ≡ Some x → P x) → IfSome o P
 if_some None each = tt
 if_some (Some x) each = each x refl
@@ -68,16 +69,14 @@ sides_of_asked f s _ = tt
 -- a query of a type parameter prints the least one
 least : (w : TextWorld) (b : Backing) (f : FuncId) (t : Term) (piece : Text) → AnswersByTypes w false b (AsksReduced f t) piece
     → IsLeastWhereValid w (AsksReduced f t) piece
-least w b f t piece (Invalid, rest, is, backs, e) valid = absurd
-    (is.2 (subst (λ z. IsImplied w (AsksReduced f t) (IsValid z)) (sym is.1) valid))
-least w b f t piece (Reduced u, rest, is, backs, e) valid = (
-  u,
-  subst (λ z. IsLeastEqual (IsImplied w (AsksReduced f t)) z u) (sym (inner f is.1.0 t is.1.1 is.1.2)) is.1.3,
-  e ∙ ap (λ (z : Text). answer_line w.lexicon (Reduced u) ++ z) backs ∙ append-nil (answer_line w.lexicon (Reduced u)),
-)
-  where
-    inner : (f g : FuncId) (t u : Term) → AsksReduced f t ≡ AsksReduced g u → t ≡ u
-    inner f g t u e = cc
+least w b f t piece (Invalid, rest, (side, is, fails), backs, e) valid =
+    absurd (fails (subst (λ z. IsImplied w (AsksReduced f t) (IsValid z)) (sym is) valid))
+least w b f t piece (Reduced u, rest, (sides, (g, v, same, some)), backs, e) valid =
+    let is : v ≡ t = cc in (
+      u,
+      subst (λ z. IsLeastEqual (IsImplied w (AsksReduced f t)) z u) is some,
+      e ∙ ap (λ (z : Text). answer_line w.lexicon (Reduced u) ++ z) backs ∙ append-nil (answer_line w.lexicon (Reduced u)),
+    )
 least w b f t piece (a, rest, is, backs, e) valid = absurd (none-some is.1.0 is.1.1)
 
 least_where_valid : (w : TextWorld) (b : Backing) (q : TermQuery) (piece : Text) → IsLineOf w false b q piece → IsLeastWhereValid w q piece
@@ -103,6 +102,7 @@ last_list w (q ∷ r ∷ qs) f line h = last_list w (r ∷ qs) f line h
 -- ---- texts that pass the check
 
 module _ (w : TextWorld) (has : HasPassed w) where
+  -- its queries are of its world
   is_query : (q : TermQuery) → Contains w.queries q → IsQueryOf w q
   is_query q c = All-contains (IsQueryOf w) w.queries q (is_closed w has).queries c
 
@@ -123,6 +123,7 @@ module _ (w : TextWorld) (has : HasPassed w) where
   only_yes q r asks (Reduced u) rest behind (sides, (f, t, is, some)) e = absurd (none-some r (sym (ap asked is) ∙ asks))
   only_yes q r asks _ rest behind h e = absurd (cc)
 
+  -- so the piece of a query is that of a `yes` exactly where its requirement is implied
   yes_where_implied : (b : Backing) (q : TermQuery) (piece : Text) → IsQueryOf w q → IsLineOf w false b q piece → IsYesWhereImplied w b q piece
   yes_where_implied b q piece of line = if_some (asked q) (λ r asks. both r asks (by_types q line r asks))
     where
@@ -140,6 +141,7 @@ module _ (w : TextWorld) (has : HasPassed w) where
             (rest, subst (λ (z : Answer). Backs w b q z rest) same backs, e ∙ ap (λ (z : Answer). answer_line w.lexicon z ++ rest) same),
       )
 
+  -- and where paths are printed, a path stands behind it
   path_where_implied : (q : TermQuery) (piece : Text) → IsQueryOf w q → IsLineOf w false Path q piece → HasPathWhereImplied w q piece
   path_where_implied (AsksConforms f t p) piece of line = (yes_where_implied Path (AsksConforms f t p) piece of line).1
   path_where_implied _ piece of line = tt
@@ -260,33 +262,28 @@ module _ (Sentence : TextWorld → Content → Parts → List Text → Type 0) (
   abbrev SaysOfText : CommandLine → Text → Type 0
   SaysOfText line text = (p : Parts) × AreParts line.command text p × SaysOf Sentence line p r.before.taken r.after.taken
 
-  of_output : (line : CommandLine) (text output : Text) → Appends r.before.taken r.after.taken output → (w : TextWorld) (has : HasWorld line text w)
-      → (content_of line.command ≢ Judgements → HasPassed w) → IsOutput w false (content_of line.command) has.parts output → SaysOfText line text
-  of_output line text output taken w has passed (lines, are, e) = (
-    has.parts,
-    has.are,
-    (w, has.of_text, (lines, are, subst (Appends r.before.taken r.after.taken) e taken, holds w (content_of line.command) passed has.parts lines are)),
-  )
+  module _ (line : CommandLine) (text output : Text) (taken : Appends r.before.taken r.after.taken output) where
+    of_output : (w : TextWorld) (has : HasWorld line text w) → (content_of line.command ≢ Judgements → HasPassed w)
+        → IsOutput w false (content_of line.command) has.parts output → SaysOfText line text
+    of_output w has passed (lines, are, e) =
+        let says = holds w (content_of line.command) passed has.parts lines are in
+        (has.parts, has.are, (w, has.of_text, (lines, are, subst (Appends r.before.taken r.after.taken) e taken, says)))
 
-  -- a verdict with status 0 is an answer, or judges derivations
-  of_verdict : (line : CommandLine) (text output : Text) (told : List Event) → Appends r.before.taken r.after.taken output
-      → IsVerdict line text (record { status = 0; output = output }) told → SaysOfText line text
-  of_verdict line text output told taken (is_refused refused) =
-      absurd (omega (arith, refused_status line text (record { status = 0; output = output }) told refused))
-  of_verdict line text output told taken (is_cut_short cut) = absurd (omega (arith, ap (λ (o : Outcome). o.status) cut.outcome))
-  of_verdict line text output told taken (is_answered a) =
-      let passed : HasPassed a.check.world = record {
-        text = a.check.has_world.parts.source;
-        of_text = a.check.has_world.of_text;
-        limits = limits_of line;
-        rules = a.check.rules;
-        told = a.check.first;
-        built = a.check.built;
-      } in
-      of_output line text output taken a.check.world a.check.has_world (λ checks. passed) a.output
-  of_verdict line text output told taken (is_judged j) = of_output line text output taken j.world j.has_world (λ checks. absurd (checks j.judges)) j.output
+    -- a verdict with status 0 is an answer, or judges derivations
+    of_verdict : (told : List Event) → IsVerdict line text (record { status = 0; output = output }) told → SaysOfText line text
+    of_verdict told (is_refused refused) = absurd (omega (arith, refused_status line text (record { status = 0; output = output }) told refused))
+    of_verdict told (is_cut_short cut) = absurd (omega (arith, ap (λ (o : Outcome). o.status) cut.outcome))
+    of_verdict told (is_answered a) = of_output a.check.world a.check.has_world (λ checks. record {
+      text = a.check.has_world.parts.source;
+      of_text = a.check.has_world.of_text;
+      limits = limits_of line;
+      rules = a.check.rules;
+      told = a.check.first;
+      built = a.check.built;
+    }) a.output
+    of_verdict told (is_judged j) = of_output j.world j.has_world (λ checks. absurd (checks j.judges)) j.output
 
   -- what is printed with status 0 says so
   pub taken_say : IsAnsweredRun r → (line : CommandLine) × Says r.words line × IfSome (known_text line.command r.before.left) (SaysOfText line)
   taken_say (output, taken, (line, says, has)) =
-      (line, says, IfSome_then (known_text line.command r.before.left) has.verdict (λ text told. of_verdict line text output told.0 taken told.1))
+      (line, says, IfSome_then (known_text line.command r.before.left) has.verdict (λ text told. of_verdict line text output taken told.0 told.1))
