@@ -1,7 +1,6 @@
 pub mod Contracts
 pub mod Delivering
 pub mod EmptyText
-pub mod Ending
 pub mod Headlines
 pub mod Passed
 pub mod WellFormed
