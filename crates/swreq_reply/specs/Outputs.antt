@@ -3,7 +3,7 @@ use Rattle.std.specs.Prelude.{◌≡◌, ℕ, ◌+◌, ◌*◌, Bool, List, [], 
 use Rattle.std.specs.List.{concat}
 use Rattle.swreq_param.specs.declared.ids.ProtoId.{ProtoId}
 use Rattle.swreq_param.specs.Terms.{Term}
-use Rattle.swreq_derive.specs.Derivation.{Derivable, Derives}
+use Rattle.swreq_derive.specs.Derivation.{Derives}
 use Rattle.swreq_derive.specs.Derivation.TermStatement.{Requires}
 use Rattle.swreq_derive.specs.Facts.{generic_params}
 use Rattle.swreq_derive.specs.Instances.{TermLine}
@@ -85,10 +85,6 @@ module _ (w : TextWorld) where
   Backs b q Yes text = BacksYes b q text
   Backs b q No text = text ≡ []
   Backs b q (Reduced r) text = text ≡ []
-
-  -- By what is derivable from the written list of the signature that is asked, this is the answer to the query.
-  abbrev pub IsAnswered : TermQuery → Answer → Type 0
-  IsAnswered q a = IsAnswer (Derivable (facts_of w) (source_of (signature_at w (signature_of q)))) q a
 
   -- ---- calls
 
