@@ -10,27 +10,30 @@ use Rattle.swreq_param.specs.Terms.{Term}
 use Rattle.swreq_derive.specs.Derivation.{Derivable, Source, TermFacts, TermRequirement, TermStatement}
 use Rattle.swreq_derive.specs.Derivation.TermStatement.{IsValid, Requires}
 use Rattle.swreq_derive.specs.Facts.{generic_params}
-use Rattle.swreq_derive.specs.WellFormed.{HasValidSides}
+use Rattle.swreq_derive.specs.WellFormed.{HasValidSides, IsWellFormed}
 use Rattle.swreq_derive.proofs.Guard.{from_function}
 use Rattle.swreq_derive.proofs.Substitution.{valid_sides}
 use Rattle.swreq_canonical.proofs.Agreement.{minimised_independent}
+use Rattle.swreq_rule.specs.declared.rules.Rule.{Rule}
 use Rattle.swreq_watch.specs.declared.events.Event.{Event}
+use Rattle.swreq_complete.specs.declared.limit.Limits.{Limits}
 use Rattle.swreq_words.specs.Form.{Says}
 use Rattle.swreq_words.specs.declared.command.CommandLine.{CommandLine}
 use Rattle.swreq_lowering.specs.declared.ids.FuncId.{FuncId}
 use Rattle.swreq_lowering.specs.Queries.{TermQuery}
 use Rattle.swreq_lowering.specs.Queries.TermQuery.{AsksSignature, AsksReduced, AsksConforms, AsksAnyObject, AsksEquals}
 use Rattle.swreq_lowering.specs.Requirements.{PlacedRequirement}
-use Rattle.swreq_world.specs.Closed.{IsQueryOf}
+use Rattle.swreq_world.specs.Closed.{IsClosed, IsQueryOf}
 use Rattle.swreq_world.specs.Worlds.{SignatureOver, TextWorld, no_signature, signature_at}
 use Rattle.swreq_symbols.specs.Meaning.{facts_of}
 use Rattle.swreq_print.specs.Names.{Text}
 use Rattle.swreq_query.specs.Answers.{Answer, IsLeastEqual, IsSide, answer_line, asked}
 use Rattle.swreq_query.specs.Answers.Answer.{Invalid, Yes, Reduced}
 use Rattle.swreq_query.proofs.OneAnswer.{one_answer}
+use Rattle.swreq_output.specs.Ended.{HasEnded, IsWorldOfText}
 use Rattle.swreq_output.specs.Signatures.{IsMinimisedLine, full_name}
 use Rattle.swreq_world.specs.FactsAt.{source_of, written_list}
-use Rattle.swreq_output.proofs.PrintingAlike.{equivalent_by_one_line, lines_alike, params_of_one_line}
+use Rattle.swreq_output.proofs.PrintingAlike.{closed_world, equivalent_by_one_line, lines_alike, params_of_one_line}
 use Rattle.swreq_reply.specs.declared.outcome.Outcome.{Outcome}
 use Rattle.swreq_top.specs.Headline.{HasPathWhereImplied, IsDerivedWhereImplied, AsksImplied, IsImplied, IsLeastWhereValid, IsYes, IsYesWhereImplied, PrintsOf, SayAlike, SayDerivations, SayEqualLists, SayFailing, SayFamily, SayPaths, SayTheLeast, SayYesWhereImplied, SaysOf}
 use Rattle.swreq_reply.specs.Lines.{AreLines}
@@ -47,8 +50,9 @@ use Rattle.swreq_top.specs.Run.{HasVerdict, Run, known_text}
 use Rattle.swreq_reply.specs.Verdict.{HasWorld, IsVerdict, limits_of}
 use Rattle.swreq_reply.specs.Verdict.IsVerdict.{answered as is_answered, cut_short as is_cut_short, judged as is_judged, refused as is_refused}
 use Rattle.swreq_reqsig.proofs.Signatures.{numbered_signatures}
+use Rattle.swreq_reply.specs.Machines.{IsBuiltOver}
+use Rattle.swreq_reply.proofs.Checked.{each_comes, is_formed}
 use Rattle.swreq_reply.proofs.OneOutput.{refused_status}
-use Rattle.swreq_top.proofs.Passed.{HasPassed, formed, has_ended, is_closed}
 use Rattle.swreq_reply.proofs.Lines.{asked_list, counted_by, lines_by}
 
 -- ---- answers of queries
@@ -102,17 +106,44 @@ last_list w (q ∷ r ∷ qs) f line h = last_list w (r ∷ qs) f line h
 
 -- ---- texts that pass the check
 
+-- The text has this world, and its check came to rules.
+pub record HasPassed (w : TextWorld) : Type 0 where
+  pub text : Text
+  pub of_text : IsWorldOfText text w
+  pub limits : Limits
+  pub rules : List Rule
+  pub told : List Event
+  pub built : IsBuiltOver limits w rules told
+
 module _ (w : TextWorld) (has : HasPassed w) where
+  is_closed : IsClosed w
+  is_closed = closed_world has.text w has.of_text
+
+  formed : IsWellFormed (facts_of w) (map source_of w.signatures)
+  formed = is_formed has.limits w is_closed has.built
+
+  -- the rounds of each signature have ended
+  has_ended : (g : SignatureOver PlacedRequirement) → Contains w.signatures g → HasEnded has.limits w g
+  has_ended g c =
+      let (own, told, comes) = each_comes has.limits w has.rules has.built.signatures g c in
+      record {
+        rules = has.rules;
+        first = has.built.first;
+        of_protocols = has.built.protocols.0;
+        own = own;
+        more = told;
+        of_list = comes.0;
+      }
+
   -- its queries are of its world
   is_query : (q : TermQuery) → Contains w.queries q → IsQueryOf w q
-  is_query q c = All-contains (IsQueryOf w) w.queries q (is_closed w has).queries c
+  is_query q c = All-contains (IsQueryOf w) w.queries q is_closed.queries c
 
   -- a query whose requirement is implied has the answer `yes`
   answers_yes : (q : TermQuery) → IsQueryOf w q → AsksImplied w q → HasAnswer w false Yes q
   answers_yes q of (r, asks, h) =
       let s : Source = source_of (signature_at w (signature_of q)) in
-      let lists = map source_of w.signatures in
-      let book = λ (st : TermStatement). from_function (facts_of w) lists s st (formed w has) (asked_list w q of) in (
+      let book = λ (st : TermStatement). from_function (facts_of w) (map source_of w.signatures) s st formed (asked_list w q of) in (
         λ side is. (book (IsValid side)).1
             ((rw asks at (sides_of_asked (facts_of w) s q)) (valid_sides (facts_of w) s r ((book (Requires r)).0 h)) side is),
         (r, asks, h),
