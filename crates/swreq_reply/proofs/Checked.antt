@@ -1,5 +1,5 @@
--- The check of a text: its parts one after another, and what a check without a refusal gives.
-use Rattle.std.proofs.Common.{◌≡◌, ◌≢◌, ◌∙◌, inl, inr, refl, sym, ap, subst, ℕ, zero, suc, arith, slice_index_or, List, ◌++◌, append_assoc, Contains, Option, None, Result, Ok, Err, map, length, ◌<◌}
+-- The check of a text: its parts one after another, what is told of them, and what a check without a refusal gives.
+use Rattle.std.proofs.Common.{IsErrAnd, ◌≢◌, ◌∙◌, inl, inr, refl, sym, ap, subst, List, ◌++◌, append_assoc, Contains, Option, None, Result, Ok, Err, map, length, ◌≡◌, ℕ, suc, ◌+◌, ◌<◌, ◌∷◌, append-nil, drop, drop-cons, take, Some}
 use Rattle.swreq_derive.specs.Derivation.{TermFacts}
 use Rattle.swreq_derive.specs.WellFormed.{IsListWellFormed, IsWellFormed}
 use Rattle.swreq_orders.proofs.Members.{member_cases, no_member, contains_of_map}
@@ -10,9 +10,9 @@ use Rattle.swreq_rounds.specs.Rounds.{ComesTo, IsOutcome, IsStoppedRound}
 use Rattle.swreq_watch.specs.declared.events.Event.{Event}
 use Rattle.swreq_lowering.specs.Requirements.{PlacedRequirement}
 use Rattle.swreq_world.specs.Closed.{IsClosed}
-use Rattle.swreq_world.specs.Worlds.{SignatureOver, TextWorld, no_signature}
+use Rattle.swreq_world.specs.Worlds.{SignatureOver, TextWorld, no_signature, signature_at}
 use Rattle.swreq_symbols.specs.Meaning.{facts_of}
-use Rattle.swreq_valid.specs.Built.{IsBuilt}
+use Rattle.swreq_valid.specs.Built.{IsBuilt, Builds}
 use Rattle.swreq_valid.specs.Machines.{list_of, protocols_of}
 use Rattle.swreq_valid.specs.Sides.{Side, protocol_sides, sides}
 use Rattle.swreq_valid.specs.declared.refused.Refused.{Refused}
@@ -27,6 +27,15 @@ use Rattle.swreq_reply.specs.Machines.SignaturesCome.{all, next, stopped}
 use Rattle.swreq_reply.specs.Told.{CheckTells, SignaturesTell}
 use Rattle.swreq_reply.specs.Told.CheckTells.{in_protocols, past_protocols}
 use Rattle.swreq_reply.specs.Told.SignaturesTell.{nothing_yet, in_first, past_first}
+use Rattle.std.proofs.lemmas.List.{take-append-drop, take_more}
+use Rattle.swreq_watch.specs.Told.{GrewBy}
+use Rattle.swreq_watch.proofs.Told.{grew_on}
+use Rattle.swreq_reply.specs.Checks.{Checks, ChecksAll, ChecksOne}
+
+-- what the exit of a `?` returns
+pub err_is : {A E : Type 0} (r : Result A E) (e : E) → IsErrAnd r (λ f. f ≡ e) → r ≡ Err e
+err_is (Ok x) e h = absurd h
+err_is (Err f) e h = ap Err h
 
 abbrev Signatures : Type 0
 Signatures = List (SignatureOver PlacedRequirement)
@@ -47,20 +56,13 @@ module _ (limits : Limits) (w : TextWorld) (rules : List Rule) where
   tell_on {b = b} (next {first = first} {more = more} own one rest e) h =
       past_first own one (tell_on rest h) (ap (λ (t : List Event). t ++ b) e ∙ append_assoc first more b)
 
-  -- ---- one signature of those that come to rules
-
-  pub comes_at : {gs : Signatures} {told : List Event} → SignaturesCome limits w rules gs None told → (k : ℕ) → k < length gs
-      → (own : List Rule) × (told : List Event) × SignatureComes limits w rules (slice_index_or gs k no_signature) (Ok own) told
-  comes_at all k below = absurd (omega (arith, below))
-  comes_at (next {first = first} own one rest e) zero below = (own, first, one)
-  comes_at (next own one rest e) (suc k) below = comes_at rest k (omega (arith, below))
-
+  -- each signature of those that come to rules
   pub each_comes : {gs : Signatures} {told : List Event} → SignaturesCome limits w rules gs None told
       → (g : SignatureOver PlacedRequirement)
       → Contains gs g → (own : List Rule) × (told : List Event) × SignatureComes limits w rules g (Ok own) told
   each_comes all g c = no_member g c
   each_comes (next {g = h} {gs = gs} {first = first} own one rest e) g c = elim (member_cases h g gs c) [
-    | inl i ↦ (own, first, subst (λ (z : SignatureOver PlacedRequirement). SignatureComes limits w rules z (Ok own) first) (sym i) one)
+    | inl i ↦ (own, first, rw i one)
     | inr k ↦ each_comes rest g k
   ]
 
@@ -78,53 +80,103 @@ module _ (limits : Limits) (plan : Plan) where
   stops_come which trace told h =
       record { used = h.used; before = h.before; round = h.round; part = inr (trace, h.stops.0, h.stops.1.within, h.told_is) }
 
-  built_comes : (f : TermFacts) (every : List Side) (answer : Result (List Rule) Refused) (told : List Event) → answer ≢ Err Memory
-      → IsBuilt limits plan f every answer told → ComesTo limits plan told
-  built_comes f every (Ok rules) told real h = ends_come rules told h.0
-  built_comes f every (Err (Limit which trace)) told real h = stops_come which trace told h
-  built_comes f every (Err (NotATypeParameter at)) told real (rules, h, fails) = ends_come rules told h
-  built_comes f every (Err Memory) told real h = absurd (real refl)
-
   refused_comes : (f : TermFacts) (every : List Side) (refused : Refused) (told : List Event) → refused ≢ Memory
       → IsBuilt limits plan f every (Err refused) told → ComesTo limits plan told
-  refused_comes f every refused told real h = built_comes f every (Err refused) told (λ is. real (inner refused is)) h
-    where
-      inner : (r : Refused) → (let a : Result (List Rule) Refused = Err r in a) ≡ Err Memory → r ≡ Memory
-      inner r e = cc
+  refused_comes f every (Limit which trace) told real h = stops_come which trace told h
+  refused_comes f every (NotATypeParameter at) told real (rules, h, fails) = ends_come rules told h
+  refused_comes f every Memory told real h = absurd (real refl)
 
-signatures_tell : (limits : Limits) (w : TextWorld) (rules : List Rule) {gs : Signatures} {refused : Option Refused} {told : List Event}
-    → SignaturesCome limits w rules gs refused told → SignaturesTell limits w rules gs told
-signatures_tell limits w rules all = nothing_yet
-signatures_tell limits w rules (next own one rest e) = past_first own one (signatures_tell limits w rules rest) e
-signatures_tell limits w rules {told = told} (stopped {g = g} refused real come) =
-    in_first (refused_comes limits (list_of w rules g.params (written_list g)) (facts_of w)
-    (sides (source_of g) g.requirements) refused told real come)
+module _ (limits : Limits) (w : TextWorld) where
+  signatures_tell : (rules : List Rule) {gs : Signatures} {refused : Option Refused} {told : List Event}
+      → SignaturesCome limits w rules gs refused told → SignaturesTell limits w rules gs told
+  signatures_tell rules all = nothing_yet
+  signatures_tell rules (next own one rest e) = past_first own one (signatures_tell rules rest) e
+  signatures_tell rules {told = told} (stopped {g = g} refused real come) =
+      in_first (refused_comes limits (list_of w rules g.params (written_list g)) (facts_of w) (sides (source_of g) g.requirements) refused told real come)
 
-pub check_tells : (limits : Limits) (w : TextWorld) {refused : Option Refused} {told : List Event} → IsChecked limits w refused told
-    → CheckTells limits w told
-check_tells limits w {told = told} (protocols_refused refused real come) =
-    in_protocols (refused_comes limits (protocols_of w) (facts_of w) (protocol_sides w) refused told real come)
-check_tells limits w (protocols_built rules come signatures e) = past_protocols rules come (signatures_tell limits w rules signatures) e
+  pub check_tells : {refused : Option Refused} {told : List Event} → IsChecked limits w refused told → CheckTells limits w told
+  check_tells {told = told} (protocols_refused refused real come) =
+      in_protocols (refused_comes limits (protocols_of w) (facts_of w) (protocol_sides w) refused told real come)
+  check_tells (protocols_built rules come signatures e) = past_protocols rules come (signatures_tell rules signatures) e
 
--- ---- well formed texts
+  -- a text that is not refused is checked
+  pub built_checked : (rules : List Rule) (told : List Event) → IsBuiltOver limits w rules told → IsChecked limits w None told
+  built_checked rules told built = protocols_built rules built.protocols built.signatures built.told_is
 
-module _ (limits : Limits) (w : TextWorld) (closed : IsClosed w) where
-  lists_formed : (rules : List Rule) {told : List Event} → SignaturesCome limits w rules w.signatures None told
-      → (g : SignatureOver PlacedRequirement) → Contains w.signatures g → IsListWellFormed (facts_of w) (source_of g)
-  lists_formed rules come g c =
-      let (own, told, comes) = each_comes limits w rules come g c in λ r k. list_formed (facts_of w)
-      (source_of g) g.requirements comes.1 r k
-
-  -- a text that is not refused is well formed
-  pub is_formed : {rules : List Rule} {told : List Event} → IsBuiltOver limits w rules told
+  -- and it is well formed
+  pub is_formed : IsClosed w → {rules : List Rule} {told : List Event} → IsBuiltOver limits w rules told
       → IsWellFormed (facts_of w) (map source_of w.signatures)
-  is_formed {rules = rules} built = record {
+  is_formed closed {rules = rules} built = record {
     protocols = protocols_formed w closed built.protocols.1;
-    lists = λ s c. let g = contains_of_map source_of w.signatures s c in
-        subst (IsListWellFormed (facts_of w)) (sym g.2) (lists_formed rules built.signatures g.0 g.1);
+    lists = λ s c.
+        let (g, has, is) = contains_of_map source_of w.signatures s c in
+        let (own, told, comes) = each_comes limits w rules built.signatures g has in
+        subst (IsListWellFormed (facts_of w)) (sym is) (λ r k. list_formed (facts_of w) (source_of g) g.requirements comes.1 r k);
   }
 
--- a text that is not refused is checked
-pub built_checked : (limits : Limits) (w : TextWorld) (rules : List Rule) (told : List Event) → IsBuiltOver limits w rules told
-    → IsChecked limits w None told
-built_checked limits w rules told built = protocols_built rules built.protocols built.signatures built.told_is
+-- ---- what is told
+
+-- Behind the old list such events were told.
+abbrev pub Tells : (List Event → Type 0) → Option (List Event) → Option (List Event) → Type 0
+Tells Are old new = (told : List Event) × Are told × GrewBy old new told
+
+-- first the ones are told, and then the others
+pub told_on : {First Then Both : List Event → Type 0} (old mid new : Option (List Event)) → Tells First old mid → Tells Then mid new
+    → ((a b : List Event) → First a → Then b → Both (a ++ b)) → Tells Both old new
+told_on old mid new (a, h, grew) (b, k, more) both = (a ++ b, both a b h k, grew_on old mid new a b grew more)
+
+-- ---- one signature
+
+-- where building its machine is refused, the signature is
+pub one_refused : (limits : Limits) (w : TextWorld) (base : List Rule) (g : SignatureOver PlacedRequirement) (old new : Option (List Event)) (e : Refused)
+    → Builds limits (list_of w base g.params (written_list g)) (facts_of w) (sides (source_of g) g.requirements) old new (Err e)
+    → ChecksOne limits w base g old new (Err e)
+one_refused limits w base g old new Memory b = (b.0, inl b.1, b.2)
+one_refused limits w base g old new e b = b
+
+-- ---- one after another
+
+-- The first k signatures came to rules.
+abbrev pub CameFirst : Limits → TextWorld → List Rule → ℕ → Option (List Event) → Option (List Event) → Type 0
+CameFirst limits w base k = Tells (SignaturesCome limits w base (take k w.signatures) None)
+
+-- one more is checked, as the text stands by the table that has grown
+module _ (limits : Limits) (now w : TextWorld) (stays : now ≡ w) (base : List Rule) (k : ℕ) (l : k < length w.signatures)
+    (old mid new : Option (List Event)) (came : CameFirst limits w base k old mid) where
+  abbrev ChecksNext : Result (Unit {0}) Refused → Type 0
+  ChecksNext = ChecksOne limits now base (signature_at now (record { place = k })) mid new
+
+  pub came_more : (done : Unit {0}) → ChecksNext (Ok done) → CameFirst limits w base (k + 1) old new
+  came_more done one = told_on old mid new came (rw stays at one) (λ a b before comes.
+      rw (take_more w.signatures k no_signature l) (come_on limits w base before (next comes.0 comes.1 all (sym (append-nil b)))))
+
+  split : take k w.signatures ++ (signature_at w (record { place = k }) ∷ drop (suc k) w.signatures) ≡ w.signatures
+  split = rw (← drop-cons w.signatures k no_signature l) (take-append-drop k w.signatures)
+
+  pub stopped_at : (e : Refused) → ChecksNext (Err e) → ChecksAll limits w base old new (Err e)
+  stopped_at Memory one = told_on old mid new came (rw stays at one) (λ a b before part.
+      subst (λ gs. SignaturesTell limits w base gs (a ++ b)) split (tell_on limits w base before (elim part [
+        | inl told ↦ in_first told
+        | inr (own, comes) ↦ past_first own comes nothing_yet (sym (append-nil b))
+      ])))
+  stopped_at e one = told_on old mid new came (rw stays at one) (λ a b before stops.
+      subst (λ gs. SignaturesCome limits w base gs (Some e) (a ++ b)) split (come_on limits w base before (stopped e (λ is. (cc)) stops)))
+
+-- ---- the protocols, and then the signatures
+
+module _ (limits : Limits) (w : TextWorld) (old new : Option (List Event)) where
+  abbrev BuildsProtocols : Option (List Event) → Result (List Rule) Refused → Type 0
+  BuildsProtocols = Builds limits (protocols_of w) (facts_of w) (protocol_sides w) old
+
+  pub protocols_failed : (e : Refused) → BuildsProtocols new (Err e) → Checks limits w old new (Err e)
+  protocols_failed Memory (told, h, grew) = (told, in_protocols h, grew)
+  protocols_failed e (told, h, grew) = (told, protocols_refused e (λ is. (cc)) h, grew)
+
+  module _ (mid : Option (List Event)) (rules : List Rule) (built : BuildsProtocols mid (Ok rules)) where
+    pub then_failed : (e : Refused) → ChecksAll limits w rules mid new (Err e) → Checks limits w old new (Err e)
+    then_failed Memory rest = told_on old mid new built rest (λ a b h part. past_protocols rules h part refl)
+    then_failed e rest = told_on old mid new built rest (λ a b h stops. protocols_built rules h stops refl)
+
+    pub then_all : (done : Unit {0}) → ChecksAll limits w rules mid new (Ok done) → Tells (IsBuiltOver limits w rules) old new
+    then_all done rest =
+        told_on old mid new built rest (λ a b h come. record { first = a; more = b; protocols = h; signatures = come; told_is = refl })

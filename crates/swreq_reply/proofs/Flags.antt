@@ -1,7 +1,7 @@
 -- Of which signatures a command wants the minimised list.
 use Rattle.std.proofs.Common.{◌≡◌, ◌≢◌, ◌⊎◌, ◌∙◌, inl, inr, refl, sym, ap, subst, ℕ, ◌<◌, ◌||◌, Bool, true, false, List, [], ◌∷◌, ◌++◌, get_or, set, length, map, Contains, Option, Some, None, true≢false, arith, eq-eqb, ne_eqb}
 use Rattle.std.proofs.lemmas.Bool.{cases_eq, eqb-true}
-use Rattle.std.proofs.lemmas.Option.{same_Some}
+use Rattle.std.proofs.lemmas.Option.{none-some, same_Some}
 use Rattle.std.proofs.lemmas.List.{get_or-set_other, get_or-set_same, length-map, length-set}
 use Rattle.std.proofs.lemmas.List.Elements.{All-contains, Contains-get_or}
 use Rattle.std.proofs.lemmas.List.Folds.{list_any-append}
@@ -9,15 +9,17 @@ use Rattle.std.proofs.Math.Bool.{or-false, or-true}
 use Rattle.swreq_param.specs.Terms.{Term}
 use Rattle.swreq_orders.proofs.Members.{contains_map}
 use Rattle.swreq_reply.specs.declared.content.Content.{Content}
-use Rattle.swreq_reply.specs.declared.content.Content.TheVariants.{Answers, Signatures, Systems, Calls, Families, Judgements}
+use Rattle.swreq_reply.specs.declared.content.Content.TheVariants.{Answers, Signatures}
 use Rattle.swreq_lowering.specs.declared.ids.FuncId.{FuncId}
 use Rattle.swreq_lowering.specs.declared.ids.Query.{Query}
 use Rattle.swreq_lowering.specs.declared.ids.Query.TheVariants as queries
-use Rattle.swreq_lowering.specs.ByTable.{query_by}
+use Rattle.swreq_lowering.specs.ByTable.{HasQueryIdsOf, query_by}
 use Rattle.swreq_lowering.specs.Queries.TermQuery.{AsksSignature}
 use Rattle.swreq_world.specs.ByTable.{signature_by, world_by}
 use Rattle.swreq_world.specs.Closed.{IsClosed, IsQueryOf}
 use Rattle.swreq_world.specs.Worlds.{IdWorld, no_signature, signature_at}
+use Rattle.swreq_query.specs.Asked.{IsQueryIn}
+use Rattle.swreq_symbols.specs.Known.{IsTextOver}
 use Rattle.swreq_reply.specs.Outputs.{signature_of}
 use Rattle.swreq_reply.specs.Told.{IsMinimisedFor}
 use Rattle.swreq_reply.specs.Wanted.{AreFlags, function_of, is_at, is_list_asked, list_asked, wants_list}
@@ -58,10 +60,7 @@ module _ (qs : List Query) (count : ℕ) (flags : List Bool) (q : Query) (h : Ar
 
 pub asked_alike : (terms : List Term) (q : Query) → signature_of (query_by terms q) ≡ function_of q
 asked_alike terms (queries.Signature f) = refl
-asked_alike terms (queries.Reduced f t) = refl
-asked_alike terms (queries.Conf f t p) = refl
-asked_alike terms (queries.Layout f t) = refl
-asked_alike terms (queries.Same f t u) = refl
+asked_alike terms _ = refl
 
 -- each query asks a signature of the world
 pub asked_within : (w : IdWorld) (terms : List Term) → IsClosed (world_by terms w) → (q : Query) → Contains w.queries q
@@ -72,13 +71,17 @@ asked_within w terms closed q c =
     let within : (signature_of (query_by terms q)).place < length (map (signature_by terms) w.signatures) = query_signature (world_by terms w) (query_by terms q) of in
     subst (λ (f : FuncId). f.place < length w.signatures) (asked_alike terms q) (omega (arith, length-map w.signatures (signature_by terms), within))
 
+-- a query of the text is in it
+pub query_in : (terms : List Term) (w : IdWorld) → IsTextOver terms w → (q : Query) → Contains w.queries q → IsQueryIn terms w q
+query_in terms w text q c = (
+  All-contains (HasQueryIdsOf terms) w.queries q text.table.queries c,
+  All-contains (IsQueryOf (world_by terms w)) (world_by terms w).queries (query_by terms q) text.closed.queries (contains_map (query_by terms) w.queries q c),
+)
+
 -- what a query for a list asks is the signature of the list
 pub listed_function : (q : Query) (f : FuncId) → list_asked q ≡ Some f → function_of q ≡ f
 listed_function (queries.Signature g) f is = same_Some g f is
-listed_function (queries.Reduced g t) f is = absurd (let clash : (let o : Option FuncId = None in o) ≡ Some f = is in cc)
-listed_function (queries.Conf g t p) f is = absurd (let clash : (let o : Option FuncId = None in o) ≡ Some f = is in cc)
-listed_function (queries.Layout g t) f is = absurd (let clash : (let o : Option FuncId = None in o) ≡ Some f = is in cc)
-listed_function (queries.Same g t u) f is = absurd (let clash : (let o : Option FuncId = None in o) ≡ Some f = is in cc)
+listed_function _ f is = absurd (none-some f is)
 
 -- a query for a list asks for it
 pub is_listed : (qs : List Query) (f : FuncId) → Contains qs (queries.Signature f) → is_list_asked qs f.place ≡ true
@@ -87,33 +90,18 @@ is_listed qs f c = passes (lists_at f.place) qs (queries.Signature f) c (eq-eqb 
 -- and where one is asked, there is a query for it
 asking_list : (k : ℕ) (q : Query) → lists_at k q ≡ true → (f : FuncId) × (q ≡ queries.Signature f) × (f.place ≡ k)
 asking_list k (queries.Signature f) h = (f, refl, eqb-true f.place k h)
-asking_list k (queries.Reduced f t) h = absurd (true≢false (sym h))
-asking_list k (queries.Conf f t p) h = absurd (true≢false (sym h))
-asking_list k (queries.Layout f t) h = absurd (true≢false (sym h))
-asking_list k (queries.Same f t u) h = absurd (true≢false (sym h))
+asking_list k _ h = absurd (true≢false (sym h))
 
-any_list : (qs : List Query) (k : ℕ) → is_list_asked qs k ≡ true → (f : FuncId) × Contains qs (queries.Signature f) × (f.place ≡ k)
-any_list qs k h =
-    let q = some_passes (lists_at k) qs h in
-    let f = asking_list k q.0 q.2 in (f.0, subst (Contains qs) f.1 q.1, f.2)
-
-module _ (w : IdWorld) (terms : List Term) (f : FuncId) where
-  for_query : is_list_asked w.queries f.place ≡ true
-      → (g : FuncId) × Contains (world_by terms w).queries (AsksSignature g) × (signature_at (world_by terms w) f ≡ signature_at (world_by terms w) g)
-  for_query h =
-      let g = any_list w.queries f.place h in (
-        g.0,
-        contains_map (query_by terms) w.queries (queries.Signature g.0) g.1,
-        ap (λ (n : ℕ). signature_at (world_by terms w) (record { place = n })) (sym g.2),
-      )
-
-  -- and so it is wanted
-  pub minimised_for : (c : Content) → f.place < length w.signatures → wants_list c w.queries f.place ≡ true
-      → IsMinimisedFor c (world_by terms w) (signature_at (world_by terms w) f)
-  minimised_for (Answers b) l h = for_query h
-  minimised_for Signatures l h =
-      Contains-get_or (map (signature_by terms) w.signatures) f.place no_signature (omega (arith, length-map w.signatures (signature_by terms), l))
-  minimised_for Systems l h = true≢false (sym h)
-  minimised_for Families l h = true≢false (sym h)
-  minimised_for Judgements l h = true≢false (sym h)
-  minimised_for Calls l h = true≢false (sym h)
+-- a list that is wanted is minimised for the command
+pub minimised_for : (w : IdWorld) (terms : List Term) (f : FuncId) (c : Content) → f.place < length w.signatures
+    → wants_list c w.queries f.place ≡ true → IsMinimisedFor c (world_by terms w) (signature_at (world_by terms w) f)
+minimised_for w terms f (Answers s) l h =
+    let (q, has, passes_it) = some_passes (lists_at f.place) w.queries h in
+    let (g, is, at) = asking_list f.place q passes_it in (
+      g,
+      contains_map (query_by terms) w.queries (queries.Signature g) (subst (Contains w.queries) is has),
+      ap (λ (n : ℕ). signature_at (world_by terms w) (record { place = n })) (sym at),
+    )
+minimised_for w terms f Signatures l h =
+    Contains-get_or (map (signature_by terms) w.signatures) f.place no_signature (omega (arith, length-map w.signatures (signature_by terms), l))
+minimised_for w terms f _ l h = absurd (true≢false (sym h))

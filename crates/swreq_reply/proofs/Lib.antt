@@ -1,13 +1,9 @@
 pub mod Checked
-pub mod Explained
 pub mod Flags
 pub mod Lines
 pub mod Misfits
 pub mod OfCalls
 pub mod OfLists
-pub mod OfMinimising
-pub mod OfQueries
-pub mod OfSignatures
 pub mod OneCheck
 pub mod OneOutput
 pub mod OneRefusal
@@ -16,4 +12,3 @@ pub mod Placed
 pub mod Printed
 pub mod Settled
 pub mod Verdicts
-pub mod Inside

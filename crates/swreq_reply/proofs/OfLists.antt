@@ -1,125 +1,132 @@
--- What building the machine of a signature says, where its list is read from a world over ids.
-use Rattle.std.proofs.Common.{◌≡◌, ◌⊎◌, ◌∙◌, inl, inr, sym, ap, subst, ◌<◌, arith, List, Option, None, Result, Ok, Err, Contains, length}
+-- The list of a signature, as it is read from a world over ids and as its text means it, and the machine of it.
+use Rattle.std.proofs.Common.{◌≡◌, refl, sym, subst, ◌<◌, List, Option, None, Result, Ok, Err, Contains, arith, length, inl, inr, ℕ, [], ◌∷◌, map}
 use Rattle.std.proofs.lemmas.List.{length-map}
+use Rattle.std.proofs.lemmas.List.Elements.{Contains-get_or, Contains-append_cases}
 use Rattle.swreq_complete.specs.declared.limit.Limits.{Limits}
-use Rattle.swreq_derive.specs.Derivation.{TermRequirement}
+use Rattle.swreq_derive.specs.Derivation.{TermRequirement, Source, TermFacts}
+use Rattle.swreq_derive.specs.Derivation.Source.{Written as WrittenList}
+use Rattle.swreq_derive.specs.Facts.{generic_params}
 use Rattle.swreq_derive.specs.declared.known.Params.{Params}
 use Rattle.swreq_param.specs.Terms.{Term}
 use Rattle.swreq_rule.specs.declared.rules.Rule.{Rule}
 use Rattle.swreq_watch.specs.declared.events.Event.{Event}
+use Rattle.swreq_lowering.specs.ByTable.{placed}
 use Rattle.swreq_lowering.specs.declared.ids.FuncId.{FuncId}
 use Rattle.swreq_lowering.specs.declared.ids.Written.{Written}
 use Rattle.swreq_lowering.specs.Requirements.{PlacedRequirement}
 use Rattle.swreq_world.specs.ByTable.{signature_by, world_by}
-use Rattle.swreq_world.specs.Worlds.{IdWorld, SignatureOver, signature_at}
-use Rattle.swreq_symbols.proofs.OfText.{requirements_placed, signature_is, signature_written as is_written}
+use Rattle.swreq_world.specs.FactsAt.{source_of, written_list}
+use Rattle.swreq_world.specs.Worlds.{IdWorld, SignatureOver, TextWorld, no_signature, signature_at}
+use Rattle.swreq_symbols.proofs.OfText.{requirements_placed, signature_is, signature_written}
 use Rattle.swreq_symbols.specs.Known.{IsTextOver}
 use Rattle.swreq_symbols.specs.Meaning.{facts_of}
 use Rattle.swreq_rounds.specs.Plan.{Plan}
-use Rattle.swreq_valid.specs.Built.{Builds, IsBuilt, IsOnlyBuilt}
-use Rattle.swreq_valid.specs.Machines.{IsMachineOf, MachineView, list_of, machine_plan}
+use Rattle.swreq_valid.specs.Built.{Builds, IsOnlyBuilt}
+use Rattle.swreq_valid.specs.Machines.{list_of, machine_plan, IsMachineOf, MachineView}
 use Rattle.swreq_valid.specs.Plans.{AreWritten, bare, listed}
-use Rattle.swreq_valid.specs.Sides.{Side, list_sides, sides}
+use Rattle.swreq_valid.specs.Sides.{list_sides, sides, HoldsOfEach, IsValidSide, sides_at, sides_of}
 use Rattle.swreq_valid.specs.declared.refused.Refused.{Refused}
 use Rattle.swreq_valid.specs.declared.refused.Refused.TheVariants.{Memory}
-use Rattle.swreq_world.specs.FactsAt.{source_of, written_list}
-use Rattle.swreq_derive.specs.WellFormed.{IsListWellFormed}
-use Rattle.swreq_reqsig.proofs.WellFormed.{list_formed}
-use Rattle.swreq_reply.specs.Checks.{ChecksOne}
 use Rattle.swreq_reply.specs.Machines.{SignaturesCome}
-use Rattle.swreq_reply.proofs.Checked.{comes_at}
-use Rattle.swreq_reply.proofs.OfSignatures.{one_done, one_lost, one_refused, plan_is, sides_are}
+use Rattle.swreq_reply.proofs.Checked.{each_comes}
+use Rattle.swreq_orders.proofs.Members.{first_member, later_member, no_member, only_member, member_cases}
+use Rattle.swreq_derive.specs.Derivation.TermRequirement.{Equals}
+use Rattle.swreq_derive.specs.WellFormed.{HasValidSides, IsListWellFormed}
+use Rattle.swreq_valid.specs.Rounds.{AreRounds, last_rules}
+use Rattle.swreq_world.specs.Additions.{AddsNothing}
+use Rattle.swreq_reply.specs.Settings.{IsMachineFor, world_in}
+use Rattle.swreq_reply.specs.declared.setting.Setting.{Setting}
 
-module _ (w : IdWorld) (terms : List Term) (f : FuncId) where
-  -- the list of a signature is of the table and of the text
-  pub signature_written : IsTextOver terms w → f.place < length w.signatures → (list : List Written) → list ≡ (signature_at w f).requirements
-      → AreWritten terms w.lexicon list
-  signature_written text l list e r c = is_written w terms text f l r (subst (λ (rs : List Written). Contains rs r) e c)
+module _ (terms : List Term) (w : IdWorld) (f : FuncId) (params : Params) (list : List Written)
+    (params_are : params ≡ (signature_at w f).params) (list_is : list ≡ (signature_at w f).requirements) where
+  abbrev meant : SignatureOver PlacedRequirement
+  meant = signature_at (world_by terms w) f
 
-  -- a machine of the list that the world has is one of the signature
-  pub machine_is : (list : List Written) (m : MachineView) → list ≡ (signature_at w f).requirements
-      → IsMachineOf (world_by terms w) (listed terms (bare list)) m → IsMachineOf (world_by terms w) (written_list (signature_at (world_by terms w) f)) m
-  machine_is list m e h = subst (λ (rs : List TermRequirement). IsMachineOf (world_by terms w) rs m)
-      (ap (λ (xs : List Written). listed terms (bare xs)) e ∙ requirements_placed terms (signature_at w f).requirements ∙ sym (ap written_list (signature_is w terms f))) h
+  -- what holds of those that are read holds of those that are meant: of the parameters, and of the list without and with its places
+  pub as_meant : (P : Params → List TermRequirement → List PlacedRequirement → Type 0) → P params (listed terms (bare list)) (placed terms list)
+      → P meant.params (written_list meant) meant.requirements
+  as_meant P h =
+      subst (λ g. P g.params (written_list g) g.requirements) (sym (signature_is w terms f))
+      (rw (← params_are, ← list_is) (subst (λ rs. P params rs (placed terms list)) (requirements_placed terms list) h))
 
-  -- its generic parameters are those that the world has
-  pub params_are : (params own : Params) → own ≡ params → params ≡ (signature_at w f).params → own ≡ (signature_at (world_by terms w) f).params
-  params_are params own same e = same ∙ e ∙ sym (ap (λ (g : SignatureOver PlacedRequirement). g.params) (signature_is w terms f))
+  -- and the other way round
+  pub as_read : (P : Params → List TermRequirement → List PlacedRequirement → Type 0) → P meant.params (written_list meant) meant.requirements
+      → P params (listed terms (bare list)) (placed terms list)
+  as_read P h = as_meant (λ p rs qs. P p rs qs → P params (listed terms (bare list)) (placed terms list)) (λ k. k) h
 
-  -- building it with these generic parameters and this list checks the signature
-  module _ (limits : Limits) (base : List Rule) (params : Params) (list : List Written)
-      (params_is : params ≡ (signature_at w f).params) (list_are : list ≡ (signature_at w f).requirements) where
-    abbrev meant : SignatureOver PlacedRequirement
-    meant = signature_at (world_by terms w) f
+  -- so what is built of the read ones is built of the signature
+  pub builds : (limits : Limits) (base : List Rule) (old new : Option (List Event)) (answer : Result (List Rule) Refused)
+      → Builds limits (machine_plan terms w base params (bare list)) (facts_of (world_by terms w)) (list_sides terms params list) old new answer
+      → Builds limits (list_of (world_by terms w) base meant.params (written_list meant)) (facts_of (world_by terms w))
+      (sides (source_of meant) meant.requirements) old new answer
+  builds limits base old new answer = as_meant (λ p rs qs. Builds limits (list_of (world_by terms w) base p rs) (facts_of (world_by terms w))
+      (sides (WrittenList (generic_params p) rs) qs) old new answer)
 
-    pub plan_of_list : machine_plan terms w base params (bare list) ≡ list_of (world_by terms w) base meant.params (written_list meant)
-    plan_of_list =
-        ap (λ (p : Params). machine_plan terms w base p (bare list)) params_is
-        ∙ ap (λ (rs : List Written). machine_plan terms w base (signature_at w f).params (bare rs)) list_are ∙ plan_is w terms base f
+  -- the list is of the table and of the text
+  pub list_written : IsTextOver terms w → f.place < length w.signatures → AreWritten terms w.lexicon list
+  list_written text l r c = signature_written w terms text f l r (rw list_is at c)
 
-    sides_of_list : list_sides terms params list ≡ sides (source_of meant) meant.requirements
-    sides_of_list =
-        ap (λ (p : Params). list_sides terms p list) params_is
-        ∙ ap (λ (rs : List Written). list_sides terms (signature_at w f).params rs) list_are ∙ sides_are w terms base f
+  -- built anew the list of a signature that has passed comes to rules again, or there is no memory
+  pub only_memory : (limits : Limits) (base : List Rule) (told : List Event)
+      → SignaturesCome limits (world_by terms w) base (world_by terms w).signatures None told → f.place < length w.signatures → (e : Refused)
+      → IsOnlyBuilt limits (machine_plan terms w base params (bare list)) (facts_of (world_by terms w)) (list_sides terms params list) (Err e) → e ≡ Memory
+  only_memory limits base told come l e only =
+      let within : f.place < length (world_by terms w).signatures = omega (arith, length-map w.signatures (signature_by terms), l) in
+      let (own, events, comes) = each_comes limits (world_by terms w) base come meant (Contains-get_or (world_by terms w).signatures f.place no_signature within) in
+      let meant_so = as_meant (λ p rs qs. IsOnlyBuilt limits (list_of (world_by terms w) base p rs) (facts_of (world_by terms w))
+      (sides (WrittenList (generic_params p) rs) qs) (Err e)) only in
+      elim (meant_so (Ok own) events comes) [ inl same ↦ cc | inr (inl lost) ↦ cc | inr (inr lost) ↦ cc ]
 
-    -- what is said of the rounds and the sides of the one is said of those of the other
-    of_signature : (P : Plan → List Side → Type 0) → P (machine_plan terms w base params (bare list)) (list_sides terms params list)
-        → P (list_of (world_by terms w) base meant.params (written_list meant)) (sides (source_of meant) meant.requirements)
-    of_signature P h = subst (P (list_of (world_by terms w) base meant.params (written_list meant))) sides_of_list
-        (subst (λ (plan : Plan). P plan (list_sides terms params list)) plan_of_list h)
+-- ---- the sides of a well formed list are valid
 
-    of_list : (P : Plan → List Side → Type 0) → P (list_of (world_by terms w) base meant.params (written_list meant)) (sides (source_of meant) meant.requirements)
-        → P (machine_plan terms w base params (bare list)) (list_sides terms params list)
-    of_list P h = subst (P (machine_plan terms w base params (bare list))) (sym sides_of_list)
-        (subst (λ (plan : Plan). P plan (sides (source_of meant) meant.requirements)) (sym plan_of_list) h)
+sides_hold : (f : TermFacts) (s : Source) (r : TermRequirement) (left right : ℕ) → HasValidSides f s r
+    → HoldsOfEach (IsValidSide f) (sides_at s r left right)
+sides_hold f s (Equals t u) left right h x c =
+    elim (member_cases (record { source = s; term = t; at = left }) x (record { source = s; term = u; at = right } ∷ []) c) [
+      | inl e ↦ rw e h.0
+      | inr d ↦ rw (only_member (record { source = s; term = u; at = right }) x d) h.1
+    ]
+sides_hold f s r left right h x c = rw (only_member _ x c) h
 
-    -- ---- in the check
+pub formed_sides : (f : TermFacts) (s : Source) (rs : List PlacedRequirement)
+    → ((r : TermRequirement) → Contains (map (λ (q : PlacedRequirement). q.requirement) rs) r → HasValidSides f s r) → HoldsOfEach (IsValidSide f) (sides s rs)
+formed_sides f s [] h x c = no_member x c
+formed_sides f s (q ∷ rs) h x c = elim (Contains-append_cases (sides_of s q) (sides s rs) x c) [
+  | inl k ↦ sides_hold f s q.requirement q.left_at q.right_at (h q.requirement (first_member q.requirement _)) x k
+  | inr k ↦ formed_sides f s rs (λ r d. h r (later_member q.requirement r _ d)) x k
+]
 
-    module _ (old new : Option (List Event)) where
-      abbrev BuildsList : Result (List Rule) Refused → Type 0
-      BuildsList = Builds limits (machine_plan terms w base params (bare list)) (facts_of (world_by terms w)) (list_sides terms params list) old new
+-- ---- machines
 
-      builds : (answer : Result (List Rule) Refused) → BuildsList answer
-          → Builds limits (list_of (world_by terms w) base meant.params (written_list meant)) (facts_of (world_by terms w))
-          (sides (source_of meant) meant.requirements) old new answer
-      builds answer b = of_signature (λ (plan : Plan) (all : List Side). Builds limits plan (facts_of (world_by terms w)) all old new answer) b
+-- What makes a machine that of a list with such generic parameters, over the rules of the protocols.
+abbrev pub IsMachineBy : TextWorld → Setting → MachineView → Params → List TermRequirement → Type 0
+IsMachineBy w s m p rs =
+    IsListWellFormed (facts_of w) (WrittenList (generic_params p) rs) × IsMachineOf w rs m × (m.params ≡ p)
+    × AreRounds s.limits (list_of w (last_rules s.protocols.now.rounds) m.params rs) m.rounds
 
-      -- where rules are built the list is well formed
-      pub built_formed : (rules : List Rule) → BuildsList (Ok rules) → IsListWellFormed (facts_of (world_by terms w)) (source_of meant)
-      built_formed rules b r c = list_formed (facts_of (world_by terms w)) (source_of meant) meant.requirements (builds (Ok rules) b).1.1 r c
+-- It is that of a signature where it is so of its list.
+abbrev pub IsMachineAt : TextWorld → Setting → FuncId → MachineView → Type 0
+IsMachineAt w s f m = IsMachineBy w s m (signature_at w f).params (written_list (signature_at w f))
 
-      pub refused_one : (e : Refused) → BuildsList (Err e) → ChecksOne limits (world_by terms w) base meant old new (Err e)
-      refused_one e b = one_refused limits (world_by terms w) base meant old new e (builds (Err e) b)
+module _ (terms : List Term) (s : Setting) where
+  pub is_at : (f : FuncId) (m : MachineView) → IsMachineFor terms s f m → IsMachineAt (world_in terms s) s f m
+  is_at f m h = (h.formed, h.machine, h.params, h.rounds)
 
-      -- behind it all is made, or there is no memory for it
-      pub made_one : (rules : List Rule) (made : Result (Unit {0}) Refused) → (made ≡ Ok tt) ⊎ (made ≡ Err Memory) → BuildsList (Ok rules)
-          → ChecksOne limits (world_by terms w) base meant old new made
-      made_one rules made (inl done) b =
-          subst (ChecksOne limits (world_by terms w) base meant old new) (sym done)
-          (one_done limits (world_by terms w) base meant old new rules tt (builds (Ok rules) b))
-      made_one rules made (inr lost) b =
-          subst (ChecksOne limits (world_by terms w) base meant old new) (sym lost)
-          (one_lost limits (world_by terms w) base meant old new rules (builds (Ok rules) b))
+  pub is_for : (f : FuncId) (m : MachineView) → f.place < length s.world.now.signatures → IsMachineAt (world_in terms s) s f m → IsMachineFor terms s f m
+  is_for f m l (formed, machine, params, rounds) = record { signature = l; formed = formed; machine = machine; params = params; rounds = rounds }
 
-    -- ---- behind it
+  -- the machine of a struct is that of a function that adds nothing to it
+  pub machine_inside : (outer f : FuncId) → AddsNothing s.world.now.signatures outer f → (m : MachineView) → f.place < length s.world.now.signatures
+      → IsMachineFor terms s outer m → IsMachineFor terms s f m
+  machine_inside outer f adds m l h =
+      is_for f m l (as_meant terms s.world.now f _ _ (sym adds.params) (sym adds.requirements) (λ p rs qs. IsMachineBy (world_in terms s) s m p rs)
+      (as_read terms s.world.now outer _ _ refl refl (λ p rs qs. IsMachineBy (world_in terms s) s m p rs) (is_at outer m h)))
 
-    -- built anew the list of a signature that has passed comes to rules again, or there is no memory
-    pub only_memory : (told : List Event) → SignaturesCome limits (world_by terms w) base (world_by terms w).signatures None told
-        → f.place < length w.signatures → (answer : Result (List Rule) Refused)
-        → IsOnlyBuilt limits (machine_plan terms w base params (bare list)) (facts_of (world_by terms w)) (list_sides terms params list) answer
-        → (e : Refused) → answer ≡ Err e → e ≡ Memory
-    only_memory told come l answer only e is =
-        let within : f.place < length (world_by terms w).signatures = omega (arith, length-map w.signatures (signature_by terms), l) in
-        let one = comes_at limits (world_by terms w) base come f.place within in
-        let built : IsBuilt limits (machine_plan terms w base params (bare list)) (facts_of (world_by terms w)) (list_sides terms params list) (Ok one.0) one.1 =
-        of_list (λ (plan : Plan) (all : List Side). IsBuilt limits plan (facts_of (world_by terms w)) all (Ok one.0) one.1) one.2 in
-        elim (only (Ok one.0) one.1 built) [
-          | inl same ↦ clash one.0 e (sym same ∙ is)
-          | inr lost ↦ elim lost [ inl m ↦ refusal_is e Memory (sym is ∙ m) | inr m ↦ clash one.0 Memory m ]
-        ]
-      where
-        clash : {A : Type 0} (rules : List Rule) (r : Refused) → (let a : Result (List Rule) Refused = Ok rules in a) ≡ Err r → A
-        clash rules r c = absurd (cc)
+  -- the rounds of the list of the signature
+  abbrev pub own_plan : FuncId → Plan
+  own_plan f = list_of (world_in terms s) (last_rules s.protocols.now.rounds) (signature_at (world_in terms s) f).params
+      (written_list (signature_at (world_in terms s) f))
 
-        refusal_is : (r s : Refused) → (let a : Result (List Rule) Refused = Err r in a) ≡ Err s → r ≡ s
-        refusal_is r s c = cc
+  pub own_rounds : (f : FuncId) (m : MachineView) → IsMachineFor terms s f m → AreRounds s.limits (own_plan f) m.rounds
+  own_rounds f m h = subst (λ p. AreRounds s.limits (list_of (world_in terms s) (last_rules s.protocols.now.rounds) p
+      (written_list (signature_at (world_in terms s) f))) m.rounds) h.params h.rounds

@@ -12,7 +12,7 @@ use Rattle.swreq_lowering.specs.declared.ids.Query.{Query}
 use Rattle.swreq_lowering.specs.declared.ids.Query.TheVariants as queries
 use Rattle.swreq_world.specs.Worlds.{IdWorld}
 use Rattle.swreq_reply.specs.declared.content.Content.{Content}
-use Rattle.swreq_reply.specs.declared.content.Content.TheVariants.{Answers, Signatures, Systems, Calls, Families, Judgements}
+use Rattle.swreq_reply.specs.declared.content.Content.TheVariants.{Answers, Systems}
 use Rattle.swreq_reply.specs.Wanted.{ArePlaces, count_of, function_of, machine_asked, machine_asked_at, maker}
 
 -- ---- by which machine
@@ -20,10 +20,7 @@ use Rattle.swreq_reply.specs.Wanted.{ArePlaces, count_of, function_of, machine_a
 -- the machine that answers a query is that of the signature that it asks
 pub machine_function : (q : Query) (f : FuncId) → machine_asked q ≡ Some f → function_of q ≡ f
 machine_function (queries.Signature g) f e = absurd (none-some f e)
-machine_function (queries.Reduced g t) f e = same_Some g f e
-machine_function (queries.Conf g t p) f e = same_Some g f e
-machine_function (queries.Layout g t) f e = same_Some g f e
-machine_function (queries.Same g t u) f e = same_Some g f e
+machine_function q f e = same_Some (function_of q) f e
 
 -- a piece is made by the machine of a signature of the text
 pub maker_within : (w : IdWorld) (c : Content) (k : ℕ) → k < count_of w c
@@ -34,11 +31,8 @@ maker_within w (Answers b) k l within f e =
     let q : Query = get_or w.queries k any in
     let asks : machine_asked q ≡ Some f = sym (ap machine_asked_at (slice_get-get_or w.queries k any l)) ∙ e in
     subst (λ (g : FuncId). g.place < length w.signatures) (machine_function q f asks) (within q (Contains-get_or w.queries k any l))
-maker_within w Signatures k l within f e = absurd (none-some f e)
 maker_within w Systems k l within f e = omega (arith, l, ap (λ (g : FuncId). g.place) (same_Some (record { place = k }) f e))
-maker_within w Families k l within f e = absurd (none-some f e)
-maker_within w Judgements k l within f e = absurd (none-some f e)
-maker_within w Calls k l within f e = absurd (none-some f e)
+maker_within w _ k l within f e = absurd (none-some f e)
 
 -- ---- groups
 

@@ -1,94 +1,44 @@
--- Pieces as they are printed.
-use Rattle.std.proofs.Common.{◌≡◌, ◌∙◌, refl, sym, ap, subst, ℕ, zero, suc, ◌+◌, ◌<◌, arith, Bool, true, true≢false, List, [], ◌∷◌, ◌++◌, append-nil, append_assoc, take, get_or, length, map, Option, Some, None, slice_get, codes, Contains}
-use Rattle.std.specs.List.{concat}
-use Rattle.std.proofs.lemmas.List.{length-map, take_more}
-use Rattle.std.proofs.lemmas.List.Folds.{concat-append}
-use Rattle.std.proofs.lemmas.Option.{get_or_from_slice_get, slice_get-get_or}
-use Rattle.swreq_orders.proofs.Elements.{get_of_map}
+-- What stands at the place of a query or of a signature is what is printed there.
+use Rattle.std.proofs.Common.{◌≡◌, ◌≢◌, ◌↔◌, ◌∙◌, refl, sym, ap, subst, ℕ, ◌<◌, arith, Bool, true, true≢false, List, [], ◌∷◌, ◌++◌, append-nil, append_assoc, get_or, length, map, Option, Some, None, slice_get, codes, Contains}
+use Rattle.std.proofs.lemmas.List.{get_or-map, get_or_default, length-map}
+use Rattle.std.proofs.lemmas.List.Elements.{Contains-get_or}
+use Rattle.std.proofs.lemmas.Option.{none-some, same_Some, slice_get-get_or}
+use Rattle.swreq_param.specs.Terms.{Term}
+use Rattle.swreq_param.specs.Terms.Term.{Generic, Member}
+use Rattle.swreq_derive.specs.Derivation.{Derivable}
+use Rattle.swreq_lexicon.specs.Views.{LexiconView}
 use Rattle.swreq_print.specs.Names.{Text}
+use Rattle.swreq_print.specs.Types.{step_text, type_text}
 use Rattle.swreq_lowering.specs.declared.ids.FuncId.{FuncId}
 use Rattle.swreq_lowering.specs.declared.ids.Query.{Query}
 use Rattle.swreq_lowering.specs.declared.ids.Query.TheVariants as queries
 use Rattle.swreq_lowering.specs.ByTable.{query_by}
 use Rattle.swreq_lowering.specs.Queries.{TermQuery}
-use Rattle.swreq_lowering.specs.Requirements.{PlacedRequirement}
-use Rattle.swreq_output.specs.Signatures.{IsMinimisedLine, IsNamedLine, full_name}
+use Rattle.swreq_lowering.specs.Queries.TermQuery.{AsksSignature}
+use Rattle.swreq_output.specs.Signatures.{IsMinimisedLine}
 use Rattle.swreq_output.specs.Systems.{IsSystemText}
-use Rattle.swreq_world.specs.ByTable.{signature_by}
-use Rattle.swreq_world.specs.Worlds.{SignatureOver, TextWorld, no_signature, signature_at}
-use Rattle.swreq_reply.specs.declared.content.Backing.{Backing}
+use Rattle.swreq_query.specs.declared.verdict.Verdict.{Verdict}
+use Rattle.swreq_query.specs.declared.verdict.Verdict.TheVariants as verdicts
+use Rattle.swreq_query.specs.Answers.{Answer, answer_line}
+use Rattle.swreq_query.specs.Answers.Answer.{Invalid, Yes, No, Reduced}
+use Rattle.swreq_query.specs.Asked.{answer_of}
+use Rattle.swreq_query.proofs.OneAnswer.{one_answer}
+use Rattle.swreq_symbols.specs.Meaning.{facts_of}
+use Rattle.swreq_world.specs.FactsAt.{source_of}
+use Rattle.swreq_world.specs.Worlds.{TextWorld, signature_at}
+use Rattle.swreq_reply.specs.declared.content.Backing.TheVariants.{Nothing}
+use Rattle.swreq_reply.specs.declared.content.Content.{Content}
 use Rattle.swreq_reply.specs.declared.content.Content.TheVariants.{Answers, Signatures, Systems}
+use Rattle.swreq_reply.specs.declared.content.Shown.{Shown}
 use Rattle.swreq_reply.specs.declared.printing.MadePieces.{MadePieces}
-use Rattle.swreq_reply.specs.Lines.{AreLines}
-use Rattle.swreq_reply.specs.Made.{AreLinesKept, IsLineKept}
-use Rattle.swreq_words.specs.declared.command.Command.{Command}
-use Rattle.swreq_reply.specs.Contents.{content_of}
-use Rattle.swreq_reply.specs.Inputs.{Parts}
-use Rattle.swreq_reply.specs.Outputs.{ArePrinted, IsLineOf, IsOutput, printed_text}
-use Rattle.swreq_reply.specs.Pieces.{IsMadeFor, IsWhole, all_pieces, answer_by, answers, answers_from, named_from, named_lines, text_at, text_or_none, world_of}
-use Rattle.swreq_reply.specs.Wanted.{list_asked, machine_asked, machine_asked_at, wants_list}
+use Rattle.swreq_reply.specs.Contents.{backing_of}
+use Rattle.swreq_reply.specs.Made.{AreLinesKept, AreMade, IsLineKept, IsPiece}
+use Rattle.swreq_reply.specs.Outputs.{Backs, HasAnswer, IsLineOf, signature_of}
+use Rattle.swreq_reply.specs.Pieces.{IsWhole, query_at, text_at, text_or_none, world_of}
+use Rattle.swreq_reply.specs.Wanted.{count_of, function_of, list_asked, machine_asked, machine_asked_at, maker, wants_list}
 use Rattle.swreq_reply.proofs.Flags.{asked_within, is_listed}
-use Rattle.swreq_reply.proofs.Lines.{lines_by_place}
-use Rattle.swreq_reply.proofs.Placed.{machine_function}
 
--- ---- one text after another
-
--- all up to the next one
-pub put_more : (all : List Text) (k : ℕ) (d old out new : Text) → k < length all → out ≡ old ++ concat (take k all) → new ≡ out ++ get_or all k d
-    → new ≡ old ++ concat (take (k + 1) all)
-put_more all k d old out new below so_far e =
-    e ∙ ap (λ (t : Text). t ++ get_or all k d) so_far ∙ append_assoc old (concat (take k all)) (get_or all k d)
-    ∙ ap (λ (t : Text). old ++ t) (sym (ap concat (take_more all k d below) ∙ concat-append (take k all) (get_or all k d ∷ [])
-    ∙ ap (λ (t : Text). concat (take k all) ++ t) (append-nil (get_or all k d))))
-
--- ---- what stands at a place
-
-module _ (m : MadePieces) where
-  pub answer_count : (k : ℕ) (qs : List Query) → length (answers_from m k qs) ≡ length qs
-  answer_count k [] = refl
-  answer_count k (q ∷ qs) = ap suc (answer_count (suc k) qs)
-
-  pub answer_is : (k i : ℕ) (qs : List Query) (d : Query) (e : Text) → i < length qs
-      → get_or (answers_from m k qs) i e ≡ answer_by m (k + i) (list_asked (get_or qs i d))
-  answer_is k i [] d e l = absurd (omega (arith, l))
-  answer_is k zero (q ∷ qs) d e l = ap (λ (n : ℕ). answer_by m n (list_asked q)) (let s : k ≡ k + 0 = omega arith in s)
-  answer_is k (suc i) (q ∷ qs) d e l =
-      answer_is (suc k) i qs d e (omega (arith, l))
-      ∙ ap (λ (n : ℕ). answer_by m n (list_asked (get_or qs i d))) (let s : suc k + i ≡ k + suc i = omega arith in s)
-
-  pub named_count : (k : ℕ) (gs : List (SignatureOver PlacedRequirement)) → length (named_from m k gs) ≡ length gs
-  named_count k [] = refl
-  named_count k (g ∷ gs) = ap suc (named_count (suc k) gs)
-
-  pub named_is : (k i : ℕ) (gs : List (SignatureOver PlacedRequirement)) (d : SignatureOver PlacedRequirement) (e : Text) → i < length gs
-      → get_or (named_from m k gs) i e ≡ full_name (world_of m) (get_or gs i d) ++ (codes ": " ++ text_at m.lists.now (k + i))
-  named_is k i [] d e l = absurd (omega (arith, l))
-  named_is k zero (g ∷ gs) d e l =
-      ap (λ (n : ℕ). full_name (world_of m) g ++ (codes ": " ++ text_at m.lists.now n)) (let s : k ≡ k + 0 = omega arith in s)
-  named_is k (suc i) (g ∷ gs) d e l =
-      named_is (suc k) i gs d e (omega (arith, l))
-      ∙ ap (λ (n : ℕ). full_name (world_of m) (get_or gs i d) ++ (codes ": " ++ text_at m.lists.now n)) (let s : suc k + i ≡ k + suc i = omega arith in s)
-
-module _ (m : MadePieces) where
-  -- of all of them
-  pub answer_there : (k : ℕ) (d : Query) (e : Text) → k < length m.world.now.queries
-      → get_or (answers m) k e ≡ answer_by m k (list_asked (get_or m.world.now.queries k d))
-  answer_there k d e l =
-      answer_is m 0 k m.world.now.queries d e l
-      ∙ ap (λ (n : ℕ). answer_by m n (list_asked (get_or m.world.now.queries k d))) (let s : 0 + k ≡ k = omega arith in s)
-
-  pub named_there : (k : ℕ) (d : SignatureOver PlacedRequirement) (e : Text) → k < length (world_of m).signatures
-      → get_or (named_lines m) k e ≡ full_name (world_of m) (get_or (world_of m).signatures k d) ++ (codes ": " ++ text_at m.lists.now k)
-  named_there k d e l =
-      named_is m 0 k (world_of m).signatures d e l
-      ∙ ap (λ (n : ℕ). full_name (world_of m) (get_or (world_of m).signatures k d) ++ (codes ": " ++ text_at m.lists.now n)) (let s : 0 + k ≡ k = omega arith in s)
-
-pub piece_is : (pieces : List (Option Text)) (k : ℕ) (d : Text) → k < length pieces → get_or (map text_or_none pieces) k d ≡ text_at pieces k
-piece_is [] k d l = absurd (omega (arith, l))
-piece_is (p ∷ pieces) zero d l = refl
-piece_is (p ∷ pieces) (suc k) d l = piece_is pieces k d (omega (arith, l))
-
--- ---- each piece is what it has to be
+-- ---- one piece
 
 -- a list that is wanted is kept
 kept_line : (w : TextWorld) (wants : ℕ → Bool) (lists : List (Option Text)) (f : FuncId) → AreLinesKept w wants lists → f.place < length lists
@@ -99,89 +49,127 @@ kept_line w wants lists f kept l wanted = by (get_or lists f.place None) (kept f
     by (Some line) h = h
     by None h = absurd (true≢false (sym wanted ∙ h))
 
-module _ (b : Backing) (m : MadePieces) (whole : IsWhole (Answers b) m) where
-  abbrev qs : List Query
-  qs = m.world.now.queries
+-- a query that asks for no minimised list is answered by the machine of its signature
+asks_machine : (q : Query) → list_asked q ≡ None → machine_asked q ≡ Some (function_of q)
+asks_machine (queries.Signature f) e = absurd (none-some f (sym e))
+asks_machine _ e = refl
 
-  -- a query that a machine answers
-  by_machine : (k : ℕ) (kq : Query) (f : FuncId) → machine_asked kq ≡ Some f → k < length qs → Contains qs kq
-      → slice_get (world_of m).queries k ≡ Some (query_by m.table.now kq) → slice_get qs k ≡ Some kq
-      → IsLineOf (world_of m) true b (query_by m.table.now kq) (text_at m.pieces.now k)
-  by_machine k kq f asks below has at own =
-      let made : (o : Option Query) → o ≡ Some kq → machine_asked_at o ≡ Some f = λ o e. ap machine_asked_at e ∙ asks in
-      let within : f.place < length m.world.now.signatures = subst (λ (g : FuncId). g.place < length m.world.now.signatures) (machine_function kq f asks)
-      (asked_within m.world.now m.table.now whole.text.closed kq has) in
-      let found = whole.pieces.filled k f below (made (slice_get qs k) own) within in
-      subst (IsLineOf (world_of m) true b (query_by m.table.now kq)) (sym (ap text_or_none found.1))
-      (whole.pieces.right k found.0 found.1 (query_by m.table.now kq) at)
+module _ (m : MadePieces) (whole : IsWhole m) where
+  -- what is made, where the content is this one
+  pieces_of : (c : Content) → m.content ≡ c
+      → AreMade (IsPiece (world_of m) c) (maker m.world.now c) (count_of m.world.now c) (length m.world.now.signatures) m.pieces.now
+  pieces_of c e = subst (λ (k : Content). AreMade (IsPiece (world_of m) k) (maker m.world.now k) (count_of m.world.now k) (length m.world.now.signatures)
+      m.pieces.now) e whole.pieces
 
-  -- a query that asks for a minimised list, or for a machine
-  answer_right : (k : ℕ) (kq : Query) → k < length qs → Contains qs kq → slice_get (world_of m).queries k ≡ Some (query_by m.table.now kq)
-      → slice_get qs k ≡ Some kq → IsLineOf (world_of m) true b (query_by m.table.now kq) (answer_by m k (list_asked kq))
-  answer_right k (queries.Signature f) below has at own =
-      kept_line (world_of m) (wants_list (Answers b) qs) m.lists.now f whole.lists
-      (omega (arith, whole.counted, asked_within m.world.now m.table.now whole.text.closed (queries.Signature f) has))
-      (is_listed qs f has)
-  answer_right k (queries.Reduced f t) below has at own = by_machine k (queries.Reduced f t) f refl below has at own
-  answer_right k (queries.Conf f t p) below has at own = by_machine k (queries.Conf f t p) f refl below has at own
-  answer_right k (queries.Layout f t) below has at own = by_machine k (queries.Layout f t) f refl below has at own
-  answer_right k (queries.Same f t u) below has at own = by_machine k (queries.Same f t u) f refl below has at own
+  lists_of : (c : Content) → m.content ≡ c → AreLinesKept (world_of m) (wants_list c m.world.now.queries) m.lists.now
+  lists_of c e = subst (λ (k : Content). AreLinesKept (world_of m) (wants_list k m.world.now.queries) m.lists.now) e whole.lists
 
-  pub answers_right : AreLines (IsLineOf (world_of m) true b) (world_of m).queries (answers m)
-  answers_right =
-      lines_by_place (IsLineOf (world_of m) true b) (world_of m).queries (answers m)
-      (answer_count m 0 qs ∙ sym (length-map qs (query_by m.table.now))) each
-    where
-      each : (k : ℕ) (q : TermQuery) (d : Text) → k < length (world_of m).queries → slice_get (world_of m).queries k ≡ Some q
-          → IsLineOf (world_of m) true b q (get_or (answers m) k d)
-      each k q d l at =
-          let below : k < length qs = omega (arith, l, length-map qs (query_by m.table.now)) in
-          let (kq, own, same) = get_of_map (query_by m.table.now) qs k q at in
-          let there : get_or qs k kq ≡ kq = get_or_from_slice_get qs k kq kq own in
-          subst (λ (z : TermQuery). IsLineOf (world_of m) true b z (get_or (answers m) k d)) same
-          (subst (IsLineOf (world_of m) true b (query_by m.table.now kq))
-          (sym (answer_there m k kq d below ∙ ap (λ (z : Query). answer_by m k (list_asked z)) there))
-          (answer_right k kq below (k, below, there) (at ∙ ap Some (sym same)) own))
+  pub system_at : m.content ≡ Systems → (f : FuncId) → f.place < length m.world.now.signatures
+      → IsSystemText (world_of m) (signature_at (world_of m) f) (text_at m.pieces.now f.place)
+  system_at e f below =
+      let found = (pieces_of Systems e).filled f.place f below refl below in
+      subst (IsSystemText (world_of m) (signature_at (world_of m) f)) (sym (ap text_or_none found.1)) ((pieces_of Systems e).right f.place found.0 found.1)
 
-module _ (m : MadePieces) where
-  pub systems_right : IsWhole Systems m → AreLines (IsSystemText (world_of m)) (world_of m).signatures (all_pieces m)
-  systems_right whole =
-      lines_by_place (IsSystemText (world_of m)) (world_of m).signatures (all_pieces m)
-      (length-map m.pieces.now text_or_none ∙ whole.pieces.counted ∙ sym (length-map m.world.now.signatures (signature_by m.table.now))) each
-    where
-      each : (k : ℕ) (g : SignatureOver PlacedRequirement) (d : Text) → k < length (world_of m).signatures → slice_get (world_of m).signatures k ≡ Some g
-          → IsSystemText (world_of m) g (get_or (all_pieces m) k d)
-      each k g d l at =
-          let below : k < length m.world.now.signatures = omega (arith, l, length-map m.world.now.signatures (signature_by m.table.now)) in
-          let found = whole.pieces.filled k (record { place = k }) below refl below in
-          let is : signature_at (world_of m) (record { place = k }) ≡ g = get_or_from_slice_get (world_of m).signatures k g no_signature at in
-          subst (IsSystemText (world_of m) g) (sym (piece_is m.pieces.now k d (omega (arith, below, whole.pieces.counted)) ∙ ap text_or_none found.1))
-          (subst (λ (z : SignatureOver PlacedRequirement). IsSystemText (world_of m) z found.0) is (whole.pieces.right k found.0 found.1))
+  pub list_at : m.content ≡ Signatures → (f : FuncId) → f.place < length m.world.now.signatures
+      → IsMinimisedLine (world_of m) (signature_at (world_of m) f) (text_at m.lists.now f.place)
+  list_at e f below = kept_line (world_of m) (wants_list Signatures m.world.now.queries) m.lists.now f (lists_of Signatures e)
+      (omega (arith, below, whole.counted)) refl
 
-  pub signatures_right : IsWhole Signatures m → AreLines (IsNamedLine (world_of m)) (world_of m).signatures (named_lines m)
-  signatures_right whole =
-      lines_by_place (IsNamedLine (world_of m)) (world_of m).signatures (named_lines m) (named_count m 0 (world_of m).signatures) each
-    where
-      each : (k : ℕ) (g : SignatureOver PlacedRequirement) (d : Text) → k < length (world_of m).signatures → slice_get (world_of m).signatures k ≡ Some g
-          → IsNamedLine (world_of m) g (get_or (named_lines m) k d)
-      each k g d l at =
-          let below : k < length m.lists.now = omega (arith, l, length-map m.world.now.signatures (signature_by m.table.now), whole.counted) in
-          let is : signature_at (world_of m) (record { place = k }) ≡ g = get_or_from_slice_get (world_of m).signatures k g no_signature at in (
-            text_at m.lists.now k,
-            subst (λ (z : SignatureOver PlacedRequirement). IsMinimisedLine (world_of m) z (text_at m.lists.now k)) is
-                (kept_line (world_of m) (wants_list Signatures m.world.now.queries) m.lists.now (record { place = k }) whole.lists below refl),
-            named_there m k no_signature d l
-                ∙ ap (λ (z : SignatureOver PlacedRequirement). full_name (world_of m) z ++ (codes ": " ++ text_at m.lists.now k)) is,
-          )
+  -- ---- the answer to the query at a place
 
--- ---- the output
+  module _ (s : Shown) (e : m.content ≡ Answers s) (k : ℕ) (below : k < length m.world.now.queries) where
+    abbrev pub asked : Query
+    asked = get_or m.world.now.queries k (queries.Signature (record { place = 0 }))
 
--- what is made for answers has a place for each query, and a list for each signature
-pub made_for : (b : Backing) (m : MadePieces) → IsWhole (Answers b) m → IsMadeFor m
-made_for b m whole = record { text = whole.text; pieces = whole.pieces.counted; lists = whole.counted }
+    -- the line of a query is that of the content
+    shown : (line : Text) → IsLineOf (world_of m) true (backing_of (Answers s)) (query_at m k) line
+        → IsLineOf (world_of m) true (backing_of m.content) (query_at m k) line
+    shown line h = subst (λ (c : Content). IsLineOf (world_of m) true (backing_of c) (query_at m k) line) (sym e) h
 
--- pieces are the output of a command that prints them
-pub output_of : (w : TextWorld) (c k : Command) (parts : Parts) (pieces : List Text) (bytes : Text) → c ≡ k → ArePrinted w true (content_of k) parts pieces
-    → bytes ≡ printed_text k pieces → IsOutput w true c parts bytes
-output_of w c k parts pieces bytes is are e =
-    subst (λ (z : Command). IsOutput w true z parts bytes) (sym is) (pieces, are, e)
+    in_world : (function_of asked).place < length m.world.now.signatures
+    in_world = asked_within m.world.now m.table.now whole.text.closed asked (Contains-get_or m.world.now.queries k _ below)
+
+    -- by the minimised list for which it asks
+    pub by_list : (f : FuncId) → list_asked asked ≡ Some f
+        → (f.place < length m.lists.now) × IsLineOf (world_of m) true (backing_of m.content) (query_at m k) (text_at m.lists.now f.place)
+    by_list f asks = by asked refl asks
+      where
+        by : (q : Query) → asked ≡ q → list_asked q ≡ Some f
+            → (f.place < length m.lists.now) × IsLineOf (world_of m) true (backing_of m.content) (query_at m k) (text_at m.lists.now f.place)
+        by (queries.Signature g) is here =
+            let same : query_at m k ≡ AsksSignature f =
+            get_or-map (query_by m.table.now) m.world.now.queries k _ _ below ∙ ap (query_by m.table.now) is ∙ ap AsksSignature (same_Some g f here) in
+            let within : f.place < length m.lists.now =
+            omega (arith, in_world, whole.counted, ap (λ (q : Query). (function_of q).place) is, ap (λ (h : FuncId). h.place) (same_Some g f here)) in (
+              within,
+              shown _ (subst (λ (q : TermQuery). IsLineOf (world_of m) true (backing_of (Answers s)) q (text_at m.lists.now f.place)) (sym same)
+                  (kept_line (world_of m) (wants_list (Answers s) m.world.now.queries) m.lists.now f (lists_of (Answers s) e) within
+                  (is_listed m.world.now.queries f
+                  (k, below, get_or_default m.world.now.queries k _ _ below ∙ is ∙ ap queries.Signature (same_Some g f here))))),
+            )
+        by _ is here = absurd (none-some f here)
+
+    -- by the piece of a machine
+    pub by_piece : list_asked asked ≡ None
+        → (k < length m.pieces.now) × IsLineOf (world_of m) true (backing_of m.content) (query_at m k) (text_at m.pieces.now k)
+    by_piece no_list =
+        let made = pieces_of (Answers s) e in
+        let makes = ap machine_asked_at (slice_get-get_or m.world.now.queries k _ below) ∙ asks_machine asked no_list in
+        let found = made.filled k (function_of asked) below makes in_world in
+        let there : k < length (world_of m).queries = omega (arith, below, length-map m.world.now.queries (query_by m.table.now)) in (
+          omega (arith, below, made.counted),
+          shown _ (subst (IsLineOf (world_of m) true (backing_of (Answers s)) (query_at m k)) (sym (ap text_or_none found.1))
+              (made.right k found.0 found.1 (query_at m k) (slice_get-get_or (world_of m).queries k _ there))),
+        )
+
+-- ---- which verdict a line tells
+
+-- the text of a type begins with the first byte of `τ`
+first_of_type : (x : LexiconView) (t : Term) (rest : Text) → slice_get (type_text x t ++ rest) 0 ≡ Some 207
+first_of_type x (Generic g) rest = refl
+first_of_type x (Member t step) rest =
+    ap (λ (l : Text). slice_get l 0) (append_assoc (type_text x t) (step_text x step) rest) ∙ first_of_type x t (step_text x step ++ rest)
+
+-- and the line of a verdict neither with it nor with `<`
+never_type : (x : LexiconView) (v : Verdict) → slice_get (answer_line x (answer_of v)) 0 ≢ Some 207
+never_type x verdicts.Invalid e = omega (arith, same_Some 105 207 e)
+never_type x verdicts.Yes e = omega (arith, same_Some 121 207 e)
+never_type x verdicts.No e = omega (arith, same_Some 110 207 e)
+
+never_signature : (x : LexiconView) (v : Verdict) → slice_get (answer_line x (answer_of v)) 0 ≢ Some 60
+never_signature x verdicts.Invalid e = omega (arith, same_Some 105 60 e)
+never_signature x verdicts.Yes e = omega (arith, same_Some 121 60 e)
+never_signature x verdicts.No e = omega (arith, same_Some 110 60 e)
+
+same_verdict : (x : LexiconView) (a : Answer) (v : Verdict) → answer_line x a ≡ answer_line x (answer_of v) → a ≡ answer_of v
+same_verdict x Invalid verdicts.Invalid e = refl
+same_verdict x Yes verdicts.Yes e = refl
+same_verdict x No verdicts.No e = refl
+same_verdict x (Reduced r) v e = absurd (never_type x v (sym (ap (λ (l : Text). slice_get l 0) e) ∙ first_of_type x r (codes "\n")))
+same_verdict x _ _ e = absurd (cc)
+
+module _ (w : TextWorld) where
+  -- a query for a signature has no answer
+  no_answer : (f : FuncId) (a : Answer) → HasAnswer w true a (AsksSignature f) → ⊥
+  no_answer f Invalid h = h.1
+  no_answer f (Reduced u) h = let clash = h.1.2 in cc
+  no_answer f _ h = none-some h.1.0 h.1.1
+
+  nothing_behind : (q : TermQuery) (a : Answer) (text : Text) → Backs w Nothing q a text → text ≡ []
+  nothing_behind q Yes text h = h
+  nothing_behind q _ text h = h
+
+  -- the line of a query is that of a verdict if and only if the query has it
+  pub tells_verdict : (q : TermQuery) (line : Text) → IsLineOf w true Nothing q line → (v : Verdict)
+      → (line ≡ answer_line w.lexicon (answer_of v)) ↔ HasAnswer w true (answer_of v) q
+  tells_verdict (AsksSignature f) line h v = (
+    λ e. absurd (never_signature w.lexicon v (sym (ap (λ (l : Text). slice_get l 0) e) ∙ ap (λ (l : Text). slice_get l 0) h.line_is)),
+    λ has. absurd (no_answer f (answer_of v) has),
+  )
+  tells_verdict q line (a, behind, has, backs, is) v =
+      let whole : line ≡ answer_line w.lexicon a =
+      is ∙ ap (λ (t : Text). answer_line w.lexicon a ++ t) (nothing_behind q a behind backs) ∙ append-nil (answer_line w.lexicon a) in (
+        λ e. subst (λ (b : Answer). HasAnswer w true b q) (same_verdict w.lexicon a v (sym whole ∙ e)) has,
+        λ other. whole ∙ ap (answer_line w.lexicon)
+            (one_answer (Derivable (facts_of w) (source_of (signature_at w (signature_of q)))) q a (answer_of v) has other),
+      )

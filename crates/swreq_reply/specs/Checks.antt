@@ -12,7 +12,7 @@ use Rattle.swreq_world.specs.Worlds.{IdWorld, SignatureOver, TextWorld, signatur
 use Rattle.swreq_valid.specs.Machines.{AreRulesOf, list_of}
 use Rattle.swreq_valid.specs.Rounds.{last_rules}
 use Rattle.swreq_valid.specs.declared.refused.Refused.{Refused}
-use Rattle.swreq_valid.specs.declared.refused.Refused.TheVariants.{Limit, NotATypeParameter, Memory}
+use Rattle.swreq_valid.specs.declared.refused.Refused.TheVariants.{Memory}
 use Rattle.swreq_world.specs.FactsAt.{written_list}
 use Rattle.swreq_reply.specs.declared.checking.Checked.{Checked}
 use Rattle.swreq_reply.specs.Machines.{IsBuiltOver, IsChecked, SignatureComes, SignaturesCome}
@@ -44,30 +44,23 @@ module _ (limits : Limits) (w : TextWorld) where
   abbrev pub ChecksOne : List Rule → SignatureOver PlacedRequirement → Option (List Event) → Option (List Event) → Result (Unit {0}) Refused → Type 0
   ChecksOne rules g old new (Ok done) =
       (told : List Event) × ((own : List Rule) × SignatureComes limits w rules g (Ok own) told) × GrewBy old new told
-  ChecksOne rules g old new (Err (Limit which trace)) =
-      (told : List Event) × SignatureComes limits w rules g (Err (Limit which trace)) told × GrewBy old new told
-  ChecksOne rules g old new (Err (NotATypeParameter at)) =
-      (told : List Event) × SignatureComes limits w rules g (Err (NotATypeParameter at)) told × GrewBy old new told
   ChecksOne rules g old new (Err Memory) =
       (told : List Event)
       × (ComesTo limits (list_of w rules g.params (written_list g)) told ⊎ ((own : List Rule) × SignatureComes limits w rules g (Ok own) told))
       × GrewBy old new told
+  ChecksOne rules g old new (Err e) = (told : List Event) × SignatureComes limits w rules g (Err e) told × GrewBy old new told
 
   -- So does that of all signatures.
   abbrev pub ChecksAll : List Rule → Option (List Event) → Option (List Event) → Result (Unit {0}) Refused → Type 0
   ChecksAll rules old new (Ok done) = (told : List Event) × SignaturesCome limits w rules w.signatures None told × GrewBy old new told
-  ChecksAll rules old new (Err (Limit which trace)) =
-      (told : List Event) × SignaturesCome limits w rules w.signatures (Some (Limit which trace)) told × GrewBy old new told
-  ChecksAll rules old new (Err (NotATypeParameter at)) =
-      (told : List Event) × SignaturesCome limits w rules w.signatures (Some (NotATypeParameter at)) told × GrewBy old new told
   ChecksAll rules old new (Err Memory) = (told : List Event) × SignaturesTell limits w rules w.signatures told × GrewBy old new told
+  ChecksAll rules old new (Err e) = (told : List Event) × SignaturesCome limits w rules w.signatures (Some e) told × GrewBy old new told
 
   -- And so does that of the text.
   abbrev pub Checks : Option (List Event) → Option (List Event) → Result Checked Refused → Type 0
   Checks old new (Ok checked) = (told : List Event) × IsBuiltOver limits w (last_rules checked.protocols.rounds) told × GrewBy old new told
-  Checks old new (Err (Limit which trace)) = (told : List Event) × IsChecked limits w (Some (Limit which trace)) told × GrewBy old new told
-  Checks old new (Err (NotATypeParameter at)) = (told : List Event) × IsChecked limits w (Some (NotATypeParameter at)) told × GrewBy old new told
   Checks old new (Err Memory) = (told : List Event) × CheckTells limits w told × GrewBy old new told
+  Checks old new (Err e) = (told : List Event) × IsChecked limits w (Some e) told × GrewBy old new told
 
 -- So does that of the signature at f, over the rules of the protocols that were checked.
 abbrev pub ChecksAt : List Term → Setting → FuncId → Option (List Event) → Option (List Event) → Result (Unit {0}) Refused → Type 0

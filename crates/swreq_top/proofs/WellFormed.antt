@@ -17,7 +17,7 @@ use Rattle.swreq_valid.specs.declared.refused.Refused.TheVariants.{NotATypeParam
 use Rattle.swreq_reply.specs.Machines.{IsChecked, SignaturesCome}
 use Rattle.swreq_reply.specs.Machines.IsChecked.{protocols_built, protocols_refused}
 use Rattle.swreq_reply.specs.Machines.SignaturesCome.{next, stopped}
-use Rattle.swreq_reply.proofs.Inside.{formed_sides}
+use Rattle.swreq_reply.proofs.OfLists.{formed_sides}
 
 module _ (w : TextWorld) (formed : IsWellFormed (facts_of w) (map source_of w.signatures)) where
   valid_protocols : (ps : List ProtoId) → HoldsOfEach (IsValidSide (facts_of w)) (sides_in w ps)

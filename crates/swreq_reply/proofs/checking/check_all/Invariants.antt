@@ -1,7 +1,7 @@
 use Rattle.swreq_param.specs.Tables.{Extends}
 use Rattle.swreq_valid.specs.Rounds.{last_rules}
 use Rattle.swreq_reply.specs.Settings.{AreMadeIn, IsLast, IsReady, world_in}
-use Rattle.swreq_reply.proofs.OfSignatures.{CameFirst}
+use Rattle.swreq_reply.proofs.Checked.{CameFirst}
 use Rattle.swreq_reply.proofs.checking.check_all.Given as goal
 
 abbrev pub invariant-loop-k : goal.invariant-loop-k

@@ -1,4 +1,4 @@
-use Rattle.swreq_reply.proofs.Inside.{machine_inside}
+use Rattle.swreq_reply.proofs.OfLists.{machine_inside}
 use Rattle.swreq_reply.proofs.Settled.{machine_on}
 use Rattle.swreq_reply.proofs.checking.check_inside.Goals as goal
 

@@ -1,77 +1,98 @@
-use Rattle.std.proofs.Common.{◌≡◌, ◌∷◌, ◌++◌, [], List, length, arith, ap, length-append, rules, subst, sym}
-use Rattle.std.proofs.lemmas.Result.{err_from_is_err_and}
+use Rattle.std.proofs.Common.{◌≡◌, ℕ, Bool, ◌∷◌, ◌++◌, [], List, Option, length, arith, ap, append-nil, length-append, inl, inr, refl, rules, subst, sym}
+use Rattle.swreq_complete.specs.declared.limit.Failed.{Failed}
 use Rattle.swreq_complete.specs.declared.limit.Failed.TheVariants.{Memory}
+use Rattle.swreq_complete.specs.declared.limit.Limits.{Limits}
+use Rattle.swreq_lowering.specs.declared.ids.FuncId.{FuncId}
+use Rattle.swreq_orders.proofs.Elements.{get_cases}
 use Rattle.swreq_param.proofs.Growing.{onward, unchanged}
+use Rattle.swreq_rule.specs.declared.rules.Rule.{Rule}
 use Rattle.swreq_symbols.proofs.Growing.{text_stays, world_stays}
 use Rattle.swreq_watch.specs.declared.events.Event.{Event}
-use Rattle.swreq_watch.specs.Told.{GrewBy}
+use Rattle.swreq_watch.proofs.Told.{grew_none}
 use Rattle.swreq_world.specs.Worlds.{TextWorld, signature_at}
+use Rattle.swreq_reply.specs.declared.content.Content.{Content}
 use Rattle.swreq_reply.specs.Checks.{HavePassed}
 use Rattle.swreq_reply.specs.Made.{AreLinesKept, IsLineKept}
-use Rattle.swreq_reply.specs.Told.{FailsAt, TellsOne}
+use Rattle.swreq_reply.specs.Told.{FailsAt, MinimisingAllFails, MinimisingAllTells, MinimisingEndsIn, TellsOne}
+use Rattle.swreq_reply.specs.Told.MinimisingAllTells.{nothing, one_more}
 use Rattle.swreq_reply.specs.Listing.{rules_of, wants, world_of}
-use Rattle.swreq_reply.proofs.OfMinimising.{failed_at, failed_for_memory, lines_kept_more, no_lines_kept, told_more, told_none}
+use Rattle.swreq_reply.proofs.Checked.{Tells, err_is, told_on}
 use Rattle.swreq_reply.proofs.minimising.minimised_lines.Goals as goal
+
+-- ---- what is told, and what is kept
+
+-- where minimising fails behind such parts it ends so
+ends_in : (limits : Limits) (w : TextWorld) (wants : Content) (rules : List Rule) (failed : Failed) (told : List Event)
+    → MinimisingAllFails limits w wants rules failed told → MinimisingEndsIn limits w wants rules failed told
+ends_in limits w wants rules Memory told h = inr h
+ends_in limits w wants rules failed told h = h
+
+module _ (limits : Limits) (now w : TextWorld) (stays : now ≡ w) (wants : Content) (rules : List Rule) (f : FuncId) (old mid new : Option (List Event))
+    (before : Tells (MinimisingAllTells limits w wants rules) old mid) where
+  -- one signature more, as the text stands by the table that has grown
+  told_more : Tells (TellsOne limits now wants rules (signature_at now f)) mid new → Tells (MinimisingAllTells limits w wants rules) old new
+  told_more one = told_on old mid new before (rw stays at one)
+      (λ a b parts tells. elim tells [
+        | inl none ↦ rw (none, append-nil a) parts
+        | inr (asked, part) ↦ one_more (signature_at w f) parts asked part refl
+      ])
+
+  -- or it fails there
+  failed_at : (failed : Failed) → Tells (FailsAt limits now wants rules (signature_at now f) failed) mid new
+      → Tells (MinimisingEndsIn limits w wants rules failed) old new
+  failed_at failed one = told_on old mid new before (rw stays at one)
+      (λ a b parts fails. ends_in limits w wants rules failed (a ++ b)
+      (record { before = a; last = b; g = signature_at w f; parts = parts; asked = fails.0; fails = fails.1; told_is = refl }))
+
+-- one line more is kept
+kept_more : (w : TextWorld) (wants : ℕ → Bool) (lists : List (Option (List ℕ))) (k : ℕ) (entry : Option (List ℕ)) → length lists ≡ k
+    → AreLinesKept w wants lists → IsLineKept w wants (record { place = k }) entry → AreLinesKept w wants (lists ++ entry ∷ [])
+kept_more w wants lists k entry l before one i e h = elim (get_cases lists entry i e h) [
+  | inl at ↦ before i e at
+  | inr (at, is) ↦ rw (at, is, l) one
+]
+
+-- ---- the loop
 
 pub loop-k-init : goal.loop-k-init
 loop-k-init g c = (
   unchanged c.args.table.now,
   c.requires.text,
-  told_none c.args.l.now.limits (world_of c.args.table.now c.args.l.now) c.args.l.now.content (rules_of c.args.l.now) (g.W.Watch.told c.args.watch.now),
-  subst (AreLinesKept (world_of c.args.table.now c.args.l.now) (wants c.args.l.now)) (sym c.new-all.ensures.items)
-      (no_lines_kept (world_of c.args.table.now c.args.l.now) (wants c.args.l.now)),
+  c.requires.lists,
+  ([], nothing, grew_none (g.W.Watch.told c.args.watch.now)),
+  rw c.new-all.ensures.items (λ k entry is. (cc)),
   ap length c.new-all.ensures.items,
 )
 
 pub returns-in_err-entry-clause-failed : goal.returns-in_err-entry-clause-failed
 returns-in_err-entry-clause-failed g c =
-    let p = err_from_is_err_and c.from_residual.result c.from_residual.ensures.1 in
-    rw (p.1, p.2)
-    (failed_at c.args.l.now.limits (world_of c.args.table.now c.args.l.now) c.args.l.now.content (rules_of c.args.l.now)
-    (g.W.Watch.told c.args.watch.now) _ _ _ c.loop-k.invariant.2 c.in_err-entry.field-0.0
-    (subst (λ (w : TextWorld). (told : List Event)
-    × FailsAt c.args.l.now.limits w c.args.l.now.content (rules_of c.args.l.now) (signature_at w (record { place = c.loop-k.k }))
-    c.in_err-entry.field-0.0 told
-    × GrewBy (g.W.Watch.told c.loop-k.watch) (g.W.Watch.told c.line_if_wanted.new.watch) told)
-    (world_stays c.args.table.now c.loop-k.table c.loop-k.invariant.0 c.args.l.now.world.now c.requires.text.table) c.in_err-entry.ensures.failed))
+    let l = c.args.l.now in
+    let stays = world_stays c.args.table.now c.loop-k.table c.loop-k.invariant.0 l.world.now c.requires.text.table in
+    rw (err_is c.from_residual.result _ c.from_residual.ensures.1)
+    (failed_at l.limits _ _ stays l.content (rules_of l) (record { place = c.loop-k.k }) _ _ _ c.loop-k.invariant.3 c.in_err-entry.field-0.0
+    c.in_err-entry.ensures.failed)
 
 pub returns-in_err-map_err-clause-failed : goal.returns-in_err-map_err-clause-failed
 returns-in_err-map_err-clause-failed g c =
-    let p = err_from_is_err_and c.from_residual-in_err-map_err.result c.from_residual-in_err-map_err.ensures.1 in
+    let l = c.args.l.now in
     let lost : c.in_err-map_err.field-0.0 ≡ Memory = search rules in
-    rw (p.1, p.2, lost)
-    (failed_for_memory c.args.l.now.limits (world_of c.args.table.now c.args.l.now) c.args.l.now.content (rules_of c.args.l.now)
-    (g.W.Watch.told c.args.watch.now) _
-    (told_more c.args.l.now.limits (world_of c.args.table.now c.args.l.now) c.args.l.now.content (rules_of c.args.l.now)
-    (g.W.Watch.told c.args.watch.now) _ _ _ c.loop-k.invariant.2
-    (subst (λ (w : TextWorld). (told : List Event)
-    × TellsOne c.args.l.now.limits w c.args.l.now.content (rules_of c.args.l.now) (signature_at w (record { place = c.loop-k.k })) told
-    × GrewBy (g.W.Watch.told c.loop-k.watch) (g.W.Watch.told c.line_if_wanted.new.watch) told)
-    (world_stays c.args.table.now c.loop-k.table c.loop-k.invariant.0 c.args.l.now.world.now c.requires.text.table) c.in_ok-entry.ensures.told)))
+    let stays = world_stays c.args.table.now c.loop-k.table c.loop-k.invariant.0 l.world.now c.requires.text.table in
+    let told = told_more l.limits _ _ stays l.content (rules_of l) (record { place = c.loop-k.k }) _ _ _ c.loop-k.invariant.3 c.in_ok-entry.ensures.told in
+    rw (err_is c.from_residual-in_err-map_err.result _ c.from_residual-in_err-map_err.ensures.1, lost) (told.0, inl told.1, told.2)
 
 pub loop-k-preserved : goal.loop-k-preserved
-loop-k-preserved g c = let longer : c.push.new.self.items ≡ c.loop-k.all.items ++ c.in_ok-entry.entry ∷ [] = search rules in (
-  onward c.args.table.now c.loop-k.table c.line_if_wanted.new.table c.loop-k.invariant.0 c.line_if_wanted.ensures.extends,
-  text_stays c.loop-k.table c.line_if_wanted.new.table c.line_if_wanted.ensures.extends c.args.l.now.world.now c.loop-k.invariant.1,
-  told_more c.args.l.now.limits (world_of c.args.table.now c.args.l.now) c.args.l.now.content (rules_of c.args.l.now)
-      (g.W.Watch.told c.args.watch.now) _ _ _ c.loop-k.invariant.2
-      (subst (λ (w : TextWorld). (told : List Event)
-      × TellsOne c.args.l.now.limits w c.args.l.now.content (rules_of c.args.l.now) (signature_at w (record { place = c.loop-k.k })) told
-      × GrewBy (g.W.Watch.told c.loop-k.watch) (g.W.Watch.told c.line_if_wanted.new.watch) told)
-      (world_stays c.args.table.now c.loop-k.table c.loop-k.invariant.0 c.args.l.now.world.now c.requires.text.table) c.in_ok-entry.ensures.told),
-  subst (AreLinesKept (world_of c.args.table.now c.args.l.now) (wants c.args.l.now)) (sym longer)
-      (lines_kept_more (world_of c.args.table.now c.args.l.now) (wants c.args.l.now) c.loop-k.all.items c.loop-k.k
-      c.in_ok-entry.entry c.loop-k.invariant.4 c.loop-k.invariant.3
-      (subst (λ (w : TextWorld). IsLineKept w (wants c.args.l.now) (record { place = c.loop-k.k }) c.in_ok-entry.entry)
-      (world_stays c.args.table.now c.loop-k.table c.loop-k.invariant.0 c.args.l.now.world.now c.requires.text.table) c.in_ok-entry.ensures.line)),
-  omega (arith, ap length longer, length-append c.loop-k.all.items (c.in_ok-entry.entry ∷ []), c.loop-k.invariant.4),
-)
-
-pub line_if_wanted-requires-clause-lists : goal.line_if_wanted-requires-clause-lists
-line_if_wanted-requires-clause-lists g c = record {
-  passed = subst (λ (w : TextWorld). HavePassed c.args.l.now.limits w (rules_of c.args.l.now))
-      (sym (world_stays c.args.table.now c.loop-k.table c.loop-k.invariant.0 c.args.l.now.world.now c.requires.text.table))
-      c.requires.lists.passed;
-  wanted = c.requires.lists.wanted;
-  limits = c.requires.lists.limits;
-}
+loop-k-preserved g c =
+    let l = c.args.l.now in
+    let (more, text, ready, told, kept, count) = c.loop-k.invariant in
+    let onwards = c.line_if_wanted.ensures.extends in
+    let stays = world_stays c.args.table.now c.loop-k.table more l.world.now c.requires.text.table in
+    let now = sym (world_stays c.loop-k.table c.line_if_wanted.new.table onwards l.world.now text.table) in
+    let longer : c.push.new.self.items ≡ c.loop-k.all.items ++ c.in_ok-entry.entry ∷ [] = search rules in (
+      onward c.args.table.now c.loop-k.table c.line_if_wanted.new.table more onwards,
+      text_stays c.loop-k.table c.line_if_wanted.new.table onwards l.world.now text,
+      record { passed = subst (λ w. HavePassed l.limits w (rules_of l)) now ready.passed; wanted = ready.wanted; limits = ready.limits },
+      told_more l.limits _ _ stays l.content (rules_of l) (record { place = c.loop-k.k }) _ _ _ told c.in_ok-entry.ensures.told,
+      rw longer (kept_more (world_of c.args.table.now l) (wants l) c.loop-k.all.items c.loop-k.k c.in_ok-entry.entry count kept
+          (subst (λ w. IsLineKept w (wants l) (record { place = c.loop-k.k }) c.in_ok-entry.entry) stays c.in_ok-entry.ensures.line)),
+      omega (arith, ap length longer, length-append c.loop-k.all.items (c.in_ok-entry.entry ∷ []), count),
+    )

@@ -1,16 +1,14 @@
-use Rattle.std.proofs.Common.{◌≡◌, List, length}
+use Rattle.std.proofs.Common.{◌≡◌, length}
 use Rattle.swreq_param.specs.Tables.{Extends}
 use Rattle.swreq_symbols.specs.Known.{IsTextOver}
-use Rattle.swreq_watch.specs.declared.events.Event.{Event}
-use Rattle.swreq_watch.specs.Told.{GrewBy}
-use Rattle.swreq_reply.specs.Listing.{rules_of, wants, world_of}
+use Rattle.swreq_reply.specs.Listing.{AreReady, rules_of, wants, world_of}
 use Rattle.swreq_reply.specs.Made.{AreLinesKept}
 use Rattle.swreq_reply.specs.Told.{MinimisingAllTells}
+use Rattle.swreq_reply.proofs.Checked.{Tells}
 use Rattle.swreq_reply.proofs.minimising.minimised_lines.Given as goal
 
 abbrev pub invariant-loop-k : goal.invariant-loop-k
 invariant-loop-k g l =
-    Extends l.initial.table l.table × IsTextOver l.table l.l.world.now
-    × ((told : List Event) × MinimisingAllTells l.l.limits (world_of l.initial.table l.l) l.l.content (rules_of l.l) told
-    × GrewBy (g.W.Watch.told l.initial.watch) (g.W.Watch.told l.watch) told)
+    Extends l.initial.table l.table × IsTextOver l.table l.l.world.now × AreReady l.table l.l
+    × Tells (MinimisingAllTells l.l.limits (world_of l.initial.table l.l) l.l.content (rules_of l.l)) (g.W.Watch.told l.initial.watch) (g.W.Watch.told l.watch)
     × AreLinesKept (world_of l.initial.table l.l) (wants l.l) l.all.items × (length l.all.items ≡ l.k)

@@ -1,36 +1,36 @@
-use Rattle.std.proofs.Common.{◌∙◌, ap, arith, get_or, List, sym}
-use Rattle.std.proofs.lemmas.List.Elements.{Contains-get_or}
+use Rattle.std.proofs.Common.{◌≡◌, ◌∙◌, List, Option, ap, get_or, subst, sym, true, ℕ}
 use Rattle.swreq_lowering.specs.declared.ids.FuncId.{FuncId}
 use Rattle.swreq_lowering.specs.declared.ids.Query.{Query}
 use Rattle.swreq_lowering.specs.declared.ids.Query.TheVariants.{Signature}
-use Rattle.swreq_reply.specs.Pieces.{answer_by}
+use Rattle.swreq_reply.specs.Contents.{backing_of}
+use Rattle.swreq_reply.specs.Outputs.{IsLineOf}
+use Rattle.swreq_reply.specs.Pieces.{query_at, world_of}
 use Rattle.swreq_reply.specs.Wanted.{list_asked}
-use Rattle.swreq_reply.proofs.Flags.{asked_within, listed_function}
-use Rattle.swreq_reply.proofs.Printed.{answer_there}
+use Rattle.swreq_reply.proofs.Printed.{by_list, by_piece}
 use Rattle.swreq_reply.proofs.printing.answer_at.Goals as goal
 
-abbrev any : Query
-any = Signature (record { place = 0 })
+-- what the query at a place asks is asked of the text
+asks : (qs read : List Query) (k : ℕ) (found o : Option FuncId) → read ≡ qs → found ≡ list_asked (get_or read k (Signature (record { place = 0 })))
+    → found ≡ o → list_asked (get_or qs k (Signature (record { place = 0 }))) ≡ o
+asks qs read k found o same e is =
+    sym (e ∙ ap (λ (all : List Query). list_asked (get_or all k (Signature (record { place = 0 })))) same) ∙ is
 
 pub text_at-requires : goal.text_at-requires
-text_at-requires c =
-    let q : Query = get_or c.args.m.now.world.now.queries c.args.k any in
-    let f = listed_function q c.in-Some.f
-    (sym (c.list_asked.ensures ∙ ap (λ (qs : List Query). list_asked (get_or qs c.args.k any)) c.queries.ensures) ∙ c.in-Some.is) in
-    let below = asked_within c.args.m.now.world.now c.args.m.now.table.now c.requires.made.text.closed q
-    (Contains-get_or c.args.m.now.world.now.queries c.args.k any c.requires.k) in
-    omega (arith, below, ap (λ (g : FuncId). g.place) f, c.requires.made.lists)
+text_at-requires c = (by_list c.args.m.now c.requires.whole c.requires.answers.0 c.requires.answers.1 c.args.k c.requires.k c.in-Some.f
+    (asks _ _ _ _ _ c.queries.ensures c.list_asked.ensures c.in-Some.is)).0
 
 pub returns-in-Some : goal.returns-in-Some
 returns-in-Some c =
-    c.text_at.ensures
-    ∙ sym (answer_there c.args.m.now c.args.k any _ c.requires.k
-    ∙ ap (answer_by c.args.m.now c.args.k)
-    (sym (c.list_asked.ensures ∙ ap (λ (qs : List Query). list_asked (get_or qs c.args.k any)) c.queries.ensures) ∙ c.in-Some.is))
+    subst (IsLineOf (world_of c.args.m.now) true (backing_of c.args.m.now.content) (query_at c.args.m.now c.args.k)) (sym c.text_at.ensures)
+    (by_list c.args.m.now c.requires.whole c.requires.answers.0 c.requires.answers.1 c.args.k c.requires.k c.in-Some.f
+    (asks _ _ _ _ _ c.queries.ensures c.list_asked.ensures c.in-Some.is)).1
+
+pub text_at-requires-in-None : goal.text_at-requires-in-None
+text_at-requires-in-None c = (by_piece c.args.m.now c.requires.whole c.requires.answers.0 c.requires.answers.1 c.args.k c.requires.k
+    (asks _ _ _ _ _ c.queries.ensures c.list_asked.ensures c.in-None.is)).0
 
 pub returns-in-None : goal.returns-in-None
 returns-in-None c =
-    c.text_at-in-None.ensures
-    ∙ sym (answer_there c.args.m.now c.args.k any _ c.requires.k
-    ∙ ap (answer_by c.args.m.now c.args.k)
-    (sym (c.list_asked.ensures ∙ ap (λ (qs : List Query). list_asked (get_or qs c.args.k any)) c.queries.ensures) ∙ c.in-None.is))
+    subst (IsLineOf (world_of c.args.m.now) true (backing_of c.args.m.now.content) (query_at c.args.m.now c.args.k)) (sym c.text_at-in-None.ensures)
+    (by_piece c.args.m.now c.requires.whole c.requires.answers.0 c.requires.answers.1 c.args.k c.requires.k
+    (asks _ _ _ _ _ c.queries.ensures c.list_asked.ensures c.in-None.is)).1

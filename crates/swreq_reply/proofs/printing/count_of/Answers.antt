@@ -1,36 +1,45 @@
-use Rattle.std.proofs.Common.{◌≡◌, ◌<◌, ◌∙◌, [], ap, arith, get_or, length, sym}
-use Rattle.std.proofs.lemmas.List.{get_or_default, take_all}
-use Rattle.swreq_reply.specs.Lines.{count_of}
-use Rattle.swreq_reply.specs.Pieces.{answers}
-use Rattle.swreq_reply.proofs.Lines.{counted_more, counted_same}
-use Rattle.swreq_reply.proofs.Printed.{answer_count}
+use Rattle.std.proofs.Common.{◌≡◌, ◌+◌, ◌<◌, List, ap, arith, length, refl, subst, sym, take, true, ℕ}
+use Rattle.std.proofs.lemmas.Bool.Decides.{not_from_Decides}
+use Rattle.std.proofs.lemmas.List.{length-map, take_all}
+use Rattle.swreq_lowering.specs.ByTable.{query_by}
+use Rattle.swreq_lowering.specs.Queries.{TermQuery}
+use Rattle.swreq_query.specs.Asked.{answer_of}
+use Rattle.swreq_reply.specs.Lines.{Counted}
+use Rattle.swreq_reply.specs.Lines.Counted.{nothing}
+use Rattle.swreq_reply.specs.Outputs.{HasAnswer}
+use Rattle.swreq_reply.specs.Pieces.{world_of}
+use Rattle.swreq_reply.proofs.Lines.{no_more, one_more}
 use Rattle.swreq_reply.proofs.printing.count_of.Goals as goal
-use Rattle.swreq_reply.proofs.printing.count_of.Goals.{then-eq, else-eq}
+use Rattle.swreq_reply.proofs.printing.count_of.Goals.{else-has_verdict, then-has_verdict}
 
-below : (c : goal.Joined-eq) → c.loop-k.k < length (answers c.args.m.now)
-below c = omega (arith, answer_count c.args.m.now 0 c.args.m.now.world.now.queries, ap length c.queries-k-end.ensures, c.loop-k-test.true)
-
-at : (c : goal.Joined-eq) → get_or (answers c.args.m.now) c.loop-k.k c.answer_at.result.now ≡ c.answer_at.result.now
-at c = get_or_default (answers c.args.m.now) c.loop-k.k c.answer_at.result.now [] (below c) ∙ sym c.answer_at.ensures
+pub loop-k-init : goal.loop-k-init
+loop-k-init c = (nothing, omega arith)
 
 pub loop-k-preserved : goal.loop-k-preserved
-loop-k-preserved c = elim c.if-eq.branch [
-  | then-eq w ↦ (
-    w.count-is
-        ∙ counted_more (answers c.args.m.now) c.loop-k.k c.answer_at.result.now (below c) (at c) c.args.line.now c.loop-k.count
-        (sym c.eq.ensures ∙ w.if-eq.true) c.loop-k.invariant.0,
-    omega (arith, w.count-is, c.loop-k.invariant.1),
-  )
-  | else-eq w ↦ (
-    w.count-is
-        ∙ counted_same (answers c.args.m.now) c.loop-k.k c.answer_at.result.now (below c) (at c) c.args.line.now c.loop-k.count
-        (sym c.eq.ensures ∙ w.if-eq.false) c.loop-k.invariant.0,
-    omega (arith, w.count-is, c.loop-k.invariant.1),
-  )
-]
+loop-k-preserved c =
+    let m = c.args.m.now in
+    let Has = HasAnswer (world_of m) true (answer_of c.args.verdict) in
+    let qs = (world_of m).queries in
+    let below : c.loop-k.k < length qs =
+    omega (arith, length-map m.world.now.queries (query_by m.table.now), ap length c.queries-k-end.ensures, c.loop-k-test.true) in
+    elim c.if-has_verdict.branch [
+      | then-has_verdict w ↦ (
+        subst (Counted Has (take (c.loop-k.k + 1) qs)) (sym w.count-is)
+            (one_more Has qs c.loop-k.k _ c.loop-k.count below c.loop-k.invariant.0 (c.has_verdict.ensures.0 w.if-has_verdict.true)),
+        omega (arith, w.count-is, c.loop-k.invariant.1),
+      )
+      | else-has_verdict w ↦ (
+        subst (Counted Has (take (c.loop-k.k + 1) qs)) (sym w.count-is)
+            (no_more Has qs c.loop-k.k _ c.loop-k.count below c.loop-k.invariant.0
+            (not_from_Decides c.has_verdict.result c.has_verdict.ensures w.if-has_verdict.false)),
+        omega (arith, w.count-is, c.loop-k.invariant.1),
+      )
+    ]
 
 pub returns : goal.returns
 returns c =
+    let m = c.args.m.now in
+    subst (λ (qs : List TermQuery). Counted (HasAnswer (world_of m) true (answer_of c.args.verdict)) qs c.loop-k.count)
+    (take_all c.loop-k.k (world_of m).queries
+    (omega (arith, length-map m.world.now.queries (query_by m.table.now), ap length c.queries-k-end.ensures, c.loop-k-test.false)))
     c.loop-k.invariant.0
-    ∙ ap (count_of c.args.line.now) (take_all c.loop-k.k (answers c.args.m.now)
-    (omega (arith, answer_count c.args.m.now 0 c.args.m.now.world.now.queries, ap length c.queries-k-end.ensures, c.loop-k-test.false)))

@@ -1,7 +1,9 @@
-use Rattle.std.proofs.Common.{◌≡◌, ◌≤◌, take}
-use Rattle.swreq_reply.specs.Lines.{count_of}
-use Rattle.swreq_reply.specs.Pieces.{answers}
+use Rattle.std.proofs.Common.{◌≤◌, take, true}
+use Rattle.swreq_query.specs.Asked.{answer_of}
+use Rattle.swreq_reply.specs.Lines.{Counted}
+use Rattle.swreq_reply.specs.Outputs.{HasAnswer}
+use Rattle.swreq_reply.specs.Pieces.{world_of}
 use Rattle.swreq_reply.proofs.printing.count_of.Given as goal
 
 abbrev pub invariant-loop-k : goal.invariant-loop-k
-invariant-loop-k l = (l.count ≡ count_of l.line (take l.k (answers l.m))) × (l.count ≤ l.k)
+invariant-loop-k l = Counted (HasAnswer (world_of l.m) true (answer_of l.verdict)) (take l.k (world_of l.m).queries) l.count × (l.count ≤ l.k)

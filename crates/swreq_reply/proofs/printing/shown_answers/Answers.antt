@@ -1,0 +1,26 @@
+use Rattle.std.proofs.Common.{◌∙◌, ap, subst, sym, true}
+use Rattle.std.proofs.lemmas.Result.{IfOk-weaker}
+use Rattle.swreq_reply.specs.Contents.{backing_of}
+use Rattle.swreq_reply.specs.Lines.{AreLinesIn}
+use Rattle.swreq_reply.specs.Outputs.{IsLineOf, IsOutput}
+use Rattle.swreq_reply.specs.Pieces.{world_of}
+use Rattle.swreq_reply.specs.declared.content.Content.{Content}
+use Rattle.swreq_reply.specs.declared.content.Content.TheVariants.{Answers}
+use Rattle.swreq_reply.specs.declared.content.Shown.{Shown}
+use Rattle.swreq_reply.proofs.printing.shown_answers.Goals as goal
+
+pub counts-requires-clause-counts : goal.counts-requires-clause-counts
+counts-requires-clause-counts c = c.requires.shown ∙ ap Answers c.in-Counts.is
+
+pub returns-in-Each : goal.returns-in-Each
+returns-in-Each c =
+    let m = c.args.m.now in
+    IfOk-weaker c.all_answers.result _ _
+    (λ v lines parts. subst (λ (s : Shown). IsOutput (world_of m) true (Answers s) parts v.items) (sym c.in-Each.is)
+    (subst (λ (k : Content). AreLinesIn (IsLineOf (world_of m) true (backing_of k)) (world_of m).queries v.items)
+    (c.requires.shown ∙ ap Answers c.in-Each.is) lines)) c.all_answers.ensures
+
+pub returns-in-Counts : goal.returns-in-Counts
+returns-in-Counts c =
+    IfOk-weaker c.counts.result _ _
+    (λ v counted parts. subst (λ (s : Shown). IsOutput (world_of c.args.m.now) true (Answers s) parts v.items) (sym c.in-Counts.is) counted) c.counts.ensures
