@@ -81,7 +81,8 @@ module _ (r : Run) where
     status_ended (cut_off status bytes to_print part failed is) = absurd (sound.1 failed)
 
   -- a text that nothing refuses has a verdict with status 0 alone
-  is_zero : (line : CommandLine) (text : Text) → ((o : Outcome) (told : List Event) → IsRefused line text o told ⊎ IsCutShort line text o told → ⊥)
+  is_zero : (line : CommandLine) (text : Text)
+      → ((o : Outcome) (told : List Event) → IsRefused line text o told ⊎ IsCutShort line text o told → ⊥)
       → (o : Outcome) (told : List Event) → IsVerdict line text o told → o.status ≡ 0
   is_zero line text never o told (is_refused refused) = absurd (never o told (inl refused))
   is_zero line text never o told (is_cut_short cut) = absurd (never o told (inr cut))

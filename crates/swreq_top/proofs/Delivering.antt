@@ -51,7 +51,8 @@ pub read_whole : (left rest : Option Text) (text : Text) → Consumes left rest 
 read_whole None rest text came end within = (tt, tt)
 read_whole (Some all) None text came end within = absurd came
 read_whole (Some all) (Some rest) text came end within =
-    let same : all ≡ text = came ∙ ap (λ (l : Text). text ++ l) end ∙ append-nil text in (inl (omega (arith, ap length same, within), end), same)
+    let same : all ≡ text = came ∙ ap (λ (l : Text). text ++ l) end ∙ append-nil text in
+    (inl (omega (arith, ap length same, within), end), same)
 
 -- and one of which more was read than a text may have had a text that is too long
 read_long : (left rest : Option Text) → GivesCount left rest 1048577 → IfSome left (λ all. 1048576 < length all)
@@ -74,9 +75,10 @@ knows_answered _ left rest text P unread read h =
     let had = read (λ gen. (cc gen.1)) in (had.0, IfSome_then left had.1 (λ all e. subst P (sym e) h))
 
 -- what is answered of a text
-pub answers_text : (line : CommandLine) (left rest : Option Text) (old new : Option (List Event)) (text : Text) → (IsGen line.command → rest ≡ left)
-    → ((IsGen line.command → ⊥) → IsRead left rest × IfSome left (λ all. all ≡ text)) → (result : Result Outcome ReadErr)
-    → AnswersText line (answered_text line.command text) old new result → Answers line left rest old new result
+pub answers_text : (line : CommandLine) (left rest : Option Text) (old new : Option (List Event)) (text : Text)
+    → (IsGen line.command → rest ≡ left) → ((IsGen line.command → ⊥) → IsRead left rest × IfSome left (λ all. all ≡ text))
+    → (result : Result Outcome ReadErr) → AnswersText line (answered_text line.command text) old new result
+    → Answers line left rest old new result
 answers_text line left rest old new text unread read (Ok o) h =
     let said = knows_answered line.command left rest text (λ t. IsToldVerdict line t old new o × IsOnlyRefusal line t o) unread read h in
     (said.0, said.1, verdict_status line (answered_text line.command text) o h.0.0 h.0.1)
@@ -125,27 +127,32 @@ module _ (r : Run) where
         let said = reads_source line.command r.before.left r.after.left
         (λ text. IsToldVerdict line text r.before.told r.after.told o × IsOnlyRefusal line text o) reads
         (IfSome_then r.before.left long (λ all l. inr (l, came)))
-        (IfSome_then r.before.left long (λ all l. (([], is_refused (too_long l refl refl), grew), λ p told refused. sym (long_refused line all l refused)))) in
+        (IfSome_then r.before.left long
+        (λ all l. (([], is_refused (too_long l refl refl), grew), λ p told refused. sym (long_refused line all l refused)))) in
         for_verdict o (said.0, said.1, inr (inl refl)) (unfailed (λ e. (cc)) unread)
     to_print (Err Fault) (reads, grew) failed unread = read_fault line says reads grew (failed refl)
     to_print (Err Memory) told failed unread = no_memory (record {
       part = λ other also.
-          subst (λ (l : CommandLine). HoldsOfText r l (λ text. WasToldPart l text r.before.told r.after.told)) (one_line r.words line other says also) told;
+          subst (λ (l : CommandLine). HoldsOfText r l (λ text. WasToldPart l text r.before.told r.after.told))
+          (one_line r.words line other says also) told;
       untold = λ wrong. absurd (wrong line says);
     }) (unfailed (λ e. (cc)) unread)
 
   -- what there is to print was written, or a part of it
   pub ended : {status : ℕ} {bytes : Text} → HasToPrint r status bytes
       → IsFinished r.before.taken r.after.taken r.before.write_faults r.after.write_faults bytes status r.status → IsEnd r
-  ended {bytes = bytes} to_print (inl (is, taken, same)) = printed bytes (subst (λ (s : ℕ). HasToPrint r s bytes) (sym is) to_print) taken same
+  ended {bytes = bytes} to_print (inl (is, taken, same)) =
+      printed bytes (subst (λ (s : ℕ). HasToPrint r s bytes) (sym is) to_print) taken same
   ended {status} {bytes} to_print (inr (is, part, risen)) = cut_off status bytes to_print part risen is
 
 -- ---- words
 
 -- what follows where a line says `gen` follows where the words are wrong or say `gen`
-pub gen_said : {A : Type 0} (words : List Text) (line : CommandLine) → Says words line → (IsGen line.command → A) → AreWrong words ⊎ SayGen words → A
+pub gen_said : {A : Type 0} (words : List Text) (line : CommandLine) → Says words line → (IsGen line.command → A)
+    → AreWrong words ⊎ SayGen words → A
 gen_said words line says by (inl wrong) = absurd (wrong line says)
-gen_said words line says by (inr (other, also, gen)) = by (subst (λ (l : CommandLine). IsGen l.command) (one_line words other line also says) gen)
+gen_said words line says by (inr (other, also, gen)) =
+    by (subst (λ (l : CommandLine). IsGen l.command) (one_line words other line also says) gen)
 
 -- the number of `gen` is in its range
 pub has_count : (c : Command) → ((n : ℕ) → c ≡ command.Gen n → (1 ≤ n) × (n ≤ 100)) → HasCount c

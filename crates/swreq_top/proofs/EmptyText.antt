@@ -129,8 +129,8 @@ never_passes limits (rule ∷ trace) which passes = of_birth rule.birth (passes.
 
 module _ (w : TextWorld) (limits : Limits) where
   -- no round has equations
-  never_stopped : {used : List Item} {told : List Event} (which : Which) (trace : List Rule) → IsRound limits (protocols_of (emptied w)) used told
-      → Passes limits 0 (given (protocols_of (emptied w)) used) trace which → ⊥
+  never_stopped : {used : List Item} {told : List Event} (which : Which) (trace : List Rule)
+      → IsRound limits (protocols_of (emptied w)) used told → Passes limits 0 (given (protocols_of (emptied w)) used) trace which → ⊥
   never_stopped which trace first passes = never_passes limits trace which passes
   never_stopped which trace (next rules round ends none differs told_is) passes = never_passes limits trace which passes
 
@@ -149,7 +149,8 @@ none_minimised Signatures w g has = no_member g has
 none_minimised _ w g asked = asked
 
 -- one goes through no more requirements than there are
-gone_within : {limits : Limits} {w : TextWorld} {n : ℕ} {flags : List Bool} {told : List Event} → HasGone limits w n flags told → n ≤ length (owned w)
+gone_within : {limits : Limits} {w : TextWorld} {n : ℕ} {flags : List Bool} {told : List Event} → HasGone limits w n flags told
+    → n ≤ length (owned w)
 gone_within (start e f untold) = omega (arith, e)
 gone_within (further h m e) = omega (arith, gone_within h)
 
@@ -193,6 +194,7 @@ is_source (command.Gen n) r = absurd (cc)
 is_source _ r = refl
 
 -- Such a command is answered over such a source.
-pub empty_is_answerable : (r : Run) (line : CommandLine) → Says r.words line → reads line.command ≡ OnePart → r.before.left ≡ Some [] → IsAnswerable r
+pub empty_is_answerable : (r : Run) (line : CommandLine) → Says r.words line → reads line.command ≡ OnePart → r.before.left ≡ Some []
+    → IsAnswerable r
 empty_is_answerable r line says one empty =
     (line, says, ([], ap (known_text line.command) empty ∙ is_source line.command one, empty_unrefused line one))

@@ -10,27 +10,30 @@ use Rattle.swreq_param.specs.Terms.{Term}
 use Rattle.swreq_derive.specs.Derivation.{Derivable, Source, TermFacts, TermRequirement, TermStatement}
 use Rattle.swreq_derive.specs.Derivation.TermStatement.{IsValid, Requires}
 use Rattle.swreq_derive.specs.Facts.{generic_params}
-use Rattle.swreq_derive.specs.WellFormed.{HasValidSides}
+use Rattle.swreq_derive.specs.WellFormed.{HasValidSides, IsWellFormed}
 use Rattle.swreq_derive.proofs.Guard.{from_function}
 use Rattle.swreq_derive.proofs.Substitution.{valid_sides}
 use Rattle.swreq_canonical.proofs.Agreement.{minimised_independent}
+use Rattle.swreq_rule.specs.declared.rules.Rule.{Rule}
 use Rattle.swreq_watch.specs.declared.events.Event.{Event}
+use Rattle.swreq_complete.specs.declared.limit.Limits.{Limits}
 use Rattle.swreq_words.specs.Form.{Says}
 use Rattle.swreq_words.specs.declared.command.CommandLine.{CommandLine}
 use Rattle.swreq_lowering.specs.declared.ids.FuncId.{FuncId}
 use Rattle.swreq_lowering.specs.Queries.{TermQuery}
 use Rattle.swreq_lowering.specs.Queries.TermQuery.{AsksSignature, AsksReduced, AsksConforms, AsksAnyObject, AsksEquals}
 use Rattle.swreq_lowering.specs.Requirements.{PlacedRequirement}
-use Rattle.swreq_world.specs.Closed.{IsQueryOf}
+use Rattle.swreq_world.specs.Closed.{IsClosed, IsQueryOf}
 use Rattle.swreq_world.specs.Worlds.{SignatureOver, TextWorld, no_signature, signature_at}
 use Rattle.swreq_symbols.specs.Meaning.{facts_of}
 use Rattle.swreq_print.specs.Names.{Text}
 use Rattle.swreq_query.specs.Answers.{Answer, IsLeastEqual, IsSide, answer_line, asked}
 use Rattle.swreq_query.specs.Answers.Answer.{Invalid, Yes, Reduced}
 use Rattle.swreq_query.proofs.OneAnswer.{one_answer}
+use Rattle.swreq_output.specs.Ended.{HasEnded, IsWorldOfText}
 use Rattle.swreq_output.specs.Signatures.{IsMinimisedLine, full_name}
 use Rattle.swreq_world.specs.FactsAt.{source_of, written_list}
-use Rattle.swreq_output.proofs.PrintingAlike.{equivalent_by_one_line, lines_alike, params_of_one_line}
+use Rattle.swreq_output.proofs.PrintingAlike.{closed_world, equivalent_by_one_line, lines_alike, params_of_one_line}
 use Rattle.swreq_reply.specs.declared.outcome.Outcome.{Outcome}
 use Rattle.swreq_top.specs.Headline.{HasPathWhereImplied, IsDerivedWhereImplied, AsksImplied, IsImplied, IsLeastWhereValid, IsYes, IsYesWhereImplied, PrintsOf, SayAlike, SayDerivations, SayEqualLists, SayFailing, SayFamily, SayPaths, SayTheLeast, SayYesWhereImplied, SaysOf}
 use Rattle.swreq_reply.specs.Lines.{AreLines}
@@ -47,8 +50,9 @@ use Rattle.swreq_top.specs.Run.{HasVerdict, Run, known_text}
 use Rattle.swreq_reply.specs.Verdict.{HasWorld, IsVerdict, limits_of}
 use Rattle.swreq_reply.specs.Verdict.IsVerdict.{answered as is_answered, cut_short as is_cut_short, judged as is_judged, refused as is_refused}
 use Rattle.swreq_reqsig.proofs.Signatures.{numbered_signatures}
+use Rattle.swreq_reply.specs.Machines.{IsBuiltOver}
+use Rattle.swreq_reply.proofs.Checked.{each_comes, is_formed}
 use Rattle.swreq_reply.proofs.OneOutput.{refused_status}
-use Rattle.swreq_top.proofs.Passed.{HasPassed, formed, has_ended, is_closed}
 use Rattle.swreq_reply.proofs.Lines.{asked_list, counted_by, lines_by}
 
 -- ---- answers of queries
@@ -89,7 +93,8 @@ least_where_valid w b _ piece line = tt
 line_at : {A : Type 0} {P : A → Text → Type 0} {xs : List A} {ls : List Text} → AreLines P xs ls → (k : ℕ) (x : A) (line : Text)
     → slice_get xs k ≡ Some x → slice_get ls k ≡ Some line → P x line
 line_at none k x line e d = (cc)
-line_at {P = P} (more {x} {xs} {line} is rest) zero y other e d = subst (λ z. P z other) (same_Some x y e) (subst (P x) (same_Some line other d) is)
+line_at {P} (more {x} {xs} {line} is rest) zero y other e d =
+    subst (λ z. P z other) (same_Some x y e) (subst (P x) (same_Some line other d) is)
 line_at (more is rest) (suc k) y other e d = line_at rest k y other e d
 
 -- the answer to the last query, where it asks for a signature
@@ -101,16 +106,44 @@ last_list w (q ∷ r ∷ qs) f line h = last_list w (r ∷ qs) f line h
 
 -- ---- texts that pass the check
 
+-- The text has this world, and its check came to rules.
+pub record HasPassed (w : TextWorld) : Type 0 where
+  pub text : Text
+  pub of_text : IsWorldOfText text w
+  pub limits : Limits
+  pub rules : List Rule
+  pub told : List Event
+  pub built : IsBuiltOver limits w rules told
+
 module _ (w : TextWorld) (has : HasPassed w) where
+  is_closed : IsClosed w
+  is_closed = closed_world has.text w has.of_text
+
+  formed : IsWellFormed (facts_of w) (map source_of w.signatures)
+  formed = is_formed has.limits w is_closed has.built
+
+  -- the rounds of each signature have ended
+  has_ended : (g : SignatureOver PlacedRequirement) → Contains w.signatures g → HasEnded has.limits w g
+  has_ended g c =
+      let (own, told, comes) = each_comes has.limits w has.rules has.built.signatures g c in
+      record {
+        rules = has.rules;
+        first = has.built.first;
+        of_protocols = has.built.protocols.0;
+        own = own;
+        more = told;
+        of_list = comes.0;
+      }
+
   -- its queries are of its world
   is_query : (q : TermQuery) → Contains w.queries q → IsQueryOf w q
-  is_query q c = All-contains (IsQueryOf w) w.queries q (is_closed w has).queries c
+  is_query q c = All-contains (IsQueryOf w) w.queries q is_closed.queries c
 
   -- a query whose requirement is implied has the answer `yes`
   answers_yes : (q : TermQuery) → IsQueryOf w q → AsksImplied w q → HasAnswer w false Yes q
   answers_yes q of (r, asks, h) =
       let s : Source = source_of (signature_at w (signature_of q)) in
-      let book = λ (st : TermStatement). from_function (facts_of w) (map source_of w.signatures) s st (formed w has) (asked_list w q of) in (
+      let book = λ (st : TermStatement). from_function (facts_of w) (map source_of w.signatures) s st formed (asked_list w q of) in (
         λ side is. (book (IsValid side)).1
             ((rw asks at (sides_of_asked (facts_of w) s q)) (valid_sides (facts_of w) s r ((book (Requires r)).0 h)) side is),
         (r, asks, h),
@@ -124,7 +157,8 @@ module _ (w : TextWorld) (has : HasPassed w) where
   only_yes q r asks _ rest behind h e = absurd (cc)
 
   -- so the piece of a query is that of a `yes` exactly where its requirement is implied
-  yes_where_implied : (b : Backing) (q : TermQuery) (piece : Text) → IsQueryOf w q → IsLineOf w false b q piece → IsYesWhereImplied w b q piece
+  yes_where_implied : (b : Backing) (q : TermQuery) (piece : Text) → IsQueryOf w q → IsLineOf w false b q piece
+      → IsYesWhereImplied w b q piece
   yes_where_implied b q piece of line = if_some (asked q) (λ r asks. both r asks (by_types q line r asks))
     where
       by_types : (q : TermQuery) → IsLineOf w false b q piece → (r : TermRequirement) → asked q ≡ Some r → AnswersByTypes w false b q piece
@@ -153,8 +187,8 @@ module _ (w : TextWorld) (has : HasPassed w) where
   of_queries b Sentence each are = lines_by (IsLineOf w false b) Sentence (λ q line c of. each q line (is_query q c) of) are
 
   -- the signature that a query asks is one of the text
-  asked_signature : (f : FuncId) (g : SignatureOver PlacedRequirement) (line : Text) → Contains w.queries (AsksSignature f) → g ≡ signature_at w f
-      → IsMinimisedLine w (signature_at w f) line → Contains w.signatures g × IsMinimisedLine w g line
+  asked_signature : (f : FuncId) (g : SignatureOver PlacedRequirement) (line : Text) → Contains w.queries (AsksSignature f)
+      → g ≡ signature_at w f → IsMinimisedLine w (signature_at w f) line → Contains w.signatures g × IsMinimisedLine w g line
   asked_signature f g line c is minimised =
       subst (λ (z : SignatureOver PlacedRequirement). Contains w.signatures z × IsMinimisedLine w z line) (sym is)
       (Contains-get_or w.signatures f.place no_signature (is_query (AsksSignature f) c), minimised)
@@ -164,7 +198,8 @@ module _ (w : TextWorld) (has : HasPassed w) where
 -- The sentence is true of what is printed of each world; of one whose text passes the check, unless derivations are judged.
 abbrev pub Holds : (TextWorld → Content → Parts → List Text → Type 0) → Type 0
 Holds Sentence =
-    (w : TextWorld) (c : Content) → (c ≢ Judgements → HasPassed w) → (p : Parts) (lines : List Text) → ArePrinted w false c p lines → Sentence w c p lines
+    (w : TextWorld) (c : Content) → (c ≢ Judgements → HasPassed w) → (p : Parts) (lines : List Text) → ArePrinted w false c p lines
+    → Sentence w c p lines
 
 pub say_yes : Holds SayYesWhereImplied
 say_yes w (Answers (Each b)) has p lines are =
@@ -174,7 +209,8 @@ say_yes w (Answers (Counts n)) has p lines are =
       are.yes_count,
       are.no_count,
       are.invalid_count,
-      counted_by (HasAnswer w false Yes) (AsksImplied w) (λ q c yes. yes.1) (λ q c h. answers_yes w passed q (is_query w passed q c) h) are.say_yes,
+      counted_by (HasAnswer w false Yes) (AsksImplied w) (λ q c yes. yes.1) (λ q c. answers_yes w passed q (is_query w passed q c))
+          are.say_yes,
       ap (λ (ls : List Text). slice_get ls 0) are.pieces_are,
     )
 say_yes w _ has p lines are = tt
@@ -185,25 +221,24 @@ say_least w (Answers (Each b)) has p lines are =
 say_least w _ has p lines are = tt
 
 -- what is printed of a signature is the line of its minimised list, and it is one of a text that passes the check
-listed : (w : TextWorld) (c : Content) → (c ≢ Judgements → HasPassed w) → (p : Parts) (lines : List Text) → ArePrinted w false c p lines → (k : ℕ)
-    (g : SignatureOver PlacedRequirement) (line : Text) → PrintsOf w c lines k g line → HasPassed w × (Contains w.signatures g × IsMinimisedLine w g line)
+listed : (w : TextWorld) (c : Content) → (c ≢ Judgements → HasPassed w) → (p : Parts) (lines : List Text) → ArePrinted w false c p lines
+    → (k : ℕ) (g : SignatureOver PlacedRequirement) (line : Text) → PrintsOf w c lines k g line
+    → HasPassed w × (Contains w.signatures g × IsMinimisedLine w g line)
 listed w (Answers (Each b)) has p lines are k g line (f, asks, is, at) =
-    let passed = has (λ e. (cc)) in (
-      passed,
-      asked_signature w passed f g line (get_contains w.queries k (AsksSignature f) asks) is (line_at are k (AsksSignature f) line asks at),
-    )
+    let passed = has (λ e. (cc)) in
+    let member = get_contains w.queries k (AsksSignature f) asks in
+    (passed, asked_signature w passed f g line member is (line_at are k (AsksSignature f) line asks at))
 listed w (Answers (Counts n)) has p lines are k g line (f, qs, split, is, second, at) =
     let passed = has (λ e. (cc)) in
     let same : are.last ≡ line = same_Some are.last line (sym (ap₂ slice_get are.pieces_are second) ∙ at) in
-    let ends = subst (λ (all : List TermQuery). AnswersLast w false all line) split (subst (AnswersLast w false w.queries) same are.ends) in (
-      passed,
-      asked_signature w passed f g line
-          (subst (λ (all : List TermQuery). Contains all (AsksSignature f)) (sym split) (Contains-push qs (AsksSignature f))) is (last_list w qs f line ends),
-    )
+    let ends = subst (λ (qs : List TermQuery). AnswersLast w false qs line) split (subst (AnswersLast w false w.queries) same are.ends) in
+    let member = subst (λ (qs : List TermQuery). Contains qs (AsksSignature f)) (sym split) (Contains-push qs (AsksSignature f)) in
+    (passed, asked_signature w passed f g line member is (last_list w qs f line ends))
 listed w Signatures has p lines are k g line (at_g, at) =
     let named = line_at are k g (full_name w g ++ (codes ": " ++ line)) at_g at in
-    let same = append_cancel_left (codes ": ") line named.0 (append_cancel_left (full_name w g) (codes ": " ++ line) (codes ": " ++ named.0) named.2) in
-    (has (λ e. (cc)), (get_contains w.signatures k g at_g, subst (IsMinimisedLine w g) (sym same) named.1))
+    let same = append_cancel_left (full_name w g) (codes ": " ++ line) (codes ": " ++ named.0) named.2 in
+    let minimised = subst (IsMinimisedLine w g) (sym (append_cancel_left (codes ": ") line named.0 same)) named.1 in
+    (has (λ e. (cc)), (get_contains w.signatures k g at_g, minimised))
 listed w _ has p lines are k g line at = absurd at
 
 pub say_equal_lists : Holds SayEqualLists
@@ -271,7 +306,8 @@ module _ (Sentence : TextWorld → Content → Parts → List Text → Type 0) (
 
     -- a verdict with status 0 is an answer, or judges derivations
     of_verdict : (told : List Event) → IsVerdict line text (record { status = 0; output = output }) told → SaysOfText line text
-    of_verdict told (is_refused refused) = absurd (omega (arith, refused_status line text (record { status = 0; output = output }) told refused))
+    of_verdict told (is_refused refused) =
+        absurd (omega (arith, refused_status line text (record { status = 0; output = output }) told refused))
     of_verdict told (is_cut_short cut) = absurd (omega (arith, ap (λ (o : Outcome). o.status) cut.outcome))
     of_verdict told (is_answered a) = of_output a.check.world a.check.has_world (λ checks. record {
       text = a.check.has_world.parts.source;
@@ -284,6 +320,10 @@ module _ (Sentence : TextWorld → Content → Parts → List Text → Type 0) (
     of_verdict told (is_judged j) = of_output j.world j.has_world (λ checks. absurd (checks j.judges)) j.output
 
   -- what is printed with status 0 says so
-  pub taken_say : IsAnsweredRun r → (line : CommandLine) × Says r.words line × IfSome (known_text line.command r.before.left) (SaysOfText line)
-  taken_say (output, taken, (line, says, has)) =
-      (line, says, IfSome_then (known_text line.command r.before.left) has.verdict (λ text told. of_verdict line text output taken told.0 told.1))
+  pub taken_say : IsAnsweredRun r
+      → (line : CommandLine) × Says r.words line × IfSome (known_text line.command r.before.left) (SaysOfText line)
+  taken_say (output, taken, (line, says, has)) = (
+    line,
+    says,
+    IfSome_then (known_text line.command r.before.left) has.verdict (λ text said. of_verdict line text output taken said.0 said.1),
+  )

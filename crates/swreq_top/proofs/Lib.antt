@@ -2,5 +2,4 @@ pub mod Contracts
 pub mod Delivering
 pub mod EmptyText
 pub mod Headlines
-pub mod Passed
 pub mod WellFormed

@@ -27,12 +27,15 @@ module _ (w : TextWorld) (formed : IsWellFormed (facts_of w) (map source_of w.si
     | inr d ↦ valid_protocols ps x d
   ]
 
-  valid_list : (g : SignatureOver PlacedRequirement) → Contains w.signatures g → HoldsOfEach (IsValidSide (facts_of w)) (sides (source_of g) g.requirements)
-  valid_list g c = formed_sides (facts_of w) (source_of g) g.requirements (formed.lists (source_of g) (contains_map source_of w.signatures g c))
+  valid_list : (g : SignatureOver PlacedRequirement) → Contains w.signatures g
+      → HoldsOfEach (IsValidSide (facts_of w)) (sides (source_of g) g.requirements)
+  valid_list g c =
+      formed_sides (facts_of w) (source_of g) g.requirements (formed.lists (source_of g) (contains_map source_of w.signatures g c))
 
   -- ---- the check
 
-  none_fails : (every : List Side) (at : ℕ) → HoldsOfEach (IsValidSide (facts_of w)) every → FailsFirst (IsValidSide (facts_of w)) every at → ⊥
+  none_fails : (every : List Side) (at : ℕ) → HoldsOfEach (IsValidSide (facts_of w)) every → FailsFirst (IsValidSide (facts_of w)) every at
+      → ⊥
   none_fails every at h fails =
       let last = Contains-append_right fails.before (fails.side ∷ fails.after) fails.side (first_member fails.side fails.after) in
       fails.fails (h fails.side (subst (λ (xs : List Side). Contains xs fails.side) (sym fails.split) last))
@@ -41,8 +44,8 @@ module _ (w : TextWorld) (formed : IsWellFormed (facts_of w) (map source_of w.si
     signatures_pass : (rules : List Rule) {gs : List (SignatureOver PlacedRequirement)} {told : List Event}
         → ((g : SignatureOver PlacedRequirement) → Contains gs g → Contains w.signatures g)
         → SignaturesCome limits w rules gs (Some (NotATypeParameter at)) told → ⊥
-    signatures_pass rules among (next {g = g} {gs = gs} own one rest e) = signatures_pass rules (λ h c. among h (later_member g h gs c)) rest
-    signatures_pass rules among (stopped {g = g} {gs = gs} refused real come) =
+    signatures_pass rules among (next {g} {gs} own one rest e) = signatures_pass rules (λ h c. among h (later_member g h gs c)) rest
+    signatures_pass rules among (stopped {g} {gs} refused real come) =
         none_fails (sides (source_of g) g.requirements) at (valid_list g (among g (first_member g gs))) come.2
 
     pub never_refused : {told : List Event} → IsChecked limits w (Some (NotATypeParameter at)) told → ⊥

@@ -1,4 +1,4 @@
-use Rattle.std.proofs.Common.{Err, Ok, ap, map, refl, string_bytes}
+use Rattle.std.proofs.Common.{Err, Ok, ap, refl}
 use Rattle.swreq_text.specs.declared.whole.ReadErr.TheVariants.{Fault, Memory, TooLarge}
 use Rattle.swreq_watch.proofs.Told.{grew_none}
 use Rattle.swreq_top.specs.Run.HasToPrint.{no_memory, wrong_words}
@@ -6,10 +6,11 @@ use Rattle.swreq_top.proofs.Delivering.{ended, gen_said, has_count, nothing_told
 use Rattle.swreq_top.proofs.program.carry_out.Goals as goal
 
 pub answer-requires-clause-limits : goal.answer-requires-clause-limits
-answer-requires-clause-limits g c = c.numbers_are_in_range.ensures.limits (map string_bytes c.args.words.now) c.in-Ok.line c.in-Ok.ensures.ok
+answer-requires-clause-limits g c = c.numbers_are_in_range.ensures.limits _ c.in-Ok.line c.in-Ok.ensures.ok
 
 pub answer-requires-clause-count : goal.answer-requires-clause-count
-answer-requires-clause-count g c = has_count c.in-Ok.line.command (λ n is. c.numbers_are_in_range.ensures.count (map string_bytes c.args.words.now) c.in-Ok.line n c.in-Ok.ensures.ok is)
+answer-requires-clause-count g c =
+    has_count c.in-Ok.line.command (λ n is. c.numbers_are_in_range.ensures.count _ c.in-Ok.line n c.in-Ok.ensures.ok is)
 
 pub returns-in-Ok-answer-clause-end : goal.returns-in-Ok-answer-clause-end
 returns-in-Ok-answer-clause-end g c =
@@ -18,15 +19,16 @@ returns-in-Ok-answer-clause-end g c =
     (rw c.items.ensures at c.finish.ensures)
 
 pub returns-in-Ok-answer-clause-unread : goal.returns-in-Ok-answer-clause-unread
-returns-in-Ok-answer-clause-unread g c = gen_said (map string_bytes c.args.words.now) c.in-Ok.line c.in-Ok.ensures.ok c.answer.ensures.unread
+returns-in-Ok-answer-clause-unread g c = gen_said _ c.in-Ok.line c.in-Ok.ensures.ok c.answer.ensures.unread
 
 pub returns-in-Err-TooLarge-clause-end : goal.returns-in-Err-TooLarge-clause-end
 returns-in-Err-TooLarge-clause-end g c =
     let said = rw c.in-Err-TooLarge.field-0-is at c.in-Err-TooLarge.ensures in
-    ended _ (to_print _ c.in-Ok.line c.in-Ok.ensures.ok (Err TooLarge) said.answer said.fault said.no_fault) c.finish-in-Err-TooLarge.ensures
+    ended _ (to_print _ c.in-Ok.line c.in-Ok.ensures.ok (Err TooLarge) said.answer said.fault said.no_fault)
+    c.finish-in-Err-TooLarge.ensures
 
 pub returns-in-Err-TooLarge-clause-unread : goal.returns-in-Err-TooLarge-clause-unread
-returns-in-Err-TooLarge-clause-unread g c = gen_said (map string_bytes c.args.words.now) c.in-Ok.line c.in-Ok.ensures.ok c.answer.ensures.unread
+returns-in-Err-TooLarge-clause-unread g c = gen_said _ c.in-Ok.line c.in-Ok.ensures.ok c.answer.ensures.unread
 
 pub returns-in-Err-Fault-clause-end : goal.returns-in-Err-Fault-clause-end
 returns-in-Err-Fault-clause-end g c =
@@ -34,20 +36,22 @@ returns-in-Err-Fault-clause-end g c =
     ended _ (to_print _ c.in-Ok.line c.in-Ok.ensures.ok (Err Fault) said.answer said.fault said.no_fault) c.finish-in-Err-Fault.ensures
 
 pub returns-in-Err-Fault-clause-unread : goal.returns-in-Err-Fault-clause-unread
-returns-in-Err-Fault-clause-unread g c = gen_said (map string_bytes c.args.words.now) c.in-Ok.line c.in-Ok.ensures.ok c.answer.ensures.unread
+returns-in-Err-Fault-clause-unread g c = gen_said _ c.in-Ok.line c.in-Ok.ensures.ok c.answer.ensures.unread
 
 pub returns-in-Err-Memory-answer-clause-end : goal.returns-in-Err-Memory-answer-clause-end
 returns-in-Err-Memory-answer-clause-end g c =
     let said = rw c.in-Err-Memory-answer.field-0-is at c.in-Err-Memory-answer.ensures in
-    ended _ (to_print _ c.in-Ok.line c.in-Ok.ensures.ok (Err Memory) said.answer said.fault said.no_fault) c.finish-in-Err-Memory-answer.ensures
+    ended _ (to_print _ c.in-Ok.line c.in-Ok.ensures.ok (Err Memory) said.answer said.fault said.no_fault)
+    c.finish-in-Err-Memory-answer.ensures
 
 pub returns-in-Err-Memory-answer-clause-unread : goal.returns-in-Err-Memory-answer-clause-unread
-returns-in-Err-Memory-answer-clause-unread g c = gen_said (map string_bytes c.args.words.now) c.in-Ok.line c.in-Ok.ensures.ok c.answer.ensures.unread
+returns-in-Err-Memory-answer-clause-unread g c = gen_said _ c.in-Ok.line c.in-Ok.ensures.ok c.answer.ensures.unread
 
 pub returns-in-Err-Usage-clause-end : goal.returns-in-Err-Usage-clause-end
 returns-in-Err-Usage-clause-end g c =
-    ended _ (wrong_words (c.in-Err-Usage.ensures.usage.0 (ap Err c.in-Err-Usage.field-0-is)) (grew_none (g.W.Watch.told c.args.watch.now)) refl)
-    c.finish-in-Err-Usage.ensures
+    let wrong = c.in-Err-Usage.ensures.usage.0 (ap Err c.in-Err-Usage.field-0-is) in
+    ended _ (wrong_words wrong (grew_none (g.W.Watch.told c.args.watch.now)) refl) c.finish-in-Err-Usage.ensures
 
 pub returns-in-Err-Memory-clause-end : goal.returns-in-Err-Memory-clause-end
-returns-in-Err-Memory-clause-end g c = ended _ (no_memory (nothing_told _ (grew_none (g.W.Watch.told c.args.watch.now))) refl) c.finish-in-Err-Memory.ensures
+returns-in-Err-Memory-clause-end g c =
+    ended _ (no_memory (nothing_told _ (grew_none (g.W.Watch.told c.args.watch.now))) refl) c.finish-in-Err-Memory.ensures
