@@ -27,13 +27,13 @@ returns-in-Ok-resolve_calls c told =
     let text = c.args.r.now.parts.input.now in
     let ds = c.deref.result.now in
     let calls = map (call_by c.resolve_calls.new.table) c.in-Ok-resolve_calls.calls.items in
+    let same = world_stays old c.resolve_calls.new.table c.in-Ok-resolve_calls.ensures.extends ids c.requires.text.table in
     calls_answered c.requires.request c.requires.world c.requires.checked.passed c.requires.calls told ds
     (rw (← c.second_at.ensures, c.deref.ensures.value) c.in-Ok.ensures.ok)
     (c.calls_by_table.ensures.refusals old ids text ds ∙ c.in-Ok-resolve_calls.ensures.ok refl)
     calls (c.calls_by_table.ensures.say old ids text calls ds c.in-Ok-resolve_calls.ensures.calls)
     c.answered_calls.result
-    (rw (world_stays old c.resolve_calls.new.table c.in-Ok-resolve_calls.ensures.extends ids c.requires.text.table,
-    c.deref-in-Ok-resolve_calls.ensures.value) at c.answered_calls.ensures)
+    (rw (same, c.deref-in-Ok-resolve_calls.ensures.value) at c.answered_calls.ensures)
 
 pub returns-in-Ok : goal.returns-in-Ok
 returns-in-Ok c told =
