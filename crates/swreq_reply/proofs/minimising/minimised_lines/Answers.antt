@@ -66,18 +66,15 @@ loop-k-init g c = (
 
 pub returns-in_err-entry-clause-failed : goal.returns-in_err-entry-clause-failed
 returns-in_err-entry-clause-failed g c =
-    let l = c.args.l.now in
-    let stays = world_stays c.args.table.now c.loop-k.table c.loop-k.invariant.0 l.world.now c.requires.text.table in
+    let stays = world_stays c.args.table.now c.loop-k.table c.loop-k.invariant.0 c.args.l.now.world.now c.requires.text.table in
     rw (err_is c.from_residual.result _ c.from_residual.ensures.1)
-    (failed_at l.limits _ _ stays l.content (rules_of l) (record { place = c.loop-k.k }) _ _ _ c.loop-k.invariant.3 c.in_err-entry.field-0.0
-    c.in_err-entry.ensures.failed)
+    (failed_at _ _ _ stays _ _ (record { place = c.loop-k.k }) _ _ _ c.loop-k.invariant.3 c.in_err-entry.field-0.0 c.in_err-entry.ensures.failed)
 
 pub returns-in_err-map_err-clause-failed : goal.returns-in_err-map_err-clause-failed
 returns-in_err-map_err-clause-failed g c =
-    let l = c.args.l.now in
     let lost : c.in_err-map_err.field-0.0 ≡ Memory = search rules in
-    let stays = world_stays c.args.table.now c.loop-k.table c.loop-k.invariant.0 l.world.now c.requires.text.table in
-    let told = told_more l.limits _ _ stays l.content (rules_of l) (record { place = c.loop-k.k }) _ _ _ c.loop-k.invariant.3 c.in_ok-entry.ensures.told in
+    let stays = world_stays c.args.table.now c.loop-k.table c.loop-k.invariant.0 c.args.l.now.world.now c.requires.text.table in
+    let told = told_more _ _ _ stays _ _ (record { place = c.loop-k.k }) _ _ _ c.loop-k.invariant.3 c.in_ok-entry.ensures.told in
     rw (err_is c.from_residual-in_err-map_err.result _ c.from_residual-in_err-map_err.ensures.1, lost) (told.0, inl told.1, told.2)
 
 pub loop-k-preserved : goal.loop-k-preserved
@@ -91,7 +88,7 @@ loop-k-preserved g c =
       onward c.args.table.now c.loop-k.table c.line_if_wanted.new.table more onwards,
       text_stays c.loop-k.table c.line_if_wanted.new.table onwards l.world.now text,
       record { passed = subst (λ w. HavePassed l.limits w (rules_of l)) now ready.passed; wanted = ready.wanted; limits = ready.limits },
-      told_more l.limits _ _ stays l.content (rules_of l) (record { place = c.loop-k.k }) _ _ _ told c.in_ok-entry.ensures.told,
+      told_more _ _ _ stays _ _ (record { place = c.loop-k.k }) _ _ _ told c.in_ok-entry.ensures.told,
       rw longer (kept_more (world_of c.args.table.now l) (wants l) c.loop-k.all.items c.loop-k.k c.in_ok-entry.entry count kept
           (subst (λ w. IsLineKept w (wants l) (record { place = c.loop-k.k }) c.in_ok-entry.entry) stays c.in_ok-entry.ensures.line)),
       omega (arith, ap length longer, length-append c.loop-k.all.items (c.in_ok-entry.entry ∷ []), count),
