@@ -113,10 +113,10 @@ answered_by terms s f m is q a asks has =
     (subst (λ (p : Params). IsAnswer (Derivable (facts_of w) (Written (generic_params p) (written_list (signature_at w f)))) q a) is.params has)
 
 -- nothing stands behind the answer to a query of a type
-pub none_behind : (w : TextWorld) (D : TermStatement → Type 0) (b : Backing) (q : TermQuery) (f : FuncId) (t : Term) (a : Answer) → q ≡ AsksReduced f t
-    → IsAnswer D q a → Backs w b q a []
-none_behind w D b q f t Yes asks h = absurd (none-some h.1.0 (sym (ap asked asks) ∙ h.1.1))
-none_behind w D b q f t _ asks h = refl
+pub none_behind : (w : TextWorld) (b : Backing) (q : TermQuery) (f : FuncId) (t : Term) (a : Answer) → q ≡ AsksReduced f t → HasAnswer w true a q
+    → Backs w b q a []
+none_behind w b q f t Yes asks h = absurd (none-some h.1.0 (sym (ap asked asks) ∙ h.1.1))
+none_behind w b q f t _ asks h = refl
 
 -- ---- by the book's rules
 

@@ -1,13 +1,10 @@
 -- A second part first does not fit the queries at one line.
-use Rattle.std.proofs.Common.{◌≡◌, ◌≢◌, ◌⊎◌, ◌∙◌, inl, inr, refl, sym, ap, ap₂, subst, ℕ, ◌+◌, ◌<◌, arith, List, [], ◌∷◌, ◌++◌, append-nil, append_assoc, length}
-use Rattle.std.proofs.lemmas.Bool.{cases_eq, cases_lt}
+use Rattle.std.proofs.Common.{◌≡◌, ◌∙◌, inl, inr, refl, sym, ap₂, subst, ℕ, ◌<◌, arith, List, [], ◌∷◌, ◌++◌, append-nil, append_assoc, length}
+use Rattle.std.proofs.lemmas.Bool.{cases_lt}
 use Rattle.swreq_lexicon.specs.Views.{LexiconView}
 use Rattle.swreq_print.specs.Names.{Text}
 use Rattle.swreq_verify.specs.SecondParts.{AreSections, Begin, IsFirstMisfit, IsStuck, TermSection}
 
--- ---- one line
-
--- what is stuck with so many lines before it does not begin with more
 module _ (x : LexiconView) (count : ℕ) where
   -- a front of lines that begin sections begins them too
   shorter : (before after : List Text) → Begin x count (before ++ after) → Begin x count before
@@ -22,41 +19,31 @@ module _ (x : LexiconView) (count : ℕ) where
   front (y ∷ a) b [] d e l = absurd (omega (arith, l))
   front (y ∷ a) b (z ∷ c) d e l =
       let same : (y ≡ z) × (a ++ b ≡ c ++ d) = ((cc), (cc)) in
-      let found = front a b c d same.1 (omega (arith, l)) in
-      (found.0, found.1, found.2, found.3, ap₂ ◌∷◌ (sym same.0) found.4)
+      let (line, rest, is, after, longer) = front a b c d same.1 (omega (arith, l)) in
+      (line, rest, is, after, ap₂ ◌∷◌ (sym same.0) longer)
 
-  stuck_there : (before rest : List Text) (line : Text) (more after whole : List Text) → IsStuck x count before rest → rest ≡ line ∷ more
-      → whole ≡ (before ++ line ∷ []) ++ after → Begin x count whole → ⊥
-  stuck_there before rest line more after whole stuck is e begins =
-      subst (IsStuck x count before) is stuck (shorter (before ++ line ∷ []) after (subst (Begin x count) e begins))
+  module _ (ls : List Text) where
+    -- what is stuck with so many lines before it does not begin with more
+    earlier : (n k : ℕ) (p : IsFirstMisfit x count ls n) (q : IsFirstMisfit x count ls k) → length p.before < length q.before → ⊥
+    earlier n k p q l =
+        let (line, rest, is, after, longer) = front p.before p.rest q.before q.rest (sym p.split ∙ q.split) l in
+        subst (IsStuck x count p.before) is p.stuck (shorter (p.before ++ line ∷ []) after (subst (Begin x count) longer q.fits))
 
-  -- the first line that does not fit is one
-  pub one_misfit : (ls : List Text) (n k : ℕ) → IsFirstMisfit x count ls n → IsFirstMisfit x count ls k → n ≡ k
-  one_misfit ls n k a b = by (cases_eq (length a.before) (length b.before))
-    where
-      earlier : (c d : ℕ) (p : IsFirstMisfit x count ls c) (q : IsFirstMisfit x count ls d) → length p.before < length q.before → ⊥
-      earlier c d p q l =
-          let found = front p.before p.rest q.before q.rest (sym p.split ∙ q.split) l in
-          stuck_there p.before p.rest found.0 found.1 found.3 q.before p.stuck found.2 found.4 q.fits
-
-      less : length a.before ≢ length b.before → n ≡ k
-      less other = elim (which (length a.before) (length b.before) other) [
-        | inl l ↦ absurd (earlier n k a b l)
-        | inr l ↦ absurd (earlier k n b a l)
+    -- the first line that does not fit is one
+    pub one_misfit : (n k : ℕ) → IsFirstMisfit x count ls n → IsFirstMisfit x count ls k → n ≡ k
+    one_misfit n k a b = elim (cases_lt (length a.before) (length b.before)) [
+      | inl l ↦ absurd (earlier n k a b l)
+      | inr l ↦ elim (cases_lt (length b.before) (length a.before)) [
+        | inl m ↦ absurd (earlier k n b a m)
+        | inr m ↦ omega (arith, l, m, a.number, b.number)
       ]
-        where
-          which : (m j : ℕ) → m ≢ j → (m < j) ⊎ (j < m)
-          which m j other = elim (cases_lt m j) [ inl l ↦ inl l | inr l ↦ inr (omega (arith, l, other)) ]
+    ]
 
-      by : (length a.before ≡ length b.before) ⊎ (length a.before ≢ length b.before) → n ≡ k
-      by (inl same) = a.number ∙ ap (λ (m : ℕ). m + 1) same ∙ sym b.number
-      by (inr other) = less other
-
-  -- where one does not fit there are no sections
-  pub no_sections : (n : ℕ) (ls : List Text) (ss : List TermSection) → IsFirstMisfit x count ls n → AreSections x count ls ss → ⊥
-  no_sections n ls ss h are = by h.rest h.split h.stuck
-    where
-      by : (rest : List Text) → ls ≡ h.before ++ rest → IsStuck x count h.before rest → ⊥
-      by [] e stuck = stuck ss (subst (λ (z : List Text). AreSections x count z ss) (e ∙ append-nil h.before) are)
-      by (line ∷ rest) e stuck =
-          stuck (rest, ss, subst (λ (z : List Text). AreSections x count z ss) (e ∙ sym (append_assoc h.before (line ∷ []) rest)) are)
+    -- where one does not fit there are no sections
+    pub no_sections : (n : ℕ) → IsFirstMisfit x count ls n → ((ss : List TermSection) × AreSections x count ls ss) → ⊥
+    no_sections n h (ss, are) = by h.rest h.split h.stuck
+      where
+        by : (rest : List Text) → ls ≡ h.before ++ rest → IsStuck x count h.before rest → ⊥
+        by [] e stuck = stuck ss (subst (λ (z : List Text). AreSections x count z ss) (e ∙ append-nil h.before) are)
+        by (line ∷ rest) e stuck =
+            stuck (rest, ss, subst (λ (z : List Text). AreSections x count z ss) (e ∙ sym (append_assoc h.before (line ∷ []) rest)) are)

@@ -1,7 +1,5 @@
--- The lines of calls, and where a second part stands for none or a name of its calls is refused.
-use Rattle.std.proofs.Common.{◌≡◌, ◌≢◌, ◌∙◌, refl, sym, ap, subst, ℕ, ◌+◌, ◌<◌, List, [], ◌∷◌, ◌++◌, append-nil, append_assoc, Contains, get_or, length, map, take}
-use Rattle.std.proofs.lemmas.List.{map-append, take_more}
-use Rattle.std.specs.List.{concat}
+-- Where a second part stands for none or a name of its calls is refused.
+use Rattle.std.proofs.Common.{◌≡◌, ◌≢◌, ◌∙◌, refl, sym, ap, subst, ℕ, ◌+◌, ◌<◌, List, [], ◌∷◌, ◌++◌, Contains}
 use Rattle.swreq_lex.specs.declared.refusal.LexErr.{LexErr}
 use Rattle.swreq_lex.specs.declared.token.Token as lexed
 use Rattle.swreq_lex.specs.Refusals.{HasRefusalFrom}
@@ -16,46 +14,13 @@ use Rattle.swreq_resolve.specs.declared.refusal.Refusal.{Refusal}
 use Rattle.swreq_resolve.specs.Errors.{error_of}
 use Rattle.swreq_resolve.proofs.Order.{one_first}
 use Rattle.swreq_print.specs.declared.refusal.RefusalKind.{RefusalKind}
-use Rattle.swreq_print.specs.Names.{Text}
 use Rattle.swreq_world.specs.Worlds.{TextWorld}
-use Rattle.swreq_subst.specs.Calls.{TermCall}
-use Rattle.swreq_subst.specs.Lines.{AppendsLine, IsLineOf}
 use Rattle.swreq_subst.specs.Refusals.{RefusesCalls, refusals}
-use Rattle.swreq_reply.specs.CallLines.{AnswersCalls}
 use Rattle.swreq_reply.specs.Inputs.{Parts, second_at}
-use Rattle.swreq_reply.specs.Lines.{AreLines}
 use Rattle.swreq_reply.specs.Lines.AreLines.{none}
 use Rattle.swreq_reply.specs.Reports.{name_refusal, refusal_of}
 use Rattle.swreq_reply.specs.Verdict.{RefusesSecond}
 use Rattle.swreq_reply.specs.Verdict.RefusesSecond.{bad_name, no_calls}
-use Rattle.swreq_reply.proofs.Lines.{lines_end}
-
--- ---- lines
-
-concat_end : (ls : List Text) (l : Text) → concat (ls ++ l ∷ []) ≡ concat ls ++ l
-concat_end [] l = append-nil l
-concat_end (x ∷ ls) l = ap (λ (t : Text). x ++ t) (concat_end ls l) ∙ sym (append_assoc x (concat ls) l)
-
-module _ (w : TextWorld) where
-  pub no_call : AnswersCalls w [] []
-  no_call = ([], none, refl)
-
-  -- one call more
-  pub one_more : (cs all : List TermCall) (c : TermCall) (old new : Text) → AnswersCalls w cs old → AppendsLine w c old new → all ≡ cs ++ c ∷ []
-      → AnswersCalls w all new
-  one_more cs all c old new (pieces, are, is) (line, of_call, grown) every = (
-    pieces ++ line ∷ [],
-    subst (λ (ds : List TermCall). AreLines (IsLineOf w) ds (pieces ++ line ∷ [])) (sym every) (lines_end (IsLineOf w) are of_call),
-    grown ∙ ap (λ (t : Text). t ++ line) is ∙ sym (concat_end pieces line),
-  )
-
--- with the call at the next place they are the calls up to and with it
-pub calls_next : {A B : Type 0} (f : A → B) (xs : List A) (k : ℕ) (x : A) → k < length xs → x ≡ get_or xs k x
-    → map f (take (k + 1) xs) ≡ map f (take k xs) ++ f x ∷ []
-calls_next f xs k x below at =
-    ap (map f) (take_more xs k x below ∙ ap (λ z. take k xs ++ z ∷ []) (sym at)) ∙ map-append f (take k xs) (x ∷ [])
-
--- ---- one refusal
 
 -- what the crates below say of every part of a text
 pub record IsOnePart (text : List ℕ) (from : ℕ) : Type 0 where
@@ -69,42 +34,45 @@ module _ (text : List ℕ) (from : ℕ) (one : IsOnePart text from) where
   -- a part has one reason
   one_reason : (d e : ParseErr) → d ≢ grammar.Memory → e ≢ grammar.Memory → IsReason text from d → IsReason text from e → d ≡ e
   one_reason grammar.Memory e real too h k = absurd (real refl)
+  one_reason d grammar.Memory real too h k = absurd (too refl)
   one_reason (grammar.Unsupported at kind) e real too h k = absurd h
-  one_reason (grammar.Lex f) grammar.Memory real too h k = absurd (too refl)
-  one_reason (grammar.Lex f) (grammar.Unsupported at kind) real too h k = absurd k
+  one_reason d (grammar.Unsupported at kind) real too h k = absurd k
   one_reason (grammar.Lex f) (grammar.Lex g) real too h k = ap (λ (z : LexErr). grammar.Lex z) (one.refusal f g h k)
-  one_reason (grammar.Lex f) (grammar.Syntax at) real too h (ts, have, refused) = absurd (one.no_refusal ts f have h)
-  one_reason (grammar.Syntax at) grammar.Memory real too h k = absurd (too refl)
-  one_reason (grammar.Syntax at) (grammar.Unsupported place kind) real too h k = absurd k
-  one_reason (grammar.Syntax at) (grammar.Lex g) real too (ts, have, refused) k = absurd (one.no_refusal ts g have k)
+  one_reason (grammar.Lex f) (grammar.Syntax at) real too h k = absurd (one.no_refusal k.0 f k.1 h)
+  one_reason (grammar.Syntax at) (grammar.Lex g) real too h k = absurd (one.no_refusal h.0 g h.1 k)
   one_reason (grammar.Syntax at) (grammar.Syntax place) real too h k = ap (λ (z : ℕ). grammar.Syntax z) (one.token at place h k)
 
   -- and none where it stands for calls
   no_reason : (ds : List CallDecl) (e : ParseErr) → e ≢ grammar.Memory → StandsFor text from ds → IsReason text from e → ⊥
   no_reason ds grammar.Memory real stands h = real refl
-  no_reason ds (grammar.Lex f) real (ts, have, are) h = one.no_refusal ts f have h
+  no_reason ds (grammar.Lex f) real stands h = one.no_refusal stands.0 f stands.1 h
   no_reason ds (grammar.Syntax at) real stands h = one.no_token ds at stands h
   no_reason ds (grammar.Unsupported at kind) real stands h = h
 
-one_name : (w : TextWorld) (text : List ℕ) (ds : List CallDecl) (e f : NameErr) → RefusesCalls w text ds e → RefusesCalls w text ds f → e ≡ f
-one_name w text ds e f (q, first, is) (r, too, same) = is ∙ ap error_of (one_first (refusals w text ds) q r first too) ∙ sym same
+-- The second part stands for calls of which no name is refused.
+abbrev pub HasCalls : TextWorld → Parts → Type 0
+HasCalls w p = (ds : List CallDecl) × StandsFor p.input (second_at p) ds × (refusals w p.input ds ≡ [])
 
 module _ (w : TextWorld) (p : Parts) (one : IsOnePart p.input (second_at p)) where
+  -- what is refused of calls for which the part stands is refused of all such calls
+  same_calls : (ds es : List CallDecl) (e : NameErr) → StandsFor p.input (second_at p) ds → StandsFor p.input (second_at p) es
+      → RefusesCalls w p.input ds e → RefusesCalls w p.input es e
+  same_calls ds es e stands also = subst (λ (cs : List CallDecl). RefusesCalls w p.input cs e) (one.calls ds es stands also)
+
   -- a second part is refused in one way
   pub one_second : (a b : RefusalKind) → RefusesSecond w p a → RefusesSecond w p b → a ≡ b
   one_second a b (no_calls d real h is) (no_calls e too k other) =
       is ∙ ap refusal_of (one_reason p.input (second_at p) one d e real too h k) ∙ sym other
   one_second a b (no_calls d real h is) (bad_name es f stands refuses other) = absurd (no_reason p.input (second_at p) one es d real stands h)
   one_second a b (bad_name ds e stands refuses is) (no_calls d real h other) = absurd (no_reason p.input (second_at p) one ds d real stands h)
-  one_second a b (bad_name ds e stands refuses is) (bad_name es f also too other) =
-      is ∙ ap name_refusal (one_name w p.input es e f
-      (subst (λ (cs : List CallDecl). RefusesCalls w p.input cs e) (one.calls ds es stands also) refuses) too) ∙ sym other
+  one_second a b (bad_name ds e stands (q, first, at) is) (bad_name es f also refuses other) =
+      let (r, begins, place) = same_calls es ds f also stands refuses in
+      let same : e ≡ f = at ∙ ap error_of (one_first (refusals w p.input ds) q r first begins) ∙ sym place in
+      is ∙ ap name_refusal same ∙ sym other
 
   -- and not where no name of its calls is refused
-  pub never_second : (a : RefusalKind) (ds : List CallDecl) → RefusesSecond w p a → StandsFor p.input (second_at p) ds → refusals w p.input ds ≡ [] → ⊥
-  never_second a ds (no_calls d real h is) stands nothing = no_reason p.input (second_at p) one ds d real stands h
-  never_second a ds (bad_name es e also refuses is) stands empty =
-      absent (subst (λ (cs : List CallDecl). RefusesCalls w p.input cs e) (one.calls es ds also stands) refuses)
-    where
-      absent : RefusesCalls w p.input ds e → ⊥
-      absent (r, first, of) = no_member r (subst (λ (rs : List Refusal). Contains rs r) empty first.is)
+  pub never_second : (a : RefusalKind) → RefusesSecond w p a → HasCalls w p → ⊥
+  never_second a (no_calls d real h is) (ds, stands, nothing) = no_reason p.input (second_at p) one ds d real stands h
+  never_second a (bad_name es e also refuses is) (ds, stands, nothing) =
+      let (r, first, at) = same_calls es ds e also stands refuses in
+      no_member r (subst (λ (rs : List Refusal). Contains rs r) nothing first.is)

@@ -1,6 +1,6 @@
 -- What stands at the place of a query or of a signature is what is printed there.
-use Rattle.std.proofs.Common.{◌≡◌, ◌≢◌, ◌↔◌, ◌∙◌, refl, sym, ap, subst, ℕ, ◌<◌, arith, Bool, true, true≢false, List, [], ◌∷◌, ◌++◌, append-nil, append_assoc, get_or, length, map, Option, Some, None, slice_get, codes, Contains}
-use Rattle.std.proofs.lemmas.List.{get_or-map, length-map}
+use Rattle.std.proofs.Common.{◌≡◌, ◌≢◌, ◌↔◌, ◌∙◌, refl, sym, ap, subst, ℕ, ◌<◌, arith, Bool, true, true≢false, List, [], ◌∷◌, ◌++◌, append-nil, append_assoc, get_or, length, Option, Some, None, slice_get, codes}
+use Rattle.std.proofs.lemmas.List.{get_or-map, get_or_default, length-map}
 use Rattle.std.proofs.lemmas.List.Elements.{Contains-get_or}
 use Rattle.std.proofs.lemmas.Option.{none-some, same_Some, slice_get-get_or}
 use Rattle.swreq_param.specs.Terms.{Term}
@@ -104,7 +104,8 @@ module _ (m : MadePieces) (whole : IsWhole m) where
               within,
               shown _ (subst (λ (q : TermQuery). IsLineOf (world_of m) true (backing_of (Answers s)) q (text_at m.lists.now f.place)) (sym same)
                   (kept_line (world_of m) (wants_list (Answers s) m.world.now.queries) m.lists.now f (lists_of (Answers s) e) within
-                  (is_listed m.world.now.queries f (k, below, is ∙ ap queries.Signature (same_Some g f here))))),
+                  (is_listed m.world.now.queries f
+                  (k, below, get_or_default m.world.now.queries k _ _ below ∙ is ∙ ap queries.Signature (same_Some g f here))))),
             )
         by _ is here = absurd (none-some f here)
 
@@ -131,12 +132,14 @@ first_of_type x (Member t step) rest =
 
 -- and the line of a verdict neither with it nor with `<`
 never_type : (x : LexiconView) (v : Verdict) → slice_get (answer_line x (answer_of v)) 0 ≢ Some 207
-never_type x verdicts.Yes e = cc
-never_type x _ e = cc
+never_type x verdicts.Invalid e = omega (arith, same_Some 105 207 e)
+never_type x verdicts.Yes e = omega (arith, same_Some 121 207 e)
+never_type x verdicts.No e = omega (arith, same_Some 110 207 e)
 
 never_signature : (x : LexiconView) (v : Verdict) → slice_get (answer_line x (answer_of v)) 0 ≢ Some 60
-never_signature x verdicts.Yes e = cc
-never_signature x _ e = cc
+never_signature x verdicts.Invalid e = omega (arith, same_Some 105 60 e)
+never_signature x verdicts.Yes e = omega (arith, same_Some 121 60 e)
+never_signature x verdicts.No e = omega (arith, same_Some 110 60 e)
 
 same_verdict : (x : LexiconView) (a : Answer) (v : Verdict) → answer_line x a ≡ answer_line x (answer_of v) → a ≡ answer_of v
 same_verdict x Invalid verdicts.Invalid e = refl

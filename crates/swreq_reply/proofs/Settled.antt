@@ -16,15 +16,13 @@ use Rattle.swreq_symbols.proofs.Growing.{text_stays, world_stays}
 use Rattle.swreq_valid.specs.Machines.{AreRulesOf, MachineView, protocols_of}
 use Rattle.swreq_valid.specs.Rounds.{AreRounds, last_rules}
 use Rattle.swreq_world.specs.Worlds.{TextWorld}
-use Rattle.swreq_reply.specs.declared.content.Content.TheVariants.{Answers}
-use Rattle.swreq_reply.specs.declared.content.Shown.{Shown}
 use Rattle.swreq_reply.specs.declared.setting.Means.{Means}
 use Rattle.swreq_reply.specs.declared.setting.Setting.{Setting}
 use Rattle.swreq_explain.specs.Books.{IsBookFor}
 use Rattle.swreq_reply.specs.Made.{AreMade, IsPiece}
-use Rattle.swreq_reply.specs.Contents.{backed_by, backing_of}
+use Rattle.swreq_reply.specs.Contents.{AreAnswers, backed_by, backing_of}
 use Rattle.swreq_reply.specs.Outputs.{IsLineOf, signature_of}
-use Rattle.swreq_reply.specs.Settings.{AreMadeIn, AreMeansFor, IsMachineFor, IsQueryFor, IsReady, world_in}
+use Rattle.swreq_reply.specs.Settings.{AreMadeIn, AreMeansFor, IsMachineFor, IsPlaceFor, IsReady, world_in}
 use Rattle.swreq_reply.specs.Wanted.{count_of, machine_asked, machine_asked_at, maker}
 use Rattle.swreq_reply.proofs.OfLists.{IsMachineAt, is_at, is_for}
 
@@ -70,16 +68,15 @@ asks_own terms (queries.Signature g) f e = cc
 asks_own terms q f e = cc
 
 -- one of the places of a signature is that of a query which asks it
-pub query_for : (terms : List Term) (s : Setting) (shown : Shown) (f : FuncId) → s.content ≡ Answers shown → IsReady terms s
-    → f.place < length s.world.now.signatures → (d : Vec ℕ Global) (place : ℕ) → Contains (get_or s.places.now f.place d).items place
-    → (place < length s.world.now.queries) × ((q : Query) → q ≡ get_or s.world.now.queries place q → IsQueryFor terms s f q)
-query_for terms s shown f content ready l d place has =
+pub place_for : (terms : List Term) (s : Setting) (f : FuncId) → AreAnswers s.content → IsReady terms s → f.place < length s.world.now.signatures
+    → (d : Vec ℕ Global) (place : ℕ) → Contains (get_or s.places.now f.place d).items place → IsPlaceFor terms s f place
+place_for terms s f (shown, content) ready l d place has =
     let (counted, made) = (ready.places.each f d place l).0 has in
     let below : place < length s.world.now.queries = rw content at counted in
-    let asks : machine_asked_at (slice_get s.world.now.queries place) ≡ Some f = rw content at made in (
-      below,
-      λ q e. record { is = (place, below, sym e); asks = cc (ap machine_asked_at (slice_get-get_or s.world.now.queries place q below), asks, e) },
-    )
+    let asks : machine_asked_at (slice_get s.world.now.queries place) ≡ Some f = rw content at made in record {
+      below = below;
+      query = λ q e. record { is = (place, below, sym e); asks = cc (ap machine_asked_at (slice_get-get_or s.world.now.queries place q below), asks, e) };
+    }
 
 -- all pieces that the machine of a signature makes have their places in its group
 pub all_placed : (terms : List Term) (s : Setting) (f : FuncId) (d : Vec ℕ Global) → IsReady terms s → f.place < length s.world.now.signatures
@@ -89,10 +86,10 @@ all_placed terms s f d ready l k g below by e =
     subst (λ (n : ℕ). Contains (get_or s.places.now n d).items k) e ((ready.places.each g d k (omega (arith, l, e))).1 (below, by))
 
 -- the answer to the query at a place is the piece there
-pub piece_right : (old terms : List Term) (s : Setting) (shown : Shown) → s.content ≡ Answers shown → IsReady old s → Extends old terms
-    → (place : ℕ) (q : Query) → place < length s.world.now.queries → q ≡ get_or s.world.now.queries place q → (piece : Text)
-    → IsLineOf (world_in terms s) true (backing_of s.content) (query_by terms q) piece → IsPiece (world_in old s) s.content place piece
-piece_right old terms s shown content ready more place q below at piece is =
+pub piece_right : (terms : List Term) (s : Setting) → AreAnswers s.content → (place : ℕ) (q : Query) → place < length s.world.now.queries
+    → q ≡ get_or s.world.now.queries place q → (piece : Text) → IsLineOf (world_in terms s) true (backing_of s.content) (query_by terms q) piece
+    → IsPiece (world_in terms s) s.content place piece
+piece_right terms s (shown, content) place q below at piece is =
     let there = get_map (query_by terms) s.world.now.queries place q (slice_get-get_or s.world.now.queries place q below ∙ ap Some (sym at)) in
-    subst (λ w. IsPiece w s.content place piece) (world_on old terms s more ready) (rw content (λ t e.
-    let same : query_by terms q ≡ t = cc (e, there) in subst (λ z. IsLineOf (world_in terms s) true (backed_by shown) z piece) same (rw content at is)))
+    rw content (λ t e. let same : query_by terms q ≡ t = cc (e, there) in
+    subst (λ z. IsLineOf (world_in terms s) true (backed_by shown) z piece) same (rw content at is))

@@ -3,7 +3,7 @@ use Rattle.std.specs.Prelude.{◌≡◌, ℕ, ◌+◌, ◌*◌, Bool, List, [], 
 use Rattle.std.specs.List.{concat}
 use Rattle.swreq_param.specs.declared.ids.ProtoId.{ProtoId}
 use Rattle.swreq_param.specs.Terms.{Term}
-use Rattle.swreq_derive.specs.Derivation.{Derivable, Derives}
+use Rattle.swreq_derive.specs.Derivation.{Derives}
 use Rattle.swreq_derive.specs.Derivation.TermStatement.{Requires}
 use Rattle.swreq_derive.specs.Facts.{generic_params}
 use Rattle.swreq_derive.specs.Instances.{TermLine}
@@ -47,11 +47,16 @@ signature_of (AsksConforms f t p) = f
 signature_of (AsksAnyObject f t) = f
 signature_of (AsksEquals f t u) = f
 
--- how much the generated text of n protocols has of what, and how many of its queries have each verdict
+-- how many queries have each verdict
+abbrev pub verdicts_text : (yes_count no_count invalid_count : ℕ) → Text
+verdicts_text yes_count no_count invalid_count =
+    codes "yes " ++ (decimal yes_count ++ (codes "\nno " ++ (decimal no_count ++ (codes "\ninvalid " ++ (decimal invalid_count ++ codes "\n")))))
+
+-- and before that how much the generated text of n protocols has of what
 abbrev pub counts_text : (n yes_count no_count invalid_count : ℕ) → Text
 counts_text n yes_count no_count invalid_count =
-    codes "protocols " ++ (decimal n ++ (codes "\nfunctions 1\nqueries " ++ (decimal (4 * n + 1) ++ (codes "\nyes " ++ (decimal yes_count
-    ++ (codes "\nno " ++ (decimal no_count ++ (codes "\ninvalid " ++ (decimal invalid_count ++ codes "\n")))))))))
+    codes "protocols " ++ (decimal n ++ (codes "\nfunctions 1\nqueries " ++ (decimal (4 * n + 1) ++ (codes "\n"
+    ++ verdicts_text yes_count no_count invalid_count))))
 
 module _ (w : TextWorld) where
   -- ---- what stands behind a yes
@@ -80,10 +85,6 @@ module _ (w : TextWorld) where
   Backs b q Yes text = BacksYes b q text
   Backs b q No text = text ≡ []
   Backs b q (Reduced r) text = text ≡ []
-
-  -- By what is derivable from the written list of the signature that is asked, this is the answer to the query.
-  abbrev pub IsAnswered : TermQuery → Answer → Type 0
-  IsAnswered q a = IsAnswer (Derivable (facts_of w) (source_of (signature_at w (signature_of q)))) q a
 
   -- ---- calls
 

@@ -1,5 +1,5 @@
 -- Over what the pieces of a command are made.
-use Rattle.std.specs.Prelude.{◌≡◌, ◌<◌, ℕ, List, Option, Some, None, Contains, length}
+use Rattle.std.specs.Prelude.{◌≡◌, ◌<◌, ℕ, List, Option, Some, None, Contains, get_or, length}
 use Rattle.std.specs.Option.{option_copied}
 use Rattle.swreq_param.specs.Terms.{Term}
 use Rattle.swreq_derive.specs.WellFormed.{AreProtocolsWellFormed, IsListWellFormed}
@@ -71,6 +71,11 @@ pub record IsAskedOf (w : IdWorld) (a : Asked) : Type 0 where
 pub record IsQueryFor (terms : List Term) (s : Setting) (f : FuncId) (q : Query) : Type 0 where
   pub is : Contains s.world.now.queries q
   pub asks : machine_asked q ≡ Some f
+
+-- At this place of the text stands a query that asks this signature.
+pub record IsPlaceFor (terms : List Term) (s : Setting) (f : FuncId) (place : ℕ) : Type 0 where
+  pub below : place < length s.world.now.queries
+  pub query : (q : Query) → q ≡ get_or s.world.now.queries place q → IsQueryFor terms s f q
 
 -- The query asks for a reduced type.
 abbrev pub AsksType : TermQuery → Type 0

@@ -1,5 +1,5 @@
 //! The pieces that answer queries of requirements and types, by the machine of the signature that they ask.
-ghost use Rattle.std.specs.Prelude.{◌≡◌, ◌+◌, ◌++◌, ℕ, List, Contains, IfOk, OnOk, true};
+ghost use Rattle.std.specs.Prelude.{◌≡◌, ◌+◌, ◌++◌, ℕ, List, Some, Contains, length, set, IfOk, OnOk, true};
 ghost use Rattle.swreq_param.specs.Tables.{Extends, term_at};
 ghost use Rattle.swreq_derive.specs.Derivation.{Derivable};
 ghost use Rattle.swreq_derive.specs.Derivation.TermRequirement.{Conforms};
@@ -14,8 +14,9 @@ ghost use Rattle.swreq_world.specs.FactsAt.{source_of};
 ghost use Rattle.swreq_world.specs.Worlds.{signature_at};
 ghost use Rattle.swreq_lowering.specs.ByTable.{query_by};
 ghost use Rattle.swreq_reply.specs.Contents.{AreAnswers, backing_of};
-ghost use Rattle.swreq_reply.specs.Outputs.{AnswersByTypes, Backs, BacksYes, IsAnswered, IsDerivationText, IsLineOf, IsPathLine, signature_of};
-ghost use Rattle.swreq_reply.specs.Settings.{AreMadeIn, AreMeansFor, AsksType, HasBook, IsMachineFor, IsQueryFor, IsReady, world_in};
+ghost use Rattle.swreq_reply.specs.Made.{IsPiece};
+ghost use Rattle.swreq_reply.specs.Outputs.{AnswersByTypes, Backs, BacksYes, HasAnswer, IsDerivationText, IsLineOf, IsPathLine, signature_of};
+ghost use Rattle.swreq_reply.specs.Settings.{AreMadeIn, AreMeansFor, AsksType, HasBook, IsMachineFor, IsPlaceFor, IsQueryFor, IsReady, world_in};
 
 use crate::content::{Backing, backing_of};
 use crate::setting::{Means, Own, Setting};
@@ -85,7 +86,7 @@ fn put_derivation(
     requires ready { IsReady table.old s.now }
     requires book { IsBookFor (world_in table.old s.now) (signature_of (query_by table.old query.now)) book.now }
     requires query { Contains s.now.world.now.queries query.now }
-    requires yes { IsAnswered (world_in table.old s.now) (query_by table.old query.now) Yes }
+    requires yes { HasAnswer (world_in table.old s.now) true Yes (query_by table.old query.now) }
     ensures backing { OnOk result ((text : List ℕ) × IsDerivationText (world_in table.old s.now) (query_by table.old query.now) text
         × (out.new.items ≡ out.old.items ++ text)) }
     ensures extends { OnOk result (Extends table.old table.new) }
@@ -106,7 +107,7 @@ fn put_backing(
     requires means { AreMeansFor table.old s.now means.now }
     requires query { Contains s.now.world.now.queries query.now }
     requires asks { signature_of (query_by table.old query.now) ≡ means.now.own.f }
-    requires yes { IsAnswered (world_in table.old s.now) (query_by table.old query.now) Yes }
+    requires yes { HasAnswer (world_in table.old s.now) true Yes (query_by table.old query.now) }
     ensures backing { OnOk result ((text : List ℕ)
         × BacksYes (world_in table.old s.now) (backing_of s.now.content) (query_by table.old query.now) text
         × (out.new.items ≡ out.old.items ++ text)) }
@@ -138,7 +139,7 @@ fn put_behind(
     requires means { AreMeansFor table.old s.now means.now }
     requires query { Contains s.now.world.now.queries query.now }
     requires asks { signature_of (query_by table.old query.now) ≡ means.now.own.f }
-    requires answer { IsAnswered (world_in table.old s.now) (query_by table.old query.now) (answer_of verdict) }
+    requires answer { HasAnswer (world_in table.old s.now) true (answer_of verdict) (query_by table.old query.now) }
     ensures backing { OnOk result ((text : List ℕ)
         × Backs (world_in table.old s.now) (backing_of s.now.content) (query_by table.old query.now) (answer_of verdict) text
         × (out.new.items ≡ out.old.items ++ text)) }
@@ -244,6 +245,29 @@ fn book_for(s: &Setting<'_>, table: &ParamTable, own: &Own<'_>) -> Result<Option
     }
 }
 
+/// Answers the query at a place, and puts the piece there.
+fn answer_at(
+    s: &Setting<'_>,
+    table: &mut ParamTable,
+    means: &Means<'_>,
+    place: usize,
+    pieces: &mut Vec<Option<Seq<u8>>>,
+) -> Result<(), AllocError>
+    requires ready { IsReady table.old s.now }
+    requires answers { AreAnswers s.now.content }
+    requires means { AreMeansFor table.old s.now means.now }
+    requires place { IsPlaceFor table.old s.now means.now.own.f place }
+    requires pieces { length pieces.old.items ≡ length s.now.world.now.queries }
+    ensures piece { OnOk result ((piece : List ℕ) × IsPiece (world_in table.old s.now) s.now.content place piece
+        × (pieces.new.items ≡ set pieces.old.items place (Some piece))) }
+    ensures extends { OnOk result (Extends table.old table.new) }
+{
+    let query = &s.world.queries()[place];
+    let made = piece(s, table, means, query)?;
+    pieces[place] = Some(made);
+    Ok(())
+}
+
 /// Answers the queries of requirements and types on a signature, by its machine, at their places.
 pub(crate) fn answer_queries(
     s: &Setting<'_>,
@@ -271,9 +295,7 @@ pub(crate) fn answer_queries(
     };
     for j in 0..places.len() {
         let place = places[j];
-        let query = &s.world.queries()[place];
-        let made = piece(s, table, &means, query)?;
-        pieces[place] = Some(made);
+        answer_at(s, table, &means, place, pieces)?;
     }
     Ok(())
 }

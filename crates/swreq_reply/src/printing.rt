@@ -12,7 +12,7 @@ ghost use Rattle.swreq_reply.specs.declared.content.Shown.TheVariants.{Counts};
 ghost use Rattle.swreq_reply.specs.Contents.{AreAnswers, backing_of};
 ghost use Rattle.swreq_reply.specs.Inputs.{Parts};
 ghost use Rattle.swreq_reply.specs.Lines.{AreLinesIn, Counted};
-ghost use Rattle.swreq_reply.specs.Outputs.{AnswersLast, AreCounts, HasAnswer, IsLineOf, IsOutput};
+ghost use Rattle.swreq_reply.specs.Outputs.{AnswersLast, AreCounts, HasAnswer, IsLineOf, IsOutput, counts_text, verdicts_text};
 ghost use Rattle.swreq_reply.specs.Pieces.{IsWhole, query_at, text_at, world_of};
 
 use crate::content::{Content, Shown};
@@ -120,6 +120,39 @@ fn put_count(word: &str, count: usize, out: &mut Vec<u8>) -> Result<(), AllocErr
     append_number(out, count as u64)
 }
 
+/// Appends these counts of verdicts.
+fn put_verdicts(
+    yes_count: usize,
+    no_count: usize,
+    invalid_count: usize,
+    out: &mut Vec<u8>,
+) -> Result<(), AllocError>
+    ensures { OnOk result (out.new.items ≡ out.old.items ++ verdicts_text yes_count no_count invalid_count) }
+{
+    put_count("yes ", yes_count, out)?;
+    put_count("\nno ", no_count, out)?;
+    put_count("\ninvalid ", invalid_count, out)?;
+    append_bytes(out, b"\n")
+}
+
+/// Appends how much the generated text of n protocols has of what, and these counts of verdicts.
+fn put_counts(
+    n: u32,
+    yes_count: usize,
+    no_count: usize,
+    invalid_count: usize,
+    out: &mut Vec<u8>,
+) -> Result<(), AllocError>
+    ensures { OnOk result (out.new.items ≡ out.old.items ++ counts_text n yes_count no_count invalid_count) }
+{
+    append_bytes(out, b"protocols ")?;
+    append_number(out, u64::from(n))?;
+    append_bytes(out, b"\nfunctions 1\nqueries ")?;
+    append_number(out, 4 * u64::from(n) + 1)?;
+    append_bytes(out, b"\n")?;
+    put_verdicts(yes_count, no_count, invalid_count, out)
+}
+
 /// The counts of the verdicts on the queries of the generated text of n protocols, and the last answer.
 fn counts(m: &MadePieces<'_>, n: u32) -> Result<Vec<u8>, AllocError>
     requires counts { m.now.content ≡ Answers (Counts n) }
@@ -127,14 +160,10 @@ fn counts(m: &MadePieces<'_>, n: u32) -> Result<Vec<u8>, AllocError>
     ensures { IfOk result (λ v. (lines : List Text) × AreCounts (world_of m.now) true n lines × (v.items ≡ concat lines)) }
 {
     let mut out = Vec::new(m.alloc);
-    append_bytes(&mut out, b"protocols ")?;
-    append_number(&mut out, u64::from(n))?;
-    append_bytes(&mut out, b"\nfunctions 1\nqueries ")?;
-    append_number(&mut out, 4 * u64::from(n) + 1)?;
-    put_count("\nyes ", count_of(m, Verdict::Yes), &mut out)?;
-    put_count("\nno ", count_of(m, Verdict::No), &mut out)?;
-    put_count("\ninvalid ", count_of(m, Verdict::Invalid), &mut out)?;
-    append_bytes(&mut out, b"\n")?;
+    let yes_count = count_of(m, Verdict::Yes);
+    let no_count = count_of(m, Verdict::No);
+    let invalid_count = count_of(m, Verdict::Invalid);
+    put_counts(n, yes_count, no_count, invalid_count, &mut out)?;
     append_bytes(&mut out, last_answer(m))?;
     Ok(out)
 }

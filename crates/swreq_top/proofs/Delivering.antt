@@ -1,68 +1,41 @@
--- What a run delivers.
-use Rattle.std.proofs.Common.{◌≡◌, ◌∙◌, ◌<◌, ◌≤◌, List, [], ◌++◌, length, Option, Some, None, IfSome, Result, Ok, Err, refl, sym, ap, inl, inr, subst, arith, length-append, append-nil}
+-- What a run answers, and how it ends.
+use Rattle.std.proofs.Common.{◌≡◌, ◌≢◌, ◌⊎◌, ◌∙◌, ◌<◌, ◌≤◌, ℕ, List, [], ◌++◌, length, Option, Some, None, IfSome, Result, Ok, Err, refl, sym, ap, inl, inr, subst, arith, length-append, append-nil}
+use Rattle.std.proofs.lemmas.Option.{IfSome_then}
 use Rattle.std.specs.Io.KnownBytes.{Consumes, IsAtEnd}
 use Rattle.swreq_text.specs.Given.{GivesCount}
 use Rattle.swreq_text.specs.declared.whole.ReadErr.{ReadErr}
 use Rattle.swreq_text.specs.declared.whole.ReadErr.TheVariants.{Fault, Memory, TooLarge}
 use Rattle.swreq_print.specs.Names.{Text}
+use Rattle.swreq_print.specs.Refusals.{refusal_line}
 use Rattle.swreq_print.specs.declared.refusal.RefusalKind.TheVariants as refusals
 use Rattle.swreq_watch.specs.declared.events.Event.{Event}
 use Rattle.swreq_watch.specs.Told.{GrewBy}
+use Rattle.swreq_words.specs.Form.{Says}
 use Rattle.swreq_words.specs.declared.command.Command.{Command}
 use Rattle.swreq_words.specs.declared.command.Command.TheVariants as command
 use Rattle.swreq_words.specs.declared.command.CommandLine.{CommandLine}
+use Rattle.swreq_words.proofs.Lines.{one_line}
 use Rattle.swreq_reply.specs.declared.outcome.Outcome.{Outcome}
 use Rattle.swreq_reply.specs.Replies.{IsOnlyRefusal, IsToldVerdict, WasToldPart}
-use Rattle.swreq_top.specs.Run.{IsGen, IsOfVerdict, IsRead, LeavesSource, known_text}
-use Rattle.swreq_top.specs.Steps.{Answers, AnswersText}
 use Rattle.swreq_reply.specs.Verdict.{IsVerdict, answered_text, refused_with}
 use Rattle.swreq_reply.specs.Verdict.IsRefused.{too_long}
 use Rattle.swreq_reply.specs.Verdict.IsVerdict.{answered as is_answered, cut_short as is_cut_short, judged as is_judged, refused as is_refused}
+use Rattle.swreq_reply.specs.Wanted.{HasCount}
 use Rattle.swreq_reply.proofs.OneOutput.{refused_status}
 use Rattle.swreq_reply.proofs.OneRefusal.{long_refused}
+use Rattle.swreq_top.specs.Run.{AreWrong, HasToPrint, HasToldPart, HoldsOfText, IsEnd, IsGen, IsOfVerdict, IsRead, LeavesSource, NoReadFailed, ReadFailed, Run, SayGen, Tells, known_text}
+use Rattle.swreq_top.specs.Run.HasToPrint.{no_memory, read_fault, verdict}
+use Rattle.swreq_top.specs.Run.IsEnd.{cut_off, printed}
+use Rattle.swreq_top.specs.Steps.{Answers, AnswersText, IsFinished}
 
--- ---- statuses
+-- ---- what a text is answered
 
 -- the status of a verdict is 0, 1 or 3
-pub verdict_status : (line : CommandLine) (text : Text) (o : Outcome) (told : List Event) → IsVerdict line text o told → IsOfVerdict o.status
+verdict_status : (line : CommandLine) (text : Text) (o : Outcome) (told : List Event) → IsVerdict line text o told → IsOfVerdict o.status
 verdict_status line text o told (is_refused r) = inr (refused_status line text o told r)
 verdict_status line text o told (is_cut_short c) = inr (inr (ap (λ (p : Outcome). p.status) c.outcome))
 verdict_status line text o told (is_answered a) = inl a.status
 verdict_status line text o told (is_judged j) = inl j.status
-
--- ---- sources
-
--- a source that was read to its end gave all that it had left
-whole : (left rest text : Text) → (left ≡ text ++ rest) → rest ≡ [] → left ≡ text
-whole left rest text came end = came ∙ ap (λ (l : Text). text ++ l) end ∙ append-nil text
-
--- what holds of the text that was read to its end holds of what the source had left
-pub of_source : (P : Text → Type 0) (left rest : Option Text) (text : Text) → Consumes left rest text → IsAtEnd rest → P text → IfSome left P
-of_source P None rest text came end holds = tt
-of_source P (Some all) None text came end holds = absurd came
-of_source P (Some all) (Some rest) text came end holds = subst P (sym (whole all rest text came end)) holds
-
--- a text that was read to its end is read
-pub read_whole : (left rest : Option Text) (text : Text) → Consumes left rest text → IsAtEnd rest → length text ≤ 1048576 → IsRead left rest
-read_whole None rest text came end within = tt
-read_whole (Some all) None text came end within = absurd came
-read_whole (Some all) (Some rest) text came end within = inl (omega (arith, ap length (whole all rest text came end), within), end)
-
--- and so is one that is too long
-pub read_too_large : (left rest : Option Text) → GivesCount left rest 1048577 → IsRead left rest
-read_too_large None rest came = tt
-read_too_large (Some all) None came = absurd came.1
-read_too_large (Some all) (Some rest) came = inr (omega (arith, ap length came.1, length-append came.0 rest, came.2), came)
-
--- which is refused for that
-pub too_large : (line : CommandLine) (left rest : Option Text) (old new : Option (List Event)) → GivesCount left rest 1048577
-    → GrewBy old new []
-    → IfSome left (λ text. IsToldVerdict line text old new (refused_with refusals.TooLarge) × IsOnlyRefusal line text (refused_with refusals.TooLarge))
-too_large line None rest old new came grew = tt
-too_large line (Some all) None old new came grew = absurd came.1
-too_large line (Some all) (Some rest) old new came grew =
-    let long : 1048576 < length all = omega (arith, ap length came.1, length-append came.0 rest, came.2) in
-    (([], is_refused (too_long long refl refl), grew), λ p told refused. sym (long_refused line all long refused))
 
 -- nothing is told of a text before it is read
 pub told_nothing : (line : CommandLine) (known : Option Text) (old new : Option (List Event)) → GrewBy old new []
@@ -70,81 +43,118 @@ pub told_nothing : (line : CommandLine) (known : Option Text) (old new : Option 
 told_nothing line None old new grew = tt
 told_nothing line (Some text) old new grew = ([], inl refl, grew)
 
--- nothing is gone of what stayed as it was
-pub none_given : (left : Option Text) → GivesCount left left 0
-none_given None = ([], tt, refl)
-none_given (Some all) = ([], refl, refl)
+-- ---- what a source has left
 
--- ---- commands
+-- a source that was read to its end had the text that was read
+pub read_whole : (left rest : Option Text) (text : Text) → Consumes left rest text → IsAtEnd rest → length text ≤ 1048576
+    → IsRead left rest × IfSome left (λ all. all ≡ text)
+read_whole None rest text came end within = (tt, tt)
+read_whole (Some all) None text came end within = absurd came
+read_whole (Some all) (Some rest) text came end within =
+    let same : all ≡ text = came ∙ ap (λ (l : Text). text ++ l) end ∙ append-nil text in
+    (inl (omega (arith, ap length same, within), end), same)
 
--- what holds of a command that reads a source: its text is that of the source
-pub record ReadsSource (c : Command) : Type 0 where
-  pub known : (left : Option Text) → known_text c left ≡ left
-  pub answered : (text : Text) → answered_text c text ≡ text
-  pub leaves : (left rest : Option Text) → IsRead left rest → LeavesSource c left rest
+-- and one of which more was read than a text may have had a text that is too long
+read_long : (left rest : Option Text) → GivesCount left rest 1048577 → IfSome left (λ all. 1048576 < length all)
+read_long None rest came = tt
+read_long (Some all) None came = absurd came.1
+read_long (Some all) (Some rest) came = omega (arith, ap length came.1, length-append came.0 rest, came.2)
 
-as_it_is : {c : Command} → ((left : Option Text) → known_text c left ≡ left) → ((text : Text) → answered_text c text ≡ text)
-    → ((left rest : Option Text) → IsRead left rest → LeavesSource c left rest) → ReadsSource c
-as_it_is known answered leaves = record { known = known; answered = answered; leaves = leaves }
+-- a command that reads a source knows its text where the source tells it, and leaves what is left of what was read
+reads_source : (c : Command) (left rest : Option Text) (P : Text → Type 0) → (IsGen c → ⊥) → IsRead left rest → IfSome left P
+    → LeavesSource c left rest × IfSome (known_text c left) P
+reads_source (command.Gen n) left rest P reads read h = absurd (reads (n, refl))
+reads_source _ left rest P reads read h = (read, h)
 
-pub reads_source : (c : Command) → (IsGen c → ⊥) → ReadsSource c
-reads_source command.Answer reads = as_it_is (λ left. refl) (λ text. refl) (λ left rest read. read)
-reads_source command.Signatures reads = as_it_is (λ left. refl) (λ text. refl) (λ left rest read. read)
-reads_source command.Rules reads = as_it_is (λ left. refl) (λ text. refl) (λ left rest read. read)
-reads_source (command.Gen n) reads = absurd (reads (n, refl))
-reads_source command.Explain reads = as_it_is (λ left. refl) (λ text. refl) (λ left rest read. read)
-reads_source command.Verify reads = as_it_is (λ left. refl) (λ text. refl) (λ left rest read. read)
-reads_source command.Paths reads = as_it_is (λ left. refl) (λ text. refl) (λ left rest read. read)
-reads_source command.Calls reads = as_it_is (λ left. refl) (λ text. refl) (λ left rest read. read)
-reads_source command.Requirements reads = as_it_is (λ left. refl) (λ text. refl) (λ left rest read. read)
+-- what holds of the text that a command answers holds of the text that it knows: `gen` knows its own, and the others that of the source
+knows_answered : (c : Command) (left rest : Option Text) (text : Text) (P : Text → Type 0) → (IsGen c → rest ≡ left)
+    → ((IsGen c → ⊥) → IsRead left rest × IfSome left (λ all. all ≡ text)) → P (answered_text c text)
+    → LeavesSource c left rest × IfSome (known_text c left) P
+knows_answered (command.Gen n) left rest text P unread read h = (unread (n, refl), h)
+knows_answered _ left rest text P unread read h =
+    let had = read (λ gen. (cc gen.1)) in (had.0, IfSome_then left had.1 (λ all e. subst P (sym e) h))
 
--- what holds of what a source has left holds of the text of a command that reads it
-pub known_left : (c : Command) (left : Option Text) (P : Text → Type 0) → (IsGen c → ⊥) → IfSome left P → IfSome (known_text c left) P
-known_left c left P reads h = subst (λ (t : Option Text). IfSome t P) (sym ((reads_source c reads).known left)) h
+-- what is answered of a text
+pub answers_text : (line : CommandLine) (left rest : Option Text) (old new : Option (List Event)) (text : Text)
+    → (IsGen line.command → rest ≡ left) → ((IsGen line.command → ⊥) → IsRead left rest × IfSome left (λ all. all ≡ text))
+    → (result : Result Outcome ReadErr) → AnswersText line (answered_text line.command text) old new result
+    → Answers line left rest old new result
+answers_text line left rest old new text unread read (Ok o) h =
+    let said = knows_answered line.command left rest text (λ t. IsToldVerdict line t old new o × IsOnlyRefusal line t o) unread read h in
+    (said.0, said.1, verdict_status line (answered_text line.command text) o h.0.0 h.0.1)
+answers_text line left rest old new text unread read (Err Memory) h =
+    (knows_answered line.command left rest text (λ t. WasToldPart line t old new) unread read h).1
+answers_text line left rest old new text unread read _ h = absurd h
 
--- and what was read of it is what is left
-pub leaves_read : (c : Command) (left rest : Option Text) → (IsGen c → ⊥) → IsRead left rest → LeavesSource c left rest
-leaves_read c left rest reads h = (reads_source c reads).leaves left rest h
+-- ---- what there is to print
 
--- what holds of the text of `gen` holds whatever the source has
-generated_known : (c : Command) (left : Option Text) (P : Text → Type 0) (text : Text) → IsGen c → P (answered_text c text)
-    → IfSome (known_text c left) P
-generated_known c left P text (n, is) =
-    subst (λ (d : Command). P (answered_text d text) → IfSome (known_text d left) P) (sym is) (λ h. h)
+module _ (r : Run) where
+  -- where nothing was told, a part was told
+  pub nothing_told : Tells r [] → HasToldPart r
+  nothing_told untold = record {
+    part = λ line says. told_nothing line (known_text line.command r.before.left) r.before.told r.after.told untold;
+    untold = λ wrong. untold;
+  }
 
--- ---- what is answered
+  -- what has to be printed where this is answered
+  abbrev PrintsAnswer : Result Outcome ReadErr → Type 0
+  PrintsAnswer (Ok o) = HasToPrint r o.status o.output
+  PrintsAnswer (Err TooLarge) = HasToPrint r 1 (refusal_line refusals.TooLarge)
+  PrintsAnswer (Err Fault) = HasToPrint r 4 (refusal_line refusals.ReadFault)
+  PrintsAnswer (Err Memory) = HasToPrint r 6 (refusal_line refusals.OutOfMemory)
 
-module _ (line : CommandLine) where
-  -- a text that was read
-  pub replied : (text : Text) (old new : Option (List Event)) (o : Outcome) → IsToldVerdict line text old new o → IsOfVerdict o.status
-  replied text old new o (told, verdict, grew) = verdict_status line text o told verdict
+  -- no read has failed where the answer is none of a failed read
+  unfailed : {answer : Result Outcome ReadErr} → answer ≢ Err Fault → (answer ≡ Err Fault) ⊎ NoReadFailed r → NoReadFailed r
+  unfailed real (inl fault) = absurd (real fault)
+  unfailed real (inr same) = same
 
-  -- the answer of `gen`
-  pub answers_generated : (left : Option Text) (old new : Option (List Event)) (text : Text) (result : Result Outcome ReadErr) → IsGen line.command
-      → AnswersText line (answered_text line.command text) old new result → Answers line left left old new result
-  answers_generated left old new text (Ok o) is h = (
-    subst (λ (c : Command). LeavesSource c left left) (sym is.1) refl,
-    generated_known line.command left (λ t. IsToldVerdict line t old new o × IsOnlyRefusal line t o) text is h,
-    replied (answered_text line.command text) old new o h.0,
-  )
-  answers_generated left old new text (Err TooLarge) is h = absurd h
-  answers_generated left old new text (Err Fault) is h = absurd h
-  answers_generated left old new text (Err Memory) is h = generated_known line.command left (λ t. WasToldPart line t old new) text is h
+  module _ (line : CommandLine) (says : Says r.words line) where
+    for_verdict : (o : Outcome) → Answers line r.before.left r.after.left r.before.told r.after.told (Ok o) → NoReadFailed r
+        → HasToPrint r o.status o.output
+    for_verdict o (leaves, answers, status) unread = verdict line says (record {
+      status = status;
+      source = leaves;
+      verdict = IfSome_then (known_text line.command r.before.left) answers (λ text k. k.0);
+      refusal = IfSome_then (known_text line.command r.before.left) answers (λ text k. k.1);
+    }) unread
 
-  -- and of a text that was read to its end
-  module _ (left rest : Option Text) (old new : Option (List Event)) (text : Text) (reads : IsGen line.command → ⊥)
-      (came : Consumes left rest text) (end : IsAtEnd rest) (within : length text ≤ 1048576) where
-    of_text : (P : Text → Type 0) → P (answered_text line.command text) → IfSome (known_text line.command left) P
-    of_text P h = known_left line.command left P reads
-        (of_source P left rest text came end (subst P ((reads_source line.command reads).answered text) h))
+    pub to_print : (result : Result Outcome ReadErr) → Answers line r.before.left r.after.left r.before.told r.after.told result
+        → (result ≡ Err Fault → ReadFailed r) → (result ≡ Err Fault) ⊎ NoReadFailed r → PrintsAnswer result
+    to_print (Ok o) answers failed unread = for_verdict o answers (unfailed (λ e. (cc)) unread)
+    to_print (Err TooLarge) (came, reads, grew) failed unread =
+        let o : Outcome = refused_with refusals.TooLarge in
+        let long = read_long r.before.left r.after.left came in
+        let said = reads_source line.command r.before.left r.after.left
+        (λ text. IsToldVerdict line text r.before.told r.after.told o × IsOnlyRefusal line text o) reads
+        (IfSome_then r.before.left long (λ all l. inr (l, came)))
+        (IfSome_then r.before.left long
+        (λ all l. (([], is_refused (too_long l refl refl), grew), λ p told refused. sym (long_refused line all l refused)))) in
+        for_verdict o (said.0, said.1, inr (inl refl)) (unfailed (λ e. (cc)) unread)
+    to_print (Err Fault) (reads, grew) failed unread = read_fault line says reads grew (failed refl)
+    to_print (Err Memory) told failed unread = no_memory (record {
+      part = λ other also.
+          subst (λ (l : CommandLine). HoldsOfText r l (λ text. WasToldPart l text r.before.told r.after.told))
+          (one_line r.words line other says also) told;
+      untold = λ wrong. absurd (wrong line says);
+    }) (unfailed (λ e. (cc)) unread)
 
-    pub answers_read : (result : Result Outcome ReadErr) → AnswersText line (answered_text line.command text) old new result
-        → Answers line left rest old new result
-    answers_read (Ok o) h = (
-      leaves_read line.command left rest reads (read_whole left rest text came end within),
-      of_text (λ t. IsToldVerdict line t old new o × IsOnlyRefusal line t o) h,
-      replied (answered_text line.command text) old new o h.0,
-    )
-    answers_read (Err TooLarge) h = absurd h
-    answers_read (Err Fault) h = absurd h
-    answers_read (Err Memory) h = of_text (λ t. WasToldPart line t old new) h
+  -- what there is to print was written, or a part of it
+  pub ended : {status : ℕ} {bytes : Text} → HasToPrint r status bytes
+      → IsFinished r.before.taken r.after.taken r.before.write_faults r.after.write_faults bytes status r.status → IsEnd r
+  ended {bytes = bytes} to_print (inl (is, taken, same)) =
+      printed bytes (subst (λ (s : ℕ). HasToPrint r s bytes) (sym is) to_print) taken same
+  ended {status} {bytes} to_print (inr (is, part, risen)) = cut_off status bytes to_print part risen is
+
+-- ---- words
+
+-- what follows where a line says `gen` follows where the words are wrong or say `gen`
+pub gen_said : {A : Type 0} (words : List Text) (line : CommandLine) → Says words line → (IsGen line.command → A)
+    → AreWrong words ⊎ SayGen words → A
+gen_said words line says by (inl wrong) = absurd (wrong line says)
+gen_said words line says by (inr (other, also, gen)) =
+    by (subst (λ (l : CommandLine). IsGen l.command) (one_line words other line also says) gen)
+
+-- the number of `gen` is in its range
+pub has_count : (c : Command) → ((n : ℕ) → c ≡ command.Gen n → (1 ≤ n) × (n ≤ 100)) → HasCount c
+has_count (command.Gen n) within = within n refl
+has_count _ within = tt

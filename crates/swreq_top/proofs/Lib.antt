@@ -1,7 +1,5 @@
 pub mod Contracts
 pub mod Delivering
 pub mod EmptyText
-pub mod Ending
 pub mod Headlines
-pub mod Passed
 pub mod WellFormed

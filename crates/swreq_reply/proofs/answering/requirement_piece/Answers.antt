@@ -1,4 +1,4 @@
-use Rattle.std.proofs.Common.{◌∙◌, ◌++◌, List, ap, subst, sym, ℕ}
+use Rattle.std.proofs.Common.{◌∙◌, ◌++◌, List, ap, subst, sym, true, ℕ}
 use Rattle.swreq_lowering.specs.ByTable.{query_by}
 use Rattle.swreq_query.specs.Asked.{answer_of}
 use Rattle.swreq_reply.specs.Contents.{backing_of}

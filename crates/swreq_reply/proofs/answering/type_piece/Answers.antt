@@ -1,4 +1,4 @@
-use Rattle.std.proofs.Common.{◌≡◌, ◌∙◌, [], ◌++◌, List, ap, append-nil, subst, sym, ℕ}
+use Rattle.std.proofs.Common.{◌≡◌, ◌∙◌, [], ◌++◌, List, ap, append-nil, subst, sym, true, ℕ}
 use Rattle.swreq_lowering.specs.ByTable.{query_by}
 use Rattle.swreq_query.specs.Answers.{answer_line}
 use Rattle.swreq_reply.specs.Contents.{backing_of}
@@ -20,11 +20,12 @@ returns c =
     let w = world_in c.args.table.now c.args.s.now in
     let q = query_by c.args.table.now c.args.query.now in
     let (line, (a, is, text), e) = c.in_ok-answer.ensures.ok _ c.requires.means.machine.machine in
+    let has = answered_by c.args.table.now c.args.s.now c.args.means.now.own.f c.args.means.now.own.machine.now c.requires.means.machine q a
+    (asks_own c.args.table.now c.args.query.now c.args.means.now.own.f c.requires.query.asks) is in
     subst (AnswersByTypes w true (backing_of c.args.s.now.content) q) (sym c.new.ensures) (
       a,
       [],
-      answered_by c.args.table.now c.args.s.now c.args.means.now.own.f c.args.means.now.own.machine.now c.requires.means.machine q a
-          (asks_own c.args.table.now c.args.query.now c.args.means.now.own.f c.requires.query.asks) is,
-      none_behind w _ (backing_of c.args.s.now.content) q c.requires.asks.0 c.requires.asks.1 a c.requires.asks.2 is,
+      has,
+      none_behind w (backing_of c.args.s.now.content) q c.requires.asks.0 c.requires.asks.1 a c.requires.asks.2 has,
       e ∙ ap (λ (o : List ℕ). o ++ line) c.new-piece.ensures.items ∙ text ∙ sym (append-nil (answer_line w.lexicon a)),
     )

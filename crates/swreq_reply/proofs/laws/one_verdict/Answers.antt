@@ -5,11 +5,9 @@ use Rattle.swreq_reply.proofs.laws.one_verdict.Goals as goal
 
 source : (c : goal.After-one_verdict-2) → AreOne c.args.source.now
 source c = record {
-  reading = c.one_reading.ensures.some;
   refusal = c.one_reading.ensures.one_refusal;
   no_refusal = c.one_reading.ensures.never_both;
   skeleton = c.one_skeleton.ensures;
-  verdict = c.one_verdict.ensures.some;
   token = c.one_verdict.ensures.one;
   no_token = c.one_verdict.ensures.never_both;
   world = c.world_is_one.ensures;
@@ -25,6 +23,6 @@ part c = record {
 }
 
 pub returns : goal.returns
-returns c line p are same at o q told also refused verdict =
+returns c line p are same at =
     verdict_is_one line c.args.input.now p are (subst AreOne (sym same) (source c))
-    (subst (IsOnePart p.input) (sym at) (subst (λ (text : List ℕ). IsOnePart text c.args.from) (sym are.whole) (part c))) o q told also refused verdict
+    (subst (IsOnePart p.input) (sym at) (subst (λ (text : List ℕ). IsOnePart text c.args.from) (sym are.whole) (part c)))

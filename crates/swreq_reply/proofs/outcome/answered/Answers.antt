@@ -1,12 +1,9 @@
-use Rattle.std.proofs.Common.{refl, subst, sym, true}
-use Rattle.swreq_world.specs.ByTable.{world_by}
-use Rattle.swreq_reply.specs.Outputs.{IsOutput}
-use Rattle.swreq_reply.specs.Requests.{line_of, parts_of}
+use Rattle.std.proofs.Common.{refl}
+use Rattle.swreq_reply.specs.Requests.{parts_of}
 use Rattle.swreq_reply.proofs.outcome.answered.Goals as goal
 
+pub output-requires : goal.output-requires
+output-requires c = rw c.content_of.ensures c.requires.made
+
 pub returns : goal.returns
-returns c = (
-  refl,
-  subst (IsOutput (world_by c.args.table.now c.args.world.now) true (line_of c.args.r.now).command (parts_of c.args.r.now)) (sym c.new.ensures)
-      (c.in_ok-output.ensures (parts_of c.args.r.now)),
-)
+returns c = (refl, rw (c.new.ensures, ← c.content_of.ensures) (c.in_ok-output.ensures (parts_of c.args.r.now)))

@@ -3,7 +3,7 @@ use Rattle.swreq_reply.specs.Contents.{backing_of}
 use Rattle.swreq_reply.specs.Lines.{AreLinesIn}
 use Rattle.swreq_reply.specs.Outputs.{IsLineOf}
 use Rattle.swreq_reply.specs.Pieces.{world_of}
-use Rattle.swreq_reply.proofs.printing.all_answers.Goals as goal
+use Rattle.swreq_reply.proofs.printing.all_answers.Given as goal
 
 abbrev pub invariant-loop-k : goal.invariant-loop-k
 invariant-loop-k l = AreLinesIn (IsLineOf (world_of l.m) true (backing_of l.m.content)) (take l.k (world_of l.m).queries) l.out.items

@@ -2,7 +2,7 @@ use Rattle.std.proofs.Common.{take}
 use Rattle.swreq_output.specs.Systems.{IsSystemText}
 use Rattle.swreq_reply.specs.Lines.{AreLinesIn}
 use Rattle.swreq_reply.specs.Pieces.{world_of}
-use Rattle.swreq_reply.proofs.printing.all_systems.Goals as goal
+use Rattle.swreq_reply.proofs.printing.all_systems.Given as goal
 
 abbrev pub invariant-loop-k : goal.invariant-loop-k
 invariant-loop-k l = AreLinesIn (IsSystemText (world_of l.m)) (take l.k (world_of l.m).signatures) l.out.items

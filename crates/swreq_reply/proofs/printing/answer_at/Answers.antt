@@ -1,4 +1,4 @@
-use Rattle.std.proofs.Common.{◌≡◌, ◌∙◌, List, Option, None, Some, ap, get_or, subst, sym}
+use Rattle.std.proofs.Common.{◌≡◌, ◌∙◌, List, Option, ap, get_or, subst, sym, true, ℕ}
 use Rattle.swreq_lowering.specs.declared.ids.FuncId.{FuncId}
 use Rattle.swreq_lowering.specs.declared.ids.Query.{Query}
 use Rattle.swreq_lowering.specs.declared.ids.Query.TheVariants.{Signature}
@@ -25,8 +25,8 @@ returns-in-Some c =
     (by_list c.args.m.now c.requires.whole c.requires.answers.0 c.requires.answers.1 c.args.k c.requires.k c.in-Some.f
     (asks _ _ _ _ _ c.queries.ensures c.list_asked.ensures c.in-Some.is)).1
 
-pub text_at-in-None-requires : goal.text_at-in-None-requires
-text_at-in-None-requires c = (by_piece c.args.m.now c.requires.whole c.requires.answers.0 c.requires.answers.1 c.args.k c.requires.k
+pub text_at-requires-in-None : goal.text_at-requires-in-None
+text_at-requires-in-None c = (by_piece c.args.m.now c.requires.whole c.requires.answers.0 c.requires.answers.1 c.args.k c.requires.k
     (asks _ _ _ _ _ c.queries.ensures c.list_asked.ensures c.in-None.is)).0
 
 pub returns-in-None : goal.returns-in-None

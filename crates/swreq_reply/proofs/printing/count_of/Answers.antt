@@ -1,4 +1,4 @@
-use Rattle.std.proofs.Common.{◌≡◌, ◌<◌, ap, arith, length, refl, subst, sym, take, true, ℕ}
+use Rattle.std.proofs.Common.{◌≡◌, ◌+◌, ◌<◌, List, ap, arith, length, subst, sym, take, true}
 use Rattle.std.proofs.lemmas.Bool.Decides.{not_from_Decides}
 use Rattle.std.proofs.lemmas.List.{length-map, take_all}
 use Rattle.swreq_lowering.specs.ByTable.{query_by}
@@ -10,6 +10,7 @@ use Rattle.swreq_reply.specs.Outputs.{HasAnswer}
 use Rattle.swreq_reply.specs.Pieces.{world_of}
 use Rattle.swreq_reply.proofs.Lines.{no_more, one_more}
 use Rattle.swreq_reply.proofs.printing.count_of.Goals as goal
+use Rattle.swreq_reply.proofs.printing.count_of.Goals.{else-has_verdict, then-has_verdict}
 
 pub loop-k-init : goal.loop-k-init
 loop-k-init c = (nothing, omega arith)

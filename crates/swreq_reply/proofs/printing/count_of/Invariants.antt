@@ -3,7 +3,7 @@ use Rattle.swreq_query.specs.Asked.{answer_of}
 use Rattle.swreq_reply.specs.Lines.{Counted}
 use Rattle.swreq_reply.specs.Outputs.{HasAnswer}
 use Rattle.swreq_reply.specs.Pieces.{world_of}
-use Rattle.swreq_reply.proofs.printing.count_of.Goals as goal
+use Rattle.swreq_reply.proofs.printing.count_of.Given as goal
 
 abbrev pub invariant-loop-k : goal.invariant-loop-k
 invariant-loop-k l = Counted (HasAnswer (world_of l.m) true (answer_of l.verdict)) (take l.k (world_of l.m).queries) l.count × (l.count ≤ l.k)

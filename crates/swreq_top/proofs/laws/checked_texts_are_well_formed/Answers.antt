@@ -1,4 +1,3 @@
-use Rattle.std.proofs.Common.{refl}
 use Rattle.swreq_reply.proofs.Checked.{is_formed}
 use Rattle.swreq_output.proofs.PrintingAlike.{closed_world}
 use Rattle.swreq_top.proofs.WellFormed.{never_refused}
@@ -8,4 +7,4 @@ pub returns-clause-formed : goal.returns-clause-formed
 returns-clause-formed c text w limits rules told of built = is_formed limits w (closed_world text w of) built
 
 pub returns-clause-unrefused : goal.returns-clause-unrefused
-returns-clause-unrefused c w limits at told formed checked = never_refused w formed limits at checked refl
+returns-clause-unrefused c w limits at told formed checked = never_refused w formed limits at checked

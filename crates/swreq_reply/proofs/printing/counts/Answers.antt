@@ -1,0 +1,23 @@
+use Rattle.std.proofs.Common.{◌∙◌, ◌++◌, ◌∷◌, [], List, ap, append-nil, refl, sym, ℕ}
+use Rattle.swreq_reply.specs.Outputs.{counts_text}
+use Rattle.swreq_reply.proofs.printing.counts.Goals as goal
+
+pub returns : goal.returns
+returns c =
+    let text = counts_text c.args.n c.count_of-yes_count.result c.count_of-no_count.result c.count_of-invalid_count.result in
+    let last = c.last_answer.result.now in (
+      text ∷ last ∷ [],
+      record {
+        yes_count = c.count_of-yes_count.result;
+        no_count = c.count_of-no_count.result;
+        invalid_count = c.count_of-invalid_count.result;
+        last = last;
+        say_yes = c.count_of-yes_count.ensures;
+        say_no = c.count_of-no_count.ensures;
+        say_invalid = c.count_of-invalid_count.ensures;
+        ends = c.last_answer.ensures;
+        pieces_are = refl;
+      },
+      c.in_ok-append_bytes.ensures.ok ∙ ap (λ (t : List ℕ). t ++ last) (c.in_ok-put_counts.ensures ∙ ap (λ (t : List ℕ). t ++ text) c.new-out.ensures.items)
+          ∙ ap (λ (t : List ℕ). text ++ t) (sym (append-nil last)),
+    )
