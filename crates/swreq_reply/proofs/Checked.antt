@@ -91,12 +91,10 @@ module _ (limits : Limits) (w : TextWorld) where
       → SignaturesCome limits w rules gs refused told → SignaturesTell limits w rules gs told
   signatures_tell rules all = nothing_yet
   signatures_tell rules (next own one rest e) = past_first own one (signatures_tell rules rest) e
-  signatures_tell rules {told = told} (stopped {g = g} refused real come) =
-      in_first (refused_comes limits (list_of w rules g.params (written_list g)) (facts_of w) (sides (source_of g) g.requirements) refused told real come)
+  signatures_tell rules {told = told} (stopped refused real come) = in_first (refused_comes limits _ _ _ refused told real come)
 
   pub check_tells : {refused : Option Refused} {told : List Event} → IsChecked limits w refused told → CheckTells limits w told
-  check_tells {told = told} (protocols_refused refused real come) =
-      in_protocols (refused_comes limits (protocols_of w) (facts_of w) (protocol_sides w) refused told real come)
+  check_tells {told = told} (protocols_refused refused real come) = in_protocols (refused_comes limits _ _ _ refused told real come)
   check_tells (protocols_built rules come signatures e) = past_protocols rules come (signatures_tell rules signatures) e
 
   -- a text that is not refused is checked

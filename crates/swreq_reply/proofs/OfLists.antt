@@ -29,7 +29,7 @@ use Rattle.swreq_valid.specs.declared.refused.Refused.{Refused}
 use Rattle.swreq_valid.specs.declared.refused.Refused.TheVariants.{Memory}
 use Rattle.swreq_reply.specs.Machines.{SignaturesCome}
 use Rattle.swreq_reply.proofs.Checked.{each_comes}
-use Rattle.swreq_orders.proofs.Members.{first_member, later_member, no_member, only_member, member_cases}
+use Rattle.swreq_orders.proofs.Members.{each_member, first_member, later_member, no_member}
 use Rattle.swreq_derive.specs.Derivation.TermRequirement.{Equals}
 use Rattle.swreq_derive.specs.WellFormed.{HasValidSides, IsListWellFormed}
 use Rattle.swreq_valid.specs.Rounds.{AreRounds, last_rules}
@@ -81,12 +81,8 @@ module _ (terms : List Term) (w : IdWorld) (f : FuncId) (params : Params) (list 
 
 sides_hold : (f : TermFacts) (s : Source) (r : TermRequirement) (left right : ℕ) → HasValidSides f s r
     → HoldsOfEach (IsValidSide f) (sides_at s r left right)
-sides_hold f s (Equals t u) left right h x c =
-    elim (member_cases (record { source = s; term = t; at = left }) x (record { source = s; term = u; at = right } ∷ []) c) [
-      | inl e ↦ rw e h.0
-      | inr d ↦ rw (only_member (record { source = s; term = u; at = right }) x d) h.1
-    ]
-sides_hold f s r left right h x c = rw (only_member _ x c) h
+sides_hold f s (Equals t u) left right h = each_member (IsValidSide f) (sides_at s (Equals t u) left right) (h.0, (h.1, tt))
+sides_hold f s r left right h = each_member (IsValidSide f) (sides_at s r left right) (h, tt)
 
 pub formed_sides : (f : TermFacts) (s : Source) (rs : List PlacedRequirement)
     → ((r : TermRequirement) → Contains (map (λ (q : PlacedRequirement). q.requirement) rs) r → HasValidSides f s r) → HoldsOfEach (IsValidSide f) (sides s rs)

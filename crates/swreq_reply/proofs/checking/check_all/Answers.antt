@@ -4,7 +4,6 @@ use Rattle.swreq_param.proofs.Growing.{onward, unchanged}
 use Rattle.swreq_watch.proofs.Told.{grew_none}
 use Rattle.swreq_world.specs.ByTable.{signature_by}
 use Rattle.swreq_reply.specs.Machines.SignaturesCome.{all}
-use Rattle.swreq_reply.specs.Settings.{AreMadeIn}
 use Rattle.swreq_reply.proofs.Checked.{came_more, err_is, stopped_at}
 use Rattle.swreq_reply.proofs.Settled.{made_alike, ready_on, world_on}
 use Rattle.swreq_reply.proofs.checking.check_all.Goals as goal
@@ -37,5 +36,4 @@ pub returns-clause-pieces : goal.returns-clause-pieces
 returns-clause-pieces g c =
     let s = c.args.s.now in
     let all : c.loop-k.k ≡ length s.world.now.signatures = omega (arith, c.functions-k-end.ensures, c.loop-k-test.false, c.loop-k.auto.k-end) in
-    subst (λ T. T) (made_alike c.args.table.now c.loop-k.table s c.loop-k.invariant.4 c.requires.ready _ _)
-    (subst (λ n. AreMadeIn c.loop-k.table s n c.loop-k.pieces.items) all c.loop-k.invariant.1)
+    subst (λ T. T) (made_alike c.args.table.now c.loop-k.table s c.loop-k.invariant.4 c.requires.ready _ _) (rw (← all) c.loop-k.invariant.1)

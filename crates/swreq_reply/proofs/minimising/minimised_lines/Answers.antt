@@ -13,19 +13,13 @@ use Rattle.swreq_world.specs.Worlds.{TextWorld, signature_at}
 use Rattle.swreq_reply.specs.declared.content.Content.{Content}
 use Rattle.swreq_reply.specs.Checks.{HavePassed}
 use Rattle.swreq_reply.specs.Made.{AreLinesKept, IsLineKept}
-use Rattle.swreq_reply.specs.Told.{FailsAt, MinimisingAllFails, MinimisingAllTells, MinimisingEndsIn, TellsOne}
+use Rattle.swreq_reply.specs.Told.{FailsAt, MinimisingAllTells, MinimisingEndsIn, TellsOne}
 use Rattle.swreq_reply.specs.Told.MinimisingAllTells.{nothing, one_more}
 use Rattle.swreq_reply.specs.Listing.{rules_of, wants, world_of}
 use Rattle.swreq_reply.proofs.Checked.{Tells, err_is, told_on}
 use Rattle.swreq_reply.proofs.minimising.minimised_lines.Goals as goal
 
 -- ---- what is told, and what is kept
-
--- where minimising fails behind such parts it ends so
-ends_in : (limits : Limits) (w : TextWorld) (wants : Content) (rules : List Rule) (failed : Failed) (told : List Event)
-    → MinimisingAllFails limits w wants rules failed told → MinimisingEndsIn limits w wants rules failed told
-ends_in limits w wants rules Memory told h = inr h
-ends_in limits w wants rules failed told h = h
 
 module _ (limits : Limits) (now w : TextWorld) (stays : now ≡ w) (wants : Content) (rules : List Rule) (f : FuncId) (old mid new : Option (List Event))
     (before : Tells (MinimisingAllTells limits w wants rules) old mid) where
@@ -38,11 +32,16 @@ module _ (limits : Limits) (now w : TextWorld) (stays : now ≡ w) (wants : Cont
       ])
 
   -- or it fails there
+  fails_in : (failed : Failed) (a b : List Event) → MinimisingAllTells limits w wants rules a → FailsAt limits w wants rules (signature_at w f) failed b
+      → MinimisingEndsIn limits w wants rules failed (a ++ b)
+  fails_in Memory a b parts (asked, fails) =
+      inr (record { before = a; last = b; g = signature_at w f; parts = parts; asked = asked; fails = fails; told_is = refl })
+  fails_in failed a b parts (asked, fails) =
+      record { before = a; last = b; g = signature_at w f; parts = parts; asked = asked; fails = fails; told_is = refl }
+
   failed_at : (failed : Failed) → Tells (FailsAt limits now wants rules (signature_at now f) failed) mid new
       → Tells (MinimisingEndsIn limits w wants rules failed) old new
-  failed_at failed one = told_on old mid new before (rw stays at one)
-      (λ a b parts fails. ends_in limits w wants rules failed (a ++ b)
-      (record { before = a; last = b; g = signature_at w f; parts = parts; asked = fails.0; fails = fails.1; told_is = refl }))
+  failed_at failed one = told_on old mid new before (rw stays at one) (fails_in failed)
 
 -- one line more is kept
 kept_more : (w : TextWorld) (wants : ℕ → Bool) (lists : List (Option (List ℕ))) (k : ℕ) (entry : Option (List ℕ)) → length lists ≡ k
@@ -89,7 +88,7 @@ loop-k-preserved g c =
       text_stays c.loop-k.table c.line_if_wanted.new.table onwards l.world.now text,
       record { passed = subst (λ w. HavePassed l.limits w (rules_of l)) now ready.passed; wanted = ready.wanted; limits = ready.limits },
       told_more _ _ _ stays _ _ (record { place = c.loop-k.k }) _ _ _ told c.in_ok-entry.ensures.told,
-      rw longer (kept_more (world_of c.args.table.now l) (wants l) c.loop-k.all.items c.loop-k.k c.in_ok-entry.entry count kept
-          (subst (λ w. IsLineKept w (wants l) (record { place = c.loop-k.k }) c.in_ok-entry.entry) stays c.in_ok-entry.ensures.line)),
+      rw longer (kept_more _ _ _ _ _ count kept (subst (λ w. IsLineKept w (wants l) (record { place = c.loop-k.k }) c.in_ok-entry.entry) stays
+          c.in_ok-entry.ensures.line)),
       omega (arith, ap length longer, length-append c.loop-k.all.items (c.in_ok-entry.entry ∷ []), count),
     )
