@@ -44,8 +44,7 @@ module _ (limits : Limits) (w : TextWorld) (rules : List Rule) where
   -- ---- signatures after signatures
 
   pub come_on : {gs hs : Signatures} {refused : Option Refused} {a b : List Event} → SignaturesCome limits w rules gs None a
-      → SignaturesCome limits w rules hs refused b
-      → SignaturesCome limits w rules (gs ++ hs) refused (a ++ b)
+      → SignaturesCome limits w rules hs refused b → SignaturesCome limits w rules (gs ++ hs) refused (a ++ b)
   come_on all h = h
   come_on {b = b} (next {first = first} {more = more} own one rest e) h =
       next own one (come_on rest h) (ap (λ (t : List Event). t ++ b) e ∙ append_assoc first more b)
@@ -58,8 +57,7 @@ module _ (limits : Limits) (w : TextWorld) (rules : List Rule) where
 
   -- each signature of those that come to rules
   pub each_comes : {gs : Signatures} {told : List Event} → SignaturesCome limits w rules gs None told
-      → (g : SignatureOver PlacedRequirement)
-      → Contains gs g → (own : List Rule) × (told : List Event) × SignatureComes limits w rules g (Ok own) told
+      → (g : SignatureOver PlacedRequirement) → Contains gs g → (own : List Rule) × (told : List Event) × SignatureComes limits w rules g (Ok own) told
   each_comes all g c = no_member g c
   each_comes (next {g = h} {gs = gs} {first = first} own one rest e) g c = elim (member_cases h g gs c) [
     | inl i ↦ (own, first, rw i one)

@@ -124,5 +124,4 @@ module _ (terms : List Term) (s : Setting) where
       (written_list (signature_at (world_in terms s) f))
 
   pub own_rounds : (f : FuncId) (m : MachineView) → IsMachineFor terms s f m → AreRounds s.limits (own_plan f) m.rounds
-  own_rounds f m h = subst (λ p. AreRounds s.limits (list_of (world_in terms s) (last_rules s.protocols.now.rounds) p
-      (written_list (signature_at (world_in terms s) f))) m.rounds) h.params h.rounds
+  own_rounds f m h = rw (← h.params) h.rounds

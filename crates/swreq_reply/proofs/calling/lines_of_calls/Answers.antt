@@ -1,4 +1,4 @@
-use Rattle.std.proofs.Common.{◌≡◌, ◌∙◌, ◌<◌, ◌≤◌, arith, map, ap, sym, subst}
+use Rattle.std.proofs.Common.{◌∙◌, arith, map, ap, sym, subst}
 use Rattle.std.proofs.Math.ListN.{get_or-map}
 use Rattle.std.proofs.lemmas.List.{length-map}
 use Rattle.swreq_param.proofs.Growing.{onward, unchanged}
@@ -23,9 +23,8 @@ loop-k-init c = (
 
 pub call_text-requires-clause-call : goal.call_text-requires-clause-call
 call_text-requires-clause-call c =
-    subst (IsCallIn c.loop-k.table c.args.p.now.world.now) (sym c.index-calls-k.is)
-    (calls_in_stay c.args.table.now c.loop-k.table c.loop-k.invariant.0 c.args.p.now.world.now c.args.calls.now c.requires.calls c.loop-k.k
-    c.index-calls-k.result c.loop-k-test.true)
+    rw c.index-calls-k.is (calls_in_stay c.args.table.now c.loop-k.table c.loop-k.invariant.0 c.args.p.now.world.now c.args.calls.now c.requires.calls
+    c.loop-k.k c.index-calls-k.result c.loop-k-test.true)
 
 pub loop-k-preserved : goal.loop-k-preserved
 loop-k-preserved c =
@@ -38,8 +37,7 @@ loop-k-preserved c =
     let calls = map (call_by old) c.args.calls.now in
     let onwards = c.call_text.ensures.extends in
     let stays = sym (world_stays mid new onwards w text.table) in
-    let known : IsCallIn old w call =
-    subst (IsCallIn old w) (sym c.index-calls-k.is) (c.requires.calls c.loop-k.k c.index-calls-k.result c.loop-k-test.true) in
+    let known : IsCallIn old w call = rw c.index-calls-k.is (c.requires.calls c.loop-k.k call c.loop-k-test.true) in
     let at = call_stays old mid more w call known ∙ ap (call_by old) c.index-calls-k.is
     ∙ sym (get_or-map (call_by old) c.args.calls.now c.loop-k.k call) in
     let (line, is, grown) = subst (λ d. AppendsLine (world_of old c.args.p.now) d c.loop-k.out.items c.call_text.new.out.items) at

@@ -1,4 +1,4 @@
-use Rattle.std.proofs.Common.{◌≡◌, ◌<◌, [], arith, length, subst, sym}
+use Rattle.std.proofs.Common.{◌≡◌, [], arith, length, subst, sym}
 use Rattle.std.proofs.lemmas.List.{length-map}
 use Rattle.swreq_param.proofs.Growing.{onward, unchanged}
 use Rattle.swreq_watch.proofs.Told.{grew_none}

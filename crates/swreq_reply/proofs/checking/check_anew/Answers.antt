@@ -1,11 +1,10 @@
-use Rattle.std.proofs.Common.{◌≡◌, ◌∙◌, [], Err, Ok, inl, inr, refl, subst, sym}
+use Rattle.std.proofs.Common.{◌≡◌, ◌∙◌, [], Err, Ok, inl, inr, refl}
 use Rattle.swreq_derive.specs.Derivation.Source.{Written as WrittenList}
 use Rattle.swreq_derive.specs.Facts.{generic_params}
 use Rattle.swreq_reqsig.proofs.WellFormed.{list_formed}
 use Rattle.swreq_rounds.specs.Rounds.{first}
 use Rattle.swreq_symbols.specs.Meaning.{facts_of}
 use Rattle.swreq_valid.specs.Machines.{IsMachineOf, list_of}
-use Rattle.swreq_valid.specs.Plans.{bare, listed}
 use Rattle.swreq_valid.specs.Rounds.{AreRounds, last_rules}
 use Rattle.swreq_valid.specs.Sides.{HoldsOfEach, IsValidSide, sides}
 use Rattle.swreq_watch.proofs.Told.{grew_none}
@@ -33,8 +32,7 @@ machine_for g c =
       meant (λ p rs qs. IsMachineOf w rs m) c.in_ok-machine.ensures.machine,
       meant (λ p rs qs. m.params ≡ p) c.in_ok-machine.ensures.params,
       meant (λ p rs qs. AreRounds s.limits (list_of w (last_rules s.protocols.now.rounds) m.params rs) m.rounds)
-          (subst (λ p. AreRounds s.limits (list_of w (last_rules s.protocols.now.rounds) p (listed c.args.table.now (bare c.deref.result.now))) m.rounds)
-          (sym c.in_ok-machine.ensures.params) c.in_ok-machine.ensures.rounds),
+          (rw c.in_ok-machine.ensures.params c.in_ok-machine.ensures.rounds),
     )
 
 pub build-requires-clause-written : goal.build-requires-clause-written

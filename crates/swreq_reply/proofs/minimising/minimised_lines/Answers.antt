@@ -15,7 +15,7 @@ use Rattle.swreq_reply.specs.Checks.{HavePassed}
 use Rattle.swreq_reply.specs.Made.{AreLinesKept, IsLineKept}
 use Rattle.swreq_reply.specs.Told.{FailsAt, MinimisingAllTells, MinimisingEndsIn, TellsOne}
 use Rattle.swreq_reply.specs.Told.MinimisingAllTells.{nothing, one_more}
-use Rattle.swreq_reply.specs.Listing.{rules_of, wants, world_of}
+use Rattle.swreq_reply.specs.Listing.{rules_of, wants}
 use Rattle.swreq_reply.proofs.Checked.{Tells, err_is, told_on}
 use Rattle.swreq_reply.proofs.minimising.minimised_lines.Goals as goal
 
