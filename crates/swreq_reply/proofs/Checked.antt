@@ -56,8 +56,8 @@ module _ (limits : Limits) (w : TextWorld) (rules : List Rule) where
       past_first own one (tell_on rest h) (ap (λ (t : List Event). t ++ b) e ∙ append_assoc first more b)
 
   -- each signature of those that come to rules
-  pub each_comes : {gs : Signatures} {told : List Event} → SignaturesCome limits w rules gs None told
-      → (g : SignatureOver PlacedRequirement) → Contains gs g → (own : List Rule) × (told : List Event) × SignatureComes limits w rules g (Ok own) told
+  pub each_comes : {gs : Signatures} {told : List Event} → SignaturesCome limits w rules gs None told → (g : SignatureOver PlacedRequirement)
+      → Contains gs g → (own : List Rule) × (told : List Event) × SignatureComes limits w rules g (Ok own) told
   each_comes all g c = no_member g c
   each_comes (next {g = h} {gs = gs} {first = first} own one rest e) g c = elim (member_cases h g gs c) [
     | inl i ↦ (own, first, rw i one)
@@ -124,8 +124,8 @@ told_on old mid new (a, h, grew) (b, k, more) both = (a ++ b, both a b h k, grew
 -- ---- one signature
 
 -- where building its machine is refused, the signature is
-pub one_refused : (limits : Limits) (w : TextWorld) (base : List Rule) (g : SignatureOver PlacedRequirement) (old new : Option (List Event)) (e : Refused)
-    → Builds limits (list_of w base g.params (written_list g)) (facts_of w) (sides (source_of g) g.requirements) old new (Err e)
+pub one_refused : (limits : Limits) (w : TextWorld) (base : List Rule) (g : SignatureOver PlacedRequirement) (old new : Option (List Event))
+    → (e : Refused) → Builds limits (list_of w base g.params (written_list g)) (facts_of w) (sides (source_of g) g.requirements) old new (Err e)
     → ChecksOne limits w base g old new (Err e)
 one_refused limits w base g old new Memory b = (b.0, inl b.1, b.2)
 one_refused limits w base g old new e b = b

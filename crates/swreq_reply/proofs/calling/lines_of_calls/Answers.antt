@@ -23,8 +23,8 @@ loop-k-init c = (
 
 pub call_text-requires-clause-call : goal.call_text-requires-clause-call
 call_text-requires-clause-call c =
-    rw c.index-calls-k.is (calls_in_stay c.args.table.now c.loop-k.table c.loop-k.invariant.0 c.args.p.now.world.now c.args.calls.now c.requires.calls
-    c.loop-k.k c.index-calls-k.result c.loop-k-test.true)
+    rw c.index-calls-k.is (calls_in_stay c.args.table.now c.loop-k.table c.loop-k.invariant.0 c.args.p.now.world.now c.args.calls.now
+    c.requires.calls c.loop-k.k c.index-calls-k.result c.loop-k-test.true)
 
 pub loop-k-preserved : goal.loop-k-preserved
 loop-k-preserved c =

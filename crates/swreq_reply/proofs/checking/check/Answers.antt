@@ -16,7 +16,8 @@ returns-in_err-protocols-clause-check g c =
 pub returns-in_err-pieces-clause-check : goal.returns-in_err-pieces-clause-check
 returns-in_err-pieces-clause-check g c =
     rw (err_is c.from_residual-in_err-pieces.result _ c.from_residual-in_err-pieces.ensures.1)
-    (then_failed _ (world_by c.args.table.now c.args.world.now) _ _ _ _ c.in_ok-protocols.ensures.answer Memory ([], nothing_yet, grew_none _))
+    (then_failed _ (world_by c.args.table.now c.args.world.now) _ _ _ _ c.in_ok-protocols.ensures.answer Memory
+    ([], nothing_yet, grew_none _))
 
 pub check_all-requires-clause-ready : goal.check_all-requires-clause-ready
 check_all-requires-clause-ready g c = record {
@@ -44,5 +45,7 @@ returns-clause-check g c =
 
 pub returns-clause-checked : goal.returns-clause-checked
 returns-clause-checked g c =
-    let all = returns-clause-check g c in
-    record { passed = record { rules_are = c.in_ok-protocols.ensures.rules; told = all.0; built = all.1 }; pieces = c.in_ok-check_all.ensures.pieces }
+    let all = returns-clause-check g c in record {
+      passed = record { rules_are = c.in_ok-protocols.ensures.rules; told = all.0; built = all.1 };
+      pieces = c.in_ok-check_all.ensures.pieces;
+    }

@@ -21,8 +21,8 @@ use Rattle.swreq_reply.proofs.minimising.minimised_lines.Goals as goal
 
 -- ---- what is told, and what is kept
 
-module _ (limits : Limits) (now w : TextWorld) (stays : now ≡ w) (wants : Content) (rules : List Rule) (f : FuncId) (old mid new : Option (List Event))
-    (before : Tells (MinimisingAllTells limits w wants rules) old mid) where
+module _ (limits : Limits) (now w : TextWorld) (stays : now ≡ w) (wants : Content) (rules : List Rule) (f : FuncId)
+    (old mid new : Option (List Event)) (before : Tells (MinimisingAllTells limits w wants rules) old mid) where
   -- one signature more, as the text stands by the table that has grown
   told_more : Tells (TellsOne limits now wants rules (signature_at now f)) mid new → Tells (MinimisingAllTells limits w wants rules) old new
   told_more one = told_on old mid new before (rw stays at one)
@@ -32,8 +32,8 @@ module _ (limits : Limits) (now w : TextWorld) (stays : now ≡ w) (wants : Cont
       ])
 
   -- or it fails there
-  fails_in : (failed : Failed) (a b : List Event) → MinimisingAllTells limits w wants rules a → FailsAt limits w wants rules (signature_at w f) failed b
-      → MinimisingEndsIn limits w wants rules failed (a ++ b)
+  fails_in : (failed : Failed) (a b : List Event) → MinimisingAllTells limits w wants rules a
+      → FailsAt limits w wants rules (signature_at w f) failed b → MinimisingEndsIn limits w wants rules failed (a ++ b)
   fails_in Memory a b parts (asked, fails) =
       inr (record { before = a; last = b; g = signature_at w f; parts = parts; asked = asked; fails = fails; told_is = refl })
   fails_in failed a b parts (asked, fails) =
@@ -67,7 +67,8 @@ pub returns-in_err-entry-clause-failed : goal.returns-in_err-entry-clause-failed
 returns-in_err-entry-clause-failed g c =
     let stays = world_stays c.args.table.now c.loop-k.table c.loop-k.invariant.0 c.args.l.now.world.now c.requires.text.table in
     rw (err_is c.from_residual.result _ c.from_residual.ensures.1)
-    (failed_at _ _ _ stays _ _ (record { place = c.loop-k.k }) _ _ _ c.loop-k.invariant.3 c.in_err-entry.field-0.0 c.in_err-entry.ensures.failed)
+    (failed_at _ _ _ stays _ _ (record { place = c.loop-k.k }) _ _ _ c.loop-k.invariant.3 c.in_err-entry.field-0.0
+    c.in_err-entry.ensures.failed)
 
 pub returns-in_err-map_err-clause-failed : goal.returns-in_err-map_err-clause-failed
 returns-in_err-map_err-clause-failed g c =
@@ -88,7 +89,7 @@ loop-k-preserved g c =
       text_stays c.loop-k.table c.line_if_wanted.new.table onwards l.world.now text,
       record { passed = subst (λ w. HavePassed l.limits w (rules_of l)) now ready.passed; wanted = ready.wanted; limits = ready.limits },
       told_more _ _ _ stays _ _ (record { place = c.loop-k.k }) _ _ _ told c.in_ok-entry.ensures.told,
-      rw longer (kept_more _ _ _ _ _ count kept (subst (λ w. IsLineKept w (wants l) (record { place = c.loop-k.k }) c.in_ok-entry.entry) stays
-          c.in_ok-entry.ensures.line)),
+      rw longer (kept_more _ _ _ _ _ count kept
+          (subst (λ w. IsLineKept w (wants l) (record { place = c.loop-k.k }) c.in_ok-entry.entry) stays c.in_ok-entry.ensures.line)),
       omega (arith, ap length longer, length-append c.loop-k.all.items (c.in_ok-entry.entry ∷ []), count),
     )
