@@ -1,10 +1,7 @@
 use Rattle.std.proofs.Common.{◌∙◌, inl, inr, map, refl}
-use Rattle.swreq_calls.specs.Calls.{StandsFor}
 use Rattle.swreq_subst.specs.Calls.{call_by}
 use Rattle.swreq_symbols.proofs.Growing.{text_stays, world_stays}
-use Rattle.swreq_reply.specs.Inputs.{second_at}
 use Rattle.swreq_reply.specs.Reports.{name_refusal, refusal_of}
-use Rattle.swreq_reply.specs.Requests.{parts_of}
 use Rattle.swreq_reply.specs.Verdict.RefusesSecond.{bad_name, no_calls}
 use Rattle.swreq_reply.proofs.Verdicts.{calls_answered, calls_refused}
 use Rattle.swreq_reply.proofs.outcome.called.Goals as goal
@@ -23,10 +20,6 @@ answered_calls-requires-clause-checked c =
     rw (world_stays c.args.table.now c.resolve_calls.new.table c.in-Ok-resolve_calls.ensures.extends c.args.world.now c.requires.text.table)
     c.requires.checked
 
--- the second part stands for the calls that are read
-stands : (c : goal.After-answered_calls) → StandsFor (parts_of c.args.r.now).input (second_at (parts_of c.args.r.now)) c.deref.result.now
-stands c = rw (← c.second_at.ensures, c.deref.ensures.value) c.in-Ok.ensures.ok
-
 pub returns-in-Ok-resolve_calls : goal.returns-in-Ok-resolve_calls
 returns-in-Ok-resolve_calls c told =
     let ids = c.args.world.now in
@@ -34,7 +27,8 @@ returns-in-Ok-resolve_calls c told =
     let text = c.args.r.now.parts.input.now in
     let ds = c.deref.result.now in
     let calls = map (call_by c.resolve_calls.new.table) c.in-Ok-resolve_calls.calls.items in
-    calls_answered c.requires.request c.requires.world c.requires.checked.passed c.requires.calls told ds (stands c)
+    calls_answered c.requires.request c.requires.world c.requires.checked.passed c.requires.calls told ds
+    (rw (← c.second_at.ensures, c.deref.ensures.value) c.in-Ok.ensures.ok)
     (c.calls_by_table.ensures.refusals old ids text ds ∙ c.in-Ok-resolve_calls.ensures.ok refl)
     calls (c.calls_by_table.ensures.say old ids text calls ds c.in-Ok-resolve_calls.ensures.calls)
     c.answered_calls.result

@@ -1,5 +1,8 @@
+use Rattle.std.proofs.Common.{Err, subst}
+use Rattle.swreq_complete.specs.declared.limit.Limits.{Limits}
 use Rattle.swreq_symbols.proofs.Growing.{text_stays, world_stays}
 use Rattle.swreq_world.specs.ByTable.{world_by}
+use Rattle.swreq_reply.specs.Checks.{Checks}
 use Rattle.swreq_reply.specs.Requests.{line_of, parts_of}
 use Rattle.swreq_reply.proofs.Flags.{asked_within}
 use Rattle.swreq_reply.proofs.Verdicts.{replies_checked, replies_refused}
@@ -34,4 +37,6 @@ returns-in-Ok g c =
 pub returns : goal.returns
 returns g c =
     replies_refused c.requires.request c.requires.world c.requires.checks (g.W.Watch.told c.args.watch.now) (g.W.Watch.told c.check.new.watch)
-    c.in-Err.e c.unchecked.result (rw c.limits_of.ensures at c.in-Err.ensures.check) c.unchecked.ensures
+    c.in-Err.e c.unchecked.result
+    (subst (λ (limits : Limits). Checks limits (world_by c.args.table.now c.args.world.now) (g.W.Watch.told c.args.watch.now)
+    (g.W.Watch.told c.check.new.watch) (Err c.in-Err.e)) c.limits_of.ensures c.in-Err.ensures.check) c.unchecked.ensures

@@ -1,5 +1,8 @@
-use Rattle.std.proofs.Common.{Err, Ok, refl}
+use Rattle.std.proofs.Common.{Err, Ok, refl, subst}
 use Rattle.std.proofs.lemmas.Result.{err_from_is_err_and}
+use Rattle.swreq_complete.specs.declared.limit.Limits.{Limits}
+use Rattle.swreq_reqsig.specs.Told.{AnswersFamily}
+use Rattle.swreq_world.specs.ByTable.{world_by}
 use Rattle.swreq_reply.proofs.Checked.{is_formed}
 use Rattle.swreq_reply.proofs.Verdicts.{families_failed, families_given}
 use Rattle.swreq_reply.proofs.outcome.families.Goals as goal
@@ -25,4 +28,5 @@ pub returns-in-Err : goal.returns-in-Err
 returns-in-Err g c =
     families_failed c.requires.request c.requires.world c.requires.checked.passed c.requires.families
     (g.W.Watch.told c.args.watch.now) (g.W.Watch.told c.kept_family.new.watch) c.in-Err.failed c.cut_short.result
-    (rw c.limits_of.ensures at c.in-Err.ensures.answer) c.cut_short.ensures
+    (subst (λ (limits : Limits). AnswersFamily limits (world_by c.args.table.now c.args.world.now) (g.W.Watch.told c.args.watch.now)
+    (g.W.Watch.told c.kept_family.new.watch) (Err c.in-Err.failed)) c.limits_of.ensures c.in-Err.ensures.answer) c.cut_short.ensures
