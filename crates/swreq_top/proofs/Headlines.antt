@@ -71,20 +71,17 @@ sides_of_asked f s (AsksAnyObject g t) = λ valid side is. rw is valid
 sides_of_asked f s _ = tt
 
 -- a query of a type parameter prints the least one
-least : (w : TextWorld) (b : Backing) (f : FuncId) (t : Term) (piece : Text) → AnswersByTypes w false b (AsksReduced f t) piece
-    → IsLeastWhereValid w (AsksReduced f t) piece
-least w b f t piece (Invalid, rest, (side, is, fails), backs, e) valid =
-    absurd (fails (subst (λ z. IsImplied w (AsksReduced f t) (IsValid z)) (sym is) valid))
-least w b f t piece (Reduced u, rest, (sides, (g, v, same, some)), backs, e) valid =
-    let is : v ≡ t = cc in (
+least_where_valid : (w : TextWorld) (b : Backing) (q : TermQuery) (piece : Text) → IsLineOf w false b q piece → IsLeastWhereValid w q piece
+least_where_valid w b (AsksReduced f t) piece (Invalid, rest, (side, is, fails), backs, e) =
+    λ valid. absurd (fails (subst (λ z. IsImplied w (AsksReduced f t) (IsValid z)) (sym is) valid))
+least_where_valid w b (AsksReduced f t) piece (Reduced u, rest, (sides, (g, v, same, some)), backs, e) =
+    let is : v ≡ t = cc in
+    λ valid. (
       u,
       subst (λ z. IsLeastEqual (IsImplied w (AsksReduced f t)) z u) is some,
       e ∙ ap (λ (z : Text). answer_line w.lexicon (Reduced u) ++ z) backs ∙ append-nil (answer_line w.lexicon (Reduced u)),
     )
-least w b f t piece (a, rest, is, backs, e) valid = absurd (none-some is.1.0 is.1.1)
-
-least_where_valid : (w : TextWorld) (b : Backing) (q : TermQuery) (piece : Text) → IsLineOf w false b q piece → IsLeastWhereValid w q piece
-least_where_valid w b (AsksReduced f t) piece line = least w b f t piece line
+least_where_valid w b (AsksReduced f t) piece (a, rest, is, backs, e) = absurd (none-some is.1.0 is.1.1)
 least_where_valid w b _ piece line = tt
 
 -- ---- lines at their places
