@@ -1,5 +1,5 @@
 -- A check comes out in one way.
-use Rattle.std.proofs.Common.{◌≡◌, ◌≢◌, inl, inr, refl, subst, List, Option, Some, None, Result, Ok, Err}
+use Rattle.std.proofs.Common.{◌≡◌, ◌≢◌, inl, inr, refl, subst, List, Option, None, Result, Ok, Err}
 use Rattle.swreq_derive.specs.Derivation.{TermFacts}
 use Rattle.swreq_rule.specs.declared.rules.Rule.{Rule}
 use Rattle.swreq_rounds.specs.Plan.{Plan}

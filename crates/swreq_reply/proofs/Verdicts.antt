@@ -121,16 +121,11 @@ module _ (line : CommandLine) (input : List ℕ) where
       → ((o : Outcome) → P o → IsVerdictAlone line input o) → Replies line input old old result
   replies_alone old result h verdict = replies old old [] (grew_none old) (inl refl) result h verdict
 
-  -- what a reply says
-  pub replied_verdict : (old new : Option (List Event)) (result : Result Outcome AllocError) → Replies line input old new result
-      → IfOk result (IsToldVerdict line input old new)
-  replied_verdict old new (Ok o) h = h
-  replied_verdict old new (Err e) h = tt
-
-  pub replied_part : (old new : Option (List Event)) (result : Result Outcome AllocError) → Replies line input old new result
-      → OnErr result (WasToldPart line input old new)
-  replied_part old new (Ok o) h = tt
-  replied_part old new (Err e) h = h
+  -- what a reply says where there is an outcome, and where there is none
+  pub replied : (old new : Option (List Event)) (result : Result Outcome AllocError) → Replies line input old new result
+      → IfOk result (IsToldVerdict line input old new) × OnErr result (WasToldPart line input old new)
+  replied old new (Ok o) h = (h, tt)
+  replied old new (Err e) h = (tt, h)
 
   pub replied_refusal : (old new : Option (List Event)) (result : Result Outcome AllocError) → Replies line input old new result
       → ((o p : Outcome) (told also : List Event) → IsRefused line input o told → IsVerdict line input p also → p ≡ o)

@@ -25,6 +25,6 @@ returns-clause-check g c =
     let valid = formed_sides (facts_of w) (source_of own) own.requirements c.requires.machine.formed in
     let made : (c.map_err.result ≡ Ok tt) ⊎ (c.map_err.result ≡ Err Memory) = search rules in
     elim made [
-      | inl done ↦ rw done (told.0, (last_rules m.rounds, told.1, valid), told.2)
-      | inr lost ↦ rw lost (told.0, inr (last_rules m.rounds, told.1, valid), told.2)
+      | inl done ↦ rw done (told.0, (last_rules m.rounds, (told.1, valid)), told.2)
+      | inr lost ↦ rw lost (told.0, inr (last_rules m.rounds, (told.1, valid)), told.2)
     ]

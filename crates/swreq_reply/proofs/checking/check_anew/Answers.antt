@@ -12,7 +12,7 @@ use Rattle.swreq_watch.proofs.Told.{grew_none}
 use Rattle.swreq_world.specs.FactsAt.{source_of}
 use Rattle.swreq_world.specs.Worlds.{signature_at}
 use Rattle.swreq_reply.specs.Settings.{IsMachineFor, world_in}
-use Rattle.swreq_reply.proofs.OfLists.{as_meant, builds, list_written}
+use Rattle.swreq_reply.proofs.OfLists.{as_meant, builds, is_for, list_written}
 use Rattle.swreq_reply.proofs.Checked.{err_is, one_refused}
 use Rattle.swreq_reply.proofs.Settled.{machine_on}
 use Rattle.swreq_reply.proofs.checking.check_anew.Given as given

@@ -38,8 +38,10 @@ returns-in-Ok-resolve_calls c told =
     (c.calls_by_table.ensures.refusals old ids text ds ∙ c.in-Ok-resolve_calls.ensures.ok refl)
     calls (c.calls_by_table.ensures.say old ids text calls ds c.in-Ok-resolve_calls.ensures.calls)
     c.answered_calls.result
-    (rw (world_stays old c.resolve_calls.new.table c.in-Ok-resolve_calls.ensures.extends ids c.requires.text.table,
-    c.deref-in-Ok-resolve_calls.ensures.value) at c.answered_calls.ensures)
+    (rw (
+      world_stays old c.resolve_calls.new.table c.in-Ok-resolve_calls.ensures.extends ids c.requires.text.table,
+      c.deref-in-Ok-resolve_calls.ensures.value,
+    ) at c.answered_calls.ensures)
 
 pub returns-in-Ok : goal.returns-in-Ok
 returns-in-Ok c told =

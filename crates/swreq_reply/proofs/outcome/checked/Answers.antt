@@ -1,4 +1,3 @@
-use Rattle.std.proofs.Common.{Err}
 use Rattle.swreq_symbols.proofs.Growing.{text_stays, world_stays}
 use Rattle.swreq_world.specs.ByTable.{world_by}
 use Rattle.swreq_reply.specs.Requests.{line_of, parts_of}
