@@ -1,5 +1,5 @@
 -- Where a second part stands for none or a name of its calls is refused.
-use Rattle.std.proofs.Common.{◌≡◌, ◌≢◌, ◌∙◌, refl, sym, ap, subst, ℕ, ◌+◌, ◌<◌, List, [], ◌∷◌, ◌++◌, Contains}
+use Rattle.std.proofs.Common.{◌≡◌, ◌≢◌, ◌∙◌, refl, sym, ap, subst, ℕ, List, [], Contains}
 use Rattle.swreq_lex.specs.declared.refusal.LexErr.{LexErr}
 use Rattle.swreq_lex.specs.declared.token.Token as lexed
 use Rattle.swreq_lex.specs.Refusals.{HasRefusalFrom}
@@ -17,7 +17,6 @@ use Rattle.swreq_print.specs.declared.refusal.RefusalKind.{RefusalKind}
 use Rattle.swreq_world.specs.Worlds.{TextWorld}
 use Rattle.swreq_subst.specs.Refusals.{RefusesCalls, refusals}
 use Rattle.swreq_reply.specs.Inputs.{Parts, second_at}
-use Rattle.swreq_reply.specs.Lines.AreLines.{none}
 use Rattle.swreq_reply.specs.Reports.{name_refusal, refusal_of}
 use Rattle.swreq_reply.specs.Verdict.{RefusesSecond}
 use Rattle.swreq_reply.specs.Verdict.RefusesSecond.{bad_name, no_calls}
