@@ -6,16 +6,13 @@ use Rattle.swreq_rounds.specs.Plan.{Plan}
 use Rattle.swreq_watch.specs.declared.events.Event.{Event}
 use Rattle.swreq_lowering.specs.Requirements.{PlacedRequirement}
 use Rattle.swreq_world.specs.Worlds.{SignatureOver, TextWorld}
-use Rattle.swreq_symbols.specs.Meaning.{facts_of}
 use Rattle.swreq_valid.specs.Built.{Builds, IsBuilt}
-use Rattle.swreq_valid.specs.Machines.{list_of, protocols_of}
-use Rattle.swreq_valid.specs.Sides.{Side, protocol_sides, sides}
+use Rattle.swreq_valid.specs.Sides.{Side}
 use Rattle.swreq_valid.specs.declared.refused.Refused.{Refused}
 use Rattle.swreq_valid.specs.declared.refused.Refused.TheVariants.{Memory}
 use Rattle.swreq_valid.proofs.Building.{only_built}
 use Rattle.swreq_complete.specs.declared.limit.Limits.{Limits}
-use Rattle.swreq_world.specs.FactsAt.{source_of, written_list}
-use Rattle.swreq_reply.specs.Machines.{IsChecked, ProtocolsCome, SignatureComes, SignaturesCome}
+use Rattle.swreq_reply.specs.Machines.{IsChecked, SignaturesCome}
 use Rattle.swreq_reply.specs.Machines.IsChecked.{protocols_built, protocols_refused}
 use Rattle.swreq_reply.specs.Machines.SignaturesCome.{all, next, stopped}
 
@@ -42,31 +39,24 @@ module _ (limits : Limits) (plan : Plan) (f : TermFacts) (sides : List Side) whe
   ]
 
 module _ (limits : Limits) (w : TextWorld) where
-  one_signature : (rules : List Rule) (g : SignatureOver PlacedRequirement) (a b : Answer) (t u : List Event) → SignatureComes limits w rules g a t
-      → SignatureComes limits w rules g b u → IsReal a → IsReal b → a ≡ b
-  one_signature rules g = one_answer limits (list_of w rules g.params (written_list g)) (facts_of w) (sides (source_of g) g.requirements)
-
-  one_protocols : (a b : Answer) (t u : List Event) → ProtocolsCome limits w a t → ProtocolsCome limits w b u → IsReal a → IsReal b → a ≡ b
-  one_protocols = one_answer limits (protocols_of w) (facts_of w) (protocol_sides w)
-
   one_come : (rules : List Rule) {gs : List (SignatureOver PlacedRequirement)} {a b : Option Refused} {t u : List Event}
       → SignaturesCome limits w rules gs a t → SignaturesCome limits w rules gs b u → a ≡ b
   one_come rules all all = refl
   one_come rules (next own one rest e) (next own' one' rest' e') = one_come rules rest rest'
-  one_come rules (next {g = g} {first = t} own one rest e) (stopped {told = u} refused real come) =
-      cc (one_signature rules g (Ok own) (Err refused) t u one come tt real)
-  one_come rules (stopped {g = g} {told = t} refused real come) (next {first = u} own one rest e) =
-      cc (one_signature rules g (Err refused) (Ok own) t u come one real tt)
-  one_come rules (stopped {g = g} {told = t} refused real come) (stopped {told = u} other too came) =
-      cc (one_signature rules g (Err refused) (Err other) t u come came real too)
+  one_come rules (next {first = t} own one rest e) (stopped {told = u} refused real come) =
+      cc (one_answer limits _ _ _ (Ok own) (Err refused) t u one come tt real)
+  one_come rules (stopped {told = t} refused real come) (next {first = u} own one rest e) =
+      cc (one_answer limits _ _ _ (Err refused) (Ok own) t u come one real tt)
+  one_come rules (stopped {told = t} refused real come) (stopped {told = u} other too came) =
+      cc (one_answer limits _ _ _ (Err refused) (Err other) t u come came real too)
 
   pub one_check : {a b : Option Refused} {t u : List Event} → IsChecked limits w a t → IsChecked limits w b u → a ≡ b
   one_check (protocols_refused {told = t} r real come) (protocols_refused {told = u} s too came) =
-      cc (one_protocols (Err r) (Err s) t u come came real too)
+      cc (one_answer limits _ _ _ (Err r) (Err s) t u come came real too)
   one_check (protocols_refused {told = t} r real come) (protocols_built {first = u} rules came rest e) =
-      cc (one_protocols (Err r) (Ok rules) t u come came real tt)
+      cc (one_answer limits _ _ _ (Err r) (Ok rules) t u come came real tt)
   one_check (protocols_built {first = t} rules come rest e) (protocols_refused {told = u} r real came) =
-      cc (one_protocols (Ok rules) (Err r) t u come came tt real)
+      cc (one_answer limits _ _ _ (Ok rules) (Err r) t u come came tt real)
   one_check (protocols_built {refused = a} {first = t} {more = m} rules come rest e) (protocols_built {first = u} other came too f) =
-      let same : rules ≡ other = cc (one_protocols (Ok rules) (Ok other) t u come came tt tt) in
+      let same : rules ≡ other = cc (one_answer limits _ _ _ (Ok rules) (Ok other) t u come came tt tt) in
       one_come other (subst (λ (r : List Rule). SignaturesCome limits w r w.signatures a m) same rest) too

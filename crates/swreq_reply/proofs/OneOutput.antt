@@ -49,7 +49,7 @@ use Rattle.swreq_reply.specs.Inputs.{AreParts, Parts, second_at}
 use Rattle.swreq_reply.specs.Lines.{AreLines, Counted}
 use Rattle.swreq_reply.specs.Lines.AreLines.{none as no_line, more}
 use Rattle.swreq_reply.specs.Lines.Counted.{nothing, one as one_more, other as no_more}
-use Rattle.swreq_reply.specs.Outputs.{AnswersByTypes, AnswersLast, AreCallLines, AreCounts, ArePrinted, Backs, BacksYes, HasAnswer, IsLineOf, IsOutput, IsPathLine, counts_text, signature_of}
+use Rattle.swreq_reply.specs.Outputs.{AnswersByTypes, AnswersLast, AreCounts, ArePrinted, Backs, BacksYes, HasAnswer, IsLineOf, IsOutput, IsPathLine, counts_text, signature_of}
 use Rattle.swreq_valid.specs.declared.refused.Refused.TheVariants.{Limit}
 use Rattle.swreq_reply.specs.Verdict.{HasWorld, IsRefused, IsVerdict}
 use Rattle.swreq_reply.specs.Verdict.IsRefused.{bad_calls, in_one_part, misfit, past_a_limit_of_families, too_long, unchecked, without_world}
@@ -117,12 +117,6 @@ module _ (w : TextWorld) where
 
   module _ (p : Parts) (apart : TellsApart w.lexicon) (found : FindSignatures w)
       (one_part : (ds es : List CallDecl) → StandsFor p.input (second_at p) ds → StandsFor p.input (second_at p) es → ds ≡ es) where
-    calls_once : (ls ms : List Text) → AreCallLines w p ls → AreCallLines w p ms → ls ≡ ms
-    calls_once ls ms (ds, stands, none, (cs, say, are)) (es, also, too, (others, tell, lines)) =
-        let same : cs ≡ others = one_list w p.input found apart cs others es
-        (subst (λ (z : List CallDecl). SayCalls w p.input cs z) (one_part ds es stands also) say) tell in
-        one_lines (calls.IsLineOf w) (one_line w) (subst (λ (z : List TermCall). AreLines (calls.IsLineOf w) z ls) same are) lines
-
     pieces_once : (c : Content) → c ≢ Answers (Each Derivation) → (ls ms : List Text) → ArePrinted w false c p ls → ArePrinted w false c p ms
         → ls ≡ ms
     pieces_once (Answers (Each b)) real ls ms h k = one_lines (IsLineOf w false b) (query_once b (λ e. real (ap (λ z. Answers (Each z)) e))) h k
@@ -133,7 +127,10 @@ module _ (w : TextWorld) where
         is ∙ ap (λ (ns : List (List ℕ)). family_text w ns ∷ []) (given_one w kept other given too) ∙ sym same
     pieces_once Judgements real ls ms (said, is, one) (other, also, too) =
         one ∙ ap (λ (t : Text). t ∷ []) (output_one w p.second said other apart is also) ∙ sym too
-    pieces_once Calls real ls ms h k = calls_once ls ms h k
+    pieces_once Calls real ls ms (ds, stands, none, (cs, say, are)) (es, also, too, (others, tell, lines)) =
+        let same : cs ≡ others = one_list w p.input found apart cs others es
+        (subst (λ (z : List CallDecl). SayCalls w p.input cs z) (one_part ds es stands also) say) tell in
+        one_lines (calls.IsLineOf w) (one_line w) (subst (λ (z : List TermCall). AreLines (calls.IsLineOf w) z ls) same are) lines
 
     output_once : (c : Content) → c ≢ Answers (Each Derivation) → (out other : Text) → IsOutput w false c p out → IsOutput w false c p other
         → out ≡ other

@@ -60,7 +60,7 @@ use Rattle.swreq_reply.specs.Reports.{name_refusal, refusal_of}
 use Rattle.swreq_reply.specs.Requests.{IsRequest, limits_in, line_of, parts_of, printed_of}
 use Rattle.swreq_reply.specs.Told.{MinimisingAllTells, MinimisingEndsIn, TellsBehind}
 use Rattle.swreq_reply.specs.Told.MinimisingAllTells.{nothing}
-use Rattle.swreq_reply.specs.Verdict.{ChecksMachines, HasNoWorld, HasWorld, IsRefused, IsStopOf, IsVerdict, PassesCheck, RefusesSecond, answered_text, limits_of, machine_outcome, refused_with}
+use Rattle.swreq_reply.specs.Verdict.{ChecksMachines, HasNoWorld, HasWorld, IsStopOf, IsVerdict, PassesCheck, RefusesSecond, answered_text, limits_of, machine_outcome, refused_with}
 use Rattle.swreq_reply.specs.Verdict.IsRefused.{bad_calls, misfit, past_a_limit_of_families, unchecked, without_world}
 use Rattle.swreq_reply.specs.Verdict.IsVerdict.{answered as is_answered, cut_short as is_cut_short, judged as is_judged, refused as is_refused}
 use Rattle.swreq_reply.proofs.Checked.{check_tells, is_formed, stops_come}
@@ -126,12 +126,6 @@ module _ (line : CommandLine) (input : List ℕ) where
       → IfOk result (IsToldVerdict line input old new) × OnErr result (WasToldPart line input old new)
   replied old new (Ok o) h = (h, tt)
   replied old new (Err e) h = (tt, h)
-
-  pub replied_refusal : (old new : Option (List Event)) (result : Result Outcome AllocError) → Replies line input old new result
-      → ((o p : Outcome) (told also : List Event) → IsRefused line input o told → IsVerdict line input p also → p ≡ o)
-      → (o : Outcome) (told : List Event) → IsRefused line input o told → IfOk result (λ answer. answer ≡ o)
-  replied_refusal old new (Ok answer) (t, verdict, grew) one o told refused = one o answer told t refused verdict
-  replied_refusal old new (Err e) h one o told refused = tt
 
   -- a text that is not refused tells what its check tells, and then more
   pub replies_checked : (w : TextWorld) (c : Checked) (old mid new : Option (List Event)) (result : Result Outcome AllocError)

@@ -4,7 +4,7 @@ use Rattle.swreq_reply.specs.Requests.{view_of}
 use Rattle.swreq_reply.specs.Verdict.IsRefused.{in_one_part, too_long}
 use Rattle.swreq_reply.specs.Verdict.IsVerdict.{refused as is_refused}
 use Rattle.swreq_reply.proofs.OneRefusal.{long_refused, second_within, undivided_refused}
-use Rattle.swreq_reply.proofs.Verdicts.{replied_refusal, replies_alone}
+use Rattle.swreq_reply.proofs.Verdicts.{replied, replies_alone}
 use Rattle.swreq_reply.proofs.outcome.read.Goals as goal
 
 pub returns-then-input-gt-TEXT_LIMIT : goal.returns-then-input-gt-TEXT_LIMIT
@@ -45,9 +45,10 @@ pub returns-in-Some : goal.returns-in-Some
 returns-in-Some g c =
     let within : length c.args.input.now ≤ 1048576 = omega (arith, c.if-input-gt-TEXT_LIMIT.false) in
     let some = c.in-Some.ensures in
-    let replied = rw some.input at c.with_source.ensures in record {
-      reply = replied;
-      refused = replied_refusal c.args.line.now c.args.input.now (g.W.Watch.told c.args.watch.now) (g.W.Watch.told c.with_source.new.watch)
-          c.with_source.result replied (c.one_verdict.ensures c.args.line.now (view_of c.in-Some.parts)
-          (record { whole = some.input; within = within; divided = some.parts }) refl (sym c.second_at.ensures));
+    let replies = rw some.input at c.with_source.ensures in
+    let (verdict, part) = replied c.args.line.now c.args.input.now _ _ c.with_source.result replies in record {
+      reply = replies;
+      refused = λ o told r. IfOk-weaker c.with_source.result _ _ (λ answer (also, is, grew). c.one_verdict.ensures c.args.line.now
+          (view_of c.in-Some.parts) (record { whole = some.input; within = within; divided = some.parts }) refl (sym c.second_at.ensures)
+          o answer told also r is) verdict;
     }
