@@ -44,8 +44,7 @@ module _ (limits : Limits) (w : TextWorld) (rules : List Rule) where
   -- ---- signatures after signatures
 
   pub come_on : {gs hs : Signatures} {refused : Option Refused} {a b : List Event} → SignaturesCome limits w rules gs None a
-      → SignaturesCome limits w rules hs refused b
-      → SignaturesCome limits w rules (gs ++ hs) refused (a ++ b)
+      → SignaturesCome limits w rules hs refused b → SignaturesCome limits w rules (gs ++ hs) refused (a ++ b)
   come_on all h = h
   come_on {b = b} (next {first = first} {more = more} own one rest e) h =
       next own one (come_on rest h) (ap (λ (t : List Event). t ++ b) e ∙ append_assoc first more b)
@@ -57,8 +56,7 @@ module _ (limits : Limits) (w : TextWorld) (rules : List Rule) where
       past_first own one (tell_on rest h) (ap (λ (t : List Event). t ++ b) e ∙ append_assoc first more b)
 
   -- each signature of those that come to rules
-  pub each_comes : {gs : Signatures} {told : List Event} → SignaturesCome limits w rules gs None told
-      → (g : SignatureOver PlacedRequirement)
+  pub each_comes : {gs : Signatures} {told : List Event} → SignaturesCome limits w rules gs None told → (g : SignatureOver PlacedRequirement)
       → Contains gs g → (own : List Rule) × (told : List Event) × SignatureComes limits w rules g (Ok own) told
   each_comes all g c = no_member g c
   each_comes (next {g = h} {gs = gs} {first = first} own one rest e) g c = elim (member_cases h g gs c) [
@@ -91,12 +89,10 @@ module _ (limits : Limits) (w : TextWorld) where
       → SignaturesCome limits w rules gs refused told → SignaturesTell limits w rules gs told
   signatures_tell rules all = nothing_yet
   signatures_tell rules (next own one rest e) = past_first own one (signatures_tell rules rest) e
-  signatures_tell rules {told = told} (stopped {g = g} refused real come) =
-      in_first (refused_comes limits (list_of w rules g.params (written_list g)) (facts_of w) (sides (source_of g) g.requirements) refused told real come)
+  signatures_tell rules {told = told} (stopped refused real come) = in_first (refused_comes limits _ _ _ refused told real come)
 
   pub check_tells : {refused : Option Refused} {told : List Event} → IsChecked limits w refused told → CheckTells limits w told
-  check_tells {told = told} (protocols_refused refused real come) =
-      in_protocols (refused_comes limits (protocols_of w) (facts_of w) (protocol_sides w) refused told real come)
+  check_tells {told = told} (protocols_refused refused real come) = in_protocols (refused_comes limits _ _ _ refused told real come)
   check_tells (protocols_built rules come signatures e) = past_protocols rules come (signatures_tell rules signatures) e
 
   -- a text that is not refused is checked
@@ -128,8 +124,8 @@ told_on old mid new (a, h, grew) (b, k, more) both = (a ++ b, both a b h k, grew
 -- ---- one signature
 
 -- where building its machine is refused, the signature is
-pub one_refused : (limits : Limits) (w : TextWorld) (base : List Rule) (g : SignatureOver PlacedRequirement) (old new : Option (List Event)) (e : Refused)
-    → Builds limits (list_of w base g.params (written_list g)) (facts_of w) (sides (source_of g) g.requirements) old new (Err e)
+pub one_refused : (limits : Limits) (w : TextWorld) (base : List Rule) (g : SignatureOver PlacedRequirement) (old new : Option (List Event))
+    → (e : Refused) → Builds limits (list_of w base g.params (written_list g)) (facts_of w) (sides (source_of g) g.requirements) old new (Err e)
     → ChecksOne limits w base g old new (Err e)
 one_refused limits w base g old new Memory b = (b.0, inl b.1, b.2)
 one_refused limits w base g old new e b = b

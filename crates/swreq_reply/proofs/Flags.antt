@@ -1,11 +1,9 @@
 -- Of which signatures a command wants the minimised list.
-use Rattle.std.proofs.Common.{◌≡◌, ◌≢◌, ◌⊎◌, ◌∙◌, inl, inr, refl, sym, ap, subst, ℕ, ◌<◌, ◌||◌, Bool, true, false, List, [], ◌∷◌, ◌++◌, get_or, set, length, map, Contains, Option, Some, None, true≢false, arith, eq-eqb, ne_eqb}
-use Rattle.std.proofs.lemmas.Bool.{cases_eq, eqb-true}
+use Rattle.std.proofs.Common.{◌≡◌, ◌≢◌, ◌⊎◌, ◌∙◌, refl, sym, ap, subst, ℕ, ◌<◌, ◌||◌, Bool, true, false, List, [], ◌∷◌, ◌++◌, length, map, Contains, Some, true≢false, arith, eq-eqb}
+use Rattle.std.proofs.lemmas.Bool.{eqb-true}
 use Rattle.std.proofs.lemmas.Option.{none-some, same_Some}
-use Rattle.std.proofs.lemmas.List.{get_or-set_other, get_or-set_same, length-map, length-set}
+use Rattle.std.proofs.lemmas.List.{length-map}
 use Rattle.std.proofs.lemmas.List.Elements.{All-contains, Contains-get_or}
-use Rattle.std.proofs.lemmas.List.Folds.{list_any-append}
-use Rattle.std.proofs.Math.Bool.{or-false, or-true}
 use Rattle.swreq_param.specs.Terms.{Term}
 use Rattle.swreq_orders.proofs.Members.{contains_map}
 use Rattle.swreq_reply.specs.declared.content.Content.{Content}
@@ -14,7 +12,6 @@ use Rattle.swreq_lowering.specs.declared.ids.FuncId.{FuncId}
 use Rattle.swreq_lowering.specs.declared.ids.Query.{Query}
 use Rattle.swreq_lowering.specs.declared.ids.Query.TheVariants as queries
 use Rattle.swreq_lowering.specs.ByTable.{HasQueryIdsOf, query_by}
-use Rattle.swreq_lowering.specs.Queries.TermQuery.{AsksSignature}
 use Rattle.swreq_world.specs.ByTable.{signature_by, world_by}
 use Rattle.swreq_world.specs.Closed.{IsClosed, IsQueryOf}
 use Rattle.swreq_world.specs.Worlds.{IdWorld, no_signature, signature_at}
@@ -22,39 +19,13 @@ use Rattle.swreq_query.specs.Asked.{IsQueryIn}
 use Rattle.swreq_symbols.specs.Known.{IsTextOver}
 use Rattle.swreq_reply.specs.Outputs.{signature_of}
 use Rattle.swreq_reply.specs.Told.{IsMinimisedFor}
-use Rattle.swreq_reply.specs.Wanted.{AreFlags, function_of, is_at, is_list_asked, list_asked, wants_list}
+use Rattle.swreq_reply.specs.Wanted.{function_of, is_at, is_list_asked, list_asked, wants_list}
 use Rattle.swreq_reply.proofs.Lines.{query_signature}
 use Rattle.swreq_rank.proofs.Tests.{passes, some_passes}
 
 -- the query asks for the minimised list of the signature at this place
 abbrev lists_at : ℕ → Query → Bool
 lists_at k q = is_at k (list_asked q)
-
--- one query more
-module _ (qs : List Query) (count : ℕ) (flags : List Bool) (q : Query) (h : AreFlags (is_list_asked qs) count flags) where
-  ends : (k : ℕ) → is_list_asked (qs ++ q ∷ []) k ≡ (is_list_asked qs k || (lists_at k q || false))
-  ends k = list_any-append (lists_at k) qs (q ∷ [])
-
-  unasked : (k : ℕ) → k < count → lists_at k q ≡ false → get_or flags k false ≡ is_list_asked (qs ++ q ∷ []) k
-  unasked k below other =
-      h.set k below
-      ∙ sym (ends k ∙ ap (λ (b : Bool). is_list_asked qs k || b) (or-false (lists_at k q) ∙ other) ∙ or-false (is_list_asked qs k))
-
-  module _ (f : FuncId) (asks : list_asked q ≡ Some f) (l : f.place < count) where
-    flag_of : (k : ℕ) → k < count → (k ≡ f.place) ⊎ (k ≢ f.place) → get_or (set flags f.place true) k false ≡ is_list_asked (qs ++ q ∷ []) k
-    flag_of k below (inl e) =
-        let same : lists_at k q ≡ true = ap (is_at k) asks ∙ eq-eqb f.place k (sym e) in
-        let within : f.place < length flags = omega (arith, h.counted, l) in
-        ap (λ (n : ℕ). get_or (set flags f.place true) n false) e ∙ get_or-set_same flags f.place true false within
-        ∙ sym (ends k ∙ ap (λ (b : Bool). is_list_asked qs k || b) (or-false (lists_at k q) ∙ same) ∙ or-true (is_list_asked qs k))
-    flag_of k below (inr n) =
-        get_or-set_other flags f.place k true false n ∙ unasked k below (ap (is_at k) asks ∙ ne_eqb f.place k (λ e. n (sym e)))
-
-    pub list_asked_more : AreFlags (is_list_asked (qs ++ q ∷ [])) count (set flags f.place true)
-    list_asked_more = record { counted = length-set flags f.place true ∙ h.counted; set = λ k below. flag_of k below (cases_eq k f.place) }
-
-  pub list_asked_same : list_asked q ≡ None → AreFlags (is_list_asked (qs ++ q ∷ [])) count flags
-  list_asked_same none = record { counted = h.counted; set = λ k below. unasked k below (ap (is_at k) none) }
 
 -- ---- what is asked
 

@@ -1,8 +1,5 @@
--- The lines of calls, and where a second part stands for none or a name of its calls is refused.
-use Rattle.std.proofs.Common.{◌≡◌, ◌≢◌, ◌∙◌, refl, sym, ap, subst, ℕ, ◌+◌, ◌<◌, List, [], ◌∷◌, ◌++◌, append-nil, Contains, get_or, length, map, take}
-use Rattle.std.proofs.lemmas.List.{map-append, take_more}
-use Rattle.std.proofs.lemmas.List.Folds.{concat-append}
-use Rattle.std.specs.List.{concat}
+-- Where a second part stands for none or a name of its calls is refused.
+use Rattle.std.proofs.Common.{◌≡◌, ◌≢◌, ◌∙◌, refl, sym, ap, subst, ℕ, List, [], Contains}
 use Rattle.swreq_lex.specs.declared.refusal.LexErr.{LexErr}
 use Rattle.swreq_lex.specs.declared.token.Token as lexed
 use Rattle.swreq_lex.specs.Refusals.{HasRefusalFrom}
@@ -17,42 +14,12 @@ use Rattle.swreq_resolve.specs.declared.refusal.Refusal.{Refusal}
 use Rattle.swreq_resolve.specs.Errors.{error_of}
 use Rattle.swreq_resolve.proofs.Order.{one_first}
 use Rattle.swreq_print.specs.declared.refusal.RefusalKind.{RefusalKind}
-use Rattle.swreq_print.specs.Names.{Text}
 use Rattle.swreq_world.specs.Worlds.{TextWorld}
-use Rattle.swreq_subst.specs.Calls.{TermCall}
-use Rattle.swreq_subst.specs.Lines.{AppendsLine, IsLineOf}
 use Rattle.swreq_subst.specs.Refusals.{RefusesCalls, refusals}
-use Rattle.swreq_reply.specs.CallLines.{AnswersCalls}
 use Rattle.swreq_reply.specs.Inputs.{Parts, second_at}
-use Rattle.swreq_reply.specs.Lines.{AreLines}
-use Rattle.swreq_reply.specs.Lines.AreLines.{none}
 use Rattle.swreq_reply.specs.Reports.{name_refusal, refusal_of}
 use Rattle.swreq_reply.specs.Verdict.{RefusesSecond}
 use Rattle.swreq_reply.specs.Verdict.RefusesSecond.{bad_name, no_calls}
-use Rattle.swreq_reply.proofs.Lines.{lines_end}
-
--- ---- lines
-
-module _ (w : TextWorld) where
-  pub no_call : AnswersCalls w [] []
-  no_call = ([], none, refl)
-
-  -- one call more
-  pub one_more : (cs all : List TermCall) (c : TermCall) (old new : Text) → AnswersCalls w cs old → AppendsLine w c old new → all ≡ cs ++ c ∷ []
-      → AnswersCalls w all new
-  one_more cs all c old new (pieces, are, is) (line, of_call, grown) every = (
-    pieces ++ line ∷ [],
-    subst (λ (ds : List TermCall). AreLines (IsLineOf w) ds (pieces ++ line ∷ [])) (sym every) (lines_end (IsLineOf w) are of_call),
-    grown ∙ ap (λ (t : Text). t ++ line) is ∙ sym (concat-append pieces (line ∷ []) ∙ ap (λ (t : Text). concat pieces ++ t) (append-nil line)),
-  )
-
--- with the call at the next place they are the calls up to and with it
-pub calls_next : {A B : Type 0} (f : A → B) (xs : List A) (k : ℕ) (x : A) → k < length xs → x ≡ get_or xs k x
-    → map f (take (k + 1) xs) ≡ map f (take k xs) ++ f x ∷ []
-calls_next f xs k x below at =
-    ap (map f) (take_more xs k x below ∙ ap (λ z. take k xs ++ z ∷ []) (sym at)) ∙ map-append f (take k xs) (x ∷ [])
-
--- ---- one refusal
 
 -- what the crates below say of every part of a text
 pub record IsOnePart (text : List ℕ) (from : ℕ) : Type 0 where

@@ -29,7 +29,7 @@ use Rattle.swreq_valid.specs.declared.refused.Refused.{Refused}
 use Rattle.swreq_valid.specs.declared.refused.Refused.TheVariants.{Memory}
 use Rattle.swreq_reply.specs.Machines.{SignaturesCome}
 use Rattle.swreq_reply.proofs.Checked.{each_comes}
-use Rattle.swreq_orders.proofs.Members.{first_member, later_member, no_member, only_member, member_cases}
+use Rattle.swreq_orders.proofs.Members.{each_member, first_member, later_member, no_member}
 use Rattle.swreq_derive.specs.Derivation.TermRequirement.{Equals}
 use Rattle.swreq_derive.specs.WellFormed.{HasValidSides, IsListWellFormed}
 use Rattle.swreq_valid.specs.Rounds.{AreRounds, last_rules}
@@ -43,15 +43,15 @@ module _ (terms : List Term) (w : IdWorld) (f : FuncId) (params : Params) (list 
   meant = signature_at (world_by terms w) f
 
   -- what holds of those that are read holds of those that are meant: of the parameters, and of the list without and with its places
-  pub as_meant : (P : Params → List TermRequirement → List PlacedRequirement → Type 0) → P params (listed terms (bare list)) (placed terms list)
-      → P meant.params (written_list meant) meant.requirements
+  pub as_meant : (P : Params → List TermRequirement → List PlacedRequirement → Type 0)
+      → P params (listed terms (bare list)) (placed terms list) → P meant.params (written_list meant) meant.requirements
   as_meant P h =
       subst (λ g. P g.params (written_list g) g.requirements) (sym (signature_is w terms f))
       (rw (← params_are, ← list_is) (subst (λ rs. P params rs (placed terms list)) (requirements_placed terms list) h))
 
   -- and the other way round
-  pub as_read : (P : Params → List TermRequirement → List PlacedRequirement → Type 0) → P meant.params (written_list meant) meant.requirements
-      → P params (listed terms (bare list)) (placed terms list)
+  pub as_read : (P : Params → List TermRequirement → List PlacedRequirement → Type 0)
+      → P meant.params (written_list meant) meant.requirements → P params (listed terms (bare list)) (placed terms list)
   as_read P h = as_meant (λ p rs qs. P p rs qs → P params (listed terms (bare list)) (placed terms list)) (λ k. k) h
 
   -- so what is built of the read ones is built of the signature
@@ -59,8 +59,8 @@ module _ (terms : List Term) (w : IdWorld) (f : FuncId) (params : Params) (list 
       → Builds limits (machine_plan terms w base params (bare list)) (facts_of (world_by terms w)) (list_sides terms params list) old new answer
       → Builds limits (list_of (world_by terms w) base meant.params (written_list meant)) (facts_of (world_by terms w))
       (sides (source_of meant) meant.requirements) old new answer
-  builds limits base old new answer = as_meant (λ p rs qs. Builds limits (list_of (world_by terms w) base p rs) (facts_of (world_by terms w))
-      (sides (WrittenList (generic_params p) rs) qs) old new answer)
+  builds limits base old new answer = as_meant (λ p rs qs. Builds limits (list_of (world_by terms w) base p rs)
+      (facts_of (world_by terms w)) (sides (WrittenList (generic_params p) rs) qs) old new answer)
 
   -- the list is of the table and of the text
   pub list_written : IsTextOver terms w → f.place < length w.signatures → AreWritten terms w.lexicon list
@@ -68,11 +68,13 @@ module _ (terms : List Term) (w : IdWorld) (f : FuncId) (params : Params) (list 
 
   -- built anew the list of a signature that has passed comes to rules again, or there is no memory
   pub only_memory : (limits : Limits) (base : List Rule) (told : List Event)
-      → SignaturesCome limits (world_by terms w) base (world_by terms w).signatures None told → f.place < length w.signatures → (e : Refused)
-      → IsOnlyBuilt limits (machine_plan terms w base params (bare list)) (facts_of (world_by terms w)) (list_sides terms params list) (Err e) → e ≡ Memory
+      → SignaturesCome limits (world_by terms w) base (world_by terms w).signatures None told → f.place < length w.signatures
+      → (e : Refused) → IsOnlyBuilt limits (machine_plan terms w base params (bare list)) (facts_of (world_by terms w))
+      (list_sides terms params list) (Err e) → e ≡ Memory
   only_memory limits base told come l e only =
       let within : f.place < length (world_by terms w).signatures = omega (arith, length-map w.signatures (signature_by terms), l) in
-      let (own, events, comes) = each_comes limits (world_by terms w) base come meant (Contains-get_or (world_by terms w).signatures f.place no_signature within) in
+      let has = Contains-get_or (world_by terms w).signatures f.place no_signature within in
+      let (own, events, comes) = each_comes limits (world_by terms w) base come meant has in
       let meant_so = as_meant (λ p rs qs. IsOnlyBuilt limits (list_of (world_by terms w) base p rs) (facts_of (world_by terms w))
       (sides (WrittenList (generic_params p) rs) qs) (Err e)) only in
       elim (meant_so (Ok own) events comes) [ inl same ↦ cc | inr (inl lost) ↦ cc | inr (inr lost) ↦ cc ]
@@ -81,12 +83,8 @@ module _ (terms : List Term) (w : IdWorld) (f : FuncId) (params : Params) (list 
 
 sides_hold : (f : TermFacts) (s : Source) (r : TermRequirement) (left right : ℕ) → HasValidSides f s r
     → HoldsOfEach (IsValidSide f) (sides_at s r left right)
-sides_hold f s (Equals t u) left right h x c =
-    elim (member_cases (record { source = s; term = t; at = left }) x (record { source = s; term = u; at = right } ∷ []) c) [
-      | inl e ↦ rw e h.0
-      | inr d ↦ rw (only_member (record { source = s; term = u; at = right }) x d) h.1
-    ]
-sides_hold f s r left right h x c = rw (only_member _ x c) h
+sides_hold f s (Equals t u) left right h = each_member (IsValidSide f) (sides_at s (Equals t u) left right) (h.0, (h.1, tt))
+sides_hold f s r left right h = each_member (IsValidSide f) (sides_at s r left right) (h, tt)
 
 pub formed_sides : (f : TermFacts) (s : Source) (rs : List PlacedRequirement)
     → ((r : TermRequirement) → Contains (map (λ (q : PlacedRequirement). q.requirement) rs) r → HasValidSides f s r) → HoldsOfEach (IsValidSide f) (sides s rs)
@@ -112,15 +110,18 @@ module _ (terms : List Term) (s : Setting) where
   pub is_at : (f : FuncId) (m : MachineView) → IsMachineFor terms s f m → IsMachineAt (world_in terms s) s f m
   is_at f m h = (h.formed, h.machine, h.params, h.rounds)
 
-  pub is_for : (f : FuncId) (m : MachineView) → f.place < length s.world.now.signatures → IsMachineAt (world_in terms s) s f m → IsMachineFor terms s f m
-  is_for f m l (formed, machine, params, rounds) = record { signature = l; formed = formed; machine = machine; params = params; rounds = rounds }
+  pub is_for : (f : FuncId) (m : MachineView) → f.place < length s.world.now.signatures → IsMachineAt (world_in terms s) s f m
+      → IsMachineFor terms s f m
+  is_for f m l (formed, machine, params, rounds) =
+      record { signature = l; formed = formed; machine = machine; params = params; rounds = rounds }
 
   -- the machine of a struct is that of a function that adds nothing to it
-  pub machine_inside : (outer f : FuncId) → AddsNothing s.world.now.signatures outer f → (m : MachineView) → f.place < length s.world.now.signatures
-      → IsMachineFor terms s outer m → IsMachineFor terms s f m
+  pub machine_inside : (outer f : FuncId) → AddsNothing s.world.now.signatures outer f → (m : MachineView)
+      → f.place < length s.world.now.signatures → IsMachineFor terms s outer m → IsMachineFor terms s f m
   machine_inside outer f adds m l h =
-      is_for f m l (as_meant terms s.world.now f _ _ (sym adds.params) (sym adds.requirements) (λ p rs qs. IsMachineBy (world_in terms s) s m p rs)
-      (as_read terms s.world.now outer _ _ refl refl (λ p rs qs. IsMachineBy (world_in terms s) s m p rs) (is_at outer m h)))
+      is_for f m l (as_meant terms s.world.now f _ _ (sym adds.params) (sym adds.requirements)
+      (λ p rs qs. IsMachineBy (world_in terms s) s m p rs) (as_read terms s.world.now outer _ _ refl refl
+      (λ p rs qs. IsMachineBy (world_in terms s) s m p rs) (is_at outer m h)))
 
   -- the rounds of the list of the signature
   abbrev pub own_plan : FuncId → Plan
@@ -128,5 +129,4 @@ module _ (terms : List Term) (s : Setting) where
       (written_list (signature_at (world_in terms s) f))
 
   pub own_rounds : (f : FuncId) (m : MachineView) → IsMachineFor terms s f m → AreRounds s.limits (own_plan f) m.rounds
-  own_rounds f m h = subst (λ p. AreRounds s.limits (list_of (world_in terms s) (last_rules s.protocols.now.rounds) p
-      (written_list (signature_at (world_in terms s) f))) m.rounds) h.params h.rounds
+  own_rounds f m h = rw (← h.params) h.rounds

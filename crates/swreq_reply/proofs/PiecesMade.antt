@@ -5,11 +5,7 @@ use Rattle.std.proofs.lemmas.List.{get_or_default, get_or-set_other, get_or-set_
 use Rattle.std.proofs.lemmas.Option.{none-some, same_Some}
 use Rattle.swreq_print.specs.Names.{Text}
 use Rattle.swreq_lowering.specs.declared.ids.FuncId.{FuncId}
-use Rattle.swreq_output.specs.Systems.{IsSystemText}
-use Rattle.swreq_world.specs.Worlds.{IdWorld, TextWorld, signature_at}
-use Rattle.swreq_reply.specs.declared.content.Content.TheVariants.{Systems}
-use Rattle.swreq_reply.specs.Made.{AreMade, AreMadeTo, IsPiece}
-use Rattle.swreq_reply.specs.Wanted.{count_of, maker}
+use Rattle.swreq_reply.specs.Made.{AreMade, AreMadeTo}
 
 module _ (Is : ℕ → Text → Type 0) (made_by : ℕ → Option FuncId) (count : ℕ) where
   -- nothing is made yet
@@ -95,20 +91,14 @@ module _ (Is : ℕ → Text → Type 0) (made_by : ℕ → Option FuncId) (count
           let found = h.here c.0 c.1 in
           (found.0, ap (λ (n : ℕ). get_or pieces n None) (sym at) ∙ found.1)
 
--- the reduced rewriting system of the next signature at its place
-pub system_made : (w : TextWorld) (ids : IdWorld) (f : FuncId) (pieces : List (Option Text)) → f.place < length ids.signatures
-    → AreMade (IsPiece w Systems) (maker ids Systems) (count_of ids Systems) f.place pieces
-    → (piece : Text) → IsSystemText w (signature_at w f) piece
-    → AreMade (IsPiece w Systems) (maker ids Systems) (count_of ids Systems) (f.place + 1) (set pieces f.place (Some piece))
-system_made w ids f pieces l h piece is =
-    next_signature (IsPiece w Systems) (maker ids Systems) (count_of ids Systems) f.place (set pieces f.place (Some piece))
-    (one_made (IsPiece w Systems) (maker ids Systems) (count_of ids Systems) f.place pieces h f.place l piece is) fills
-  where
-    fills : (k : ℕ) (g : FuncId) → k < length ids.signatures → (let o : Option FuncId = Some (record { place = k }) in o) ≡ Some g → g.place ≡ f.place
-        → (text : Text) × (get_or (set pieces f.place (Some piece)) k None ≡ Some text)
-    fills k g below by e =
-        let same : k ≡ f.place = ap (λ (x : FuncId). x.place) (same_Some (record { place = k }) g by) ∙ e in (
-          piece,
-          ap (λ (n : ℕ). get_or (set pieces f.place (Some piece)) n None) same
-              ∙ get_or-set_same pieces f.place (Some piece) None (omega (arith, h.counted, l)),
-        )
+  -- the one piece of the next signature
+  pub only_one : (signatures : ℕ) (pieces : List (Option Text)) → AreMade Is made_by count signatures pieces → (at : ℕ) → at < count → (piece : Text)
+      → Is at piece → ((k : ℕ) (f : FuncId) → k < count → made_by k ≡ Some f → f.place ≡ signatures → k ≡ at)
+      → AreMade Is made_by count (signatures + 1) (set pieces at (Some piece))
+  only_one signatures pieces h at l piece is only =
+      next_signature signatures (set pieces at (Some piece)) (one_made signatures pieces h at l piece is)
+      (λ k f below by e. (
+        piece,
+        ap (λ (n : ℕ). get_or (set pieces at (Some piece)) n None) (only k f below by e)
+            ∙ get_or-set_same pieces at (Some piece) None (omega (arith, h.counted, l)),
+      ))

@@ -62,15 +62,20 @@ module _ (made_by : ℕ → Option FuncId) (count : ℕ) where
     later : (f : FuncId) (k : ℕ) → (k < last) × (made_by k ≡ Some f) → (k < last + 1) × (made_by k ≡ Some f)
     later f k (l, e) = (omega (arith, l), e)
 
+    -- the places of a signature whose machine does not make the last piece
+    kept : (f : FuncId) (d : Group) (k : ℕ) → f.place < count → made_by last ≢ Some f
+        → Contains (get_or places f.place d).items k ↔ ((k < last + 1) × (made_by k ≡ Some f))
+    kept f d k below other = (
+      λ c. later f k ((h.each f d k below).0 c),
+      λ (l, e). elim (last_or_before k last l) [
+        | inl before ↦ (h.each f d k below).1 (before, e)
+        | inr is ↦ absurd (other (ap made_by (sym is) ∙ e))
+      ],
+    )
+
     -- the piece at the last place is made by no machine
     pub none_noted : made_by last ≡ None → ArePlaces made_by count (last + 1) places
-    none_noted none = record { counted = h.counted; each = λ f d k below. ((λ c. later f k ((h.each f d k below).0 c)), earlier f d k below) }
-      where
-        earlier : (f : FuncId) (d : Group) (k : ℕ) → f.place < count → (k < last + 1) × (made_by k ≡ Some f) → Contains (get_or places f.place d).items k
-        earlier f d k below (l, e) = elim (last_or_before k last l) [
-          | inl before ↦ (h.each f d k below).1 (before, e)
-          | inr is ↦ absurd (none-some f (sym none ∙ ap made_by (sym is) ∙ e))
-        ]
+    none_noted none = record { counted = h.counted; each = λ f d k below. kept f d k below (λ e. none-some f (sym none ∙ e)) }
 
     -- or by that of g
     module _ (g : FuncId) (makes : made_by last ≡ Some g) (l : g.place < count) (old more : Group) (old_is : old ≡ get_or places g.place old)
@@ -78,43 +83,28 @@ module _ (made_by : ℕ → Option FuncId) (count : ℕ) where
       abbrev new : List Group
       new = set places g.place more
 
-      own_to : (k : ℕ) → Contains more.items k → (k < last + 1) × (made_by k ≡ Some g)
-      own_to k c = elim (Contains-append_cases old.items (last ∷ []) k (subst (λ (xs : List ℕ). Contains xs k) pushed c)) [
-        | inl before ↦ later g k ((h.each g old k l).0 (subst (λ (group : Group). Contains group.items k) old_is before))
-        | inr is ↦ (omega (arith, only_member last k is), ap made_by (only_member last k is) ∙ makes)
-      ]
-
-      own_from : (k : ℕ) → (k < last + 1) × (made_by k ≡ Some g) → Contains more.items k
-      own_from k (m, e) = subst (λ (xs : List ℕ). Contains xs k) (sym pushed) (elim (last_or_before k last m) [
-        | inl before ↦ Contains-append_left old.items (last ∷ []) k
-            (subst (λ (group : Group). Contains group.items k) (sym old_is) ((h.each g old k l).1 (before, e)))
-        | inr is ↦ Contains-append_right old.items (last ∷ []) k (subst (Contains (last ∷ [])) (sym is) (first_member last []))
-      ])
-
-      own : (f : FuncId) (d : Group) (k : ℕ) → f.place ≡ g.place → Contains (get_or new f.place d).items k ↔ ((k < last + 1) × (made_by k ≡ Some f))
-      own f d k e =
-          let at : get_or new f.place d ≡ more = ap (λ (n : ℕ). get_or new n d) e ∙ get_or-set_same places g.place more d (omega (arith, h.counted, l)) in
-          let same : f ≡ g = same_signature f g e in (
-            (λ c. subst (λ (z : FuncId). (k < last + 1) × (made_by k ≡ Some z)) (sym same) (own_to k (subst (λ (group : Group). Contains group.items k) at c))),
-            (λ p. subst (λ (group : Group). Contains group.items k) (sym at) (own_from k (subst (λ (z : FuncId). (k < last + 1) × (made_by k ≡ Some z)) same p))),
-          )
-
-      other : (f : FuncId) (d : Group) (k : ℕ) → f.place < count → f.place ≢ g.place
-          → Contains (get_or new f.place d).items k ↔ ((k < last + 1) × (made_by k ≡ Some f))
-      other f d k below n =
-          let at : get_or new f.place d ≡ get_or places f.place d = get_or-set_other places g.place f.place more d n in (
-            (λ c. later f k ((h.each f d k below).0 (subst (λ (group : Group). Contains group.items k) at c))),
-            (λ p. subst (λ (group : Group). Contains group.items k) (sym at) (before p)),
-          )
-        where
-          before : (k < last + 1) × (made_by k ≡ Some f) → Contains (get_or places f.place d).items k
-          before (m, e) = elim (last_or_before k last m) [
-            | inl b ↦ (h.each f d k below).1 (b, e)
-            | inr is ↦ absurd (n (ap (λ (z : FuncId). z.place) (same_Some f g (sym e ∙ ap made_by is ∙ makes))))
-          ]
+      own : (k : ℕ) → Contains more.items k ↔ ((k < last + 1) × (made_by k ≡ Some g))
+      own k = (
+        λ c. elim (Contains-append_cases old.items (last ∷ []) k (subst (λ (xs : List ℕ). Contains xs k) pushed c)) [
+          | inl before ↦ later g k ((h.each g old k l).0 (subst (λ (group : Group). Contains group.items k) old_is before))
+          | inr is ↦ (omega (arith, only_member last k is), ap made_by (only_member last k is) ∙ makes)
+        ],
+        λ (m, e). subst (λ (xs : List ℕ). Contains xs k) (sym pushed) (elim (last_or_before k last m) [
+          | inl before ↦ Contains-append_left old.items (last ∷ []) k
+              (subst (λ (group : Group). Contains group.items k) (sym old_is) ((h.each g old k l).1 (before, e)))
+          | inr is ↦ Contains-append_right old.items (last ∷ []) k (subst (Contains (last ∷ [])) (sym is) (first_member last []))
+        ]),
+      )
 
       pub one_noted : ArePlaces made_by count (last + 1) new
-      one_noted = record {
-        counted = length-set places g.place more ∙ h.counted;
-        each = λ f d k below. elim (cases_eq f.place g.place) [ inl e ↦ own f d k e | inr n ↦ other f d k below n ];
-      }
+      one_noted = record { counted = length-set places g.place more ∙ h.counted; each = each }
+        where
+          each : (f : FuncId) (d : Group) (k : ℕ) → f.place < count → Contains (get_or new f.place d).items k ↔ ((k < last + 1) × (made_by k ≡ Some f))
+          each f d k below = elim (cases_eq f.place g.place) [
+            | inl e ↦ subst (λ (z : FuncId). Contains (get_or new z.place d).items k ↔ ((k < last + 1) × (made_by k ≡ Some z))) (sym (same_signature f g e))
+                (subst (λ (group : Group). Contains group.items k ↔ ((k < last + 1) × (made_by k ≡ Some g)))
+                (sym (get_or-set_same places g.place more d (omega (arith, h.counted, l)))) (own k))
+            | inr n ↦ subst (λ (group : Group). Contains group.items k ↔ ((k < last + 1) × (made_by k ≡ Some f)))
+                (sym (get_or-set_other places g.place f.place more d n))
+                (kept f d k below (λ e. n (ap (λ (z : FuncId). z.place) (same_Some f g (sym e ∙ makes)))))
+          ]

@@ -35,6 +35,7 @@ module _ (r : Run) where
   answered_with (printed bytes to_print taken same) zero = (bytes, taken, answer_of to_print zero)
   answered_with (cut_off status bytes to_print part failed is) zero = absurd (omega (arith, is, zero))
 
+  -- so what is printed with status 0 says each sentence of what is printed
   prints : IsEnd r → (Sentence : TextWorld → Content → Parts → List Text → Type 0) → Holds Sentence → Prints r Sentence
   prints end Sentence holds zero = taken_say Sentence holds r (answered_with end zero)
 

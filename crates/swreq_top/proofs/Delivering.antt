@@ -1,5 +1,5 @@
 -- What a run answers, and how it ends.
-use Rattle.std.proofs.Common.{◌≡◌, ◌≢◌, ◌⊎◌, ◌∙◌, ◌<◌, ◌≤◌, ℕ, List, [], ◌++◌, length, Option, Some, None, IfSome, Result, Ok, Err, refl, sym, ap, inl, inr, subst, arith, length-append, append-nil}
+use Rattle.std.proofs.Common.{◌≡◌, ◌⊎◌, ◌∙◌, ◌<◌, ◌≤◌, ℕ, List, [], ◌++◌, length, Option, Some, None, IfSome, Result, Ok, Err, refl, sym, ap, inl, inr, subst, arith, length-append, append-nil}
 use Rattle.std.proofs.lemmas.Option.{IfSome_then}
 use Rattle.std.specs.Io.KnownBytes.{Consumes, IsAtEnd}
 use Rattle.swreq_text.specs.Given.{GivesCount}
@@ -103,11 +103,6 @@ module _ (r : Run) where
   PrintsAnswer (Err Fault) = HasToPrint r 4 (refusal_line refusals.ReadFault)
   PrintsAnswer (Err Memory) = HasToPrint r 6 (refusal_line refusals.OutOfMemory)
 
-  -- no read has failed where the answer is none of a failed read
-  unfailed : {answer : Result Outcome ReadErr} → answer ≢ Err Fault → (answer ≡ Err Fault) ⊎ NoReadFailed r → NoReadFailed r
-  unfailed real (inl fault) = absurd (real fault)
-  unfailed real (inr same) = same
-
   module _ (line : CommandLine) (says : Says r.words line) where
     for_verdict : (o : Outcome) → Answers line r.before.left r.after.left r.before.told r.after.told (Ok o) → NoReadFailed r
         → HasToPrint r o.status o.output
@@ -120,8 +115,9 @@ module _ (r : Run) where
 
     pub to_print : (result : Result Outcome ReadErr) → Answers line r.before.left r.after.left r.before.told r.after.told result
         → (result ≡ Err Fault → ReadFailed r) → (result ≡ Err Fault) ⊎ NoReadFailed r → PrintsAnswer result
-    to_print (Ok o) answers failed unread = for_verdict o answers (unfailed (λ e. (cc)) unread)
-    to_print (Err TooLarge) (came, reads, grew) failed unread =
+    to_print (Err Fault) (reads, grew) failed unread = read_fault line says reads grew (failed refl)
+    to_print (Ok o) answers failed (inr unread) = for_verdict o answers unread
+    to_print (Err TooLarge) (came, reads, grew) failed (inr unread) =
         let o : Outcome = refused_with refusals.TooLarge in
         let long = read_long r.before.left r.after.left came in
         let said = reads_source line.command r.before.left r.after.left
@@ -129,14 +125,14 @@ module _ (r : Run) where
         (IfSome_then r.before.left long (λ all l. inr (l, came)))
         (IfSome_then r.before.left long
         (λ all l. (([], is_refused (too_long l refl refl), grew), λ p told refused. sym (long_refused line all l refused)))) in
-        for_verdict o (said.0, said.1, inr (inl refl)) (unfailed (λ e. (cc)) unread)
-    to_print (Err Fault) (reads, grew) failed unread = read_fault line says reads grew (failed refl)
-    to_print (Err Memory) told failed unread = no_memory (record {
+        for_verdict o (said.0, said.1, inr (inl refl)) unread
+    to_print (Err Memory) told failed (inr unread) = no_memory (record {
       part = λ other also.
           subst (λ (l : CommandLine). HoldsOfText r l (λ text. WasToldPart l text r.before.told r.after.told))
           (one_line r.words line other says also) told;
       untold = λ wrong. absurd (wrong line says);
-    }) (unfailed (λ e. (cc)) unread)
+    }) unread
+    to_print _ answers failed (inl fault) = absurd (cc)
 
   -- what there is to print was written, or a part of it
   pub ended : {status : ℕ} {bytes : Text} → HasToPrint r status bytes

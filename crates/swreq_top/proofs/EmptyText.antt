@@ -35,7 +35,6 @@ use Rattle.swreq_valid.specs.Machines.{protocols_of}
 use Rattle.swreq_words.specs.declared.command.Command.{Command}
 use Rattle.swreq_words.specs.declared.command.Command.TheVariants as command
 use Rattle.swreq_words.specs.declared.command.CommandLine.{CommandLine}
-use Rattle.swreq_words.specs.declared.command.Input.{Input}
 use Rattle.swreq_words.specs.declared.command.Input.TheVariants.{OnePart}
 use Rattle.swreq_words.specs.Commands.{input as reads}
 use Rattle.swreq_world.specs.WorldOf.{IsWorldOf}
@@ -55,7 +54,7 @@ use Rattle.swreq_reqsig.specs.Told.HasGone.{further, start}
 use Rattle.swreq_reply.specs.declared.content.Content.{Content}
 use Rattle.swreq_reply.specs.declared.content.Content.TheVariants.{Answers, Calls, Judgements, Signatures}
 use Rattle.swreq_reply.specs.Contents.{content_of}
-use Rattle.swreq_reply.specs.Inputs.{AreParts, HasParts, Parts}
+use Rattle.swreq_reply.specs.Inputs.{AreParts, Parts}
 use Rattle.swreq_reply.specs.Verdict.{HasNoWorld, HasWorld, IsCutShort, IsRefused, RefusesNames, limits_of}
 use Rattle.swreq_reply.specs.Verdict.IsRefused.{bad_calls, in_one_part, misfit, past_a_limit_of_families, too_long, unchecked, without_world}
 
@@ -87,7 +86,7 @@ no_token_refused : (at : ℕ) (kind : Option Kind) → RefusedFor [] at kind →
 no_token_refused at kind refused = not_both [] (one_list []) bare_skeleton at kind bare_stands refused
 
 no_name_refused : (e : NameErr) → RefusesNames [] e → ⊥
-no_name_refused e (within, (s, stands, refuses)) = of_bare (subst (λ (t : Skeleton). RefusesSkeleton [] t e) (only_bare s stands) refuses)
+no_name_refused e (within, (s, stands, refuses)) = of_bare (rw (only_bare s stands) at refuses)
   where
     of_bare : RefusesSkeleton [] bare_skeleton e → ⊥
     of_bare (inl (r, refuses, is)) = no_member r refuses.first.is
@@ -112,7 +111,7 @@ is_empty w has =
     }
   where
     world : IsWorldOf [] bare_skeleton w
-    world = subst (λ (s : Skeleton). IsWorldOf [] s w) (only_bare has.skeleton has.stands) has.world
+    world = rw (only_bare has.skeleton has.stands) at has.world
 
 -- ---- a completion of no equations over no rules bears no rule
 
@@ -164,27 +163,26 @@ prints_of_one _ r = (λ e. (cc), λ e. (cc))
 -- The command reads a text of one part, and the input has nothing.
 module _ (line : CommandLine) (one : reads line.command ≡ OnePart) where
   nothing_in : (p : Parts) → AreParts line.command [] p → p.source ≡ []
-  nothing_in p are = (subst (λ (how : Input). HasParts how p) one are.divided).0 ∙ are.whole
+  nothing_in p are = (rw one at are.divided).0 ∙ are.whole
 
   empty_world : (w : TextWorld) → HasWorld line [] w → w ≡ emptied w
-  empty_world w has = is_empty w (subst (λ (t : List ℕ). IsWorldOfText t w) (nothing_in has.parts has.are) has.of_text)
+  empty_world w has = is_empty w (rw (nothing_in has.parts has.are) at has.of_text)
 
   -- nothing refuses it, and in minimising no round passes a limit
   empty_unrefused : (o : Outcome) (told : List Event) → IsRefused line [] o told ⊎ IsCutShort line [] o told → ⊥
   empty_unrefused o told (inl (too_long long is untold)) = omega (arith, long)
   empty_unrefused o told (inl (in_one_part within two lacks is untold)) = cc
   empty_unrefused o told (inl (without_world p are refusal has is untold)) =
-      never_without_world refusal (subst (λ (t : List ℕ). HasNoWorld t refusal) (nothing_in p are) has)
+      never_without_world refusal (rw (nothing_in p are) at has)
   empty_unrefused o told (inl (unchecked w refused checks has checked is)) =
-      unrefused w (limits_of line) (subst (λ (z : TextWorld). IsChecked (limits_of line) z (Some refused) told) (empty_world w has) checked)
+      unrefused w (limits_of line) (rw (empty_world w has) at checked)
   empty_unrefused o told (inl (misfit w n judges has found is untold)) = (prints_of_one line.command one).0 judges
   empty_unrefused o told (inl (past_a_limit_of_families which trace c asked stops is)) =
       omega (arith, gone_within stops.gone, ap (λ (w : TextWorld). length (owned w)) (empty_world c.world c.has_world))
   empty_unrefused o told (inl (bad_calls refusal c asked refuses untold is)) = (prints_of_one line.command one).1 asked
   empty_unrefused o told (inr cut) =
       let c = cut.check in
-      none_minimised (content_of line.command) c.world cut.fails.g
-      (subst (λ (z : TextWorld). IsMinimisedFor (content_of line.command) z cut.fails.g) (empty_world c.world c.has_world) cut.fails.asked)
+      none_minimised (content_of line.command) c.world cut.fails.g (rw (empty_world c.world c.has_world) at cut.fails.asked)
 
 -- ---- runs over a source that has nothing left
 

@@ -45,7 +45,7 @@ use Rattle.swreq_reply.specs.declared.content.Content.TheVariants.{Answers, Call
 use Rattle.swreq_reply.specs.declared.content.Shown.TheVariants.{Counts, Each}
 use Rattle.swreq_reply.specs.Contents.{content_of}
 use Rattle.swreq_reply.specs.Inputs.{AreParts, Parts}
-use Rattle.swreq_reply.specs.Outputs.{AnswersByTypes, AnswersLast, ArePrinted, Backs, HasAnswer, IsLineOf, IsOutput, signature_of}
+use Rattle.swreq_reply.specs.Outputs.{AnswersByTypes, AnswersLast, ArePrinted, HasAnswer, IsLineOf, IsOutput, signature_of}
 use Rattle.swreq_top.specs.Run.{HasVerdict, Run, known_text}
 use Rattle.swreq_reply.specs.Verdict.{HasWorld, IsVerdict, limits_of}
 use Rattle.swreq_reply.specs.Verdict.IsVerdict.{answered as is_answered, cut_short as is_cut_short, judged as is_judged, refused as is_refused}
@@ -71,20 +71,17 @@ sides_of_asked f s (AsksAnyObject g t) = λ valid side is. rw is valid
 sides_of_asked f s _ = tt
 
 -- a query of a type parameter prints the least one
-least : (w : TextWorld) (b : Backing) (f : FuncId) (t : Term) (piece : Text) → AnswersByTypes w false b (AsksReduced f t) piece
-    → IsLeastWhereValid w (AsksReduced f t) piece
-least w b f t piece (Invalid, rest, (side, is, fails), backs, e) valid =
-    absurd (fails (subst (λ z. IsImplied w (AsksReduced f t) (IsValid z)) (sym is) valid))
-least w b f t piece (Reduced u, rest, (sides, (g, v, same, some)), backs, e) valid =
-    let is : v ≡ t = cc in (
+least_where_valid : (w : TextWorld) (b : Backing) (q : TermQuery) (piece : Text) → IsLineOf w false b q piece → IsLeastWhereValid w q piece
+least_where_valid w b (AsksReduced f t) piece (Invalid, rest, (side, is, fails), backs, e) =
+    λ valid. absurd (fails (subst (λ z. IsImplied w (AsksReduced f t) (IsValid z)) (sym is) valid))
+least_where_valid w b (AsksReduced f t) piece (Reduced u, rest, (sides, (g, v, same, some)), backs, e) =
+    let is : v ≡ t = cc in
+    λ valid. (
       u,
       subst (λ z. IsLeastEqual (IsImplied w (AsksReduced f t)) z u) is some,
       e ∙ ap (λ (z : Text). answer_line w.lexicon (Reduced u) ++ z) backs ∙ append-nil (answer_line w.lexicon (Reduced u)),
     )
-least w b f t piece (a, rest, is, backs, e) valid = absurd (none-some is.1.0 is.1.1)
-
-least_where_valid : (w : TextWorld) (b : Backing) (q : TermQuery) (piece : Text) → IsLineOf w false b q piece → IsLeastWhereValid w q piece
-least_where_valid w b (AsksReduced f t) piece line = least w b f t piece line
+least_where_valid w b (AsksReduced f t) piece (a, rest, is, backs, e) = absurd (none-some is.1.0 is.1.1)
 least_where_valid w b _ piece line = tt
 
 -- ---- lines at their places
@@ -169,10 +166,10 @@ module _ (w : TextWorld) (has : HasPassed w) where
       both r asks (a, rest, answers, backs, e) = (
         λ (behind, backed, is).
             let yes = only_yes q r asks a rest behind answers (sym e ∙ is) in
-            subst (λ (z : TermRequirement). IsImplied w q (Requires z)) (same_Some yes.1.0 r (sym yes.1.1 ∙ asks)) yes.1.2,
+            rw (same_Some yes.1.0 r (sym yes.1.1 ∙ asks)) at yes.1.2,
         λ h.
             let same : a ≡ Yes = one_answer (IsImplied w q) q a Yes answers (answers_yes q of (r, asks, h)) in
-            (rest, subst (λ (z : Answer). Backs w b q z rest) same backs, e ∙ ap (λ (z : Answer). answer_line w.lexicon z ++ rest) same),
+            (rest, rw same at backs, e ∙ ap (λ (z : Answer). answer_line w.lexicon z ++ rest) same),
       )
 
   -- and where paths are printed, a path stands behind it
@@ -190,8 +187,7 @@ module _ (w : TextWorld) (has : HasPassed w) where
   asked_signature : (f : FuncId) (g : SignatureOver PlacedRequirement) (line : Text) → Contains w.queries (AsksSignature f)
       → g ≡ signature_at w f → IsMinimisedLine w (signature_at w f) line → Contains w.signatures g × IsMinimisedLine w g line
   asked_signature f g line c is minimised =
-      subst (λ (z : SignatureOver PlacedRequirement). Contains w.signatures z × IsMinimisedLine w z line) (sym is)
-      (Contains-get_or w.signatures f.place no_signature (is_query (AsksSignature f) c), minimised)
+      rw is (Contains-get_or w.signatures f.place no_signature (is_query (AsksSignature f) c), minimised)
 
 -- ---- the sentences, of what is printed
 
@@ -231,14 +227,13 @@ listed w (Answers (Each b)) has p lines are k g line (f, asks, is, at) =
 listed w (Answers (Counts n)) has p lines are k g line (f, qs, split, is, second, at) =
     let passed = has (λ e. (cc)) in
     let same : are.last ≡ line = same_Some are.last line (sym (ap₂ slice_get are.pieces_are second) ∙ at) in
-    let ends = subst (λ (qs : List TermQuery). AnswersLast w false qs line) split (subst (AnswersLast w false w.queries) same are.ends) in
-    let member = subst (λ (qs : List TermQuery). Contains qs (AsksSignature f)) (sym split) (Contains-push qs (AsksSignature f)) in
+    let member : Contains w.queries (AsksSignature f) = rw split (Contains-push qs (AsksSignature f)) in
+    let ends = subst (λ (all : List TermQuery). AnswersLast w false all line) split (rw same at are.ends) in
     (passed, asked_signature w passed f g line member is (last_list w qs f line ends))
 listed w Signatures has p lines are k g line (at_g, at) =
     let named = line_at are k g (full_name w g ++ (codes ": " ++ line)) at_g at in
     let same = append_cancel_left (full_name w g) (codes ": " ++ line) (codes ": " ++ named.0) named.2 in
-    let minimised = subst (IsMinimisedLine w g) (sym (append_cancel_left (codes ": ") line named.0 same)) named.1 in
-    (has (λ e. (cc)), (get_contains w.signatures k g at_g, minimised))
+    (has (λ e. (cc)), (get_contains w.signatures k g at_g, rw (append_cancel_left (codes ": ") line named.0 same) named.1))
 listed w _ has p lines are k g line at = absurd at
 
 pub say_equal_lists : Holds SayEqualLists

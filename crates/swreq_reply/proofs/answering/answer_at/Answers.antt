@@ -1,4 +1,4 @@
-use Rattle.std.proofs.Common.{◌∙◌, List, ap, arith, get_or, length, refl}
+use Rattle.std.proofs.Common.{◌∙◌, List, ap, get_or, refl}
 use Rattle.std.proofs.lemmas.List.{get_or_default}
 use Rattle.swreq_lowering.specs.declared.ids.Query.{Query}
 use Rattle.swreq_lowering.specs.declared.ids.Query.TheVariants.{Signature}

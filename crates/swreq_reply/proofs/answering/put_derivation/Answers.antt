@@ -1,4 +1,4 @@
-use Rattle.std.proofs.Common.{◌≡◌, ◌∙◌, ◌++◌, refl, sym, ap, subst, Contains, List, Some, map}
+use Rattle.std.proofs.Common.{◌≡◌, ◌∙◌, refl, ap, subst, List, Some, map}
 use Rattle.std.proofs.lemmas.Result.{on_ok_weaker}
 use Rattle.swreq_param.specs.Terms.{Term}
 use Rattle.swreq_derive.specs.declared.requirements.Requirement.{Requirement}
@@ -68,8 +68,8 @@ returns-clause-backing c =
         record { signature = f; requirement = requirement_of old x },
         asked_so,
         map (line_of new) ls,
-        subst (λ v. judged.IsDerivationFrom v f (map (line_of new) ls)) (world_stays old new c.in_ok-lines.ensures.extends w c.requires.ready.text.table)
-            (derivation_from w f new ls (c.in_ok-lines.ensures.derived f x of)),
+        subst (λ v. judged.IsDerivationFrom v f (map (line_of new) ls))
+            (world_stays old new c.in_ok-lines.ensures.extends w c.requires.ready.text.table) (derivation_from w f new ls (c.in_ok-lines.ensures.derived f x of)),
         ends new ls front end split (Requires (requirement_of old x))
             (ap (statement_of new) states ∙ ap Requires (requirement_stays old new c.in_ok-lines.ensures.extends x ids.0)),
         refl,

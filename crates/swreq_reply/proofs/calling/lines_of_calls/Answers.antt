@@ -1,10 +1,10 @@
-use Rattle.std.proofs.Common.{◌≡◌, ◌∙◌, ◌<◌, ◌≤◌, arith, get_or, length, map, ap, sym, subst}
+use Rattle.std.proofs.Common.{◌∙◌, arith, map, ap, sym, subst}
 use Rattle.std.proofs.Math.ListN.{get_or-map}
 use Rattle.std.proofs.lemmas.List.{length-map}
 use Rattle.swreq_param.proofs.Growing.{onward, unchanged}
 use Rattle.swreq_symbols.proofs.Growing.{text_stays, world_stays}
 use Rattle.swreq_subst.specs.Calls.{IsCallIn, call_by}
-use Rattle.swreq_subst.specs.Lines.{AppendsLine, IsLineOf}
+use Rattle.swreq_subst.specs.Lines.{AppendsLine}
 use Rattle.swreq_subst.proofs.Staying.{call_stays, calls_in_stay}
 use Rattle.swreq_reply.specs.CallLines.{IsCallerOf}
 use Rattle.swreq_reply.specs.Checks.{HavePassed}
@@ -18,14 +18,13 @@ loop-k-init c = (
   c.requires.text,
   c.requires.passed,
   tt,
-  lines_none (IsLineOf (world_of c.args.table.now c.args.p.now)) (map (call_by c.args.table.now) c.args.calls.now) _ c.new-out.ensures.items,
+  lines_none _ (map (call_by c.args.table.now) c.args.calls.now) _ c.new-out.ensures.items,
 )
 
 pub call_text-requires-clause-call : goal.call_text-requires-clause-call
 call_text-requires-clause-call c =
-    subst (IsCallIn c.loop-k.table c.args.p.now.world.now) (sym c.index-calls-k.is)
-    (calls_in_stay c.args.table.now c.loop-k.table c.loop-k.invariant.0 c.args.p.now.world.now c.args.calls.now c.requires.calls c.loop-k.k
-    c.index-calls-k.result c.loop-k-test.true)
+    rw c.index-calls-k.is (calls_in_stay c.args.table.now c.loop-k.table c.loop-k.invariant.0 c.args.p.now.world.now c.args.calls.now
+    c.requires.calls c.loop-k.k c.index-calls-k.result c.loop-k-test.true)
 
 pub loop-k-preserved : goal.loop-k-preserved
 loop-k-preserved c =
@@ -38,8 +37,7 @@ loop-k-preserved c =
     let calls = map (call_by old) c.args.calls.now in
     let onwards = c.call_text.ensures.extends in
     let stays = sym (world_stays mid new onwards w text.table) in
-    let known : IsCallIn old w call =
-    subst (IsCallIn old w) (sym c.index-calls-k.is) (c.requires.calls c.loop-k.k c.index-calls-k.result c.loop-k-test.true) in
+    let known : IsCallIn old w call = rw c.index-calls-k.is (c.requires.calls c.loop-k.k call c.loop-k-test.true) in
     let at = call_stays old mid more w call known ∙ ap (call_by old) c.index-calls-k.is
     ∙ sym (get_or-map (call_by old) c.args.calls.now c.loop-k.k call) in
     let (line, is, grown) = subst (λ d. AppendsLine (world_of old c.args.p.now) d c.loop-k.out.items c.call_text.new.out.items) at
@@ -49,11 +47,10 @@ loop-k-preserved c =
       text_stays mid new onwards w text,
       record { passed = subst (λ v. HavePassed c.args.p.now.limits v (rules_of c.args.p.now)) stays passed.passed; limits = passed.limits },
       subst (λ v. IsCallerOf v c.in_ok-caller.caller) stays c.in_ok-caller.ensures.caller,
-      lines_next (IsLineOf (world_of old c.args.p.now)) calls c.loop-k.k (call_by old call) line c.loop-k.out.items c.call_text.new.out.items
-          (omega (arith, length-map c.args.calls.now (call_by old), c.loop-k-test.true)) lines is grown,
+      lines_next _ calls c.loop-k.k _ line _ _ (omega (arith, length-map c.args.calls.now (call_by old), c.loop-k-test.true)) lines is grown,
     )
 
 pub returns : goal.returns
 returns c =
-    lines_all (IsLineOf (world_of c.args.table.now c.args.p.now)) (map (call_by c.args.table.now) c.args.calls.now) c.loop-k.k c.loop-k.out.items
+    lines_all _ (map (call_by c.args.table.now) c.args.calls.now) c.loop-k.k _
     (omega (arith, length-map c.args.calls.now (call_by c.args.table.now), c.loop-k-test.false)) c.loop-k.invariant.4

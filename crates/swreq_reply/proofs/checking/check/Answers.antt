@@ -1,5 +1,4 @@
 use Rattle.std.proofs.Common.{◌∙◌, []}
-use Rattle.swreq_valid.specs.Rounds.{last_rules}
 use Rattle.swreq_valid.specs.declared.refused.Refused.TheVariants.{Memory}
 use Rattle.swreq_watch.proofs.Told.{grew_none}
 use Rattle.swreq_world.specs.ByTable.{world_by}
@@ -12,13 +11,13 @@ use Rattle.swreq_reply.proofs.checking.check.Goals as goal
 pub returns-in_err-protocols-clause-check : goal.returns-in_err-protocols-clause-check
 returns-in_err-protocols-clause-check g c =
     rw (err_is c.from_residual.result _ c.from_residual.ensures.1)
-    (protocols_failed c.args.asked.now.limits (world_by c.args.table.now c.args.world.now) _ _ c.in_err-protocols.field-0.0 c.in_err-protocols.ensures.answer)
+    (protocols_failed _ (world_by c.args.table.now c.args.world.now) _ _ c.in_err-protocols.field-0.0 c.in_err-protocols.ensures.answer)
 
 pub returns-in_err-pieces-clause-check : goal.returns-in_err-pieces-clause-check
 returns-in_err-pieces-clause-check g c =
     rw (err_is c.from_residual-in_err-pieces.result _ c.from_residual-in_err-pieces.ensures.1)
-    (then_failed c.args.asked.now.limits (world_by c.args.table.now c.args.world.now) _ _ _ (last_rules c.in_ok-protocols.protocols.rounds)
-    c.in_ok-protocols.ensures.answer Memory ([], nothing_yet, grew_none _))
+    (then_failed _ (world_by c.args.table.now c.args.world.now) _ _ _ _ c.in_ok-protocols.ensures.answer Memory
+    ([], nothing_yet, grew_none _))
 
 pub check_all-requires-clause-ready : goal.check_all-requires-clause-ready
 check_all-requires-clause-ready g c = record {
@@ -38,15 +37,15 @@ check_all-requires-clause-pieces g c =
 pub returns-in_err-check_all-clause-check : goal.returns-in_err-check_all-clause-check
 returns-in_err-check_all-clause-check g c =
     rw (err_is c.from_residual-in_err-check_all.result _ c.from_residual-in_err-check_all.ensures.1)
-    (then_failed c.args.asked.now.limits (world_by c.args.table.now c.args.world.now) _ _ _ (last_rules c.in_ok-protocols.protocols.rounds)
-    c.in_ok-protocols.ensures.answer _ c.in_err-check_all.ensures.check)
+    (then_failed _ (world_by c.args.table.now c.args.world.now) _ _ _ _ c.in_ok-protocols.ensures.answer _ c.in_err-check_all.ensures.check)
 
 pub returns-clause-check : goal.returns-clause-check
 returns-clause-check g c =
-    then_all c.args.asked.now.limits (world_by c.args.table.now c.args.world.now) _ _ _ (last_rules c.in_ok-protocols.protocols.rounds)
-    c.in_ok-protocols.ensures.answer tt c.in_ok-check_all.ensures.check
+    then_all _ (world_by c.args.table.now c.args.world.now) _ _ _ _ c.in_ok-protocols.ensures.answer tt c.in_ok-check_all.ensures.check
 
 pub returns-clause-checked : goal.returns-clause-checked
 returns-clause-checked g c =
-    let all = returns-clause-check g c in
-    record { passed = record { rules_are = c.in_ok-protocols.ensures.rules; told = all.0; built = all.1 }; pieces = c.in_ok-check_all.ensures.pieces }
+    let all = returns-clause-check g c in record {
+      passed = record { rules_are = c.in_ok-protocols.ensures.rules; told = all.0; built = all.1 };
+      pieces = c.in_ok-check_all.ensures.pieces;
+    }

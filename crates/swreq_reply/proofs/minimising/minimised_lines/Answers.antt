@@ -13,22 +13,16 @@ use Rattle.swreq_world.specs.Worlds.{TextWorld, signature_at}
 use Rattle.swreq_reply.specs.declared.content.Content.{Content}
 use Rattle.swreq_reply.specs.Checks.{HavePassed}
 use Rattle.swreq_reply.specs.Made.{AreLinesKept, IsLineKept}
-use Rattle.swreq_reply.specs.Told.{FailsAt, MinimisingAllFails, MinimisingAllTells, MinimisingEndsIn, TellsOne}
+use Rattle.swreq_reply.specs.Told.{FailsAt, MinimisingAllTells, MinimisingEndsIn, TellsOne}
 use Rattle.swreq_reply.specs.Told.MinimisingAllTells.{nothing, one_more}
-use Rattle.swreq_reply.specs.Listing.{rules_of, wants, world_of}
+use Rattle.swreq_reply.specs.Listing.{rules_of, wants}
 use Rattle.swreq_reply.proofs.Checked.{Tells, err_is, told_on}
 use Rattle.swreq_reply.proofs.minimising.minimised_lines.Goals as goal
 
 -- ---- what is told, and what is kept
 
--- where minimising fails behind such parts it ends so
-ends_in : (limits : Limits) (w : TextWorld) (wants : Content) (rules : List Rule) (failed : Failed) (told : List Event)
-    → MinimisingAllFails limits w wants rules failed told → MinimisingEndsIn limits w wants rules failed told
-ends_in limits w wants rules Memory told h = inr h
-ends_in limits w wants rules failed told h = h
-
-module _ (limits : Limits) (now w : TextWorld) (stays : now ≡ w) (wants : Content) (rules : List Rule) (f : FuncId) (old mid new : Option (List Event))
-    (before : Tells (MinimisingAllTells limits w wants rules) old mid) where
+module _ (limits : Limits) (now w : TextWorld) (stays : now ≡ w) (wants : Content) (rules : List Rule) (f : FuncId)
+    (old mid new : Option (List Event)) (before : Tells (MinimisingAllTells limits w wants rules) old mid) where
   -- one signature more, as the text stands by the table that has grown
   told_more : Tells (TellsOne limits now wants rules (signature_at now f)) mid new → Tells (MinimisingAllTells limits w wants rules) old new
   told_more one = told_on old mid new before (rw stays at one)
@@ -38,11 +32,16 @@ module _ (limits : Limits) (now w : TextWorld) (stays : now ≡ w) (wants : Cont
       ])
 
   -- or it fails there
+  fails_in : (failed : Failed) (a b : List Event) → MinimisingAllTells limits w wants rules a
+      → FailsAt limits w wants rules (signature_at w f) failed b → MinimisingEndsIn limits w wants rules failed (a ++ b)
+  fails_in Memory a b parts (asked, fails) =
+      inr (record { before = a; last = b; g = signature_at w f; parts = parts; asked = asked; fails = fails; told_is = refl })
+  fails_in failed a b parts (asked, fails) =
+      record { before = a; last = b; g = signature_at w f; parts = parts; asked = asked; fails = fails; told_is = refl }
+
   failed_at : (failed : Failed) → Tells (FailsAt limits now wants rules (signature_at now f) failed) mid new
       → Tells (MinimisingEndsIn limits w wants rules failed) old new
-  failed_at failed one = told_on old mid new before (rw stays at one)
-      (λ a b parts fails. ends_in limits w wants rules failed (a ++ b)
-      (record { before = a; last = b; g = signature_at w f; parts = parts; asked = fails.0; fails = fails.1; told_is = refl }))
+  failed_at failed one = told_on old mid new before (rw stays at one) (fails_in failed)
 
 -- one line more is kept
 kept_more : (w : TextWorld) (wants : ℕ → Bool) (lists : List (Option (List ℕ))) (k : ℕ) (entry : Option (List ℕ)) → length lists ≡ k
@@ -66,18 +65,16 @@ loop-k-init g c = (
 
 pub returns-in_err-entry-clause-failed : goal.returns-in_err-entry-clause-failed
 returns-in_err-entry-clause-failed g c =
-    let l = c.args.l.now in
-    let stays = world_stays c.args.table.now c.loop-k.table c.loop-k.invariant.0 l.world.now c.requires.text.table in
+    let stays = world_stays c.args.table.now c.loop-k.table c.loop-k.invariant.0 c.args.l.now.world.now c.requires.text.table in
     rw (err_is c.from_residual.result _ c.from_residual.ensures.1)
-    (failed_at l.limits _ _ stays l.content (rules_of l) (record { place = c.loop-k.k }) _ _ _ c.loop-k.invariant.3 c.in_err-entry.field-0.0
+    (failed_at _ _ _ stays _ _ (record { place = c.loop-k.k }) _ _ _ c.loop-k.invariant.3 c.in_err-entry.field-0.0
     c.in_err-entry.ensures.failed)
 
 pub returns-in_err-map_err-clause-failed : goal.returns-in_err-map_err-clause-failed
 returns-in_err-map_err-clause-failed g c =
-    let l = c.args.l.now in
     let lost : c.in_err-map_err.field-0.0 ≡ Memory = search rules in
-    let stays = world_stays c.args.table.now c.loop-k.table c.loop-k.invariant.0 l.world.now c.requires.text.table in
-    let told = told_more l.limits _ _ stays l.content (rules_of l) (record { place = c.loop-k.k }) _ _ _ c.loop-k.invariant.3 c.in_ok-entry.ensures.told in
+    let stays = world_stays c.args.table.now c.loop-k.table c.loop-k.invariant.0 c.args.l.now.world.now c.requires.text.table in
+    let told = told_more _ _ _ stays _ _ (record { place = c.loop-k.k }) _ _ _ c.loop-k.invariant.3 c.in_ok-entry.ensures.told in
     rw (err_is c.from_residual-in_err-map_err.result _ c.from_residual-in_err-map_err.ensures.1, lost) (told.0, inl told.1, told.2)
 
 pub loop-k-preserved : goal.loop-k-preserved
@@ -91,8 +88,8 @@ loop-k-preserved g c =
       onward c.args.table.now c.loop-k.table c.line_if_wanted.new.table more onwards,
       text_stays c.loop-k.table c.line_if_wanted.new.table onwards l.world.now text,
       record { passed = subst (λ w. HavePassed l.limits w (rules_of l)) now ready.passed; wanted = ready.wanted; limits = ready.limits },
-      told_more l.limits _ _ stays l.content (rules_of l) (record { place = c.loop-k.k }) _ _ _ told c.in_ok-entry.ensures.told,
-      rw longer (kept_more (world_of c.args.table.now l) (wants l) c.loop-k.all.items c.loop-k.k c.in_ok-entry.entry count kept
+      told_more _ _ _ stays _ _ (record { place = c.loop-k.k }) _ _ _ told c.in_ok-entry.ensures.told,
+      rw longer (kept_more _ _ _ _ _ count kept
           (subst (λ w. IsLineKept w (wants l) (record { place = c.loop-k.k }) c.in_ok-entry.entry) stays c.in_ok-entry.ensures.line)),
       omega (arith, ap length longer, length-append c.loop-k.all.items (c.in_ok-entry.entry ∷ []), count),
     )

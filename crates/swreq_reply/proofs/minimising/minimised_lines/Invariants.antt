@@ -10,5 +10,6 @@ use Rattle.swreq_reply.proofs.minimising.minimised_lines.Given as goal
 abbrev pub invariant-loop-k : goal.invariant-loop-k
 invariant-loop-k g l =
     Extends l.initial.table l.table × IsTextOver l.table l.l.world.now × AreReady l.table l.l
-    × Tells (MinimisingAllTells l.l.limits (world_of l.initial.table l.l) l.l.content (rules_of l.l)) (g.W.Watch.told l.initial.watch) (g.W.Watch.told l.watch)
+    × Tells (MinimisingAllTells l.l.limits (world_of l.initial.table l.l) l.l.content (rules_of l.l)) (g.W.Watch.told l.initial.watch)
+    (g.W.Watch.told l.watch)
     × AreLinesKept (world_of l.initial.table l.l) (wants l.l) l.all.items × (length l.all.items ≡ l.k)

@@ -1,4 +1,4 @@
-use Rattle.std.proofs.Common.{◌≡◌, ◌∙◌, ◌<◌, ◌++◌, List, ap, arith, length, sym, ℕ}
+use Rattle.std.proofs.Common.{◌≡◌, ◌∙◌, ◌<◌, ◌++◌, List, ap, arith, length, ℕ}
 use Rattle.std.proofs.lemmas.List.{length-map}
 use Rattle.swreq_output.specs.Systems.{IsSystemText}
 use Rattle.swreq_world.specs.ByTable.{signature_by}

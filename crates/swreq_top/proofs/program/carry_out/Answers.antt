@@ -5,9 +5,6 @@ use Rattle.swreq_top.specs.Run.HasToPrint.{no_memory, wrong_words}
 use Rattle.swreq_top.proofs.Delivering.{ended, gen_said, has_count, nothing_told, to_print}
 use Rattle.swreq_top.proofs.program.carry_out.Goals as goal
 
-pub answer-requires-clause-limits : goal.answer-requires-clause-limits
-answer-requires-clause-limits g c = c.numbers_are_in_range.ensures.limits _ c.in-Ok.line c.in-Ok.ensures.ok
-
 pub answer-requires-clause-count : goal.answer-requires-clause-count
 answer-requires-clause-count g c =
     has_count c.in-Ok.line.command (λ n is. c.numbers_are_in_range.ensures.count _ c.in-Ok.line n c.in-Ok.ensures.ok is)
