@@ -1,5 +1,5 @@
 -- What stands at the place of a query or of a signature is what is printed there.
-use Rattle.std.proofs.Common.{◌≡◌, ◌≢◌, ◌↔◌, ◌∙◌, refl, sym, ap, subst, ℕ, ◌<◌, arith, Bool, true, true≢false, List, [], ◌∷◌, ◌++◌, append-nil, append_assoc, get_or, length, Option, Some, None, slice_get, codes}
+use Rattle.std.proofs.Common.{◌≡◌, ◌≢◌, ◌↔◌, ◌∙◌, refl, sym, ap, subst, ℕ, ◌<◌, arith, Bool, true, true≢false, List, [], ◌++◌, append-nil, append_assoc, get_or, length, Option, Some, None, slice_get, codes}
 use Rattle.std.proofs.lemmas.List.{get_or-map, get_or_default, length-map}
 use Rattle.std.proofs.lemmas.List.Elements.{Contains-get_or}
 use Rattle.std.proofs.lemmas.Option.{none-some, same_Some, slice_get-get_or}

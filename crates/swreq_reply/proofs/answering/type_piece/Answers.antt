@@ -1,4 +1,4 @@
-use Rattle.std.proofs.Common.{◌≡◌, ◌∙◌, [], ◌++◌, List, ap, append-nil, subst, sym, true, ℕ}
+use Rattle.std.proofs.Common.{◌∙◌, [], ◌++◌, List, ap, append-nil, subst, sym, true, ℕ}
 use Rattle.swreq_lowering.specs.ByTable.{query_by}
 use Rattle.swreq_query.specs.Answers.{answer_line}
 use Rattle.swreq_reply.specs.Contents.{backing_of}

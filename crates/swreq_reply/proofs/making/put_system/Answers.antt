@@ -1,4 +1,4 @@
-use Rattle.std.proofs.Common.{◌≡◌, ◌∙◌, ◌++◌, ◌+◌, ◌<◌, List, Some, ap, set, subst, sym, ℕ}
+use Rattle.std.proofs.Common.{◌∙◌, ◌++◌, ◌+◌, List, Some, ap, set, subst, sym, ℕ}
 use Rattle.std.proofs.lemmas.Option.{same_Some}
 use Rattle.swreq_lowering.specs.declared.ids.FuncId.{FuncId}
 use Rattle.swreq_output.specs.Systems.{IsSystemText}

@@ -1,4 +1,4 @@
-use Rattle.std.proofs.Common.{◌≡◌, ◌+◌, ◌<◌, List, ap, arith, length, subst, sym, take, true}
+use Rattle.std.proofs.Common.{◌+◌, ◌<◌, List, ap, arith, length, subst, sym, take, true}
 use Rattle.std.proofs.lemmas.Bool.Decides.{not_from_Decides}
 use Rattle.std.proofs.lemmas.List.{length-map, take_all}
 use Rattle.swreq_lowering.specs.ByTable.{query_by}
