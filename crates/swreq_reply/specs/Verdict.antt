@@ -145,8 +145,8 @@ module _ (line : CommandLine) (input : Text) where
         → o ≡ refused_with refusal → told ≡ [] → IsRefused o told
     -- The check of its machines refuses it: a side of a requirement is no type parameter, or a round of the protocols or of a signature passes
     -- a limit.
-    unchecked : (w : TextWorld) (refused : Refused) → ChecksMachines line.command → HasWorld w
-        → machines.IsChecked (limits_of line) w (Some refused) told → o ≡ machine_outcome line w.lexicon refused → IsRefused o told
+    unchecked : (w : TextWorld) (cause : Refused) → ChecksMachines line.command → HasWorld w
+        → machines.IsChecked (limits_of line) w (Some cause) told → o ≡ machine_outcome line w.lexicon cause → IsRefused o told
     -- A line of the second part does not fit the queries.
     misfit : (w : TextWorld) (n : ℕ) → content_of line.command ≡ Judgements → (has : HasWorld w)
         → IsFirstMisfit w.lexicon (length w.queries) (lines has.parts.second) n → o ≡ refused_with (refusals.DerivationSyntax n) → told ≡ []
