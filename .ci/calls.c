@@ -1,4 +1,4 @@
-/* Calls genreq with a word over a text, the standard input: so often as the second word says, and with each of its allocations refused. Linked
+/* Calls genreq with words over a text, the standard input: so often as the second argument says, and with each of its allocations refused. Linked
  * with --wrap for malloc, realloc and free, so that the blocks that are not given back are counted. */
 #include "genreq.h"
 
@@ -33,25 +33,35 @@ void __wrap_free(void *block) {
     __real_free(block);
 }
 
-static uint8_t text[1 << 16], out[1 << 16], answered[1 << 16];
-static size_t length;
+static uint8_t words[64], text[1 << 16], out[1 << 16], answered[1 << 16];
+static size_t words_length, length;
 
-static struct genreq_answer call(const char *word) {
-    return genreq_run((const uint8_t *)word, strlen(word), text, length, out, sizeof out);
+/* The words that stand here with a space between two. */
+static int take_words(const char *spaced) {
+    words_length = strlen(spaced);
+    if (words_length > sizeof words)
+        return 0;
+    for (length = 0; length < words_length; length++)
+        words[length] = spaced[length] == ' ' ? 0 : (uint8_t)spaced[length];
+    return 1;
 }
 
-int main(int count, char **words) {
+static struct genreq_answer call(void) {
+    return genreq_run(words, words_length, text, length, out, sizeof out);
+}
+
+int main(int count, char **arguments) {
     static const char line[] = "error: out of memory\n";
     struct genreq_answer answer, whole;
     long k;
-    if (count != 3)
+    if (count != 3 || !take_words(arguments[1]))
         return 2;
     length = fread(text, 1, sizeof text, stdin);
     blocks = 0;
-    whole = call(words[1]);
+    whole = call();
     memcpy(answered, out, sizeof out);
-    for (k = 1; k < atol(words[2]); k++)
-        if (call(words[1]).status != GENREQ_ANSWERED)
+    for (k = 1; k < atol(arguments[2]); k++)
+        if (call().status != GENREQ_ANSWERED)
             return puts("a call is not answered"), 1;
     if (whole.status != GENREQ_ANSWERED)
         return puts("the first call is not answered"), 1;
@@ -60,7 +70,7 @@ int main(int count, char **words) {
     do {
         refused++;
         wanted = 0;
-        answer = call(words[1]);
+        answer = call();
         if (answer.status == GENREQ_NO_MEMORY && (answer.count != sizeof line - 1 || memcmp(out, line, answer.count)))
             return puts("without memory another line is printed"), 1;
         if (answer.status != GENREQ_NO_MEMORY
