@@ -2,9 +2,12 @@
 use std::alloc::Global;
 use std::process::Abort;
 use std::test::Fail;
+use swreq_reply::reply;
 use swreq_text::{MemSink, MemSource, Sink, Source};
 use swreq_top::run;
 use swreq_watch::{Quiet, Watch};
+use swreq_words::laws::numbers_are_in_range;
+use swreq_words::read;
 
 /// How a run meets the world: the words, with single spaces between them; the text, in pieces of 10, with the read that fails; and the
 /// sink, in pieces of 3, with its room and the write that fails.
@@ -85,4 +88,27 @@ pub(crate) fn runs(
     assert_eq!(rt; out.bytes(), taken, "after {}", setting.words);
     assert_eq!(rt; came.as_str(), status, "after {}", setting.words);
     Ok(())
+}
+
+/// The reply to this text is this status, as it is written, and this output.
+pub(crate) fn replies(
+    rt: &impl Abort,
+    alloc: Global,
+    setting: Setting<'_>,
+    status: &str,
+    output: &[u8],
+) -> Result<(), Fail> {
+    let words = words_of(alloc, setting.words)?;
+    numbers_are_in_range();
+    match read(alloc, &words) {
+        Ok(line) => {
+            let outcome = reply(alloc, &line, setting.text, &mut Quiet)?;
+            let given = outcome.status;
+            let given = format!(in alloc; "{given}")?;
+            assert_eq!(rt; outcome.output.items(), output, "after {}", setting.words);
+            assert_eq!(rt; given.as_str(), status, "after {}", setting.words);
+            Ok(())
+        }
+        Err(_) => Err("words that say no command".into()),
+    }
 }

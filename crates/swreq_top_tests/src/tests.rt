@@ -1,6 +1,6 @@
 //! Texts, and the words they are run with.
 use crate::evidence::EVIDENCE;
-use crate::running::{runs, undisturbed};
+use crate::running::{replies, runs, undisturbed};
 use crate::texts::{ANSWERS, ENDLESS, LIMITS, REFUSALS};
 use std::alloc::Global;
 use std::process::Abort;
@@ -15,13 +15,14 @@ pub(crate) fn row(written: &str) -> Option<(&str, &str, &str, &str)> {
     Some((words, text, status, output))
 }
 
-/// What a row says is given.
+/// What a row says is given, by a run and by a reply.
 fn gives(rt: &impl Abort, alloc: Global, written: &str) -> Result<(), Fail> {
     match row(written) {
         Some((words, text, status, output)) => {
             let text = with_collections(alloc, text)?;
             let setting = undisturbed(words, text.as_bytes());
-            runs(rt, alloc, setting, status, output.as_bytes())
+            runs(rt, alloc, setting, status, output.as_bytes())?;
+            replies(rt, alloc, setting, status, output.as_bytes())
         }
         None => Err("a row without words or a status".into()),
     }
