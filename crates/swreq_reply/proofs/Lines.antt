@@ -41,9 +41,6 @@ use Rattle.swreq_reply.specs.Settings.{IsMachineFor, world_in}
 
 -- ---- lines after lines
 
-pub concat_end : (ls : List Text) (l : Text) → concat (ls ++ l ∷ []) ≡ concat ls ++ l
-concat_end ls l = concat-append ls (l ∷ []) ∙ ap (λ (t : Text). concat ls ++ t) (append-nil l)
-
 module _ {A : Type 0} (P : A → Text → Type 0) where
   pub lines_end : {xs : List A} {ls : List Text} {x : A} {l : Text} → AreLines P xs ls → P x l → AreLines P (xs ++ x ∷ []) (ls ++ l ∷ [])
   lines_end none h = more h none
@@ -58,7 +55,7 @@ module _ {A : Type 0} (P : A → Text → Type 0) where
   lines_next xs k d line old new below (ls, are, is) of_it grown = (
     ls ++ line ∷ [],
     subst (λ (ys : List A). AreLines P ys (ls ++ line ∷ [])) (sym (take_more xs k d below)) (lines_end are of_it),
-    grown ∙ ap (λ (t : Text). t ++ line) is ∙ sym (concat_end ls line),
+    grown ∙ ap (λ (t : Text). t ++ line) is ∙ sym (concat-append ls (line ∷ []) ∙ ap (λ (t : Text). concat ls ++ t) (append-nil line)),
   )
 
   pub lines_all : (xs : List A) (k : ℕ) (text : Text) → length xs ≤ k → AreLinesIn P (take k xs) text → AreLinesIn P xs text

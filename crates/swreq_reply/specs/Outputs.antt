@@ -47,16 +47,18 @@ signature_of (AsksConforms f t p) = f
 signature_of (AsksAnyObject f t) = f
 signature_of (AsksEquals f t u) = f
 
+-- how much the generated text of n protocols has of what
+abbrev pub sizes_text : ℕ → Text
+sizes_text n = codes "protocols " ++ (decimal n ++ (codes "\nfunctions 1\nqueries " ++ (decimal (4 * n + 1) ++ codes "\n")))
+
 -- how many queries have each verdict
 abbrev pub verdicts_text : (yes_count no_count invalid_count : ℕ) → Text
 verdicts_text yes_count no_count invalid_count =
     codes "yes " ++ (decimal yes_count ++ (codes "\nno " ++ (decimal no_count ++ (codes "\ninvalid " ++ (decimal invalid_count ++ codes "\n")))))
 
--- and before that how much the generated text of n protocols has of what
+-- the one, and then the other
 abbrev pub counts_text : (n yes_count no_count invalid_count : ℕ) → Text
-counts_text n yes_count no_count invalid_count =
-    codes "protocols " ++ (decimal n ++ (codes "\nfunctions 1\nqueries " ++ (decimal (4 * n + 1) ++ (codes "\n"
-    ++ verdicts_text yes_count no_count invalid_count))))
+counts_text n yes_count no_count invalid_count = sizes_text n ++ verdicts_text yes_count no_count invalid_count
 
 module _ (w : TextWorld) where
   -- ---- what stands behind a yes

@@ -12,7 +12,7 @@ ghost use Rattle.swreq_reply.specs.declared.content.Shown.TheVariants.{Counts};
 ghost use Rattle.swreq_reply.specs.Contents.{AreAnswers, backing_of};
 ghost use Rattle.swreq_reply.specs.Inputs.{Parts};
 ghost use Rattle.swreq_reply.specs.Lines.{AreLinesIn, Counted};
-ghost use Rattle.swreq_reply.specs.Outputs.{AnswersLast, AreCounts, HasAnswer, IsLineOf, IsOutput, counts_text, verdicts_text};
+ghost use Rattle.swreq_reply.specs.Outputs.{AnswersLast, AreCounts, HasAnswer, IsLineOf, IsOutput, sizes_text, verdicts_text};
 ghost use Rattle.swreq_reply.specs.Pieces.{IsWhole, query_at, text_at, world_of};
 
 use crate::content::{Content, Shown};
@@ -120,6 +120,16 @@ fn put_count(word: &str, count: usize, out: &mut Vec<u8>) -> Result<(), AllocErr
     append_number(out, count as u64)
 }
 
+/// Appends how much the generated text of n protocols has of what.
+fn put_sizes(n: u32, out: &mut Vec<u8>) -> Result<(), AllocError>
+    ensures { OnOk result (out.new.items ≡ out.old.items ++ sizes_text n) }
+{
+    let protocols = n as usize;
+    put_count("protocols ", protocols, out)?;
+    put_count("\nfunctions 1\nqueries ", 4 * protocols + 1, out)?;
+    append_bytes(out, b"\n")
+}
+
 /// Appends these counts of verdicts.
 fn put_verdicts(
     yes_count: usize,
@@ -135,24 +145,6 @@ fn put_verdicts(
     append_bytes(out, b"\n")
 }
 
-/// Appends how much the generated text of n protocols has of what, and these counts of verdicts.
-fn put_counts(
-    n: u32,
-    yes_count: usize,
-    no_count: usize,
-    invalid_count: usize,
-    out: &mut Vec<u8>,
-) -> Result<(), AllocError>
-    ensures { OnOk result (out.new.items ≡ out.old.items ++ counts_text n yes_count no_count invalid_count) }
-{
-    append_bytes(out, b"protocols ")?;
-    append_number(out, u64::from(n))?;
-    append_bytes(out, b"\nfunctions 1\nqueries ")?;
-    append_number(out, 4 * u64::from(n) + 1)?;
-    append_bytes(out, b"\n")?;
-    put_verdicts(yes_count, no_count, invalid_count, out)
-}
-
 /// The counts of the verdicts on the queries of the generated text of n protocols, and the last answer.
 fn counts(m: &MadePieces<'_>, n: u32) -> Result<Vec<u8>, AllocError>
     requires counts { m.now.content ≡ Answers (Counts n) }
@@ -163,7 +155,8 @@ fn counts(m: &MadePieces<'_>, n: u32) -> Result<Vec<u8>, AllocError>
     let yes_count = count_of(m, Verdict::Yes);
     let no_count = count_of(m, Verdict::No);
     let invalid_count = count_of(m, Verdict::Invalid);
-    put_counts(n, yes_count, no_count, invalid_count, &mut out)?;
+    put_sizes(n, &mut out)?;
+    put_verdicts(yes_count, no_count, invalid_count, &mut out)?;
     append_bytes(&mut out, last_answer(m))?;
     Ok(out)
 }

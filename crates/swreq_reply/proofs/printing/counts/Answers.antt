@@ -1,12 +1,13 @@
 use Rattle.std.proofs.Common.{◌∙◌, ◌++◌, ◌∷◌, [], List, ap, append-nil, refl, sym, ℕ}
-use Rattle.swreq_reply.specs.Outputs.{counts_text}
+use Rattle.swreq_reply.specs.Outputs.{sizes_text, verdicts_text}
 use Rattle.swreq_reply.proofs.printing.counts.Goals as goal
 
 pub returns : goal.returns
 returns c =
-    let text = counts_text c.args.n c.count_of-yes_count.result c.count_of-no_count.result c.count_of-invalid_count.result in
+    let sizes = sizes_text c.args.n in
+    let verdicts = verdicts_text c.count_of-yes_count.result c.count_of-no_count.result c.count_of-invalid_count.result in
     let last = c.last_answer.result.now in (
-      text ∷ last ∷ [],
+      (sizes ++ verdicts) ∷ last ∷ [],
       record {
         yes_count = c.count_of-yes_count.result;
         no_count = c.count_of-no_count.result;
@@ -18,6 +19,7 @@ returns c =
         ends = c.last_answer.ensures;
         pieces_are = refl;
       },
-      c.in_ok-append_bytes.ensures.ok ∙ ap (λ (t : List ℕ). t ++ last) (c.in_ok-put_counts.ensures ∙ ap (λ (t : List ℕ). t ++ text) c.new-out.ensures.items)
-          ∙ ap (λ (t : List ℕ). text ++ t) (sym (append-nil last)),
+      c.in_ok-append_bytes.ensures.ok ∙ ap (λ (t : List ℕ). t ++ last) (c.in_ok-put_verdicts.ensures
+          ∙ ap (λ (t : List ℕ). t ++ verdicts) (c.in_ok-put_sizes.ensures ∙ ap (λ (t : List ℕ). t ++ sizes) c.new-out.ensures.items))
+          ∙ ap (λ (t : List ℕ). (sizes ++ verdicts) ++ t) (sym (append-nil last)),
     )
