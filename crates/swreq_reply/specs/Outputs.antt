@@ -56,7 +56,7 @@ abbrev pub verdicts_text : (yes_count no_count invalid_count : ℕ) → Text
 verdicts_text yes_count no_count invalid_count =
     codes "yes " ++ (decimal yes_count ++ (codes "\nno " ++ (decimal no_count ++ (codes "\ninvalid " ++ (decimal invalid_count ++ codes "\n")))))
 
--- the one, and then the other
+-- the sizes of the generated text, and after them the verdicts on its queries
 abbrev pub counts_text : (n yes_count no_count invalid_count : ℕ) → Text
 counts_text n yes_count no_count invalid_count = sizes_text n ++ verdicts_text yes_count no_count invalid_count
 
