@@ -247,9 +247,9 @@ module _ (m : Symbols) (f : TermFacts) (ps : List ParamId) (list : List TermRequ
             let rx : CanReadAll m f L x s = read_behind m f ps list text.symbols x P cj.1 self s rs1 in
             let al : Shorter (Requires (Equals (read_on m x e) r))
             = reads_as m f ps list size x r x e lead b (omega arith) (by_one f ps (IsShorter f ps list size) (valid_by_shorter f ps list size x bx (omega arith)) (λ rs v. reflex v)) in
-            let t0 : read_on m x whole ≡ Member (read_on m x e) (Name (name_of m k)) = read_on-push m x e (MemberSymbol k) in
+            let read_whole : read_on m x whole ≡ Member (read_on m x e) (Name (name_of m k)) = read_on-push m x e (MemberSymbol k) in
             let s1 : Shorter (Requires (Equals v (read_on m x whole)))
-            = subst (λ y. Shorter (Requires (Equals v y))) (sym t0)
+            = subst (λ y. Shorter (Requires (Equals v y))) (sym read_whole)
             (by_two f ps (IsShorter f ps list size) (conformance m f ps list size r i.proto b i.conforms (omega arith)) al
             (λ rs h y. trans (assoc_bind h i.declares) (symm (same_name h y i.declares)))) in
             let s2 : Shorter (Requires (Equals (read_on m x whole) (read_on m x s)))
