@@ -28,13 +28,13 @@ trans-requires-clause-second c =
     let g1 = c.in_ok-first.ensures.grows in
     let g2 = c.in_ok-last.ensures.grows in
     let g3 = c.in_ok-link.ensures.grows in
-    let t0 = term_at s0.table d.t in
-    let t1 = term_at s1.table d.t in
-    let t2 = term_at s2.table d.t in
-    let first = read_still d c.args.left t0 s1 s3 (grows_then s1 s2 s3 g2 g3) c.in_ok-first.first c.in_ok-first.ensures.read in
-    let last = read_still d c.args.right t1 s2 s3 g3 c.in_ok-last.last c.in_ok-last.ensures.read in
-    let same_1 : t1 ≡ t0 = term_still s0 s1 g1 d.t c.requires.ready.t in
-    let same_2 : t2 ≡ t1 = term_still s1 s2 g2 d.t (is_still s0 s1 g1 d.t c.requires.ready.t) in (
+    let term_0 = term_at s0.table d.t in
+    let term_1 = term_at s1.table d.t in
+    let term_2 = term_at s2.table d.t in
+    let first = read_still d c.args.left term_0 s1 s3 (grows_then s1 s2 s3 g2 g3) c.in_ok-first.first c.in_ok-first.ensures.read in
+    let last = read_still d c.args.right term_1 s2 s3 g3 c.in_ok-last.last c.in_ok-last.ensures.read in
+    let same_1 : term_1 ≡ term_0 = term_still s0 s1 g1 d.t c.requires.ready.t in
+    let same_2 : term_2 ≡ term_1 = term_still s1 s2 g2 d.t (is_still s0 s1 g1 d.t c.requires.ready.t) in (
       last.word_of,
       first.word_of,
       equal_as s3 _ _ _ _ (last.word ∙ ap (λ z. read g z v) (sym same_2)) (first.word ∙ ap (λ z. read g z u) (sym (same_2 ∙ same_1)))
@@ -91,12 +91,12 @@ returns c =
     let g2 = c.in_ok-last.ensures.grows in
     let g6 = c.in_ok-trans-2.ensures.grows in
     let g25 = grows_then s2 s4 s5 (grows_then s2 s3 s4 c.in_ok-link.ensures.grows c.in_ok-trans.ensures.grows) c.in_ok-symm.ensures.grows in
-    let t0 = term_at s0.table d.t in
-    let t1 = term_at s1.table d.t in
-    let first = read_still d c.args.left t0 s1 s5 (grows_then s1 s2 s5 g2 g25) c.in_ok-first.first c.in_ok-first.ensures.read in
-    let last = read_still d c.args.right t1 s2 s5 g25 c.in_ok-last.last c.in_ok-last.ensures.read in
-    let first_now = read_still d c.args.left t0 s5 s6 g6 c.in_ok-first.first first in
-    let last_now = read_still d c.args.right t1 s5 s6 g6 c.in_ok-last.last last in
+    let term_0 = term_at s0.table d.t in
+    let term_1 = term_at s1.table d.t in
+    let first = read_still d c.args.left term_0 s1 s5 (grows_then s1 s2 s5 g2 g25) c.in_ok-first.first c.in_ok-first.ensures.read in
+    let last = read_still d c.args.right term_1 s2 s5 g25 c.in_ok-last.last c.in_ok-last.ensures.read in
+    let first_now = read_still d c.args.left term_0 s5 s6 g6 c.in_ok-first.first first in
+    let last_now = read_still d c.args.right term_1 s5 s6 g6 c.in_ok-last.last last in
     record {
       ids = (first_now.itself_of, last_now.itself_of);
       first = first_now.itself;

@@ -450,10 +450,10 @@ from_pair-settle-requires t c =
     let right = c.in_ok-left.right.items in
     let here = subst (λ z. IsPair z place left right) c.all_rules-rules.ensures c.in_ok-left.ensures in
     let same = one_pair rules place p.born.left p.born.right left right p.born.pair here in
-    let t3 = term_at s3.table c.args.t in
-    let both = both_as g s4 t3 (term_at s4.table c.args.t) _ _ _ _
+    let term_3 = term_at s3.table c.args.t in
+    let both = both_as g s4 term_3 (term_at s4.table c.args.t) _ _ _ _
     (sym (term_still s3 s4 g4 c.args.t (is_still s s3 g03 c.args.t c.requires.t))) (sym c.deref.ensures.value) (sym c.deref-2.ensures.value)
-    (both_of_kind g s4 t3 first second place.at left right (kind_of c.requires.rule p left right here) c.in_ok-meet.ensures.overlap
+    (both_of_kind g s4 term_3 first second place.at left right (kind_of c.requires.rule p left right here) c.in_ok-meet.ensures.overlap
     c.in_ok-meet.ensures.containment) in
     let reduces = subst (λ z. ReducesTo rules c.args.at.rule z c.deref-2.result.now c.args.rule.now) (same.0 ∙ sym c.deref.ensures.value)
     (subst (λ z. ReducesTo rules c.args.at.rule p.born.left z c.args.rule.now) (same.1 ∙ sym c.deref-2.ensures.value) p.born.reduces) in
