@@ -81,7 +81,7 @@ def main(folder: pathlib.Path) -> int:
     faults = [fault for fault in map(fault_of, runs) if fault]
     for fault in faults:
         print("worked: %s" % fault, file=sys.stderr)
-    print("worked texts: %d runs, %d failed" % (len(runs), len(faults)))
+    print("%d passed, %d failed" % (len(runs) - len(faults), len(faults)))
     return 1 if faults else 0
 
 
