@@ -1,5 +1,6 @@
 """The command `slips`."""
 import argparse
+import os
 import shutil
 import signal
 import sys
@@ -7,9 +8,10 @@ from collections import Counter
 from pathlib import Path
 from typing import List, Optional, Sequence, Tuple
 
+from .applying import apply
 from .copying import copy_with_slips
 from .house import HouseFault, Slip, chosen, slips_of
-from .trials import Verdict, tried
+from .trials import ToolchainMissing, Verdict, need_toolchain, tried
 
 TOP = Path(__file__).resolve().parent.parent.parent
 FAILED, STOPPED = 2, 130
@@ -23,7 +25,7 @@ EPILOG = """The status is 0 if and only if each slip is refused, and 2 where not
 
 def words_of(words: Optional[Sequence[str]]) -> argparse.Namespace:
     parser = argparse.ArgumentParser(prog="slips", description=DESCRIPTION, epilog=EPILOG)
-    parser.add_argument("--list", action="store_true", help="prints the slips by CRATE/NAME and tries none")
+    parser.add_argument("--list", action="store_true", help="prints the slips by CRATE/NAME, fails at one that cannot be applied, and tries none")
     parser.add_argument("crates", nargs="*", metavar="CRATE", help="a crate whose slips are tried; where none is named, those of all crates")
     return parser.parse_args(words)
 
@@ -36,8 +38,7 @@ def counted(counts: "Counter[Verdict]") -> str:
 
 def try_all(slips: Sequence[Tuple[Slip, ...]]) -> int:
     """Tries slips, prints a line for each and the counts, and returns the status."""
-    if not shutil.which("rt"):
-        raise HouseFault("rt, the command of the Rattle toolchain, is not on the path")
+    need_toolchain()
     counts: "Counter[Verdict]" = Counter()
     with copy_with_slips(TOP) as copy:
         for trial in tried(copy, slips):
@@ -53,6 +54,7 @@ def run(given: argparse.Namespace) -> int:
         return try_all(slips)
     for of_crate in slips:
         for slip in of_crate:
+            apply(slip, TOP)
             print(slip)
     return 0
 
@@ -62,8 +64,14 @@ def main(words: Optional[List[str]] = None) -> int:
     signal.signal(signal.SIGTERM, lambda *_: sys.exit(128 + signal.SIGTERM))
     given = words_of(words)
     try:
-        return run(given)
-    except (HouseFault, OSError, shutil.Error) as fault:
+        status = run(given)
+        sys.stdout.flush()
+        return status
+    except BrokenPipeError:
+        # Who reads the lines has enough of them. What is left of them goes nowhere.
+        os.dup2(os.open(os.devnull, os.O_WRONLY), sys.stdout.fileno())
+        return FAILED
+    except (HouseFault, ToolchainMissing, OSError, shutil.Error) as fault:
         print("slips: %s" % fault, file=sys.stderr)
         return FAILED
     except KeyboardInterrupt:

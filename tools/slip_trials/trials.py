@@ -1,5 +1,6 @@
 """Tries the slips that stand in a copy of the repository, by `rt must-fail`, and reads what it says of each."""
 import os
+import shutil
 import subprocess
 from dataclasses import dataclass
 from enum import Enum
@@ -7,6 +8,10 @@ from pathlib import Path
 from typing import Iterator, List, Sequence, Tuple
 
 from .house import EDIT, Slip
+
+
+class ToolchainMissing(Exception):
+    """There is no `rt`, so nothing can be tried."""
 
 
 class Verdict(Enum):
@@ -67,6 +72,12 @@ def batches(slips: Sequence[Tuple[Slip, ...]], least: int) -> Iterator[List[Tupl
             batch = []
     if batch:
         yield batch
+
+
+def need_toolchain() -> None:
+    """Raises ToolchainMissing where `rt` is not on the path."""
+    if not shutil.which("rt"):
+        raise ToolchainMissing("rt, the command of the Rattle toolchain, is not on the path")
 
 
 def tried(copy: Path, slips: Sequence[Tuple[Slip, ...]]) -> Iterator[Trial]:

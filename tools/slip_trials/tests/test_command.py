@@ -19,6 +19,7 @@ class Command(unittest.TestCase):
         for name in ("wrong", "worse"):
             self.slip(name)
         self.tools.mkdir()
+        self.source("right")
         for changed in (mock.patch.object(command, "TOP", self.top), mock.patch.dict(os.environ, PATH="%s:/usr/bin:/bin" % self.tools)):
             changed.start()
             self.addCleanup(changed.stop)
@@ -26,7 +27,11 @@ class Command(unittest.TestCase):
     def slip(self, name: str) -> None:
         folder = self.top / "crates/low/slips"
         folder.mkdir(parents=True, exist_ok=True)
-        (folder / (name + ".edit")).write_text("")
+        (folder / (name + ".edit")).write_text("file: src/lib.rt\nold: right\nnew: %s\n" % name)
+
+    def source(self, text: str) -> None:
+        (self.top / "crates/low/src").mkdir(exist_ok=True)
+        (self.top / "crates/low/src/lib.rt").write_text(text)
 
     def toolchain(self, script: str) -> None:
         rt = self.tools / "rt"
@@ -51,6 +56,10 @@ class Command(unittest.TestCase):
 
     def test_names_alone(self) -> None:
         self.assertEqual(self.runs("--list"), (0, "low/worse\nlow/wrong\n", ""))
+
+    def test_the_names_end_at_a_slip_that_cannot_be_applied(self) -> None:
+        self.source("changed")
+        self.assertEqual(self.runs("--list"), (2, "", "slips: slip low/worse: `right` stands 0 times in src/lib.rt, and not once\n"))
 
     def test_no_toolchain(self) -> None:
         with mock.patch.dict(os.environ, PATH=str(self.tools)):
