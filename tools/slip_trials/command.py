@@ -44,7 +44,7 @@ def try_all(slips: Sequence[Tuple[Slip, ...]]) -> int:
         for trial in tried(copy, slips):
             counts[trial.verdict] += 1
             print("%-11s  %s%s" % (trial.verdict.value, trial.slip, ": " + trial.reason if trial.reason else ""), flush=True)
-    print(counted(counts))
+        print(counted(counts), flush=True)
     return 0 if set(counts) == {Verdict.REFUSED} else 1
 
 
