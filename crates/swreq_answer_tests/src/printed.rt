@@ -16,7 +16,7 @@ use swreq_print::{
     trace_text, type_text,
 };
 use swreq_rule::{Birth, Rule};
-use swreq_sample_rules::{N, N_NEXT, NEXT, Sides, T as TAU, rule};
+use swreq_samples::{N, N_NEXT, NEXT, Sides, T as TAU, rule};
 use swreq_samples::lexicon_of;
 use swreq_word::Symbol;
 
