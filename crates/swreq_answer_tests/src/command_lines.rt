@@ -16,7 +16,10 @@ fn said(alloc: Global, text: &str) -> Result<String, AllocError> {
             let command = line.command;
             format!(in alloc;
                 "{command:?} {:?} {} {} {:?}",
-                command.input(), line.max_rules, line.max_length, line.trace
+                command.input(),
+                line.max_rules,
+                line.max_length,
+                line.trace
             )
         }
         Err(refusal) => format!(in alloc; "{refusal}"),
