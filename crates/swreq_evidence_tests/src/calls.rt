@@ -31,7 +31,7 @@ fn backwards(alloc: Global, count: usize) -> Result<CallDecl, AllocError> {
 }
 
 /// What is refused of it, over a world.
-fn refused(
+fn refused_over(
     alloc: Global,
     world: &World,
     table: &mut ParamTable,
@@ -39,23 +39,31 @@ fn refused(
 ) -> Result<String, Fail>
     requires { HaveIds world.now }
 {
-    let calls = vec![in alloc; backwards(alloc, count)?]?;
+    let mut calls = Vec::new(alloc);
+    calls.push(backwards(alloc, count)?)?;
     match resolve_calls(alloc, world, table, b"V f k", &calls) {
         Ok(_) => Err("no refusal".into()),
         Err(refusal) => Ok(format!(in alloc; "{refusal}")?),
     }
 }
 
-#[test]
-fn types_of_an_unknown_caller_are_counted_and_not_looked_at(rt: HostRuntime) -> Result<(), Fail> {
-    let alloc = rt.alloc();
-    let text = b"func f<T>()";
+/// What is refused of it.
+fn refused(alloc: Global, count: usize) -> Result<String, Fail> {
+    let text = "func f<T>()".as_bytes();
+    if text.len() > 1_048_576 {
+        return Err("a text that is too long".into());
+    }
     let mut table = ParamTable::new(alloc);
     let skeleton = skeleton_of(alloc, text)?;
     let world = world_over(alloc, text, &skeleton, &mut table)?;
-    let of_one = refused(alloc, &world, &mut table, 1)?;
+    refused_over(alloc, &world, &mut table, count)
+}
+
+#[test]
+fn types_of_an_unknown_caller_are_counted_and_not_looked_at(rt: HostRuntime) -> Result<(), Fail> {
+    let of_one = refused(rt.alloc(), 1)?;
     assert_eq!(rt; of_one.as_str(), "unknown signature at 4");
-    let of_two = refused(alloc, &world, &mut table, 2)?;
+    let of_two = refused(rt.alloc(), 2)?;
     assert_eq!(rt; of_two.as_str(), "wrong number of arguments at 2");
     Ok(())
 }

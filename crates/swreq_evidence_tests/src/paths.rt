@@ -13,7 +13,7 @@ ghost use Rattle.swreq_world.specs.Short.{IsShort};
 ghost use Rattle.swreq_confpath.specs.Searches.{IsMachineFor};
 
 use crate::worlds::{machine_of, protocols_of, world_over};
-use std::alloc::Global;
+use std::alloc::{AllocError, Global};
 use std::test::Fail;
 use swreq_confpath::{ConfPath, shortest};
 use swreq_lowering::Query;
@@ -22,7 +22,16 @@ use swreq_samples::skeleton_of;
 use swreq_valid::{Machine, Protocols, Scratch};
 use swreq_world::{FuncId, World};
 
-/// The path that is given for a conformance.
+/// The numbers of a path, with blanks between them.
+fn numbers_of(alloc: Global, path: &ConfPath) -> Result<String, AllocError> {
+    let mut numbers = format!(in alloc; "{}", path.first)?;
+    for step in path.steps.items() {
+        numbers.push_str(&format!(in alloc; " {step}")?)?;
+    }
+    Ok(numbers)
+}
+
+/// The numbers of the path that is given for a conformance.
 fn given(
     alloc: Global,
     world: &World,
@@ -31,7 +40,7 @@ fn given(
     f: FuncId,
     t: TermId,
     p: ProtoId,
-) -> Result<ConfPath, Fail>
+) -> Result<String, Fail>
     requires text { IsTextOver table.now world.now }
     requires short { IsShort world.now }
     requires machine { IsMachineFor table.now world.now f m.now }
@@ -43,20 +52,21 @@ fn given(
     }
     let mut s = Scratch::with_room(alloc, 4 * (members + 2))?;
     if !m.conforms(world, table, t, p, &mut s) {
-        return Err("no conformance".into());
+        return Ok("no".to_string(alloc)?);
     }
     let path = shortest(alloc, world, table, m, f, t, p)?;
-    Ok(path)
+    let numbers = numbers_of(alloc, &path)?;
+    Ok(numbers)
 }
 
-/// The path that is given for the conformance that a query asks.
+/// The numbers of the path that is given for the conformance that a query asks.
 fn given_to(
     alloc: Global,
     world: &World,
     table: &ParamTable,
     protocols: &Protocols,
     query: Query,
-) -> Result<ConfPath, Fail>
+) -> Result<String, Fail>
     requires text { IsTextOver table.now world.now }
     requires short { IsShort world.now }
     requires formed { AreProtocolsWellFormed (facts_of (world_by table.now world.now)) }
@@ -72,34 +82,52 @@ fn given_to(
     }
 }
 
-/// The numbers of the paths that are given for the queries of a world, each path on a line.
-fn numbers_over(alloc: Global, world: &World, table: &ParamTable) -> Result<String, Fail>
+/// The numbers for all queries, each path on a line.
+fn given_to_all(
+    alloc: Global,
+    world: &World,
+    table: &ParamTable,
+    protocols: &Protocols,
+) -> Result<String, Fail>
     requires text { IsTextOver table.now world.now }
     requires short { IsShort world.now }
+    requires formed { AreProtocolsWellFormed (facts_of (world_by table.now world.now)) }
+    requires rules { AreRulesOf (world_by table.now world.now) (last_rules protocols.now.rounds) }
 {
-    let protocols = protocols_of(alloc, world, table)?;
     let mut lines = String::new(alloc);
     let queries = world.queries();
     for k in 0..queries.len() {
-        let path = given_to(alloc, world, table, &protocols, queries[k])?;
-        lines.push_str(&format!(in alloc; "{} {:?}\n", path.first, path.steps.items())?)?;
+        let query = queries[k];
+        let line = given_to(alloc, world, table, protocols, query)?;
+        lines.push_str(&line)?;
+        lines.push_str("\n")?;
     }
     Ok(lines)
 }
 
-/// The numbers of the paths that are given for the queries of a text, each path on a line.
-fn numbers_in(alloc: Global, text: &[u8]) -> Result<String, Fail> {
-    if text.len() > 1_048_576 {
+/// The numbers for the queries of a world.
+fn given_over(alloc: Global, world: &World, table: &ParamTable) -> Result<String, Fail>
+    requires text { IsTextOver table.now world.now }
+    requires short { IsShort world.now }
+{
+    let protocols = protocols_of(alloc, world, table)?;
+    given_to_all(alloc, world, table, &protocols)
+}
+
+/// The numbers for the queries of a text.
+fn given_in(alloc: Global, text: &str) -> Result<String, Fail> {
+    let bytes = text.as_bytes();
+    if bytes.len() > 1_048_576 {
         return Err("a text that is too long".into());
     }
     let mut table = ParamTable::new(alloc);
-    let skeleton = skeleton_of(alloc, text)?;
-    let world = world_over(alloc, text, &skeleton, &mut table)?;
-    numbers_over(alloc, &world, &table)
+    let skeleton = skeleton_of(alloc, bytes)?;
+    let world = world_over(alloc, bytes, &skeleton, &mut table)?;
+    given_over(alloc, &world, &table)
 }
 
 /// Conformances of a list and of protocols, with other requirements before and between them.
-const TEXT: &[u8] = b"\
+const TEXT: &str = "\
 protocol Base { }
 protocol L: Base { }
 protocol R: Base { }
@@ -113,7 +141,7 @@ query f(U.A.A : Base)
 /// What is no conformance counts too.
 #[test]
 fn paths_have_numbers_from_one(rt: HostRuntime) -> Result<(), Fail> {
-    let numbers = numbers_in(rt.alloc(), TEXT)?;
-    assert_eq!(rt; numbers.as_str(), "2 [2]\n4 []\n2 [5, 5, 2, 1]\n");
+    let found = given_in(rt.alloc(), TEXT)?;
+    assert_eq!(rt; found.as_str(), "2 2\n4\n2 5 5 2 1\n");
     Ok(())
 }

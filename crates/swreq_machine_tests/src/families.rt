@@ -5,7 +5,7 @@ ghost use Rattle.swreq_symbols.specs.Known.{IsTextOver};
 ghost use Rattle.swreq_symbols.specs.Meaning.{facts_of};
 ghost use Rattle.swreq_world.specs.ByTable.{world_by};
 
-use crate::worlds::{LIMITS, why_not, world_of};
+use crate::worlds::{LIMITS, limits_of, why_not, world_of};
 use std::alloc::Global;
 use std::test::Fail;
 use swreq_complete::Limits;
@@ -52,19 +52,25 @@ fn lines_of_world(
     }
 }
 
+/// The same of a text, where a completion may have so many rules.
+fn lines_within(alloc: Global, text: &[u8], max_rules: u32) -> Result<Vec<u8>, Fail> {
+    let limits = limits_of(max_rules)?;
+    let mut table = ParamTable::new(alloc);
+    let world = world_of(alloc, text, &mut table)?;
+    lines_of_world(alloc, &world, &table, limits)
+}
+
+const TEXT: &[u8] = b"protocol N { associatedtype Next: N }";
+
 /// A family is met without its last requirement, so that less rules are borne by it than by the whole.
 #[test]
 fn families_keep_their_own_limit(rt: HostRuntime) -> Result<(), Fail> {
-    let alloc = rt.alloc();
-    let mut table = ParamTable::new(alloc);
-    let world = world_of(alloc, b"protocol N { associatedtype Next: N }", &mut table)?;
-    for (max_rules, wanted) in [(3, "N: <Self where Self.Next : N>\n"), (2, "limit")] {
-        let limits = Limits {
-            max_rules,
-            max_length: 64,
-        };
-        let lines = lines_of_world(alloc, &world, &table, limits)?;
-        assert_eq!(&rt; lines.as_slice(), wanted.as_bytes());
-    }
+    let kept = lines_within(rt.alloc(), TEXT, 3)?;
+    assert_eq!(&rt;
+        kept.as_slice(),
+        b"N: <Self where Self.Next : N>\n".as_slice()
+    );
+    let passed = lines_within(rt.alloc(), TEXT, 2)?;
+    assert_eq!(&rt; passed.as_slice(), b"limit".as_slice());
     Ok(())
 }

@@ -6,10 +6,11 @@ ghost use Rattle.swreq_world.specs.ByTable.{world_by};
 ghost use Rattle.swreq_valid.specs.Machines.{AreRulesOf};
 ghost use Rattle.swreq_valid.specs.Rounds.{last_rules};
 
-use crate::worlds::{LIMITS, why_not, world_of};
+use crate::worlds::{LIMITS, limits_of, why_not, world_of};
 use std::alloc::Global;
 use std::test::Fail;
-use swreq_complete::Limits;
+use swreq_complete::{Failed, Limits};
+use swreq_derive::Requirement;
 use swreq_minimal::minimise;
 use swreq_param::ParamTable;
 use swreq_valid::{Machine, Protocols, Refused};
@@ -41,75 +42,103 @@ fn machine_of<'b>(
     )
 }
 
-/// How many requirements minimising keeps of the list of the first signature and how many events it tells, or why it fails.
+/// How many requirements minimising keeps, or why it fails.
+fn told(alloc: Global, kept: Result<Vec<Requirement>, Failed>) -> Result<String, Fail> {
+    match kept {
+        Ok(list) => Ok(format!(in alloc; "{}", list.len())?),
+        Err(failed) => Ok(why_not(&failed).to_string(alloc)?),
+    }
+}
+
+/// How many requirements minimising keeps of the list of the first signature, or why it fails.
 fn kept_of(
     alloc: Global,
     world: &World,
     table: &mut ParamTable,
     protocols: &Protocols,
     limits: Limits,
+    watch: &mut Recorder,
 ) -> Result<String, Fail>
     requires text { IsTextOver table.old world.now }
     requires protocols { AreRulesOf (world_by table.old world.now) (last_rules protocols.now.rounds) }
     requires some { 0 < length world.now.signatures }
     requires limits { AreInRange limits }
 {
-    let mut recorder = Recorder::new(alloc);
-    match machine_of(alloc, world, table, protocols, FuncId { place: 0 }) {
-        Ok(m) => match minimise(alloc, world, table, protocols, &m, limits, &mut recorder) {
-            Ok(list) => Ok(format!(in alloc; "{} {}", list.len(), recorder.events().len())?),
-            Err(failed) => Ok(why_not(&failed).to_string(alloc)?),
-        },
+    let f = FuncId { place: 0 };
+    match machine_of(alloc, world, table, protocols, f) {
+        Ok(machine) => {
+            let kept = minimise(alloc, world, table, protocols, &machine, limits, watch);
+            told(alloc, kept)
+        }
         Err(_) => Err("no machine".into()),
     }
 }
 
-/// The same of a text, where minimising may have so many rules.
-fn kept_within(alloc: Global, text: &[u8], max_rules: u32) -> Result<String, Fail> {
-    let mut table = ParamTable::new(alloc);
-    let world = world_of(alloc, text, &mut table)?;
-    if world.functions() == 0 || max_rules == 0 || max_rules > 100_000 {
-        return Err("no signature, or a limit out of range".into());
+/// The same of a world.
+fn kept_of_first(
+    alloc: Global,
+    world: &World,
+    table: &mut ParamTable,
+    limits: Limits,
+    watch: &mut Recorder,
+) -> Result<String, Fail>
+    requires text { IsTextOver table.old world.now }
+    requires limits { AreInRange limits }
+{
+    if world.functions() == 0 {
+        return Err("no signature".into());
     }
-    let limits = Limits {
-        max_rules,
-        max_length: 64,
-    };
-    match Protocols::build(alloc, &world, &table, LIMITS, &mut Quiet) {
-        Ok(protocols) => kept_of(alloc, &world, &mut table, &protocols, limits),
+    match Protocols::build(alloc, world, table, LIMITS, &mut Quiet) {
+        Ok(protocols) => kept_of(alloc, world, table, &protocols, limits, watch),
         Err(_) => Err("no rules".into()),
     }
 }
 
-const ONE: &[u8] = b"protocol N { associatedtype Next: N } func f<T: N>()";
+/// The same of a text, where minimising may have so many rules.
+fn kept_within(
+    alloc: Global,
+    text: &str,
+    max_rules: u32,
+    watch: &mut Recorder,
+) -> Result<String, Fail> {
+    let limits = limits_of(max_rules)?;
+    let mut table = ParamTable::new(alloc);
+    let world = world_of(alloc, text.as_bytes(), &mut table)?;
+    kept_of_first(alloc, &world, &mut table, limits, watch)
+}
 
-const TWO: &[u8] = b"protocol N { associatedtype Next: N } func f<T: N, U: N>()";
+const ONE: &str = "protocol N { associatedtype Next: N } func f<T: N>()";
+
+const TWO: &str = "protocol N { associatedtype Next: N } func f<T: N, U: N>()";
 
 /// A text with a conformance that a same-type and a declaration imply.
-const IMPLIED: &[u8] = b"\
+const IMPLIED: &str = "\
 protocol Q { }
 protocol P { associatedtype A: Q }
 func f<T: P, U: Q>() where T.A == U
 ";
 
-/// Texts, each with the limit of rules that minimising has, and what comes of it. Of each list that it meets the rules grow from those of
-/// another one, so no list is completed from its begin, and nothing is told.
+/// Texts, each with the limit of rules that minimising has, and what comes of it.
 ///
 /// The rules of `T : P` and `U : Q` are eight: five of the protocols, two of `T : P`, and one of `U : Q`. Those of `T : P` and `T.A == U` are
 /// nine, so a completion of them passes this limit, but a loop shows that `U : Q` follows from them.
-const TEXTS: &[(&[u8], u32, &str)] = &[
-    (ONE, 5, "1 0"),
-    (TWO, 7, "2 0"),
+const TEXTS: &[(&str, u32, &str)] = &[
+    (ONE, 5, "1"),
+    (TWO, 7, "2"),
     (TWO, 6, "limit"),
-    (IMPLIED, 4000, "2 0"),
-    (IMPLIED, 8, "2 0"),
+    (IMPLIED, 8, "2"),
 ];
 
+/// Of each list that minimising meets the rules grow from those of another one. So no list is completed from its begin, and nothing is told.
 #[test]
 fn minimising_keeps_its_own_limit_and_spares_completions(rt: HostRuntime) -> Result<(), Fail> {
     for (text, max_rules, wanted) in TEXTS {
-        let found = kept_within(rt.alloc(), text, *max_rules)?;
+        let mut recorder = Recorder::new(rt.alloc());
+        let found = kept_within(rt.alloc(), text, *max_rules, &mut recorder)?;
         assert_eq!(&rt; found.as_str(), *wanted, "within {max_rules}");
     }
+    let mut recorder = Recorder::new(rt.alloc());
+    kept_within(rt.alloc(), IMPLIED, 4000, &mut recorder)?;
+    assert_eq!(&rt; recorder.events().len(), 0);
     Ok(())
 }

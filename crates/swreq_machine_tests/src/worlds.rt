@@ -1,5 +1,6 @@
 //! The worlds of texts, and the limits of completions.
 ghost use Rattle.std.specs.Prelude.{◌≤◌, length, IfOk};
+ghost use Rattle.swreq_complete.specs.Limits.{AreInRange};
 ghost use Rattle.swreq_decl.specs.Skeletons.{StandsFor};
 ghost use Rattle.swreq_symbols.specs.Known.{IsTextOver};
 
@@ -18,6 +19,20 @@ pub(crate) const LIMITS: Limits = Limits {
     max_rules: 4000,
     max_length: 64,
 };
+
+/// The limits with so many rules.
+pub(crate) fn limits_of(max_rules: u32) -> Result<Limits, Fail>
+    ensures { IfOk result AreInRange }
+{
+    if 1 <= max_rules && max_rules <= 100_000 {
+        Ok(Limits {
+            max_rules,
+            max_length: 64,
+        })
+    } else {
+        Err("a limit out of range".into())
+    }
+}
 
 /// Why a completion failed.
 pub(crate) fn why_not(failed: &Failed) -> &'static str {

@@ -1,6 +1,6 @@
 use Rattle.swreq_lowering.specs.declared.ids.Query.TheVariants.{Signature}
 use Rattle.swreq_evidence_tests.proofs.Signatures.{query_at}
-use Rattle.swreq_evidence_tests.proofs.paths.numbers_over.Goals as goal
+use Rattle.swreq_evidence_tests.proofs.paths.given_to_all.Goals as goal
 
 pub given_to-requires-clause-query : goal.given_to-requires-clause-query
 given_to-requires-clause-query c =
