@@ -36,6 +36,10 @@ class Malformed(Exception):
     """A file of rows is not in the form that is said above."""
 
 
+class TooLong(Exception):
+    """A run takes more than SECONDS."""
+
+
 def runs_of_rows(name: str, content: str) -> Iterator[Run]:
     """The runs of a file of rows."""
     first, *rows = re.split(r"^==== (.*)\n", content, flags=re.M)
@@ -68,8 +72,11 @@ def bytes_of(text: str) -> bytes:
 
 
 def printed_by(words: List[str], text: bytes) -> Tuple[int, str]:
-    """The status of the program, and what it prints."""
-    done = subprocess.run([str(PROGRAM), *words], input=text, stdout=subprocess.PIPE, timeout=SECONDS, check=False)
+    """The status of the program, and what it prints. TooLong where it does not end in time."""
+    try:
+        done = subprocess.run([str(PROGRAM), *words], input=text, stdout=subprocess.PIPE, timeout=SECONDS, check=False)
+    except subprocess.TimeoutExpired as late:
+        raise TooLong("genreq %s takes more than %d seconds" % (shlex.join(words), SECONDS)) from late
     return done.returncode, done.stdout.decode("utf-8", "replace")
 
 
@@ -104,10 +111,10 @@ def main(folder: pathlib.Path) -> int:
     files = sorted(path for path in folder.iterdir() if path.suffix in readers)
     try:
         runs = [run for path in files for run in readers[path.suffix](path.name, path.read_text(encoding="utf-8"))]
-    except Malformed as fault:
+        faults = [fault for fault in map(fault_of, runs) if fault]
+    except (Malformed, TooLong) as fault:
         print("worked: %s" % fault, file=sys.stderr)
         return 1
-    faults = [fault for fault in map(fault_of, runs) if fault]
     for fault in faults:
         print("worked: %s" % fault, file=sys.stderr)
     print("worked texts: %d runs, %d failed" % (len(runs), len(faults)))
