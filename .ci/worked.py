@@ -2,15 +2,19 @@
 
 A file tests/NAME.rows has rows. A row begins with a line `==== NAME`, then stands its text, and after it, for each run, a line `---- WORDS: STATUS` and
 what is to be printed. The newline before such a line is no part of a text, so a text ends where its last line does; of what is printed it is one.
+The words are split as a shell does, so `''` is the empty word. In a text `\\xHH` is the byte with this number in small hexadecimal digits.
+
+A text that `answer` is to answer with status 0 is explained too, and its derivations are verified.
 
 A file tests/NAME.lines has a row in each line, `WANTED | TEXT`: `answer` refuses the text with the line `error: WANTED` and status 1, or, where `ok` is
 wanted, refuses nothing."""
 import pathlib
 import re
+import shlex
 import subprocess
 import sys
 from dataclasses import dataclass
-from typing import Iterator, List, Optional
+from typing import Iterator, List, Optional, Tuple
 
 HERE = pathlib.Path(__file__).resolve().parent.parent
 PROGRAM = HERE / "genreq"
@@ -32,6 +36,10 @@ class Malformed(Exception):
     """A file of rows is not in the form that is said above."""
 
 
+class TooLong(Exception):
+    """A run takes more than SECONDS."""
+
+
 def runs_of_rows(name: str, content: str) -> Iterator[Run]:
     """The runs of a file of rows."""
     first, *rows = re.split(r"^==== (.*)\n", content, flags=re.M)
@@ -42,7 +50,7 @@ def runs_of_rows(name: str, content: str) -> Iterator[Run]:
         if not parts:
             raise Malformed("%s: %s: no line ---- WORDS: STATUS" % (name, title))
         for words, status, wanted in zip(parts[::3], parts[1::3], parts[2::3]):
-            yield Run("%s: %s" % (name, title), words.split(), text[:-1], int(status), wanted)
+            yield Run("%s: %s" % (name, title), shlex.split(words), text[:-1], int(status), wanted)
 
 
 def runs_of_lines(name: str, content: str) -> Iterator[Run]:
@@ -58,16 +66,44 @@ def runs_of_lines(name: str, content: str) -> Iterator[Run]:
             yield Run(place, ["answer"], text, 1, "error: %s\n" % wanted)
 
 
+def bytes_of(text: str) -> bytes:
+    """The bytes of a text that is written with `\\xHH`."""
+    return re.sub(rb"\\x([0-9a-f]{2})", lambda found: bytes([int(found[1], 16)]), text.encode())
+
+
+def printed_by(words: List[str], text: bytes) -> Tuple[int, str]:
+    """The status of the program, and what it prints. TooLong where it does not end in time."""
+    try:
+        done = subprocess.run([str(PROGRAM), *words], input=text, stdout=subprocess.PIPE, timeout=SECONDS, check=False)
+    except subprocess.TimeoutExpired as late:
+        raise TooLong("genreq %s takes more than %d seconds" % (shlex.join(words), SECONDS)) from late
+    return done.returncode, done.stdout.decode("utf-8", "replace")
+
+
 def fault_of(run: Run) -> Optional[str]:
     """What is wrong with what the program does, if anything is."""
-    done = subprocess.run([str(PROGRAM), *run.words], input=run.text.encode(), stdout=subprocess.PIPE, timeout=SECONDS, check=False)
-    printed = done.stdout.decode("utf-8", "replace")
-    said = "%s: genreq %s" % (run.place, " ".join(run.words))
-    if done.returncode != run.status:
-        return "%s: the status is %d, and not %d; it prints\n%s" % (said, done.returncode, run.status, printed)
+    status, printed = printed_by(run.words, bytes_of(run.text))
+    said = "%s: genreq %s" % (run.place, shlex.join(run.words))
+    if status != run.status:
+        return "%s: the status is %d, and not %d; it prints\n%s" % (said, status, run.status, printed)
     if run.wanted is not None and printed != run.wanted:
         return "%s: it prints\n%sand not\n%s" % (said, printed, run.wanted)
+    if run.words[:1] == ["answer"] and status == 0:
+        return fault_of_explained(run, printed)
     return None
+
+
+def fault_of_explained(run: Run, answers: str) -> Optional[str]:
+    """What is wrong with the derivations of a text that has these answers, if anything is: without them `explain` prints the answers, and
+    `verify` says ok of each yes."""
+    text = bytes_of(run.text)
+    status, explained = printed_by(["explain", *run.words[1:]], text)
+    lines = explained.splitlines()
+    if status != 0 or [line for line in lines if not line.startswith(" ")] != answers.splitlines():
+        return "%s: genreq explain: the status is %d; it prints\n%s" % (run.place, status, explained)
+    judged = printed_by(["verify"], text + b"\n%%\n" + explained.encode())
+    wanted = "".join("ok\n" if answer == "yes" else "skipped\n" for answer in answers.splitlines())
+    return None if judged == (0, wanted) else "%s: genreq verify: the status is %d; it prints\n%s" % (run.place, *judged)
 
 
 def main(folder: pathlib.Path) -> int:
@@ -75,10 +111,10 @@ def main(folder: pathlib.Path) -> int:
     files = sorted(path for path in folder.iterdir() if path.suffix in readers)
     try:
         runs = [run for path in files for run in readers[path.suffix](path.name, path.read_text(encoding="utf-8"))]
-    except Malformed as fault:
+        faults = [fault for fault in map(fault_of, runs) if fault]
+    except (Malformed, TooLong) as fault:
         print("worked: %s" % fault, file=sys.stderr)
         return 1
-    faults = [fault for fault in map(fault_of, runs) if fault]
     for fault in faults:
         print("worked: %s" % fault, file=sys.stderr)
     print("%d passed, %d failed" % (len(runs) - len(faults), len(faults)))

@@ -1,4 +1,4 @@
-//! Printed texts of worked values, generated texts, and the words of command lines.
+//! Words of command lines, generated texts, and lines of derivations that are read and printed again.
 #![tactic(auto)]
 
 #[cfg(test)]
@@ -6,4 +6,4 @@ mod command_lines;
 #[cfg(test)]
 mod generated;
 #[cfg(test)]
-mod printed;
+mod read_again;

@@ -1,16 +1,7 @@
-//! Type parameters in their table, and worked lines for the checker of derivations: one text, one list of lines with each rule,
-//! and the tests that change it.
+//! Type parameters in their table, and what follows from inheritance alone.
 #![tactic(auto)]
 
-#[cfg(test)]
-mod ids;
-#[cfg(test)]
-mod lines;
 #[cfg(test)]
 mod params;
 #[cfg(test)]
 mod plain;
-#[cfg(test)]
-mod tables;
-#[cfg(test)]
-mod text;

@@ -3,43 +3,67 @@
 use swreq_derive::plain::{Conformance, Inheritance, is_derivable};
 use swreq_param::{ParamId, ProtoId};
 
-fn conformance(index: u32, rank: u32) -> Conformance {
-    Conformance {
-        param: ParamId { depth: 0, index },
-        proto: ProtoId { rank },
-    }
-}
+const P0: ProtoId = ProtoId { rank: 0 };
 
-fn inheritance(heir: u32, parent: u32) -> Inheritance {
+const P1: ProtoId = ProtoId { rank: 1 };
+
+const P2: ProtoId = ProtoId { rank: 2 };
+
+const P3: ProtoId = ProtoId { rank: 3 };
+
+const T: ParamId = ParamId { depth: 0, index: 0 };
+
+const U: ParamId = ParamId { depth: 0, index: 1 };
+
+const V: ParamId = ParamId { depth: 0, index: 2 };
+
+/// protocol P1: P0, and protocol P2: P1
+const ENTRIES: &[Inheritance] = &[
     Inheritance {
-        heir: ProtoId { rank: heir },
-        parent: ProtoId { rank: parent },
-    }
-}
+        heir: P1,
+        parent: P0,
+    },
+    Inheritance {
+        heir: P2,
+        parent: P1,
+    },
+];
 
-/// The index of a generic parameter, the rank of a protocol, and whether the one conforms to the other.
-const ASKED: &[(u32, u32, bool)] = &[
-    (0, 2, true),
-    (0, 1, true),
-    (0, 0, true),
-    (0, 3, false),
-    (1, 3, true),
-    (1, 0, false),
-    (2, 0, true),
-    (2, 1, false),
+/// func f<T: P2, U: P3, V: P0>()
+const WRITTEN: &[Conformance] = &[
+    Conformance {
+        param: T,
+        proto: P2,
+    },
+    Conformance {
+        param: U,
+        proto: P3,
+    },
+    Conformance {
+        param: V,
+        proto: P0,
+    },
+];
+
+/// A generic parameter, a protocol, and whether the one conforms to the other.
+const ASKED: &[(ParamId, ProtoId, bool)] = &[
+    (T, P2, true),
+    (T, P1, true),
+    (T, P0, true),
+    (T, P3, false),
+    (U, P3, true),
+    (U, P0, false),
+    (V, P0, true),
+    (V, P1, false),
 ];
 
 #[test]
 fn inheritance_goes_one_way(rt: HostRuntime) {
-    // protocol P1: P0, protocol P2: P1, and func f<T: P2, U: P3, V: P0>()
-    let entries = [inheritance(1, 0), inheritance(2, 1)];
-    let written = [conformance(0, 2), conformance(1, 3), conformance(2, 0)];
-    for (index, rank, answer) in ASKED {
-        let asked = conformance(*index, *rank);
-        assert_eq!(rt;
-            is_derivable(&entries, &written, asked),
-            *answer,
-            "{asked:?}"
-        );
+    for (param, proto, answer) in ASKED {
+        let asked = Conformance {
+            param: *param,
+            proto: *proto,
+        };
+        assert_eq!(rt; is_derivable(ENTRIES, WRITTEN, asked), *answer, "{asked:?}");
     }
 }

@@ -1,12 +1,8 @@
-//! Worked texts: the equations of their requirements, the requirement signatures of their protocols, and what minimising takes.
+//! What minimising takes, and the limits that it and the families of protocols have of their own.
 #![tactic(auto)]
 
 #[cfg(test)]
-mod equations;
-#[cfg(test)]
 mod families;
-#[cfg(test)]
-mod limits;
 #[cfg(test)]
 mod minimised;
 #[cfg(test)]

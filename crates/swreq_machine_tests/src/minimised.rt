@@ -1,4 +1,4 @@
-//! Texts, and what minimising their signatures takes.
+//! What minimising a signature takes.
 ghost use Rattle.std.specs.Prelude.{◌<◌, length};
 ghost use Rattle.swreq_complete.specs.Limits.{AreInRange};
 ghost use Rattle.swreq_symbols.specs.Known.{IsTextOver};
@@ -6,17 +6,15 @@ ghost use Rattle.swreq_world.specs.ByTable.{world_by};
 ghost use Rattle.swreq_valid.specs.Machines.{AreRulesOf};
 ghost use Rattle.swreq_valid.specs.Rounds.{last_rules};
 
-use crate::limits::{LIMITS, limits_of, why_not};
-use crate::worlds::world_of;
+use crate::worlds::{LIMITS, limits_of, why_not, world_of};
 use std::alloc::Global;
-use std::process::Abort;
 use std::test::Fail;
 use swreq_complete::{Failed, Limits};
 use swreq_derive::Requirement;
 use swreq_minimal::minimise;
 use swreq_param::ParamTable;
 use swreq_valid::{Machine, Protocols, Refused};
-use swreq_watch::{Event, Quiet, Recorder};
+use swreq_watch::{Quiet, Recorder};
 use swreq_world::{FuncId, World};
 
 /// The machine of a signature.
@@ -26,12 +24,10 @@ fn machine_of<'b>(
     table: &ParamTable,
     protocols: &'b Protocols,
     f: FuncId,
-    limits: Limits,
 ) -> Result<Machine<'b>, Refused>
     requires text { IsTextOver table.now world.now }
     requires protocols { AreRulesOf (world_by table.now world.now) (last_rules protocols.now.rounds) }
     requires f { f.place < length world.now.signatures }
-    requires limits { AreInRange limits }
 {
     let list = world.signature(alloc, f)?;
     Machine::build(
@@ -41,7 +37,7 @@ fn machine_of<'b>(
         protocols,
         world.params(f),
         &list,
-        limits,
+        LIMITS,
         &mut Quiet,
     )
 }
@@ -69,7 +65,7 @@ fn kept_of(
     requires limits { AreInRange limits }
 {
     let f = FuncId { place: 0 };
-    match machine_of(alloc, world, table, protocols, f, LIMITS) {
+    match machine_of(alloc, world, table, protocols, f) {
         Ok(machine) => {
             let kept = minimise(alloc, world, table, protocols, &machine, limits, watch);
             told(alloc, kept)
@@ -78,7 +74,7 @@ fn kept_of(
     }
 }
 
-/// How many requirements minimising keeps of the list of the first signature of a world, or why it fails.
+/// The same of a world.
 fn kept_of_first(
     alloc: Global,
     world: &World,
@@ -98,99 +94,51 @@ fn kept_of_first(
     }
 }
 
-/// How many requirements minimising keeps of the first signature of a text, or why it fails, where it has this limit of rules.
+/// The same of a text, where minimising may have so many rules.
 fn kept_within(
     alloc: Global,
-    text: &[u8],
+    text: &str,
     max_rules: u32,
     watch: &mut Recorder,
 ) -> Result<String, Fail> {
     let limits = limits_of(max_rules)?;
     let mut table = ParamTable::new(alloc);
-    let world = world_of(alloc, text, &mut table)?;
+    let world = world_of(alloc, text.as_bytes(), &mut table)?;
     kept_of_first(alloc, &world, &mut table, limits, watch)
 }
 
-/// Texts, each with the limit of rules that minimising has, and what comes of it.
-const TEXTS: &[(&str, u32, &str)] = &[
-    (
-        "protocol N { associatedtype Next: N } func f<T: N>()",
-        5,
-        "1",
-    ),
-    (
-        "protocol N { associatedtype Next: N } func f<T: N, U: N>()",
-        7,
-        "2",
-    ),
-    (
-        "protocol N { associatedtype Next: N } func f<T: N, U: N>()",
-        6,
-        "limit",
-    ),
-];
+const ONE: &str = "protocol N { associatedtype Next: N } func f<T: N>()";
 
-/// Minimising the text comes to this.
-fn comes_to(
-    rt: &impl Abort,
-    alloc: Global,
-    text: &str,
-    max_rules: u32,
-    wanted: &str,
-) -> Result<(), Fail> {
-    let mut watch = Recorder::new(alloc);
-    let found = kept_within(alloc, text.as_bytes(), max_rules, &mut watch)?;
-    assert_eq!(rt; found.as_str(), wanted, "within {max_rules}");
-    Ok(())
-}
-
-#[test]
-fn minimising_keeps_its_own_limit(rt: HostRuntime) -> Result<(), Fail> {
-    for (text, max_rules, wanted) in TEXTS {
-        comes_to(&rt, rt.alloc(), text, *max_rules, wanted)?;
-    }
-    Ok(())
-}
-
-/// How many completions start.
-fn starts(events: &[Event]) -> u32 {
-    let mut count: u32 = 0;
-    for event in events {
-        if let Event::Start { .. } = event {
-            count = count.saturating_add(1);
-        }
-    }
-    count
-}
+const TWO: &str = "protocol N { associatedtype Next: N } func f<T: N, U: N>()";
 
 /// A text with a conformance that a same-type and a declaration imply.
-const IMPLIED: &[u8] = b"\
+const IMPLIED: &str = "\
 protocol Q { }
 protocol P { associatedtype A: Q }
 func f<T: P, U: Q>() where T.A == U
 ";
 
-/// Of each list that minimising meets, the rules grow from those of another one. So no list is completed from its begin, and nothing is told.
-const STARTS: u32 = 0;
-
-#[test]
-fn rules_that_grow_spare_completions(rt: HostRuntime) -> Result<(), Fail> {
-    let alloc = rt.alloc();
-    let mut recorder = Recorder::new(alloc);
-    kept_within(alloc, IMPLIED, 4000, &mut recorder)?;
-    assert_eq!(&rt; starts(recorder.events()), STARTS);
-    Ok(())
-}
-
-/// The rules of `T : P` and `U : Q` are so many: five of the protocols, two of `T : P`, and one of `U : Q`. Those of `T : P` and `T.A == U` are
+/// Texts, each with the limit of rules that minimising has, and what comes of it.
+///
+/// The rules of `T : P` and `U : Q` are eight: five of the protocols, two of `T : P`, and one of `U : Q`. Those of `T : P` and `T.A == U` are
 /// nine, so a completion of them passes this limit, but a loop shows that `U : Q` follows from them.
-const EIGHT: u32 = 8;
+const TEXTS: &[(&str, u32, &str)] = &[
+    (ONE, 5, "1"),
+    (TWO, 7, "2"),
+    (TWO, 6, "limit"),
+    (IMPLIED, 8, "2"),
+];
 
+/// Of each list that minimising meets the rules grow from those of another one. So no list is completed from its begin, and nothing is told.
 #[test]
-fn evidence_answers_where_rules_pass_a_limit(rt: HostRuntime) -> Result<(), Fail> {
-    let alloc = rt.alloc();
-    let mut recorder = Recorder::new(alloc);
-    let found = kept_within(alloc, IMPLIED, EIGHT, &mut recorder)?;
-    assert_eq!(&rt; found.as_str(), "2");
+fn minimising_keeps_its_own_limit_and_spares_completions(rt: HostRuntime) -> Result<(), Fail> {
+    for (text, max_rules, wanted) in TEXTS {
+        let mut recorder = Recorder::new(rt.alloc());
+        let found = kept_within(rt.alloc(), text, *max_rules, &mut recorder)?;
+        assert_eq!(&rt; found.as_str(), *wanted, "within {max_rules}");
+    }
+    let mut recorder = Recorder::new(rt.alloc());
+    kept_within(rt.alloc(), IMPLIED, 4000, &mut recorder)?;
+    assert_eq!(&rt; recorder.events().len(), 0);
     Ok(())
 }

@@ -9,7 +9,7 @@ use std::fmt::Write;
 use std::process::Abort;
 use std::test::Fail;
 use swreq_complete::{CompleteRules, Failed, Limits, Which, extend};
-use swreq_sample_rules::{counts, tally_at};
+use swreq_samples::{counts, tally_at};
 use swreq_watch::{Counter, Event, Quiet, Recorder, Watch};
 use swreq_word::Word;
 

@@ -11,7 +11,7 @@ use std::process::Abort;
 use std::test::Fail;
 use swreq_path::{Path, RewriteStep};
 use swreq_rule::{Birth, Place, Rule, RuleList};
-use swreq_sample_rules::rule;
+use swreq_samples::rule;
 use swreq_word::{Symbol, Word};
 
 /// A protocol N with a member A that conforms to N.

@@ -4,7 +4,7 @@ use std::alloc::{AllocError, Global};
 use std::cell::Cell;
 use std::rc::Rc;
 use std::test::Fail;
-use swreq_sample_rules::{counts, tally_at};
+use swreq_samples::{counts, tally_at};
 use swreq_watch::{Event, Fan, Watch};
 
 fn add(fan: &mut Fan, watcher: Box<dyn Watch>) -> Result<(), AllocError> {

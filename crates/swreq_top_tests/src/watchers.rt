@@ -7,7 +7,7 @@ use std::cell::Cell;
 use std::process::Abort;
 use std::rc::Rc;
 use std::test::Fail;
-use swreq_sample_rules::{counts, tally_at};
+use swreq_samples::{counts, tally_at};
 use swreq_text::{MemSink, SureSource};
 use swreq_watch::{Fan, Watch};
 

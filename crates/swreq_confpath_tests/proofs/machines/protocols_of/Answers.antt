@@ -1,7 +1,0 @@
-use Rattle.swreq_world.specs.ByTable.{world_by}
-use Rattle.swreq_reqsig.proofs.WellFormed.{protocols_formed}
-use Rattle.swreq_confpath_tests.proofs.machines.protocols_of.Goals as goal
-
-pub returns-in-Ok-clause-formed : goal.returns-in-Ok-clause-formed
-returns-in-Ok-clause-formed c =
-    protocols_formed (world_by c.args.table.now c.args.world.now) c.requires.text.closed c.in-Ok.ensures.answer.1.1

@@ -1,0 +1,97 @@
+//! The worlds of texts, and the machines of their signatures.
+ghost use Rattle.std.specs.Prelude.{◌<◌, ◌≤◌, IfOk, length};
+ghost use Rattle.swreq_decl.specs.Skeletons.{StandsFor};
+ghost use Rattle.swreq_derive.specs.WellFormed.{AreProtocolsWellFormed};
+ghost use Rattle.swreq_symbols.specs.Known.{IsTextOver};
+ghost use Rattle.swreq_symbols.specs.Meaning.{facts_of};
+ghost use Rattle.swreq_valid.specs.Machines.{AreRulesOf};
+ghost use Rattle.swreq_valid.specs.Rounds.{last_rules};
+ghost use Rattle.swreq_world.specs.ByTable.{world_by};
+ghost use Rattle.swreq_world.specs.Short.{IsShort};
+ghost use Rattle.swreq_confpath.specs.Searches.{IsMachineFor};
+ghost use Rattle.swreq_subst.specs.Saying.{HaveIds};
+
+use std::alloc::Global;
+use std::test::Fail;
+use swreq_complete::Limits;
+use swreq_decl::Skeleton;
+use swreq_param::ParamTable;
+use swreq_subst::laws::names_have_ids;
+use swreq_valid::{Machine, Protocols};
+use swreq_watch::Quiet;
+use swreq_world::laws::{worlds_are_closed, worlds_are_short};
+use swreq_world::{FuncId, World};
+
+/// The limits of machines.
+const LIMITS: Limits = Limits {
+    max_rules: 4000,
+    max_length: 64,
+};
+
+/// The world of a text, over the table.
+pub(crate) fn world_over(
+    alloc: Global,
+    text: &[u8],
+    skeleton: &Skeleton,
+    table: &mut ParamTable,
+) -> Result<World, Fail>
+    requires limit { length text.now ≤ 1048576 }
+    requires stands { StandsFor text.now skeleton.now }
+    ensures text { IfOk result (IsTextOver table.new) }
+    ensures short { IfOk result IsShort }
+    ensures ids { IfOk result HaveIds }
+{
+    worlds_are_closed(text);
+    worlds_are_short(text);
+    names_have_ids(text);
+    match World::resolve(alloc, text, skeleton, table) {
+        Ok(world) => Ok(world),
+        Err(_) => Err("no world".into()),
+    }
+}
+
+/// The rules of the protocols, which are well formed.
+pub(crate) fn protocols_of(
+    alloc: Global,
+    world: &World,
+    table: &ParamTable,
+) -> Result<Protocols, Fail>
+    requires text { IsTextOver table.now world.now }
+    ensures formed { IfOk result (λ _. AreProtocolsWellFormed (facts_of (world_by table.now world.now))) }
+    ensures rules { IfOk result (λ p. AreRulesOf (world_by table.now world.now) (last_rules p.rounds)) }
+{
+    match Protocols::build(alloc, world, table, LIMITS, &mut Quiet) {
+        Ok(protocols) => Ok(protocols),
+        Err(_) => Err("no rules".into()),
+    }
+}
+
+/// The machine of a signature.
+pub(crate) fn machine_of<'b>(
+    alloc: Global,
+    world: &World,
+    table: &ParamTable,
+    protocols: &'b Protocols,
+    f: FuncId,
+) -> Result<Machine<'b>, Fail>
+    requires text { IsTextOver table.now world.now }
+    requires formed { AreProtocolsWellFormed (facts_of (world_by table.now world.now)) }
+    requires rules { AreRulesOf (world_by table.now world.now) (last_rules protocols.now.rounds) }
+    requires f { f.place < length world.now.signatures }
+    ensures { IfOk result (IsMachineFor table.now world.now f) }
+{
+    let list = world.signature(alloc, f)?;
+    match Machine::build(
+        alloc,
+        world,
+        table,
+        protocols,
+        world.params(f),
+        &list,
+        LIMITS,
+        &mut Quiet,
+    ) {
+        Ok(machine) => Ok(machine),
+        Err(_) => Err("no machine".into()),
+    }
+}

@@ -1,5 +1,0 @@
-use Rattle.std.proofs.Common.{subst, Contains}
-use Rattle.swreq_lines_tests.proofs.read_again.again.Goals as goal
-
-pub lines_text-requires : goal.lines_text-requires
-lines_text-requires c = λ l k. c.in-Ok.ensures.ids l (subst (λ z. Contains z l) c.deref.ensures.value k)
