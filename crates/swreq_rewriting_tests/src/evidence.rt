@@ -1,89 +1,68 @@
-//! Worked rows of loops that show a rule, and of loops that show none.
+//! Worked rows of the loops of pairs, and of the rules that a loop shows.
 
-ghost use Rattle.std.specs.Prelude.{IfOk, OnOk};
+ghost use Rattle.std.specs.Prelude.{⊤, IfOk, MatchOption};
 ghost use Rattle.swreq_path.specs.Paths.{IsLoop};
 ghost use Rattle.swreq_homotopy.specs.Evidence.{AreLoops};
 
-use crate::loops::loop_at;
-use crate::notation::{assert_same, put_path, rules};
+use crate::notation::{put_path, rules};
 use std::alloc::{AllocError, Global};
 use std::fmt::Write;
 use std::process::Abort;
 use std::test::Fail;
-use swreq_homotopy::{Evidence, redundant};
-use swreq_path::{Loop, compose};
+use swreq_homotopy::{Evidence, loop_of_pair, redundant};
+use swreq_pair::is_pair;
+use swreq_path::Loop;
 use swreq_rule::{Place, Rule};
 
-/// The loop, gone round twice.
-fn twice(alloc: Global, rules: &[Rule], round: &Loop) -> Result<Loop, AllocError>
-    requires { IsLoop rules.now round.now }
-    ensures { IfOk result (IsLoop rules.now) }
-{
-    let path = compose(alloc, rules, &round.path, &round.path)?;
-    Ok(Loop { path })
-}
-
-/// Puts the loop last.
-fn add(rules: &[Rule], loops: &mut Vec<Loop>, round: Loop) -> Result<(), AllocError>
-    requires so_far { AreLoops rules.now loops.old.items }
-    requires round { IsLoop rules.now round }
-    ensures { OnOk result (AreLoops rules.now loops.new.items) }
-{
-    loops.push(round)?;
-    Ok(())
-}
-
-/// The loop gone round twice, and then the loop itself. The first of them uses each rule twice, and so shows none.
-fn loops_of(alloc: Global, rules: &[Rule], round: Loop) -> Result<Vec<Loop>, AllocError>
-    requires { IsLoop rules.now round }
-    ensures { IfOk result (λ loops. AreLoops rules.now loops.items) }
-{
-    let mut loops = Vec::new(alloc);
-    add(rules, &mut loops, twice(alloc, rules, &round)?)?;
-    add(rules, &mut loops, round)?;
-    Ok(loops)
-}
-
-/// Rules, two of them whose pair at place 0 has a loop, the rules that are kept and those that may go, and what the loop shows: a rule,
-/// and the path without it.
-const SHOWN: &[(&str, (u32, u32), &str, &str, &str)] = &[
+/// Three rules, the place of a pair, the rules that are kept and those that may go; the loop of the pair, and what it shows: a rule, and
+/// the path without it.
+const SHOWN: &[(&str, (u32, u32, usize), &str, &str, &str)] = &[
     // Three rules over equal generic parameters. The step of the rule shown goes back.
-    (EQUAL, (2, 3), "123", "3", "3: V +2 +1"),
+    (EQUAL, (2, 3, 0), "123", "3", "V +2 +1 -3; 3: V +2 +1"),
     // It goes forward.
-    (EQUAL, (2, 3), "123", "1", "1: U -2 +3"),
+    (EQUAL, (2, 3, 0), "123", "1", "V +2 +1 -3; 1: U -2 +3"),
     // The first step of the loop that shows a rule.
-    (EQUAL, (2, 3), "123", "123", "2: V +3 -1"),
+    (EQUAL, (2, 3, 0), "123", "123", "V +2 +1 -3; 2: V +3 -1"),
     // The rule is not free to go, is not kept, or another rule of the loop is not.
-    (EQUAL, (2, 3), "123", "", "none"),
-    (EQUAL, (2, 3), "12", "3", "none"),
-    (EQUAL, (2, 3), "23", "3", "none"),
+    (EQUAL, (2, 3, 0), "123", "", "V +2 +1 -3; "),
+    (EQUAL, (2, 3, 0), "12", "3", "V +2 +1 -3; "),
+    (EQUAL, (2, 3, 0), "23", "3", "V +2 +1 -3; "),
     // A rule in a context is not shown.
-    (CONTEXT, (3, 2), "123", "12", "none"),
-    (CONTEXT, (3, 2), "123", "123", "3: CD +2D +1D"),
+    (CONTEXT, (3, 2, 0), "123", "12", "CD +3 -1D -2D; "),
+    (
+        CONTEXT,
+        (3, 2, 0),
+        "123",
+        "123",
+        "CD +3 -1D -2D; 3: CD +2D +1D",
+    ),
+    // A rule that the loop uses twice is not shown.
+    ("D=C D=C C=A", (1, 2, 0), "123", "3", "D +1 +3 -3 -2; "),
+    // An overlap, and a containment with what stands on both sides of the second left side.
+    ("AB=C BC=D CC=AD", (1, 2, 1), "123", "", "ABC +1C +3 A-2; "),
+    ("ABC=AA B= AC=AA", (1, 2, 1), "123", "", "ABC +1 -3 A-2C; "),
+    // Sides that reduce to two words.
+    ("C=B C=A D=A", (1, 2, 0), "123", "123", "none"),
 ];
 
-const EQUAL: &str = "U>T V>U V>T";
+const EQUAL: &str = "U=T V=U V=T";
 
-const CONTEXT: &str = "B>A C>B CD>AD";
+const CONTEXT: &str = "B=A C=B CD=AD";
 
-/// Marks of three rules, by the digits of their numbers.
-fn marks(numbers: &str) -> [bool; 3] {
-    [
-        numbers.contains('1'),
-        numbers.contains('2'),
-        numbers.contains('3'),
-    ]
-}
-
-fn put_evidence(out: &mut String, found: Option<Evidence>) -> Result<(), Fail> {
-    match found {
-        Some(found) => {
-            write!(out, "{}: ", found.rule)?;
-            put_path(out, &found.path)?;
-        }
-        None => out.push_str("none")?,
-    }
-    Ok(())
+/// The loop of the pair at the place.
+fn loop_at(
+    rt: &impl Abort,
+    alloc: Global,
+    rules: &[Rule],
+    place: Place,
+) -> Result<Option<Loop>, AllocError>
+    ensures { IfOk result (λ found. MatchOption found ⊤ (IsLoop rules.now)) }
+{
+    assert!(rt; rules.len() < 100);
+    assert!(rt; 0 < place.i && place.i as usize <= rules.len());
+    assert!(rt; 0 < place.j && place.j as usize <= rules.len());
+    assert!(rt; is_pair(rules, place));
+    loop_of_pair(alloc, rules, place)
 }
 
 /// What the loops show.
@@ -98,36 +77,57 @@ fn shown(
     requires { AreLoops rules.now loops.now }
 {
     assert!(rt; rules.len() == 3);
-    redundant(alloc, rules, loops, &marks(keep), &marks(may))
+    let kept = [keep.contains('1'), keep.contains('2'), keep.contains('3')];
+    let free = [may.contains('1'), may.contains('2'), may.contains('3')];
+    redundant(alloc, rules, loops, &kept, &free)
 }
 
-/// What the loop of the pair shows.
-fn shown_by_pair(
+/// The list of the loop alone.
+fn loops_of(alloc: Global, rules: &[Rule], round: Loop) -> Result<Vec<Loop>, AllocError>
+    requires { IsLoop rules.now round }
+    ensures { IfOk result (λ loops. AreLoops rules.now loops.items) }
+{
+    let mut loops = Vec::new(alloc);
+    loops.push(round)?;
+    Ok(loops)
+}
+
+/// The loop, and what it shows.
+fn put_loop(
     rt: &impl Abort,
     alloc: Global,
     rules: &[Rule],
-    pair: (u32, u32),
-    keep: &str,
-    may: &str,
-) -> Result<Option<Evidence>, Fail> {
-    let (i, j) = pair;
-    let round = loop_at(rt, alloc, rules, Place { i, j, at: 0 })?.ok_or("no loop")?;
+    round: Loop,
+    marks: (&str, &str),
+    out: &mut String,
+) -> Result<(), Fail>
+    requires { IsLoop rules.now round }
+{
+    put_path(out, &round.path)?;
+    out.push_str("; ")?;
     let loops = loops_of(alloc, rules, round)?;
-    Ok(shown(rt, alloc, rules, &loops, keep, may)?)
+    match shown(rt, alloc, rules, &loops, marks.0, marks.1)? {
+        Some(found) => {
+            write!(out, "{}: ", found.rule)?;
+            put_path(out, &found.path)
+        }
+        None => Ok(()),
+    }
 }
 
+/// The loop of a row, and what it shows.
 fn put_shown(
     rt: &impl Abort,
     alloc: Global,
-    row: &(&str, (u32, u32), &str, &str, &str),
+    row: &(&str, (u32, u32, usize), &str, &str, &str),
     out: &mut String,
 ) -> Result<(), Fail> {
-    let (text, pair, keep, may, _) = row;
+    let (text, (i, j, at), keep, may, _) = *row;
     let list = rules(alloc, text)?;
-    put_evidence(
-        out,
-        shown_by_pair(rt, alloc, list.rules(), *pair, keep, may)?,
-    )
+    match loop_at(rt, alloc, list.rules(), Place { i, j, at })? {
+        Some(round) => put_loop(rt, alloc, list.rules(), round, (keep, may), out),
+        None => Ok(out.push_str("none")?),
+    }
 }
 
 #[test]
@@ -135,7 +135,7 @@ fn a_loop_shows_rules_that_it_uses_bare_and_once(rt: HostRuntime) -> Result<(), 
     for row in SHOWN {
         let mut out = String::new(rt.alloc());
         put_shown(&rt, rt.alloc(), row, &mut out)?;
-        assert_same(&rt, &out, row.4);
+        assert_eq!(rt; out.as_str(), row.4);
     }
     Ok(())
 }

@@ -6,19 +6,11 @@ mod completions;
 #[cfg(test)]
 mod evidence;
 #[cfg(test)]
-mod indexes;
-#[cfg(test)]
-mod loops;
-#[cfg(test)]
 mod notation;
 #[cfg(test)]
 mod pairs;
 #[cfg(test)]
 mod paths;
-#[cfg(test)]
-mod properties;
-#[cfg(test)]
-mod rules;
 #[cfg(test)]
 mod tries;
 #[cfg(test)]

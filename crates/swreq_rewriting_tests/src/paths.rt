@@ -2,7 +2,7 @@
 
 ghost use Rattle.swreq_path.specs.Paths.{HasTarget, IsPath};
 
-use crate::notation::{assert_same, put_path, put_word, rules, word};
+use crate::notation::{put_path, put_word, rules, word};
 use std::alloc::Global;
 use std::process::Abort;
 use std::test::Fail;
@@ -10,7 +10,7 @@ use swreq_path::{Path, compose, invert, path_of};
 use swreq_rule::Rule;
 
 /// The rules of a protocol N with a member A, and of a generic parameter that conforms to it.
-const RULES: &str = "NN>N NA>a aN>a Na>a aA>aa TN>T TA>Ta";
+const RULES: &str = "NN=N NA=a aN=a Na=a aA=aa TN=T TA=Ta";
 
 /// A word, and the path of its reduction, the path back, and both.
 const WAYS: &[(&str, &str)] = &[
@@ -80,7 +80,7 @@ fn paths_of_reduction_go_forth_and_back(rt: HostRuntime) -> Result<(), Fail> {
     for (letters, wanted) in WAYS {
         let mut out = String::new(rt.alloc());
         put_ways(&rt, rt.alloc(), list.rules(), letters, &mut out)?;
-        assert_same(&rt, &out, wanted);
+        assert_eq!(rt; out.as_str(), *wanted);
     }
     Ok(())
 }

@@ -1,17 +1,9 @@
-//! Worked texts: their tokens, skeletons and names, the ranks of what they have, what is written in them, and their worlds.
+//! Worked texts: their tokens, the fronts of texts of the grammar, and what is found in a world by its name.
 #![tactic(auto)]
 
 #[cfg(test)]
-mod lexicons;
+mod found;
 #[cfg(test)]
-mod parts;
-#[cfg(test)]
-mod refused;
-#[cfg(test)]
-mod shown;
-#[cfg(test)]
-mod skeletons;
+mod fronts;
 #[cfg(test)]
 mod tokens;
-#[cfg(test)]
-mod worlds;

@@ -1,17 +1,11 @@
-//! Worked texts, and what the program prints of them.
+//! Runs on streams that fail, with watchers, and on large texts.
 #![tactic(auto)]
 
-#[cfg(test)]
-mod evidence;
 #[cfg(test)]
 mod large;
 #[cfg(test)]
 mod running;
 #[cfg(test)]
 mod streams;
-#[cfg(test)]
-mod tests;
-#[cfg(test)]
-mod texts;
 #[cfg(test)]
 mod watchers;

@@ -1,110 +1,98 @@
-//! What the words and the streams do to a run.
-use crate::evidence::COMMANDS;
-use crate::running::{Setting, runs, status_of, undisturbed, words_of};
-use crate::tests::row;
-use crate::texts::{ENDLESS, ENDLESS_ANSWERS};
+//! What the streams do to a run.
+use crate::running::{Setting, runs, status_of, undisturbed};
 use std::alloc::Global;
 use std::process::Abort;
 use std::test::Fail;
-use swreq_text::{CountSink, MemSink, MemSource, Source, SureSource};
+use swreq_text::{MemSink, MemSource, Source};
 use swreq_watch::Quiet;
 
-/// A run with these words gives this status, as it is written, prints this, and leaves the source as it was.
+/// Words that are refused, and words for which nothing is read, with the status and the first byte of what is printed.
+const UNREAD: &[(&str, &str, u8)] = &[("fly", "2", b'u'), ("gen 3 --max-rules 1", "3", b'e')];
+
+/// A run with these words gives this status, as it is written, prints a text that begins so, and leaves the source as it was.
 fn reads_nothing(
     rt: &impl Abort,
     alloc: Global,
-    words: &[String],
+    words: &str,
     status: &str,
-    taken: &[u8],
+    first: u8,
 ) -> Result<(), Fail> {
     let mut src = MemSource::new(b"query".to_vec(alloc)?, 10, Vec::new(alloc));
     let mut out = MemSink::new(alloc, 1000, 1000, Vec::new(alloc))?;
     let came = status_of(alloc, words, &mut src, &mut out, &mut Quiet)?;
-    let left = src.read(&mut [0u8; 10]);
-    assert_eq!(rt; out.bytes(), taken);
     assert_eq!(rt; came.as_str(), status);
-    assert_eq!(rt; left, Ok(5));
-    Ok(())
-}
-
-const USAGE: &[u8] =
-    b"usage: genreq (answer | signatures | rules | gen N | explain | verify | paths | calls | requirements) \
-    [--max-rules N] [--max-length N] [--trace]\n";
-
-/// Words that are refused, a line each.
-const WRONG: &str = "answer --max-rules 0
-answer --max-rules 100001
-answer --max-length 256
-gen
-gen 0
-gen 101
-fly";
-
-#[test]
-fn wrong_words_read_nothing(rt: HostRuntime) -> Result<(), Fail> {
-    reads_nothing(&rt, rt.alloc(), &[], "2", USAGE)?;
-    for line in WRONG.split("\n") {
-        let words = words_of(rt.alloc(), line)?;
-        reads_nothing(&rt, rt.alloc(), &words, "2", USAGE)?;
-    }
+    assert_eq!(rt; out.bytes().first(), Some(&first));
+    assert_eq!(rt; src.read(&mut [0u8; 10]), Ok(5));
     Ok(())
 }
 
 #[test]
-fn a_generated_text_is_not_read(rt: HostRuntime) -> Result<(), Fail> {
-    let words = words_of(rt.alloc(), "gen 3 --max-rules 1")?;
-    reads_nothing(&rt, rt.alloc(), &words, "3", b"error: more than 1 rules\n")
-}
-
-/// The text comes in 17 pieces, and the next read finds its end.
-const READS: u32 = 18;
-
-#[test]
-fn each_read_may_fail(rt: HostRuntime) -> Result<(), Fail> {
-    let all = undisturbed("answer", ENDLESS.as_bytes());
-    for before in 0..READS {
-        let setting = Setting {
-            failing_read: before + 1,
-            ..all
-        };
-        runs(&rt, rt.alloc(), setting, "4", b"error: read fault\n")?;
+fn wrong_words_and_gen_read_nothing(rt: HostRuntime) -> Result<(), Fail> {
+    for (words, status, first) in UNREAD {
+        reads_nothing(&rt, rt.alloc(), words, status, *first)?;
     }
-    let setting = Setting {
-        failing_read: READS + 1,
-        ..all
-    };
-    runs(&rt, rt.alloc(), setting, "0", ENDLESS_ANSWERS.as_bytes())
+    Ok(())
 }
 
-#[test]
-fn a_write_may_fail(rt: HostRuntime) -> Result<(), Fail> {
-    let setting = Setting {
-        failing_write: 2,
-        ..undisturbed("answer", ENDLESS.as_bytes())
-    };
-    runs(&rt, rt.alloc(), setting, "5", b"yes")
-}
+/// For each command that reads a text its words, a short text, the status and what is printed; and a text that is refused.
+const COMMANDS: &[(&str, &str, &str, &str)] = &[
+    (
+        "answer",
+        "protocol N { associatedtype Next: N }\nfunc f<T: N>()\nquery f(T.Next : N)\nquery f(T.Next)\n",
+        "0",
+        "yes\nτ_0_0.[N]Next\n",
+    ),
+    (
+        "signatures",
+        "protocol N { associatedtype Next: N }\nfunc f<T: N>() where T.Next: N\n",
+        "0",
+        "f: <τ_0_0 where τ_0_0 : N>\n",
+    ),
+    (
+        "rules",
+        "protocol P { }\nfunc f<T: P>()\n",
+        "0",
+        "f: 2 rules\n  [P].[P] => [P]\n  τ_0_0.[P] => τ_0_0\n",
+    ),
+    (
+        "explain",
+        "protocol N { associatedtype Next: N }\nfunc f<T: N>()\nquery f(T : N)\n",
+        "0",
+        "yes\n  1. τ_0_0 : N by CONF 1\n",
+    ),
+    (
+        "verify",
+        "protocol N { associatedtype Next: N }\nfunc f<T: N>()\nquery f(T : N)\n%%\nyes\n  1. τ_0_0 : N by CONF 1\n",
+        "0",
+        "ok\n",
+    ),
+    (
+        "paths",
+        "protocol N { associatedtype Next: N }\nfunc f<T: N>()\nquery f(T.Next : N)\n",
+        "0",
+        "yes\n  [τ_0_0 : N][Self.Next : N]\n",
+    ),
+    (
+        "calls",
+        "protocol P { }\nfunc f<T>()\nfunc g<U: P>()\n%%\nf: g(T)\n",
+        "0",
+        "no: τ_0_0 : P\n",
+    ),
+    (
+        "requirements",
+        "protocol P { }\nprotocol Q: P, P { }\n",
+        "0",
+        "P: <Self>\nQ: <Self where Self : P>\n",
+    ),
+    (
+        "answer",
+        "class C { }\n",
+        "1",
+        "error: unsupported class at 0\n",
+    ),
+];
 
-#[test]
-fn room_may_be_short_by_any_part_of_the_answers(rt: HostRuntime) -> Result<(), Fail> {
-    let all = undisturbed("answer", ENDLESS.as_bytes());
-    room_is_short(&rt, rt.alloc(), all, ENDLESS_ANSWERS.as_bytes())
-}
-
-/// Each read of a row's text may fail, and the sink may have room for any part of its output.
-fn is_disturbed(rt: &impl Abort, alloc: Global, written: &str) -> Result<(), Fail> {
-    match row(written) {
-        Some((words, text, status, output)) => {
-            let all = undisturbed(words, text.as_bytes());
-            runs(rt, alloc, all, status, output.as_bytes())?;
-            reads_fail(rt, alloc, all)?;
-            room_is_short(rt, alloc, all, output.as_bytes())
-        }
-        None => Err("a row without words or a status".into()),
-    }
-}
-
-/// The text comes in pieces of 10, and one read more finds its end.
+/// Each read of the text may fail. It comes in pieces of 10, and one read more finds its end.
 fn reads_fail(rt: &impl Abort, alloc: Global, all: Setting<'_>) -> Result<(), Fail> {
     for (before, _) in all.text.chunks(10).enumerate() {
         let setting = Setting {
@@ -116,6 +104,7 @@ fn reads_fail(rt: &impl Abort, alloc: Global, all: Setting<'_>) -> Result<(), Fa
     Ok(())
 }
 
+/// The sink may have room for any part of the output.
 fn room_is_short(
     rt: &impl Abort,
     alloc: Global,
@@ -134,34 +123,25 @@ fn room_is_short(
 
 #[test]
 fn a_read_and_a_write_of_each_command_may_fail(rt: HostRuntime) -> Result<(), Fail> {
-    for written in COMMANDS.split("====\n") {
-        is_disturbed(&rt, rt.alloc(), written)?;
+    for (words, text, status, output) in COMMANDS {
+        let all = undisturbed(words, text.as_bytes());
+        runs(&rt, rt.alloc(), all, status, output.as_bytes())?;
+        reads_fail(&rt, rt.alloc(), all)?;
+        room_is_short(&rt, rt.alloc(), all, output.as_bytes())?;
     }
     Ok(())
 }
 
-const UNJUSTIFIED: &[u8] = b"\
-protocol P { associatedtype A }
-protocol Q { associatedtype B: P }
-func f<T>() where T.A: Q, T.A.B == T {}
-";
-
 #[test]
-fn room_may_be_short_for_a_refusal(rt: HostRuntime) -> Result<(), Fail> {
+fn a_write_in_mid_stream_may_fail(rt: HostRuntime) -> Result<(), Fail> {
     let setting = Setting {
-        room: 5,
-        ..undisturbed("answer", UNJUSTIFIED)
+        failing_write: 2,
+        ..undisturbed("answer", b"func f<T>()\nquery f(T : AnyObject)\n")
     };
-    runs(&rt, rt.alloc(), setting, "5", b"error")
-}
-
-#[test]
-fn streams_that_never_fail_give_status_0(rt: HostRuntime) -> Result<(), Fail> {
-    let words = words_of(rt.alloc(), "answer")?;
-    let mut src = SureSource::new(ENDLESS.as_bytes().to_vec(rt.alloc())?);
-    let mut out = CountSink::new();
-    let status = status_of(rt.alloc(), &words, &mut src, &mut out, &mut Quiet)?;
-    assert_eq!(rt; status.as_str(), "0");
-    assert_eq!(rt; out.count(), ENDLESS_ANSWERS.len() as u64);
-    Ok(())
+    runs(&rt, rt.alloc(), setting, "0", b"no\n")?;
+    let setting = Setting {
+        failing_write: 2,
+        ..undisturbed("answer", b"class C { }\n")
+    };
+    runs(&rt, rt.alloc(), setting, "5", b"err")
 }

@@ -1,0 +1,43 @@
+//! Fronts of texts of the grammar.
+
+use std::alloc::Global;
+use std::process::Abort;
+use std::test::Fail;
+use swreq_decl::{ParseErr, parse};
+use swreq_lex::TEXT_LIMIT;
+
+/// Texts of the grammar, with a space between all tokens.
+const WHOLES: &[&str] = &[
+    "public protocol P < A , B > : Q < A , B . C > & R , S where Self . A == B , C : D < E > { associatedtype E : F < G > where G == H ; } ",
+    "internal struct S < T : P < U > > where T : Q { public func f ( ) ; func g < V > ( ) where V == T { } } ",
+    "private func f < T : P & Q , U > ( ) where T . A : B & C , Self == U { } ",
+    "query f ( T . [ P ] A . B == U . [ Q ] C ) ",
+    "query S . f ( T . A : AnyObject ) ",
+];
+
+/// Whether the text is of the grammar, or refused at its end.
+fn is_of_the_grammar_or_ends_too_early(
+    rt: &impl Abort,
+    alloc: Global,
+    text: &[u8],
+) -> Result<bool, Fail> {
+    assert!(rt; text.len() <= TEXT_LIMIT);
+    match parse(alloc, text) {
+        Ok(_) => Ok(true),
+        Err(ParseErr::Syntax { at }) => Ok(at as usize == text.len()),
+        Err(_) => Ok(false),
+    }
+}
+
+#[test]
+fn a_text_that_ends_in_a_construct_is_refused_at_its_end(rt: HostRuntime) -> Result<(), Fail> {
+    for whole in WHOLES {
+        for (length, byte) in whole.as_bytes().iter().enumerate() {
+            let front = &whole.as_bytes()[..length];
+            if *byte == b' ' && !is_of_the_grammar_or_ends_too_early(&rt, rt.alloc(), front)? {
+                return Err("a front is refused elsewhere".into());
+            }
+        }
+    }
+    Ok(())
+}
