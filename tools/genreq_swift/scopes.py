@@ -174,9 +174,10 @@ class Scopes:
 
     def _state_alias_target(self, target: NamedType, context: Context, scope: Scope) -> None:
         """Of an alias `typealias A<T> = S<T> where ..`, an extension of A has the requirements."""
-        if len(target.steps) > 1 or context.entity is None or context.entity.is_protocol:
+        if context.entity is None or context.entity.is_protocol:
             return
-        alias = self.names.top(target.steps[0].name, context.source)
+        found = self._found(target, context, scope)
+        alias = found.member if isinstance(found, Found) else None
         if not isinstance(alias, Alias) or not alias.context.declaration.parameters or alias.context.declaration.target is None:
             return
         alias_scope = self.scope(alias.context)
