@@ -218,15 +218,35 @@ class Scopes:
         """States what the types of a declaration need, but for what is stated already or has no type parameter."""
         start = context.declaration.start
         known = {statement.same_as() for statement in scope.statements} if needs else set()
-        for statement in needs:
+        waiting = list(reversed(needs))
+        while waiting:
+            statement = waiting.pop()
             if statement.cause is Cause.SUPPRESSED or not any(has_parameters(side) for side in statement.sides()):
                 continue
-            if statement.same_as() not in known:
-                known.add(statement.same_as())
-                text = statement.text if isinstance(statement.left, OtherType) and statement.left.text == statement.text else ""
-                scope.own.append(
-                    replace(statement, source=context.source, start=start, clause=start, text=text, origin=Origin.INFERRED, argument=False)
-                )
+            if statement.same_as() in known:
+                continue
+            known.add(statement.same_as())
+            instead = self._of_conformance(statement)
+            if instead is not None:
+                waiting += reversed(instead)
+                continue
+            text = statement.text if isinstance(statement.left, OtherType) and statement.left.text == statement.text else ""
+            scope.own.append(
+                replace(statement, source=context.source, start=start, clause=start, text=text, origin=Origin.INFERRED, argument=False)
+            )
+
+    def _of_conformance(self, statement: Statement) -> Optional[List[Statement]]:
+        """What is needed that a declared type conforms to a protocol, where it is declared to do so: the conditions of that."""
+        left, right = statement.left, statement.right
+        if statement.kind is not StatementKind.CONFORMANCE or not isinstance(left, NominalType) or not isinstance(right, Entity):
+            return None
+        declared = self.names.conformance(left.entity, right)
+        if declared is None or left.arguments is None:
+            return None
+        if declared is left.entity.context:
+            return []
+        sides = self._outer_sides(left)
+        return [self.replaced_statement(condition, sides) for condition in self.scope(declared).own]
 
     # Requirements.
 
