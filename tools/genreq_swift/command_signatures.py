@@ -1,5 +1,6 @@
 """`genreq-swift signatures`: the minimised signatures of declarations."""
 import argparse
+from dataclasses import replace
 import json
 import re
 from typing import List, Sequence
@@ -51,7 +52,16 @@ def run(arguments: argparse.Namespace) -> int:
 
 def _line(signature: Signature, printed: str, names: OwnNames) -> str:
     status = "" if signature.status is Status.WHOLE else "  // " + signature.status_line
-    return "%s: %s: %s%s" % (signature.place, signature.name, names.of(printed, signature.parameters), status)
+    return "%s: %s: %s%s" % (signature.place, signature.name, names.of(printed, _distinct(signature.parameters)), status)
+
+
+def _distinct(parameters: Sequence[GenericParameter]) -> List[GenericParameter]:
+    """The generic parameters, with its label as the name of one that hides another."""
+    found: List[GenericParameter] = []
+    for parameter in parameters:
+        hides = any(parameter.name == before.name for before in found)
+        found.append(replace(parameter, name=parameter.label) if hides else parameter)
+    return found
 
 
 def _object(signature: Signature, printed: str, names: OwnNames) -> str:
@@ -63,7 +73,7 @@ def _object(signature: Signature, printed: str, names: OwnNames) -> str:
         "name": signature.name,
         "status": signature.status.value,
         "causes": sorted({omission.cause.value for omission in signature.omissions}),
-        "signature": names.of(printed, signature.parameters),
+        "signature": names.of(printed, _distinct(signature.parameters)),
         "canonical": canonical(printed, signature.parameters),
     }
     return json.dumps(found, ensure_ascii=False)
