@@ -1,19 +1,8 @@
 """Protocols and signatures as parts of a text for genreq. Requirements stand in a part in the order of the model."""
-from dataclasses import replace
 from typing import FrozenSet, Iterable, List, Optional, Sequence
 
-from .model import GenericParameter, Place, Protocol, Requirement, RequirementKind, Signature, TypeParameter, label_of
+from .model import Protocol, Requirement, RequirementKind, Signature, TypeParameter, label_of
 from .program import Part
-
-
-# `Self` of a protocol has this word in a text for genreq, and no other may stand there.
-SELF = GenericParameter("Self", "Self", 0, 0, Place("", 0, 0))
-
-
-def of_self(requirement: Requirement) -> Requirement:
-    """A requirement of a protocol, with the word `Self`."""
-    other = TypeParameter(SELF, requirement.other.members) if requirement.other else None
-    return replace(requirement, subject=TypeParameter(SELF, requirement.subject.members), other=other)
 
 
 def function_part(signature: Signature, requirements: Optional[Sequence[Requirement]] = None, queries: Sequence[str] = ()) -> Part:
@@ -29,9 +18,9 @@ def protocol_part(protocol: Protocol, without: FrozenSet[int] = frozenset()) -> 
     numbered = enumerate(protocol.requirements)
 
     def kept(requirements: Sequence[Requirement]) -> List[Requirement]:
-        return [of_self(requirement) for place, requirement in [next(numbered) for _ in requirements] if place not in without]
+        return [requirement for place, requirement in [next(numbered) for _ in requirements] if place not in without]
 
-    me = TypeParameter(SELF)
+    me = TypeParameter(protocol.self_parameter)
     primaries = "<%s>" % ", ".join(label_of(name) for name in protocol.primaries) if protocol.primaries else ""
     head = "protocol %s%s%s {" % (protocol.label, primaries, clauses(me, kept(protocol.inherited + protocol.conditions)))
     members = [
