@@ -30,7 +30,7 @@ def run(arguments: argparse.Namespace) -> int:
     found = requirement_signatures(Program(default_program()), [protocol_part(protocol) for protocol in reading.protocols])
     names = own_names(reading)
     lines: List[str] = []
-    for protocol in reading.protocols:
+    for protocol in reading.own_protocols:
         if protocol.label in found.signatures and (protocol.status is Status.WHOLE or not arguments.strict):
             printed = names.of(found.signatures[protocol.label].line, protocol.parameters)
             lines.append(_object(protocol, printed) if arguments.json else _line(protocol, printed))

@@ -45,6 +45,6 @@ def reading_of(named: Sequence[ReadFile], others: Sequence[ReadFile], problems: 
     all_protocols = tuple(maker.protocols())
     signatures = tuple(signature for roots in maker.names.roots[: len(named)] for signature in maker.signatures(roots))
     own_files = {source.file for source, _ in named}
-    own = {protocol.label for protocol in all_protocols if protocol.place.file in own_files}
+    own = frozenset(protocol.label for protocol in all_protocols if protocol.place.file in own_files)
     protocols = needed_protocols(all_protocols, own, signatures)
-    return Reading(protocols, signatures, tuple(problems) + tuple(maker.problems), maker.counts(len(named)))
+    return Reading(protocols, own, signatures, tuple(problems) + tuple(maker.problems), maker.counts(len(named)))
