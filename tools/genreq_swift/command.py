@@ -9,7 +9,7 @@ from .output import OutputError
 from .program import ProgramFailed
 
 FAILED = 70
-_SUBCOMMANDS = ("text", "signatures", "requirements")
+_SUBCOMMANDS = ("text", "signatures", "requirements", "redundant")
 
 DESCRIPTION = """Reads Swift sources, and answers by genreq what their protocols and generic declarations imply."""
 

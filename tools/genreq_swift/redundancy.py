@@ -11,13 +11,13 @@ Inferred requirements are there to make sides types, and for nothing else: it is
 from collections import Counter
 from dataclasses import dataclass, replace
 import re
-from typing import Dict, FrozenSet, List, Optional, Sequence, Tuple
+from typing import Dict, FrozenSet, List, Mapping, Optional, Sequence, Tuple
 
-from .model import Declaration, Origin, Requirement, RequirementKind, Signature, TypeParameter
+from .model import Declaration, Origin, Place, Requirement, RequirementKind, Signature, TypeParameter
 from .parts import function_part
 from .printed import Conformance, Layout, SameType, read_signature, types_of, unbound
 from .program import Answer, Command, Part, ProgramFailed
-from .questions import Questions
+from .questions import LeftOut, Questions
 
 _WRITTEN = re.compile(r" by (?:CONF|SAME|LAYOUT) (\d+)$")
 
@@ -35,6 +35,10 @@ class Unit:
     @property
     def requirements(self) -> Tuple[Requirement, ...]:
         return tuple(self.declaration.requirements[number] for number in self.numbers)
+
+    @property
+    def place(self) -> Place:
+        return self.requirements[0].place
 
 
 @dataclass(frozen=True)
@@ -140,66 +144,92 @@ def is_minimised(signature: Signature, printed: str) -> bool:
 KINDS = {Conformance: RequirementKind.CONFORMANCE, Layout: RequirementKind.LAYOUT, SameType: RequirementKind.SAME_TYPE}
 
 
-def redundant_in(questions: Questions, signatures: Sequence[Signature]) -> List[Finding]:
-    """The redundant units of signatures, which can all be taken out together. Of several that follow from each other the last ones are told."""
-    minimised = questions.ask(Command.SIGNATURES, [function_part(signature) for signature in signatures]).answers
-    asked = [
-        signature for signature in signatures if signature.label in minimised and not is_minimised(signature, minimised[signature.label][0].line)
-    ]
-    units = [unit for signature in asked for unit in units_of(signature)]
-    found = followed(questions, [first_attempt(unit, frozenset(unit.numbers)) for unit in units])
-    return explained(questions, together(questions, found))
+class Redundancy:
+    """Looks for redundant requirements of signatures. `left_out` tells which signatures, or single requirements of them, could not be asked."""
 
+    def __init__(self, questions: Questions):
+        self.questions = questions
+        self.left_out: List[LeftOut] = []
 
-def followed(questions: Questions, attempts: Sequence[Attempt]) -> List[Attempt]:
-    """The attempts that succeed, as they do, in their order."""
-    found: Dict[int, Attempt] = {}
-    going = dict(enumerate(attempts))
-    while going:
-        answers = questions.ask(Command.ANSWER, [attempt.part("asked_%d" % number) for number, attempt in going.items()]).answers
-        ahead: Dict[int, Attempt] = {}
-        for number, attempt in going.items():
-            given = answers.get("asked_%d" % number)
-            if given and attempt.follows(given):
-                found[number] = attempt
-            elif given:
-                further = attempt.next(given)
-                if further:
+    def findings(self, signatures: Sequence[Signature]) -> List[Finding]:
+        """The redundant units, which can all be taken out together. Of several that follow from each other the last ones are told."""
+        answered = self.questions.ask(Command.SIGNATURES, [function_part(signature) for signature in signatures])
+        self.left_out += answered.left_out
+        minimised = answered.answers
+        asked = [one for one in signatures if one.label in minimised and not is_minimised(one, minimised[one.label][0].line)]
+        units = [unit for signature in asked for unit in units_of(signature)]
+        found = self._followed([first_attempt(unit, frozenset(unit.numbers)) for unit in units])
+        return self._explained(self._together(found))
+
+    def _followed(self, attempts: Sequence[Attempt]) -> List[Attempt]:
+        """The attempts that succeed, with the requirements with which they do, in their order."""
+        found: Dict[int, Attempt] = {}
+        going = dict(enumerate(attempts))
+        while going:
+            answers = self._answers(Command.ANSWER, going, [attempt.part(asked_label(number)) for number, attempt in going.items()])
+            ahead: Dict[int, Attempt] = {}
+            for number, given in answers.items():
+                further = going[number].next(given)
+                if going[number].follows(given):
+                    found[number] = going[number]
+                elif further:
                     ahead[number] = further
-        going = ahead
-    return [found[number] for number in sorted(found)]
+            going = ahead
+        return [found[number] for number in sorted(found)]
+
+    def _answers(self, command: Command, attempts: Mapping[int, Attempt], parts: Sequence[Part]) -> Dict[int, Tuple[Answer, ...]]:
+        """The answers by numbers of attempts. What is not answered is told of its signature."""
+        answered = self.questions.ask(command, parts)
+        reasons = {one.label: one.reason for one in answered.left_out}
+        for number, attempt in attempts.items():
+            if asked_label(number) in reasons:
+                reason = "'%s' is not asked: %s" % (attempt.unit.requirements[0], reasons[asked_label(number)])
+                self.left_out.append(LeftOut(attempt.unit.declaration.label, False, reason))
+        return {number: answered.answers[asked_label(number)] for number in attempts if asked_label(number) in answered.answers}
+
+    def _together(self, attempts: Sequence[Attempt]) -> List[Attempt]:
+        """Those that succeed too without what is found behind them in their signatures, from the last on."""
+        left: Dict[str, List[Attempt]] = {}
+        for attempt in attempts:
+            left.setdefault(attempt.unit.declaration.label, []).append(attempt)
+        found = [waiting.pop() for waiting in left.values()]
+        out = {attempt.unit.declaration.label: frozenset(attempt.unit.numbers) for attempt in found}
+        while any(left.values()):
+            lasts = [waiting.pop().unit for waiting in left.values() if waiting]
+            more = self._followed([first_attempt(unit, out[unit.declaration.label] | frozenset(unit.numbers)) for unit in lasts])
+            for attempt in more:
+                out[attempt.unit.declaration.label] |= frozenset(attempt.unit.numbers)
+            found += more
+        return sorted(found, key=lambda attempt: attempt.unit.place)
+
+    def _explained(self, attempts: Sequence[Attempt]) -> List[Finding]:
+        """The findings with their derivations. What follows from an inferred requirement is none."""
+        numbered = dict(enumerate(attempts))
+        parts = [attempt.part(asked_label(number), with_sides=False) for number, attempt in numbered.items()]
+        answers = self._answers(Command.EXPLAIN, numbered, parts)
+        check(self.questions, [parts[number] for number in answers], [answers[number] for number in answers])
+        found = []
+        for number, given in answers.items():
+            attempt = numbered[number]
+            derivations = tuple(answer.under for answer in given)
+            follows_from = tuple(attempt.unit.declaration.requirements[attempt.used[place]] for place in written_in(derivations))
+            if all(requirement.origin is not Origin.INFERRED for requirement in follows_from):
+                found.append(Finding(attempt.unit, follows_from, derivations))
+        return found
 
 
-def together(questions: Questions, attempts: Sequence[Attempt]) -> List[Attempt]:
-    """Those that succeed also without what is found behind them in their signatures, from the last on."""
-    left: Dict[str, List[Attempt]] = {}
-    for attempt in attempts:
-        left.setdefault(attempt.unit.declaration.label, []).append(attempt)
-    found = [waiting.pop() for waiting in left.values()]
-    out = {attempt.unit.declaration.label: frozenset(attempt.unit.numbers) for attempt in found}
-    while any(left.values()):
-        lasts = [waiting.pop().unit for waiting in left.values() if waiting]
-        more = followed(questions, [first_attempt(unit, out[unit.declaration.label] | frozenset(unit.numbers)) for unit in lasts])
-        for attempt in more:
-            out[attempt.unit.declaration.label] |= frozenset(attempt.unit.numbers)
-        found += more
-    return sorted(found, key=lambda attempt: attempt.unit.requirements[0].place)
+def asked_label(number: int) -> str:
+    """The label of the function of an attempt."""
+    return "asked_%d" % number
 
 
-def explained(questions: Questions, attempts: Sequence[Attempt]) -> List[Finding]:
-    """The findings with their derivations, each accepted by `verify`. What follows from inferred requirements is none."""
-    parts = [attempt.part("asked_%d" % number, with_sides=False) for number, attempt in enumerate(attempts)]
-    answers = questions.ask(Command.EXPLAIN, parts).answers
-    verdicts = questions.verify([part for part in parts if part.label in answers], answers)
-    found = []
-    for attempt, part in zip(attempts, parts):
-        if any(verdict != "ok" for verdict in verdicts.get(part.label, ())):
-            raise ProgramFailed("a derivation of %s is not accepted" % attempt.unit.requirements[0])
-        derivations = tuple(answer.under for answer in answers.get(part.label, ()))
-        follows_from = tuple(attempt.unit.declaration.requirements[attempt.used[number]] for number in written_in(derivations))
-        if derivations and all(requirement.origin is not Origin.INFERRED for requirement in follows_from):
-            found.append(Finding(attempt.unit, follows_from, derivations))
-    return found
+def check(questions: Questions, parts: Sequence[Part], answers: Sequence[Tuple[Answer, ...]]) -> None:
+    """ProgramFailed unless `verify` accepts a derivation of each query."""
+    verdicts = questions.verify(parts, {part.label: given for part, given in zip(parts, answers)})
+    for part in parts:
+        for query, verdict in zip(part.queries, verdicts[part.label]):
+            if verdict != "ok":
+                raise ProgramFailed("`verify` says of the derivation of %s: %s" % (query, verdict))
 
 
 def written_in(derivations: Sequence[Sequence[str]]) -> List[int]:
