@@ -1,18 +1,18 @@
 """`genreq-swift ask`: one query in the context of a declaration."""
 import argparse
 import json
-from dataclasses import dataclass
-from typing import List, Sequence, Tuple
+from dataclasses import dataclass, replace
+from typing import List, Tuple
 
-from .model import Declaration, Reading, Status
+from .model import Declaration, Problem, Protocol, Reading, Status
 from .output import print_text
 from .own_names import OwnNames, own_names
-from .parts import function_part, protocol_part
+from .parts import SELF_OF_FUNCTION, conforming_part, function_part, protocol_part
 from .program import Answer, Command, Part, Program, default_program
 from .query import Labels, Query, declarations_of, read_query
-from .questions import Closure, LeftOut, Questions
+from .questions import Closure, Questions
 from .reading_options import add_reading_options, reading_of
-from .telling import left_out_lines, status_of, tell
+from .telling import SOMETHING_LEFT_OUT, left_out_lines, status_of, tell
 
 NOT_YES = 1
 
@@ -53,28 +53,36 @@ def run(arguments: argparse.Namespace) -> int:
     for one in answered:
         lines += [as_object(one)] if arguments.json else as_lines(one)
     print_text("".join(line + "\n" for line in lines))
-    tell([str(problem) for problem in reading.problems] + left_out_lines(reading, left_out))
-    denied = any(one.answer.line in ("no", "invalid") for one in answered)
-    return NOT_YES if denied else status_of(reading, left_out)
+    tell([str(problem) for problem in reading.problems] + left_out)
+    if any(one.answer.line in ("no", "invalid") for one in answered):
+        return NOT_YES
+    return SOMETHING_LEFT_OUT if left_out else status_of(reading)
 
 
-def answers_to(query: Query, reading: Reading, command: Command, program: Program) -> Tuple[List[Answered], Sequence[LeftOut]]:
-    """The answers of a query in the declarations that it means, and what could not be asked."""
-    declarations, labels = declarations_of(query, reading), Labels(reading.protocols)
-    parts = [asked_part(one, query, labels) for one in declarations]
+def answers_to(query: Query, reading: Reading, command: Command, program: Program) -> Tuple[List[Answered], List[str]]:
+    """The answers of a query in the declarations that it means, and what is told of those that could not be asked."""
+    declarations, labels, names = declarations_of(query, reading), Labels(reading.protocols), own_names(reading)
+    parts = {"asked_%d" % number: asked_part("asked_%d" % number, one, query, labels) for number, one in enumerate(declarations)}
     closure = Closure([protocol_part(protocol) for protocol in reading.protocols])
-    questions = Questions(program, closure.restricted(closure.needed({label for part in parts for label in part.needs})))
-    asked = questions.ask(command, parts)
-    names = own_names(reading)
-    found = [Answered(one, query, in_own_names(asked.answers[part.label][0], one, names)) for one, part in zip(declarations, parts) if part.label in asked.answers]
-    return found, [*questions.protocols_left_out, *asked.left_out]
+    questions = Questions(program, closure.restricted(closure.needed({label for part in parts.values() for label in part.needs})))
+    asked = questions.ask(command, list(parts.values()))
+    of_label = dict(zip(parts, declarations))
+    found = [Answered(of_label[label], query, in_own_names(given[0], of_label[label], names)) for label, given in asked.answers.items()]
+    told = left_out_lines(reading, questions.protocols_left_out)
+    told += [str(Problem("%s is left out: %s" % (of_label[one.label].name, one.reason), of_label[one.label].place)) for one in asked.left_out]
+    return sorted(found, key=lambda one: one.declaration.place), told
 
 
-def asked_part(declaration: Declaration, query: Query, labels: Labels) -> Part:
-    """A declaration as a function of which a query is asked."""
-    asked = labels.of_query(query.asked, declaration.parameters)
-    part = function_part(declaration, None, [asked.text])
-    return Part(part.label, part.text, part.needs | asked.protocols, part.queries)
+def asked_part(label: str, declaration: Declaration, query: Query, labels: Labels) -> Part:
+    """A function of which a query is asked: what a signature says, or what conforms to a protocol."""
+    if isinstance(declaration, Protocol):
+        me = replace(declaration.self_parameter, label=SELF_OF_FUNCTION)
+        asked = labels.of_query(query.asked, [me])
+        part = conforming_part(label, declaration, [asked.text])
+    else:
+        asked = labels.of_query(query.asked, declaration.parameters)
+        part = function_part(replace(declaration, label=label), None, [asked.text])
+    return replace(part, needs=part.needs | asked.protocols)
 
 
 def in_own_names(answer: Answer, declaration: Declaration, names: OwnNames) -> Answer:

@@ -259,16 +259,25 @@ class Names:
                     known.update(self.inherited(bound))
         return known
 
-    def conformances(self, entity: Entity) -> Dict[Entity, None]:
-        """The protocols to which a type is declared to conform without a condition, and those that they inherit."""
-        found: Dict[Entity, None] = {}
+    def conformance(self, entity: Entity, protocol: Entity) -> Optional[Context]:
+        """The declaration that says that a type conforms to a protocol: the type or an extension of it, or one that says more without a condition."""
+        for context in [entity.context] + entity.extensions:
+            if protocol in self._conforms(context):
+                return context
         for context in [entity.context] + entity.extensions:
             if context is entity.context or not context.declaration.conditions:
-                for inherited in context.declaration.inherited:
-                    for bound in self.bounds(inherited.bound, context):
-                        if bound.is_protocol:
-                            found.update(self.inherited(bound))
-        return found
+                if any(protocol in self.inherited(bound) for bound in self._conforms(context)):
+                    return context
+        return None
+
+    def _conforms(self, context: Context) -> List[Entity]:
+        """The protocols in the inheritance clause of a type or of an extension."""
+        return [
+            bound
+            for inherited in context.declaration.inherited
+            for bound in self.bounds(inherited.bound, context)
+            if bound.is_protocol
+        ]
 
     def superclass(self, entity: Entity) -> Optional[Tuple[Entity, Type]]:
         """The class that a class inherits, and how that is written."""

@@ -1,4 +1,5 @@
 """Protocols and signatures as parts of a text for genreq. Requirements stand in a part in the order of the model."""
+from dataclasses import replace
 from typing import FrozenSet, Iterable, List, Optional, Sequence
 
 from .model import Protocol, Requirement, RequirementKind, Signature, TypeParameter, label_of
@@ -11,6 +12,21 @@ def function_part(signature: Signature, requirements: Optional[Sequence[Requirem
     parameters = ", ".join(parameter.label for parameter in signature.parameters)
     text = "func %s%s()%s" % (signature.label, "<%s>" % parameters if parameters else "", where_clause(chosen))
     return Part(signature.label, text, protocols_of(chosen), tuple(queries))
+
+
+# In a function no generic parameter can have the name `Self`.
+SELF_OF_FUNCTION = "Self_"
+
+
+def conforming_part(label: str, protocol: Protocol, queries: Sequence[str] = ()) -> Part:
+    """A function whose one generic parameter conforms to a protocol, and queries of it."""
+    text = "func %s<%s>() where %s : %s" % (label, SELF_OF_FUNCTION, SELF_OF_FUNCTION, protocol.label)
+    return Part(label, text, frozenset([protocol.label]), tuple(queries))
+
+
+def in_function(one: TypeParameter) -> TypeParameter:
+    """A type of a protocol as a type of that function."""
+    return TypeParameter(replace(one.parameter, label=SELF_OF_FUNCTION), one.members)
 
 
 def protocol_part(protocol: Protocol, without: FrozenSet[int] = frozenset()) -> Part:

@@ -1,7 +1,7 @@
 """What genreq's language has, and what it lacks: statements become requirements, or omissions with their causes."""
 from typing import Dict, List, Sequence, Tuple, Union
 
-from .meanings import Meaning, OtherType, Statement, StatementKind
+from .meanings import OtherType, Statement, StatementKind
 from .model import Cause, Omission, Origin, Place, ProtocolName, Requirement, RequirementKind, TypeParameter
 from .names import Entity
 
@@ -61,9 +61,7 @@ def _told(statement: Statement) -> str:
     if statement.text:
         return statement.text
     right = statement.right
-    what = right.name if isinstance(right, Entity) else _shown(right)
-    return "%s %s %s" % (_shown(statement.left), "==" if statement.kind is StatementKind.SAME_TYPE else ":", what)
-
-
-def _shown(meaning: Union[Meaning, None]) -> str:
-    return "" if meaning is None else str(meaning)
+    if statement.kind is StatementKind.SAME_TYPE:
+        return "%s == %s" % (statement.left, right)
+    what = right.name if isinstance(right, Entity) else "AnyObject" if statement.cause is None else statement.cause.value
+    return "%s : %s" % (statement.left, what)

@@ -8,10 +8,10 @@ from dataclasses import replace
 import re
 from typing import Dict, FrozenSet, List, Mapping, Optional, Sequence
 
-from .model import GenericParameter, Protocol, Requirement, TypeParameter
-from .parts import protocol_part
+from .model import Protocol, Requirement
+from .parts import conforming_part, in_function, protocol_part
 from .printed import read_signature
-from .program import LEVELS, Answer, Command, Part, Program
+from .program import LEVELS, Answer, Command, Program
 from .questions import Closure, Questions, requirement_signatures
 from .redundancy import Finding, Unit, check, units_of
 
@@ -47,7 +47,7 @@ class ProtocolRedundancy:
         out[label] = out.get(label, frozenset()) | frozenset(unit.numbers)
         closure = Closure([protocol_part(protocol, out.get(protocol.label, frozenset())) for protocol in self.protocols])
         questions = Questions(self.program, closure.restricted(closure.needed([label])), LEVELS[:1])
-        part = asking_part(unit)
+        part = conforming_part(ASKED, unit.declaration, [query_of(requirement) for requirement in unit.requirements])
         given = questions.ask(Command.EXPLAIN, [part]).answers.get(ASKED)
         if given is None or any(answer.line != "yes" for answer in given):
             return None
@@ -71,17 +71,10 @@ def may_go(unit: Unit, kept: Optional[Answer]) -> bool:
     return True
 
 
-def asking_part(unit: Unit) -> Part:
-    """A function that requires the protocol of a unit, and is asked for the unit."""
-    parameter = GenericParameter("Self", "Self_", 0, 0, unit.place)
-
-    def query(requirement: Requirement) -> str:
-        other = TypeParameter(parameter, requirement.other.members) if requirement.other else None
-        return replace(requirement, subject=TypeParameter(parameter, requirement.subject.members), other=other).labelled
-
-    label = unit.declaration.label
-    text = "func %s<%s>() where %s : %s" % (ASKED, parameter.label, parameter.label, label)
-    return Part(ASKED, text, frozenset([label]), tuple(query(requirement) for requirement in unit.requirements))
+def query_of(requirement: Requirement) -> str:
+    """A requirement of a protocol as a query of what conforms to it."""
+    other = in_function(requirement.other) if requirement.other else None
+    return replace(requirement, subject=in_function(requirement.subject), other=other).labelled
 
 
 def required_in(derivations: Sequence[Sequence[str]], label: str) -> List[int]:

@@ -31,10 +31,11 @@ def add_reading_options(parser: argparse.ArgumentParser) -> None:
 def reading_of(arguments: argparse.Namespace) -> Reading:
     """Reads what the command line names."""
     beside = [str(STANDARD) if name == "standard" else name for name in arguments.beside]
-    return read(arguments.files, beside, _configuration(arguments))
+    return read(arguments.files, beside, configuration_of(arguments))
 
 
-def _configuration(arguments: argparse.Namespace) -> Configuration:
+def configuration_of(arguments: argparse.Namespace) -> Configuration:
+    """The configuration that the command line names."""
     modules = DARWIN_MODULES if arguments.os in DARWIN else LINUX_MODULES
     return Configuration(
         arguments.os,
