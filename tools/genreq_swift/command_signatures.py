@@ -9,10 +9,12 @@ from .model import GenericParameter, Reading, Signature, Status
 from .output import print_text
 from .own_names import OwnNames, own_names
 from .parts import function_part, protocol_part
+from .printed import read_signature
 from .program import Command, Program, default_program
+from .protocol_order import ProtocolOrder
 from .questions import LeftOut, Questions
 from .reading_options import add_reading_options, kept, reading_of
-from .swift_form import as_swift
+from .swift_form import compiler_form
 from .telling import left_out_lines, status_of, tell, told
 
 _PARAMETER = re.compile(r"τ_0_(\d+)")
@@ -36,13 +38,13 @@ def run(arguments: argparse.Namespace) -> int:
     signatures = kept(reading.signatures, arguments.strict)
     questions = Questions(Program(default_program()), [protocol_part(protocol) for protocol in reading.protocols])
     answered = questions.ask(Command.SIGNATURES, [function_part(signature) for signature in signatures])
-    names = own_names(reading)
+    names, key = own_names(reading), ProtocolOrder(reading)
     lines: List[str] = []
     for signature in signatures:
         if signature.label in answered.answers:
             printed = answered.answers[signature.label][0].line
             if arguments.form == "swift":
-                printed = as_swift(printed)
+                printed = str(compiler_form(read_signature(printed), key))
             lines.append(_object(signature, printed, names) if arguments.json else _line(signature, printed, names))
     print_text("".join(line + "\n" for line in lines))
     left_out: Sequence[LeftOut] = (*questions.protocols_left_out, *answered.left_out)
