@@ -130,8 +130,9 @@ class Names:
         if outer is not None:
             outer.members.setdefault(name, member)
             return
-        self._everywhere.setdefault(name, member)
-        self._by_module.setdefault(source.module, {}).setdefault(name, member)
+        if not context.declaration.is_private:
+            self._everywhere.setdefault(name, member)
+            self._by_module.setdefault(source.module, {}).setdefault(name, member)
         self._by_file.setdefault(source.file, {}).setdefault(name, member)
 
     def _bind_extensions(self) -> None:

@@ -88,6 +88,10 @@ class Requirements(unittest.TestCase):
         text = PROTOCOLS + "class Base<T> { typealias M = T }; class Sub<U: P>: Base<U.A> { func f<V: P>(_: V) where V.A == M {} }"
         self.assertEqual(signatures(text)[2:], ["Sub.f <U, V where U : P, V : P, V.A == U.A>"])
 
+    def test_a_private_name_of_another_file_is_not_seen(self):
+        self.assertEqual(signatures("func f<T: P>() {}", "private protocol P {}; public private(set) var x = 1"), ["f <T>"])
+        self.assertEqual(omissions("func f<T: P>(_: some P) {}", "fileprivate protocol P {}"), ["T: P: unknown name", "some_1: P: unknown name"])
+
     def test_a_name_means_what_its_own_file_and_module_declare(self):
         text = PROTOCOLS + "func f<T: P>() {}; func g<T: Beside.P>() {}"
         one, other = reading(text, "protocol P {}").signatures
