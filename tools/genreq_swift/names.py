@@ -271,6 +271,20 @@ class Names:
                     return context
         return None
 
+    def declared_conformances(self, entity: Entity) -> Dict[Entity, None]:
+        """The protocols to which a type, or a superclass of it, is declared to conform without a condition."""
+        found: Dict[Entity, None] = {}
+        seen: Set[Entity] = set()
+        current: Optional[Entity] = entity
+        while current is not None and current not in seen:
+            seen.add(current)
+            for context in [current.context] + current.extensions:
+                if context is current.context or not context.declaration.conditions:
+                    found.update((protocol, None) for protocol in self._conforms(context))
+            superclass = self.superclass(current)
+            current = superclass[0] if superclass is not None else None
+        return found
+
     def _conforms(self, context: Context) -> List[Entity]:
         """The protocols in the inheritance clause of a type or of an extension."""
         return [

@@ -169,6 +169,29 @@ class Omissions(unittest.TestCase):
         self.assertEqual([omission.origin for omission in found[1].omissions], [Origin.CONTEXT, Origin.OWN])
 
 
+class ConcreteTypes(unittest.TestCase):
+    """With --concrete."""
+
+    BESIDE = "protocol Named {}; protocol Hashable {}; struct Key: Hashable {}; extension Key: Named {}; class Base: Named {}; class Sub: Base {}"
+
+    def concrete(self, text):
+        found = reading(PROTOCOLS + text, self.BESIDE, concrete=True).signatures[-1]
+        return shown(found), found.status
+
+    def test_one_stands_as_a_parameter_with_its_declared_conformances(self):
+        self.assertEqual(
+            self.concrete("struct S<T: P> where T.A == Key { func f<U: Q>(_: U) where U.A == Key {} }"),
+            ("<T, U, Key where T : P, T.A == Key, U : Q, U.A == Key, Key : Hashable, Key : Named>", Status.WITH_CONCRETE),
+        )
+
+    def test_a_class_is_an_object_and_conforms_as_its_superclass_does(self):
+        self.assertEqual(self.concrete("func f<T: P>() where T.A == Sub {}")[0], "<T, Sub where T : P, T.A == Sub, Sub : AnyObject, Sub : Named>")
+
+    def test_what_has_generic_arguments_or_is_not_declared_is_left_out_still(self):
+        for text in ["func f<T: P>() where T.A == [Key] {}", "func f<T: P>() where T.A == Unknown {}", "func f<T: P>() where T.A == (Key, Key) {}"]:
+            self.assertEqual(self.concrete(text), ("<T where T : P>", Status.INCOMPLETE))
+
+
 class Protocols(unittest.TestCase):
     def protocol(self, text, name):
         return next(protocol for protocol in reading(text).protocols if protocol.name == name)
