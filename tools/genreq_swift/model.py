@@ -240,12 +240,13 @@ class AssociatedType:
 class Protocol:
     """A protocol.
 
-    Its only generic parameter is `Self`. `inherited` are the requirements of its inheritance clause, `conditions` those of its where clause;
+    `module` is the name of the module in which it is declared. Its only generic parameter is `Self`. `inherited` are the requirements of its inheritance clause, `conditions` those of its where clause;
     each associated type has its own.
     """
 
     name: str
     label: str
+    module: str
     place: Place
     last_line: int
     self_parameter: GenericParameter

@@ -176,8 +176,8 @@ class Names:
         return name in self._by_module or name in _KNOWN_MODULES
 
     def in_module(self, module: str, name: str) -> Optional[Member]:
-        names = self._by_module.get(module)
-        return names.get(name) if names is not None else self._everywhere.get(name)
+        """What a name means with that of a module before it. Modules also tell what they import, so it may be declared in any."""
+        return self._by_module.get(module, {}).get(name) or self._everywhere.get(name)
 
     def referred(self, written: Type, context: Context, depth: int = 0) -> Optional[Member]:
         """The type or protocol to which a name refers, as seen from around a declaration, behind all aliases."""

@@ -7,7 +7,7 @@ from .conditions import DARWIN, DARWIN_MODULES, LINUX_MODULES, Configuration
 from .model import Reading, Signature, Status
 from .reader import read
 
-STANDARD = Path(__file__).resolve().parent / "standard.swift"
+STANDARD = Path(__file__).resolve().parent / "standard"
 
 
 def add_reading_options(parser: argparse.ArgumentParser) -> None:
@@ -19,7 +19,7 @@ def add_reading_options(parser: argparse.ArgumentParser) -> None:
         action="append",
         default=[],
         metavar="FILE|FOLDER|standard",
-        help="reads these beside, for the names that the files mean; `standard` is the outline of Swift's standard library that comes along",
+        help="reads these beside, for the names that the files mean; `standard` is the outline of Swift's standard library that comes with this tool",
     )
     parser.add_argument("--os", default="Linux", metavar="NAME", help="the system for which #if is read (Linux)")
     parser.add_argument("--arch", default="x86_64", metavar="NAME", help="the processor for which #if is read (x86_64)")

@@ -112,6 +112,7 @@ class SignatureMaker:
         return Protocol(
             entity.name,
             self.profile.labels[entity],
+            source.module,
             source.place(declaration.start),
             source.line(max(declaration.start, declaration.end - 1)),
             split.parameter,
