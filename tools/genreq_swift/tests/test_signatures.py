@@ -95,6 +95,28 @@ class Requirements(unittest.TestCase):
             ],
         )
 
+    def test_of_aliases_of_one_name_that_of_the_conformance_is_meant(self):
+        text = """
+        protocol P1 { associatedtype A; typealias X = A }
+        protocol P2 { associatedtype B; typealias X = B; typealias Y = B }
+        protocol P3: P2 { associatedtype C: P1 where D: P2; associatedtype D }
+        protocol P4 { associatedtype Y }
+        func f<T: P1, U: P3>(_: T, _: U) where T.X == U.X, U.C.X == U.D.X, U.Y == T {}
+        func g<T, U>(_: T, _: U) where T.X == U.Y, T: P2, U: P4 {}
+        """
+        self.assertEqual(
+            signatures(text),
+            ["f <T, U where T : P1, U : P3, T.A == U.B, U.C.A == U.D.B, U.B == T>", "g <T, U where T.B == U.Y, T : P2, U : P4>"],
+        )
+
+    def test_aliases_of_protocols_are_members_of_the_types_that_conform(self):
+        text = PROTOCOLS + "protocol N { associatedtype M; typealias X = M }; struct S<T>: N { typealias M = T; func f<U: P>(_: U) where U.A == X {} }"
+        self.assertEqual(signatures(text)[1], "S.f <T, U where U : P, U.A == T>")
+
+    def test_a_generic_alias_without_arguments_has_no_meaning(self):
+        text = PROTOCOLS + "struct S<T> { typealias M = T; typealias N<U> = U }; func f<T: P>(_: T) where T.A == S.M, T.A == S<T>.N {}"
+        self.assertEqual(omissions(text), ["T.A == S.M: unknown name", "T.A == S<T>.N: unknown name"])
+
     def test_members_of_a_superclass_are_found(self):
         text = PROTOCOLS + "class Base<T> { typealias M = T }; class Sub<U: P>: Base<U.A> { func f<V: P>(_: V) where V.A == M {} }"
         self.assertEqual(signatures(text)[2:], ["Sub.f <U, V where U : P, V : P, V.A == U.A>"])
@@ -143,6 +165,12 @@ class Inferred(unittest.TestCase):
         self.assertEqual(self.inferred("func f<T>(_: Set<[T]>) {}"), (["T : Hashable"], Status.WHOLE))
         self.assertEqual(self.inferred("func f<T>(_: Set<Set<T>>) {}"), (["T : Hashable"], Status.WHOLE))
         self.assertEqual(self.inferred("struct S<U> {}; func f<T>(_: Set<S<T>>) {}")[0], [])
+
+    def test_what_grows_without_end_is_given_up(self):
+        text = "struct B<T> {}; extension B: Hashable where B<B<T>>: Hashable {}; func f<T>(_: Set<B<T>>) {}"
+        self.assertEqual(reading(text, self.BESIDE).signatures[-1].status, Status.INCOMPLETE)
+        doubling = "typealias A<T> = (T, T);" + "".join("typealias A%d<T> = A%s<A%s<T>>;" % (n, n - 1 or "", n - 1 or "") for n in range(1, 9))
+        self.assertEqual(len(reading(doubling + "func f<T>(_: A8<T>) {}").signatures), 10)
 
     def test_nothing_is_inferred_of_a_declaration_without_generics_of_its_own(self):
         self.assertEqual(signatures("struct S<T> { func f(_: Set<T>) {} }", self.BESIDE), ["S <T>"])
