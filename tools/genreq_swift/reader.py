@@ -1,0 +1,50 @@
+"""Reads Swift sources: from files and folders to protocols and signatures."""
+import sys
+from typing import List, Sequence, Tuple
+
+from .conditions import Configuration
+from .declarations import DeclarationSyntax, read_declarations
+from .model import Problem, Reading
+from .signatures import SignatureMaker, needed_protocols
+from .sources import read_files
+from .tokens import Source, SourceError
+
+_DEEPEST = 3000  # nested calls; what is nested more deeply is told
+ReadFile = Tuple[Source, Tuple[DeclarationSyntax, ...]]
+
+
+def read(paths: Sequence[str], beside: Sequence[str] = (), configuration: Configuration = Configuration()) -> Reading:
+    """Reads sources, and others beside them whose signatures are not wanted, but to which names may refer."""
+    problems: List[Problem] = []
+    named = _declarations(paths, configuration, problems)
+    seen = {source.file for source, _ in named}
+    others = [(source, declared) for source, declared in _declarations(beside, configuration, problems) if source.file not in seen]
+    return reading_of(named, others, problems)
+
+
+def _declarations(paths: Sequence[str], configuration: Configuration, problems: List[Problem]) -> List[ReadFile]:
+    files = read_files(paths)
+    problems += files.problems
+    found: List[ReadFile] = []
+    before = sys.getrecursionlimit()
+    sys.setrecursionlimit(max(before, _DEEPEST))
+    try:
+        for source in files.sources:
+            try:
+                found.append((source, read_declarations(source, configuration)))
+            except SourceError as error:
+                problems.append(Problem(error.message, error.place, source.file))
+    finally:
+        sys.setrecursionlimit(before)
+    return found
+
+
+def reading_of(named: Sequence[ReadFile], others: Sequence[ReadFile], problems: Sequence[Problem] = ()) -> Reading:
+    """The protocols and signatures of files that are read."""
+    maker = SignatureMaker(list(named) + list(others))
+    all_protocols = tuple(maker.protocols())
+    signatures = tuple(signature for roots in maker.names.roots[: len(named)] for signature in maker.signatures(roots))
+    own_files = {source.file for source, _ in named}
+    own = {protocol.label for protocol in all_protocols if protocol.place.file in own_files}
+    protocols = needed_protocols(all_protocols, own, signatures)
+    return Reading(protocols, signatures, tuple(problems) + tuple(maker.problems), maker.counts(len(named)))

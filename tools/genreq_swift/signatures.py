@@ -1,0 +1,245 @@
+"""How declarations become protocols and signatures."""
+from dataclasses import dataclass, replace
+import re
+from typing import Dict, Iterator, List, Optional, Sequence, Set, Tuple
+
+from .declarations import DeclarationSyntax
+from .meanings import Statement, StatementKind
+from .model import (
+    AssociatedType, Counts, DeclarationKind, Omission, Origin, Problem, Protocol, Reading, Requirement, Signature, TypeParameter, label_of
+)
+from .names import Context, Entity, Names
+from .profile import Profile
+from .scopes import Scope, Scopes
+from .tokens import Source
+from .type_syntax import NamedType
+
+_WITH_SIGNATURE = frozenset(
+    (
+        DeclarationKind.FUNCTION,
+        DeclarationKind.INITIALISER,
+        DeclarationKind.SUBSCRIPT,
+        DeclarationKind.TYPEALIAS,
+        DeclarationKind.STRUCT,
+        DeclarationKind.CLASS,
+        DeclarationKind.ENUM,
+        DeclarationKind.ACTOR,
+        DeclarationKind.EXTENSION,
+    )
+)
+
+
+@dataclass
+class _Tally:
+    not_generic: int = 0
+    as_around: int = 0
+    of_unknown_types: int = 0
+
+
+class SignatureMaker:
+    """Makes the protocols and signatures of sources that are read."""
+
+    def __init__(self, files: Sequence[Tuple[Source, Sequence[DeclarationSyntax]]]):
+        self.names = Names(files)
+        self.scopes = Scopes(self.names)
+        self.profile = Profile(_labels(self.names.protocols))
+        self.problems: List[Problem] = []
+        self._around: Dict[Context, Tuple[List[Requirement], List[Omission]]] = {}
+        self._tally = _Tally()
+        self._number = 0
+
+    def counts(self, files: int) -> Counts:
+        tally = self._tally
+        return Counts(files, tally.not_generic, tally.as_around, tally.of_unknown_types)
+
+    # Protocols.
+
+    def protocols(self) -> Iterator[Protocol]:
+        for entity in self.names.protocols:
+            try:
+                yield self._protocol(entity)
+            except RecursionError:
+                place = entity.context.source.place(entity.context.declaration.start)
+                self.problems.append(Problem("protocol %s is nested too deeply" % entity.name, place))
+
+    def _protocol(self, entity: Entity) -> Protocol:
+        context = entity.context
+        declaration, source = context.declaration, context.source
+        scope = self.scopes.scope(context)
+        subject = TypeParameter(scope.parameters[0])
+        omissions: List[Omission] = []
+        inherited, left_out = self.profile.split(self._inherited(declaration, subject, context, scope))
+        omissions += left_out
+        stated = [statement for condition in declaration.conditions for statement in self.scopes.condition(condition, context, scope)]
+        conditions, left_out = self.profile.split(stated + self._alias_equations(entity, subject))
+        omissions += left_out
+        members: List[AssociatedType] = []
+        for member in context.members:
+            name = member.declaration.name
+            if member.kind is DeclarationKind.ASSOCIATED_TYPE and all(known.name != name for known in members):
+                stated = self._inherited(member.declaration, subject.member(name), context, scope)
+                stated += [
+                    statement for condition in member.declaration.conditions for statement in self.scopes.condition(condition, context, scope)
+                ]
+                requirements, left_out = self.profile.split(stated)
+                omissions += left_out
+                members.append(AssociatedType(name, source.place(member.declaration.start), tuple(requirements)))
+        known = {name for protocol in self.names.inherited(entity) for name in protocol.associated}
+        return Protocol(
+            entity.name,
+            self.profile.labels[entity],
+            source.place(declaration.start),
+            source.line(max(declaration.start, declaration.end - 1)),
+            scope.parameters[0],
+            tuple(name for name in dict.fromkeys(declaration.primaries) if name in known),
+            tuple(inherited),
+            tuple(conditions),
+            tuple(members),
+            tuple(omissions),
+        )
+
+    def _inherited(self, declaration: DeclarationSyntax, subject: TypeParameter, context: Context, scope: Scope) -> List[Statement]:
+        """What an inheritance clause states."""
+        return [
+            statement
+            for inherited in declaration.inherited
+            for statement in self.scopes.stated(
+                subject,
+                self.scopes.bounds(inherited.bound, context, scope),
+                context.source,
+                "%s: %s" % (subject, context.source.written(inherited.start, inherited.end)),
+            )
+        ]
+
+    def _alias_equations(self, entity: Entity, subject: TypeParameter) -> List[Statement]:
+        """An alias and an associated type of one name, the one in a protocol and the other in one that it inherits, are equal."""
+        found: List[Statement] = []
+        inherited = self.names.inherited(entity)
+        for protocol in inherited:
+            for member in protocol.context.members:
+                declaration = member.declaration
+                if member.kind is not DeclarationKind.TYPEALIAS or declaration.parameters or declaration.target is None:
+                    continue
+                meet = inherited if protocol is entity else (entity,)
+                if any(declaration.name in other.associated for other in meet if other is not protocol):
+                    right = self.scopes.meaning(declaration.target, member, self.scopes.scope(member))
+                    left = subject.member(declaration.name)
+                    text = "%s == %s" % (left, right)
+                    start = declaration.start if protocol is entity else entity.context.declaration.start
+                    found.append(
+                        Statement(StatementKind.SAME_TYPE, left, right, entity.context.source, start, start, text, Origin.INFERRED)
+                    )
+        return found
+
+    # Signatures.
+
+    def signatures(self, contexts: Sequence[Context]) -> Iterator[Signature]:
+        """The signatures of declarations and of all that is declared in them, in written order."""
+        for context in contexts:
+            if context.kind is DeclarationKind.EXTENSION and context.entity is None:
+                self._tally.of_unknown_types += 1
+                continue
+            if context.kind in _WITH_SIGNATURE:
+                try:
+                    signature = self._signature(context)
+                except RecursionError:
+                    place = context.source.place(context.declaration.start)
+                    self.problems.append(Problem("the declaration is nested too deeply", place))
+                    signature = None
+                if signature is not None:
+                    yield signature
+            if context.members:
+                yield from self.signatures(context.members)
+
+    def _signature(self, context: Context) -> Optional[Signature]:
+        if not self.scopes.scope(context).parameters:
+            self._tally.not_generic += 1
+            return None
+        if not _has_own(context):
+            self._tally.as_around += 1
+            return None
+        declaration, source = context.declaration, context.source
+        scope = self.scopes.scope(context)
+        requirements, omissions = self._split_around(context)
+        own, left_out = self.profile.split(scope.own)
+        self._number += 1
+        name = _name(context)
+        return Signature(
+            name,
+            "%s_%d" % (_word(context), self._number),
+            context.kind,
+            source.place(declaration.start),
+            source.line(max(declaration.start, declaration.end - 1)),
+            tuple(scope.parameters),
+            tuple(requirements) + tuple(own),
+            tuple(omissions) + tuple(left_out),
+        )
+
+    def _split_around(self, context: Context) -> Tuple[List[Requirement], List[Omission]]:
+        """The requirements and omissions of what is around a declaration."""
+        around = context.entity.context if context.kind is DeclarationKind.EXTENSION and context.entity is not None else context.parent
+        if around is None:
+            return [], []
+        known = self._around.get(around)
+        if known is None:
+            known = self._around[around] = self.profile.split(self.scopes.scope(around).statements, Origin.CONTEXT)
+        return known
+
+
+def _has_own(context: Context) -> bool:
+    """Whether a declaration has generic parameters or a where clause, or an extension arguments."""
+    declaration = context.declaration
+    if declaration.parameters or declaration.conditions:
+        return True
+    target = declaration.target
+    return context.kind is DeclarationKind.EXTENSION and isinstance(target, NamedType) and bool(target.steps[-1].arguments)
+
+
+def _name(context: Context) -> str:
+    """The name of a declaration behind those around it."""
+    if context.entity is not None:
+        return context.entity.name
+    if context.parent is not None:
+        return "%s.%s" % (_name(context.parent), context.declaration.name)
+    return context.declaration.name
+
+
+def _word(context: Context) -> str:
+    """The word that the label of a declaration begins with."""
+    if context.kind is DeclarationKind.EXTENSION and context.entity is not None:
+        return "extension_" + _label("_".join(context.entity.path))
+    return _label(context.declaration.name)
+
+
+def _label(name: str) -> str:
+    return label_of(name) if re.search(r"\w", name) else "operator"
+
+
+def _labels(protocols: Sequence[Entity]) -> Dict[Entity, str]:
+    """A label for each protocol, made of its path."""
+    labels: Dict[Entity, str] = {}
+    taken: Set[str] = set()
+    for entity in protocols:
+        first = label = label_of("_".join(entity.path))
+        number = 1
+        while label in taken:
+            number += 1
+            label = "%s_%d" % (first, number)
+        taken.add(label)
+        labels[entity] = label
+    return labels
+
+
+def needed_protocols(protocols: Sequence[Protocol], always: Set[str], signatures: Sequence[Signature]) -> Tuple[Protocol, ...]:
+    """Of all protocols those with the given labels, and what they and the signatures need, in order."""
+    by_label = {protocol.label: protocol for protocol in protocols}
+    waiting = [label for label in always if label in by_label] + [
+        requirement.protocol.label for signature in signatures for requirement in signature.requirements if requirement.protocol is not None
+    ]
+    found: Set[str] = set()
+    while waiting:
+        label = waiting.pop()
+        if label in by_label and label not in found:
+            found.add(label)
+            waiting += [requirement.protocol.label for requirement in by_label[label].requirements if requirement.protocol is not None]
+    return tuple(protocol for protocol in protocols if protocol.label in found)
