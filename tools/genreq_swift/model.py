@@ -49,8 +49,9 @@ class Place:
 class GenericParameter:
     """A generic parameter of a signature.
 
-    `name` is its own name: `Self` in a protocol and its extensions, `some_1` and so on for those that stand for `some P`. `depth` and `index`
-    are those of the compiler, so that it prints τ_depth_index. `place` is where it is declared.
+    `name` is its own name: `Self` in a protocol and its extensions, `some_1` and so on for those that stand for `some P`. In a protocol the
+    label of `Self` is `Self`, and in a signature a name. `depth` and `index` are those of the compiler, so that it prints τ_depth_index.
+    `place` is where it is declared.
     """
 
     name: str

@@ -86,17 +86,26 @@ class Scopes:
         around = self._scope_around(context)
         scope = self._scopes[context] = Scope(around)
         self._declare_parameters(context, scope)
-        needs = _Needs(self, context, scope)
-        with needs:
+        try:
+            self._state_all(context, scope)
+        except RecursionError:
+            del self._scopes[context]
+            raise
+        return scope
+
+    def _state_all(self, context: Context, scope: Scope) -> None:
+        """States what a declaration requires itself."""
+        declaration, kind = context.declaration, context.kind
+        needs: List[Statement] = []
+        with _Noting(self, needs):
             self._state_bounds(context, scope)
             if kind is DeclarationKind.EXTENSION:
                 self._state_target(context, scope)
-            for condition in context.declaration.conditions:
+            for condition in declaration.conditions:
                 scope.own += self.condition(condition, context, scope)
-            if kind in _INFERRING and (context.declaration.parameters or context.declaration.conditions):
+            if kind in _INFERRING and (declaration.parameters or declaration.conditions):
                 self._look_at_types(context, scope)
-        needs.state()
-        return scope
+        self._infer(needs, context, scope)
 
     def _scope_around(self, context: Context) -> Optional[Scope]:
         if context.kind is DeclarationKind.EXTENSION:
@@ -181,7 +190,8 @@ class Scopes:
         if not isinstance(alias, Alias) or not alias.context.declaration.parameters or alias.context.declaration.target is None:
             return
         alias_scope = self.scope(alias.context)
-        meant = self.meaning(alias.context.declaration.target, alias.context, alias_scope)
+        with _Noting(self, None):
+            meant = self.meaning(alias.context.declaration.target, alias.context, alias_scope)
         if not isinstance(meant, NominalType) or not meant.arguments:
             return
         sides: Replacement = {}
@@ -203,6 +213,19 @@ class Scopes:
             self.meaning(written, context, scope)
         if declaration.thrown is not None:
             self._need_error(self.meaning(declaration.thrown, context, scope), context)
+
+    def _infer(self, needs: Sequence[Statement], context: Context, scope: Scope) -> None:
+        """States what the types of a declaration need, but for what is stated already or has no type parameter."""
+        start = context.declaration.start
+        known = {statement.same_as() for statement in scope.statements} if needs else set()
+        for statement in needs:
+            if statement.cause is Cause.SUPPRESSED or not any(has_parameters(side) for side in statement.sides()):
+                continue
+            if statement.same_as() not in known:
+                known.add(statement.same_as())
+                scope.own.append(
+                    replace(statement, source=context.source, start=start, clause=start, text="", origin=Origin.INFERRED, argument=False)
+                )
 
     # Requirements.
 
@@ -273,11 +296,8 @@ class Scopes:
             return [_cause(Cause.UNKNOWN, start)]
         meant = tuple(self.meaning(argument, context, scope) for argument in arguments)
         alias_scope = self.scope(alias)
-        self._aliases_open += 1
-        try:
+        with _Noting(self, None):
             bounds = self.bounds(alias.declaration.target, alias, alias_scope)
-        finally:
-            self._aliases_open -= 1
         sides = self._sides(found, alias_scope, meant)
         return [
             replace(
@@ -421,7 +441,8 @@ class Scopes:
             self._superclasses[entity] = None
             written = self.names.superclass(entity)
             if written is not None:
-                self._superclasses[entity] = self.meaning(written[1], entity.context, self.scope(entity.context))
+                with _Noting(self, None):
+                    self._superclasses[entity] = self.meaning(written[1], entity.context, self.scope(entity.context))
         return self._superclasses[entity]
 
     def _outer_sides(self, outer: NominalType) -> Replacement:
@@ -488,13 +509,8 @@ class Scopes:
         if alias.declaration.target is None or self._aliases_open > _DEEPEST_ALIAS:
             return OtherType(name, Cause.UNKNOWN, arguments)
         alias_scope = self.scope(alias)
-        needs, self._needs = self._needs, None
-        self._aliases_open += 1
-        try:
+        with _Noting(self, None):
             meant = self.meaning(alias.declaration.target, alias, alias_scope)
-        finally:
-            self._aliases_open -= 1
-            self._needs = needs
         sides = self._sides(found, alias_scope, arguments)
         if self._needs is not None and arguments:
             self._needs += [self.replaced_statement(statement, sides) for statement in alias_scope.own]
@@ -578,36 +594,21 @@ class Scopes:
             )
 
 
-class _Needs:
-    """Notes what the types of a declaration need while they are looked at, and states it behind all else."""
+class _Noting:
+    """While this is open, what the types that are looked at need is noted in a list; or nowhere, as in an alias."""
 
-    def __init__(self, scopes: Scopes, context: Context, scope: Scope):
+    def __init__(self, scopes: Scopes, noted: Optional[List[Statement]]):
         self.scopes = scopes
-        self.context = context
-        self.scope = scope
-        self.found: List[Statement] = []
+        self.noted = noted
         self.before: Optional[List[Statement]] = None
 
     def __enter__(self) -> None:
-        self.before, self.scopes._needs = self.scopes._needs, self.found
+        self.before, self.scopes._needs = self.scopes._needs, self.noted
+        self.scopes._aliases_open += self.noted is None
 
     def __exit__(self, *_: object) -> None:
         self.scopes._needs = self.before
-
-    def state(self) -> None:
-        start = self.context.declaration.start
-        known = {statement.same_as() for statement in self.scope.statements} if self.found else set()
-        for statement in self.found:
-            if statement.cause is Cause.SUPPRESSED or not any(has_parameters(side) for side in statement.sides()):
-                continue
-            key = statement.same_as()
-            if key not in known:
-                known.add(key)
-                self.scope.own.append(
-                    replace(
-                        statement, source=self.context.source, start=start, clause=start, text="", origin=Origin.INFERRED, argument=False
-                    )
-                )
+        self.scopes._aliases_open -= self.noted is None
 
 
 def _cause(cause: Cause, start: int) -> Bound:

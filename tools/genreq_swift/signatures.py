@@ -6,7 +6,18 @@ from typing import Dict, Iterator, List, Optional, Sequence, Set, Tuple
 from .declarations import DeclarationSyntax
 from .meanings import Statement, StatementKind
 from .model import (
-    AssociatedType, Counts, DeclarationKind, Omission, Origin, Problem, Protocol, Reading, Requirement, Signature, TypeParameter, label_of
+    AssociatedType,
+    Counts,
+    DeclarationKind,
+    GenericParameter,
+    Omission,
+    Origin,
+    Problem,
+    Protocol,
+    Requirement,
+    Signature,
+    TypeParameter,
+    label_of,
 )
 from .names import Context, Entity, Names
 from .profile import Profile
@@ -34,6 +45,26 @@ class _Tally:
     not_generic: int = 0
     as_around: int = 0
     of_unknown_types: int = 0
+
+
+class _ProtocolSplit:
+    """Splits what a protocol states, and collects its omissions. In a text for genreq the `Self` of a protocol is `Self`."""
+
+    def __init__(self, profile: Profile, parameter: GenericParameter):
+        self.profile = profile
+        self.parameter = replace(parameter, label="Self")
+        self.omissions: List[Omission] = []
+
+    def kept(self, statements: Sequence[Statement]) -> Tuple[Requirement, ...]:
+        requirements, omissions = self.profile.split(statements)
+        self.omissions += omissions
+        return tuple(
+            replace(requirement, subject=self._own(requirement.subject), other=requirement.other and self._own(requirement.other))
+            for requirement in requirements
+        )
+
+    def _own(self, one: TypeParameter) -> TypeParameter:
+        return TypeParameter(self.parameter, one.members)
 
 
 class SignatureMaker:
@@ -67,36 +98,33 @@ class SignatureMaker:
         declaration, source = context.declaration, context.source
         scope = self.scopes.scope(context)
         subject = TypeParameter(scope.parameters[0])
-        omissions: List[Omission] = []
-        inherited, left_out = self.profile.split(self._inherited(declaration, subject, context, scope))
-        omissions += left_out
-        stated = [statement for condition in declaration.conditions for statement in self.scopes.condition(condition, context, scope)]
-        conditions, left_out = self.profile.split(stated + self._alias_equations(entity, subject))
-        omissions += left_out
-        members: List[AssociatedType] = []
+        split = _ProtocolSplit(self.profile, scope.parameters[0])
+        inherited = split.kept(self._inherited(declaration, subject, context, scope))
+        conditions = split.kept(self._conditions(declaration, context, scope) + self._alias_equations(entity, subject))
+        members: Dict[str, AssociatedType] = {}
         for member in context.members:
             name = member.declaration.name
-            if member.kind is DeclarationKind.ASSOCIATED_TYPE and all(known.name != name for known in members):
+            if member.kind is DeclarationKind.ASSOCIATED_TYPE and name not in members:
                 stated = self._inherited(member.declaration, subject.member(name), context, scope)
-                stated += [
-                    statement for condition in member.declaration.conditions for statement in self.scopes.condition(condition, context, scope)
-                ]
-                requirements, left_out = self.profile.split(stated)
-                omissions += left_out
-                members.append(AssociatedType(name, source.place(member.declaration.start), tuple(requirements)))
+                stated += self._conditions(member.declaration, context, scope)
+                members[name] = AssociatedType(name, source.place(member.declaration.start), split.kept(stated))
         known = {name for protocol in self.names.inherited(entity) for name in protocol.associated}
         return Protocol(
             entity.name,
             self.profile.labels[entity],
             source.place(declaration.start),
             source.line(max(declaration.start, declaration.end - 1)),
-            scope.parameters[0],
+            split.parameter,
             tuple(name for name in dict.fromkeys(declaration.primaries) if name in known),
-            tuple(inherited),
-            tuple(conditions),
-            tuple(members),
-            tuple(omissions),
+            inherited,
+            conditions,
+            tuple(members.values()),
+            tuple(split.omissions),
         )
+
+    def _conditions(self, declaration: DeclarationSyntax, context: Context, scope: Scope) -> List[Statement]:
+        """What a where clause states."""
+        return [statement for condition in declaration.conditions for statement in self.scopes.condition(condition, context, scope)]
 
     def _inherited(self, declaration: DeclarationSyntax, subject: TypeParameter, context: Context, scope: Scope) -> List[Statement]:
         """What an inheritance clause states."""

@@ -1,0 +1,51 @@
+"""What is told on the standard error: what was not read or not answered, and how much of the rest is whole."""
+from collections import Counter
+import sys
+from typing import Iterable, List, Sequence
+
+from .model import Declaration, Problem, Reading, Status
+from .questions import LeftOut
+
+SOMETHING_LEFT_OUT = 3
+
+
+def tell(lines: Iterable[str]) -> None:
+    """Writes lines to the standard error."""
+    sys.stderr.write("".join(line + "\n" for line in lines))
+
+
+def told(reading: Reading) -> List[str]:
+    """What is told of a reading: what could not be read, and how much of the rest is whole."""
+    lines = [str(problem) for problem in reading.problems]
+    lines += _count_lines("signatures", reading.signatures)
+    lines += _count_lines("protocols", reading.protocols)
+    if reading.counts.of_unknown_types:
+        lines.append("%d extensions of types that are not declared here are left out" % reading.counts.of_unknown_types)
+    return lines
+
+
+def _count_lines(what: str, declarations: Sequence[Declaration]) -> List[str]:
+    statuses = Counter(declaration.status for declaration in declarations)
+    lines = [
+        "%d %s: %d whole, %d without ~Copyable, %d incomplete"
+        % (len(declarations), what, statuses[Status.WHOLE], statuses[Status.WITHOUT_SUPPRESSED], statuses[Status.INCOMPLETE])
+    ]
+    causes = Counter(cause for declaration in declarations for cause in {omission.cause for omission in declaration.omissions})
+    lines += ["  %d with %s" % (count, cause.value) for cause, count in causes.most_common()]
+    return lines
+
+
+def left_out_lines(reading: Reading, left_out: Sequence[LeftOut]) -> List[str]:
+    """A line for each declaration that genreq was not asked of, or did not answer."""
+    by_label: "dict[tuple[bool, str], Declaration]" = {(True, protocol.label): protocol for protocol in reading.protocols}
+    by_label.update({(False, signature.label): signature for signature in reading.signatures})
+    lines = []
+    for one in left_out:
+        declaration = by_label[one.is_protocol, one.label]
+        lines.append(str(Problem("%s is left out: %s" % (declaration.name, one.reason), declaration.place)))
+    return lines
+
+
+def status_of(reading: Reading, left_out: Sequence[LeftOut] = ()) -> int:
+    """The status of a run in which nothing else was found."""
+    return SOMETHING_LEFT_OUT if reading.problems or left_out else 0
