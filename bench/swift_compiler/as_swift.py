@@ -1,60 +1,46 @@
-"""A text for genreq as Swift, so that the compiler answers for the same text.
+"""Functions and protocols of a text for genreq as Swift, so that the compiler answers for the same text.
 
-A function gets an unnamed parameter for each generic parameter, since Swift wants each to be used, and a body. What is asked goes."""
+Protocols are Swift already. A function gets an unnamed parameter for each generic parameter, since Swift wants each to be used, and a body."""
+from dataclasses import dataclass
 import re
-from typing import Iterator, List
+from typing import Dict, List, Sequence
 
-TOKEN = re.compile(r"//[^\n\r]*|/\*.*?\*/|\w+|==|\S", re.S)
-ITEMS = frozenset(["func", "protocol", "struct", "query", "}", ";", "{"])
+FUNCTION = re.compile(r"func (?P<name>\w+)(?:<(?P<generics>[\w, ]*)>)?\(\)(?P<clause>.*)")
 # The standard library of the compiler declares it, and is not there.
-BEFORE = "typealias AnyObject = Builtin.AnyObject\n"
+FIRST = "typealias AnyObject = Builtin.AnyObject"
 # The compiler has these itself.
-ITS_OWN = re.compile(r"^protocol (?:Copyable|Escapable)\s*\{\s*\}\n", re.M)
+ITS_OWN = re.compile(r"protocol (?:Copyable|Escapable)\b")
 
 
-def tokens(text: str) -> List[str]:
-    return [token for token in TOKEN.findall(text) if not token.startswith(("//", "/*"))]
+class Untranslated(Exception):
+    """A function that is not written as it should be."""
 
 
-def generic_parameters(words: List[str]) -> List[str]:
-    """The names of a function's generic parameters: the words behind `<` and `,` in its outer angles."""
-    names, depth = [], 0
-    for before, word in zip(words, words[1:]):
-        depth += (before == "<") - (before == ">")
-        if depth == 1 and before in "<,":
-            names.append(word)
-        if before == ">" and depth == 0:
-            break
-    return names
+@dataclass(frozen=True)
+class SwiftText:
+    """A text, and which function or protocol begins on each of its lines."""
+
+    content: str
+    label_at: Dict[int, str]
 
 
-def function(words: List[str]) -> str:
-    """A function, from its word `func` on."""
-    at = words.index("(")
-    names = generic_parameters(words[2:at]) if words[2] == "<" else []
-    parameters = ", ".join("_: %s.Type" % name for name in names)
-    return " ".join(words[:at] + ["(" + parameters + ")"] + words[at + 2 :] + ["{}"])
+def function(text: str) -> str:
+    """A function with the names of its generic parameters in angles, and its requirements in a where clause."""
+    found = FUNCTION.fullmatch(text)
+    if not found:
+        raise Untranslated("no function of a text for genreq: %s" % text)
+    generics = found["generics"] or ""
+    parameters = ", ".join("_: %s.Type" % name for name in generics.split(", ") if name)
+    angles = "<%s>" % generics if generics else ""
+    return "func %s%s(%s)%s {}" % (found["name"], angles, parameters, found["clause"])
 
 
-def pieces(words: List[str]) -> Iterator[str]:
-    """The items of a text in order, each as Swift."""
-    at = 0
-    while at < len(words):
-        end = at + 1
-        while end < len(words) and words[end] not in ITEMS:
-            end += 1
-        if words[at] == "func":
-            yield function(words[at:end])
-            at = end + 2 if words[end : end + 2] == ["{", "}"] else end
-        elif words[at] == "query":
-            at = end
-        elif words[at] == ";":
-            at += 1
-        else:
-            yield " ".join("\n  " + word if word == "associatedtype" else word for word in words[at:end])
-            at = end
-
-
-def as_swift(text: str) -> str:
-    made = "\n".join(pieces(tokens(text)))
-    return BEFORE + ITS_OWN.sub("", re.sub(r" ([.,]) ?", lambda mark: mark[1] + (" " if mark[1] == "," else ""), made)) + "\n"
+def as_swift(protocols: Sequence[str], functions: Sequence[str]) -> SwiftText:
+    """The text of these protocols and functions, as each stands in a text for genreq."""
+    lines: List[str] = [FIRST]
+    label_at: Dict[int, str] = {}
+    pieces = [text for text in protocols if not ITS_OWN.match(text)] + [function(text) for text in functions]
+    for piece in pieces:
+        label_at[len(lines) + 1] = re.split(r"[^\w]", piece.split(" ", 1)[1], maxsplit=1)[0]
+        lines += piece.split("\n")
+    return SwiftText("\n".join(lines) + "\n", label_at)

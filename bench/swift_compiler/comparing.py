@@ -1,8 +1,8 @@
 """The signatures of a module, ours beside the compiler's, each by its place."""
-from collections import Counter
 from dataclasses import dataclass
 from pathlib import Path
-from typing import Counter as CounterType, Dict, List, Optional, Sequence, Tuple
+import re
+from typing import List, Optional, Sequence, Tuple
 
 from swift_compiler.forms import Form, Likeness, Malformed, form_of, likeness
 from swift_compiler.ours import Own
@@ -12,6 +12,7 @@ EXTENSION = "extension"
 PROTOCOL = "protocol"
 INCOMPLETE = "incomplete"
 WHOLE = "whole"
+BOUND = re.compile(r"\[[^\]]*\]")
 
 
 @dataclass(frozen=True)
@@ -26,8 +27,10 @@ class Pair:
         return self.theirs is not None and not self.own.status.startswith(INCOMPLETE)
 
     def forms(self) -> Tuple[Form, Form]:
-        """Both taken apart. Where ours is without `~Copyable`, so is the compiler's. Raises Malformed."""
-        ours, theirs = form_of(self.own.text), form_of(self.theirs or "")
+        """Both taken apart. Where ours is without `~Copyable`, so is the compiler's. In requirement signatures ours does not say which protocol
+        declares a member, so neither does the compiler's. Raises Malformed."""
+        text = self.theirs or ""
+        ours, theirs = form_of(self.own.text), form_of(BOUND.sub("", text) if self.own.kind == PROTOCOL else text)
         return (ours, theirs) if self.own.status == WHOLE else (ours.without_suppressed(), theirs.without_suppressed())
 
     def likeness(self) -> Likeness:
@@ -48,28 +51,6 @@ def theirs(own: Own, printed: Printed) -> Optional[str]:
 
 def pairs(owns: Sequence[Own], printed: Printed) -> List[Pair]:
     return [Pair(own, theirs(own, printed)) for own in owns]
-
-
-@dataclass(frozen=True)
-class Row:
-    """A row of the table: what was compared, how many there are of ours, how many of them were left out, and how alike the others are."""
-
-    name: str
-    ours: int
-    incomplete: int
-    not_printed: int
-    counts: Dict[Likeness, int]
-
-    @property
-    def compared(self) -> int:
-        return sum(self.counts.values())
-
-
-def row(name: str, compared: Sequence[Pair]) -> Row:
-    counts: CounterType[Likeness] = Counter(pair.likeness() for pair in compared if pair.is_compared)
-    incomplete = sum(pair.own.status.startswith(INCOMPLETE) for pair in compared)
-    left = len(compared) - incomplete - sum(counts.values())
-    return Row(name, len(compared), incomplete, left, dict(counts))
 
 
 def files_named(owns: Sequence[Own], files: Sequence[Path]) -> List[Own]:

@@ -17,6 +17,11 @@ class Workshop:
     compiler: Compiler
     folder: Path
 
+    @property
+    def text(self) -> Path:
+        """Where a text stands while it is checked."""
+        return self.folder / "text.swift"
+
     def arguments(self, module: Module) -> List[str]:
         """An interface is checked alone, since the compiler has its module already. Of sources a module is left, even where they have errors."""
         if module.is_interface or self.compiler.interface(module.name):
@@ -32,8 +37,7 @@ class Workshop:
 
     def check_text(self, text: str) -> Tuple[Run, Printed]:
         """The signatures of a Swift text that stands by itself, without a standard library."""
-        path = self.folder / "text.swift"
-        path.write_text(text, encoding="utf-8")
-        arguments = ["-typecheck", "-parse-stdlib", "-module-name", "Main", *ALWAYS, str(path)]
+        self.text.write_text(text, encoding="utf-8")
+        arguments = ["-typecheck", "-parse-stdlib", "-module-name", "Main", *ALWAYS, str(self.text)]
         with timed(self.compiler.command(arguments)) as (run, printed):
             return run, read(line.decode("utf-8", "replace") for line in printed)

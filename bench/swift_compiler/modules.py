@@ -55,7 +55,7 @@ def module_of(word: str, flags: Sequence[str], compiler: Compiler) -> Module:
     if not path.exists():
         return own_module(word, compiler)
     name = name or path.resolve().stem.replace("-", "_")
-    usual = compiler.flags(name) or ("-swift-version", "5", "-module-name", name)
+    usual = compiler.flags(name) or ("-module-name", name)
     return Module(name, files_of(path), usual + tuple(flags), path.suffix == ".swiftinterface")
 
 

@@ -8,6 +8,8 @@ from typing import List, Sequence, Tuple
 from swift_compiler.compiler import Run, timed
 
 PROGRAM = Path(__file__).resolve().parent.parent.parent / "tools" / "genreq-swift"
+# All done, or something was left out, of which its standard error tells.
+ANSWERED = (0, 3)
 
 
 class Unreadable(Exception):
@@ -45,18 +47,12 @@ def program() -> str:
     return os.environ.get("GENREQ_SWIFT", str(PROGRAM))
 
 
-def call(words: Sequence[str], files: Sequence[Path], beside: Sequence[Path]) -> Tuple[Run, List[str]]:
-    """Runs it, and gives the lines of its standard output. Raises Unreadable where it fails as a program."""
+def asked(command: str, words: Sequence[str], files: Sequence[Path], beside: Sequence[Path]) -> Tuple[Run, List[Own]]:
+    """What a command prints of these files, with others read beside them, and how it ended. Raises Unreadable where it fails."""
     options = [word for path in beside for word in ("--with", str(path))]
-    command = [program(), *words, *options, *(str(file) for file in files)]
-    with timed(command, quiet=True) as (run, printed):
+    line = [program(), command, "--json", *words, *options, *(str(file) for file in files)]
+    with timed(line, quiet=True) as (run, printed):
         lines = printed.read().decode("utf-8", "replace").splitlines()
-    if run.status not in (0, 1):
-        raise Unreadable("genreq-swift %s ends with status %d" % (" ".join(words), run.status))
-    return run, lines
-
-
-def signatures(files: Sequence[Path], beside: Sequence[Path], words: Sequence[str]) -> Tuple[Run, List[Own]]:
-    """The signatures of these files, and how long it took."""
-    run, lines = call(["signatures", "--json", *words], files, beside)
+    if run.status not in ANSWERED:
+        raise Unreadable("genreq-swift %s ends with status %d" % (command, run.status))
     return run, [own_of(line) for line in lines]
