@@ -6,10 +6,13 @@ import sys
 from typing import List, Optional
 
 from .output import OutputError
+from .printed import Unreadable
 from .program import ProgramFailed
+from .query import QueryError
 
+WRONG_WORDS = 2
 FAILED = 70
-_SUBCOMMANDS = ("text", "signatures", "requirements")
+_SUBCOMMANDS = ("text", "signatures", "requirements", "redundant", "ask", "outline")
 
 DESCRIPTION = """Reads Swift sources, and answers by genreq what their protocols and generic declarations imply."""
 
@@ -37,7 +40,10 @@ def main(words: Optional[List[str]] = None) -> int:
     try:
         status: int = arguments.run(arguments)
         return status
-    except (OutputError, ProgramFailed) as error:
+    except QueryError as error:
+        print("genreq-swift: %s" % error, file=sys.stderr)
+        return WRONG_WORDS
+    except (OutputError, ProgramFailed, Unreadable) as error:
         print("genreq-swift: %s" % error, file=sys.stderr)
         return FAILED
     except BrokenPipeError:

@@ -7,9 +7,12 @@ from .model import Protocol, Status
 from .output import print_text
 from .own_names import OwnNames, own_names
 from .parts import protocol_part
+from .printed import read_signature
 from .program import Program, default_program
+from .protocol_order import ProtocolOrder
 from .questions import requirement_signatures
 from .reading_options import add_reading_options, reading_of
+from .swift_form import compiler_form
 from .telling import left_out_lines, status_of, tell, told
 
 
@@ -21,6 +24,7 @@ def add(subparsers: "argparse._SubParsersAction[argparse.ArgumentParser]") -> No
     )
     add_reading_options(parser)
     parser.add_argument("--strict", action="store_true", help="leaves out each protocol that is not whole")
+    parser.add_argument("--as", dest="form", choices=("genreq", "swift"), default="genreq", help="whose form is printed (genreq)")
     parser.add_argument("--json", action="store_true", help="prints an object for each protocol, one a line")
     parser.set_defaults(run=run)
 
@@ -28,11 +32,14 @@ def add(subparsers: "argparse._SubParsersAction[argparse.ArgumentParser]") -> No
 def run(arguments: argparse.Namespace) -> int:
     reading = reading_of(arguments)
     found = requirement_signatures(Program(default_program()), [protocol_part(protocol) for protocol in reading.protocols])
-    names = own_names(reading)
+    names, key = own_names(reading), ProtocolOrder(reading)
     lines: List[str] = []
-    for protocol in reading.protocols:
+    for protocol in reading.own_protocols:
         if protocol.label in found.signatures and (protocol.status is Status.WHOLE or not arguments.strict):
-            printed = names.of(found.signatures[protocol.label].line, protocol.parameters)
+            printed = found.signatures[protocol.label].line
+            if arguments.form == "swift":
+                printed = str(compiler_form(read_signature(printed), key))
+            printed = names.of(printed, protocol.parameters)
             lines.append(_object(protocol, printed) if arguments.json else _line(protocol, printed))
     print_text("".join(line + "\n" for line in lines))
     tell(told(reading) + left_out_lines(reading, found.left_out))

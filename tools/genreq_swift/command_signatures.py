@@ -1,5 +1,6 @@
 """`genreq-swift signatures`: the minimised signatures of declarations."""
 import argparse
+from dataclasses import replace
 import json
 import re
 from typing import List, Sequence
@@ -8,10 +9,12 @@ from .model import GenericParameter, Reading, Signature, Status
 from .output import print_text
 from .own_names import OwnNames, own_names
 from .parts import function_part, protocol_part
+from .printed import read_signature
 from .program import Command, Program, default_program
+from .protocol_order import ProtocolOrder
 from .questions import LeftOut, Questions
 from .reading_options import add_reading_options, kept, reading_of
-from .swift_form import as_swift
+from .swift_form import compiler_form
 from .telling import left_out_lines, status_of, tell, told
 
 _PARAMETER = re.compile(r"τ_0_(\d+)")
@@ -35,13 +38,13 @@ def run(arguments: argparse.Namespace) -> int:
     signatures = kept(reading.signatures, arguments.strict)
     questions = Questions(Program(default_program()), [protocol_part(protocol) for protocol in reading.protocols])
     answered = questions.ask(Command.SIGNATURES, [function_part(signature) for signature in signatures])
-    names = own_names(reading)
+    names, key = own_names(reading), ProtocolOrder(reading)
     lines: List[str] = []
     for signature in signatures:
         if signature.label in answered.answers:
             printed = answered.answers[signature.label][0].line
             if arguments.form == "swift":
-                printed = as_swift(printed)
+                printed = str(compiler_form(read_signature(printed), key))
             lines.append(_object(signature, printed, names) if arguments.json else _line(signature, printed, names))
     print_text("".join(line + "\n" for line in lines))
     left_out: Sequence[LeftOut] = (*questions.protocols_left_out, *answered.left_out)
@@ -51,7 +54,16 @@ def run(arguments: argparse.Namespace) -> int:
 
 def _line(signature: Signature, printed: str, names: OwnNames) -> str:
     status = "" if signature.status is Status.WHOLE else "  // " + signature.status_line
-    return "%s: %s: %s%s" % (signature.place, signature.name, names.of(printed, signature.parameters), status)
+    return "%s: %s: %s%s" % (signature.place, signature.name, names.of(printed, _distinct(signature.parameters)), status)
+
+
+def _distinct(parameters: Sequence[GenericParameter]) -> List[GenericParameter]:
+    """The generic parameters, with its label as the name of one that hides another."""
+    found: List[GenericParameter] = []
+    for parameter in parameters:
+        hides = any(parameter.name == before.name for before in found)
+        found.append(replace(parameter, name=parameter.label) if hides else parameter)
+    return found
 
 
 def _object(signature: Signature, printed: str, names: OwnNames) -> str:
@@ -63,7 +75,7 @@ def _object(signature: Signature, printed: str, names: OwnNames) -> str:
         "name": signature.name,
         "status": signature.status.value,
         "causes": sorted({omission.cause.value for omission in signature.omissions}),
-        "signature": names.of(printed, signature.parameters),
+        "signature": names.of(printed, _distinct(signature.parameters)),
         "canonical": canonical(printed, signature.parameters),
     }
     return json.dumps(found, ensure_ascii=False)

@@ -13,7 +13,7 @@ All values are frozen. What a user of this module may rely on:
 from dataclasses import dataclass, field
 from enum import Enum
 import re
-from typing import Optional, Tuple, Union
+from typing import FrozenSet, Optional, Tuple, Union
 
 RESERVED = frozenset(
     """protocol associatedtype func where Self AnyObject public internal fileprivate private class struct enum actor extension typealias import
@@ -149,11 +149,15 @@ class Cause(Enum):
 
 @dataclass(frozen=True)
 class Omission:
-    """Something that was written, or inferred, and that genreq's language lacks. `text` is how it was written."""
+    """Something that was written, or inferred, and that genreq's language lacks.
+
+    `text` is how it was written, `clause` the place of what would have to be taken out with it, as of a requirement.
+    """
 
     cause: Cause
     text: str
     place: Place
+    clause: Place
     origin: Origin
 
 
@@ -236,12 +240,13 @@ class AssociatedType:
 class Protocol:
     """A protocol.
 
-    Its only generic parameter is `Self`. `inherited` are the requirements of its inheritance clause, `conditions` those of its where clause;
+    `module` is the name of the module in which it is declared. Its only generic parameter is `Self`. `inherited` are the requirements of its inheritance clause, `conditions` those of its where clause;
     each associated type has its own.
     """
 
     name: str
     label: str
+    module: str
     place: Place
     last_line: int
     self_parameter: GenericParameter
@@ -300,11 +305,17 @@ class Counts:
 class Reading:
     """All that was read.
 
-    `protocols` are those of all sources, also of those that are read beside (`--with`). `signatures` are those of the named sources alone, by
-    file in the order of reading and in written order.
+    `protocols` are those of the named sources, and of those beside (`--with`) what these need. `own_labels` are the labels of the first.
+    `signatures` are those of the named sources alone, by file in the order of reading and in written order.
     """
 
     protocols: Tuple[Protocol, ...]
+    own_labels: FrozenSet[str]
     signatures: Tuple[Signature, ...]
     problems: Tuple[Problem, ...]
     counts: Counts
+
+    @property
+    def own_protocols(self) -> Tuple[Protocol, ...]:
+        """The protocols of the named sources."""
+        return tuple(protocol for protocol in self.protocols if protocol.label in self.own_labels)

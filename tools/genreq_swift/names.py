@@ -176,8 +176,8 @@ class Names:
         return name in self._by_module or name in _KNOWN_MODULES
 
     def in_module(self, module: str, name: str) -> Optional[Member]:
-        names = self._by_module.get(module)
-        return names.get(name) if names is not None else self._everywhere.get(name)
+        """What a name means with that of a module before it. Modules also tell what they import, so it may be declared in any."""
+        return self._by_module.get(module, {}).get(name) or self._everywhere.get(name)
 
     def referred(self, written: Type, context: Context, depth: int = 0) -> Optional[Member]:
         """The type or protocol to which a name refers, as seen from around a declaration, behind all aliases."""
@@ -259,16 +259,25 @@ class Names:
                     known.update(self.inherited(bound))
         return known
 
-    def conformances(self, entity: Entity) -> Dict[Entity, None]:
-        """The protocols to which a type is declared to conform without a condition, and those that they inherit."""
-        found: Dict[Entity, None] = {}
+    def conformance(self, entity: Entity, protocol: Entity) -> Optional[Context]:
+        """The declaration that says that a type conforms to a protocol: the type or an extension of it, or one that says more without a condition."""
+        for context in [entity.context] + entity.extensions:
+            if protocol in self._conforms(context):
+                return context
         for context in [entity.context] + entity.extensions:
             if context is entity.context or not context.declaration.conditions:
-                for inherited in context.declaration.inherited:
-                    for bound in self.bounds(inherited.bound, context):
-                        if bound.is_protocol:
-                            found.update(self.inherited(bound))
-        return found
+                if any(protocol in self.inherited(bound) for bound in self._conforms(context)):
+                    return context
+        return None
+
+    def _conforms(self, context: Context) -> List[Entity]:
+        """The protocols in the inheritance clause of a type or of an extension."""
+        return [
+            bound
+            for inherited in context.declaration.inherited
+            for bound in self.bounds(inherited.bound, context)
+            if bound.is_protocol
+        ]
 
     def superclass(self, entity: Entity) -> Optional[Tuple[Entity, Type]]:
         """The class that a class inherits, and how that is written."""

@@ -2,18 +2,8 @@
 from dataclasses import replace
 from typing import FrozenSet, Iterable, List, Optional, Sequence
 
-from .model import GenericParameter, Place, Protocol, Requirement, RequirementKind, Signature, TypeParameter, label_of
+from .model import Protocol, Requirement, RequirementKind, Signature, TypeParameter, label_of
 from .program import Part
-
-
-# `Self` of a protocol has this word in a text for genreq, and no other may stand there.
-SELF = GenericParameter("Self", "Self", 0, 0, Place("", 0, 0))
-
-
-def of_self(requirement: Requirement) -> Requirement:
-    """A requirement of a protocol, with the word `Self`."""
-    other = TypeParameter(SELF, requirement.other.members) if requirement.other else None
-    return replace(requirement, subject=TypeParameter(SELF, requirement.subject.members), other=other)
 
 
 def function_part(signature: Signature, requirements: Optional[Sequence[Requirement]] = None, queries: Sequence[str] = ()) -> Part:
@@ -24,14 +14,29 @@ def function_part(signature: Signature, requirements: Optional[Sequence[Requirem
     return Part(signature.label, text, protocols_of(chosen), tuple(queries))
 
 
+# In a function no generic parameter can have the name `Self`.
+SELF_OF_FUNCTION = "Self_"
+
+
+def conforming_part(label: str, protocol: Protocol, queries: Sequence[str] = ()) -> Part:
+    """A function whose one generic parameter conforms to a protocol, and queries of it."""
+    text = "func %s<%s>() where %s : %s" % (label, SELF_OF_FUNCTION, SELF_OF_FUNCTION, protocol.label)
+    return Part(label, text, frozenset([protocol.label]), tuple(queries))
+
+
+def in_function(one: TypeParameter) -> TypeParameter:
+    """A type of a protocol as a type of that function."""
+    return TypeParameter(replace(one.parameter, label=SELF_OF_FUNCTION), one.members)
+
+
 def protocol_part(protocol: Protocol, without: FrozenSet[int] = frozenset()) -> Part:
     """A protocol, but for the requirements at these places among all of them, counted from 0."""
     numbered = enumerate(protocol.requirements)
 
     def kept(requirements: Sequence[Requirement]) -> List[Requirement]:
-        return [of_self(requirement) for place, requirement in [next(numbered) for _ in requirements] if place not in without]
+        return [requirement for place, requirement in [next(numbered) for _ in requirements] if place not in without]
 
-    me = TypeParameter(SELF)
+    me = TypeParameter(protocol.self_parameter)
     primaries = "<%s>" % ", ".join(label_of(name) for name in protocol.primaries) if protocol.primaries else ""
     head = "protocol %s%s%s {" % (protocol.label, primaries, clauses(me, kept(protocol.inherited + protocol.conditions)))
     members = [

@@ -1,8 +1,8 @@
 """What genreq's language has, and what it lacks: statements become requirements, or omissions with their causes."""
 from typing import Dict, List, Sequence, Tuple, Union
 
-from .meanings import Meaning, OtherType, Statement, StatementKind
-from .model import Cause, Omission, Origin, ProtocolName, Requirement, RequirementKind, TypeParameter
+from .meanings import OtherType, Statement, StatementKind
+from .model import Cause, Omission, Origin, Place, ProtocolName, Requirement, RequirementKind, TypeParameter
 from .names import Entity
 
 _KINDS = {
@@ -28,7 +28,7 @@ class Profile:
             if cause is None:
                 kept.append(self._requirement(statement, origin))
             else:
-                left_out.append(Omission(cause, _told(statement), statement.source.place(statement.start), origin))
+                left_out.append(Omission(cause, _told(statement), *_places(statement), origin))
         return kept, left_out
 
     def _cause(self, statement: Statement) -> Union[Cause, None]:
@@ -44,11 +44,16 @@ class Profile:
     def _requirement(self, statement: Statement, origin: Origin) -> Requirement:
         subject, right = statement.left, statement.right
         assert isinstance(subject, TypeParameter)
-        place = statement.source.place(statement.start)
-        clause = place if statement.clause == statement.start else statement.source.place(statement.clause)
+        place, clause = _places(statement)
         protocol = ProtocolName(right.name, self.labels[right]) if isinstance(right, Entity) else None
         other = right if isinstance(right, TypeParameter) else None
         return Requirement(_KINDS[statement.kind], subject, protocol, other, place, clause, origin, statement.argument)
+
+
+def _places(statement: Statement) -> Tuple[Place, Place]:
+    """The place of a statement, and that of the clause to which it belongs."""
+    place = statement.source.place(statement.start)
+    return place, place if statement.clause == statement.start else statement.source.place(statement.clause)
 
 
 def _told(statement: Statement) -> str:
@@ -56,9 +61,7 @@ def _told(statement: Statement) -> str:
     if statement.text:
         return statement.text
     right = statement.right
-    what = right.name if isinstance(right, Entity) else _shown(right)
-    return "%s %s %s" % (_shown(statement.left), "==" if statement.kind is StatementKind.SAME_TYPE else ":", what)
-
-
-def _shown(meaning: Union[Meaning, None]) -> str:
-    return "" if meaning is None else str(meaning)
+    if statement.kind is StatementKind.SAME_TYPE:
+        return "%s == %s" % (statement.left, right)
+    what = right.name if isinstance(right, Entity) else "AnyObject" if statement.cause is None else statement.cause.value
+    return "%s : %s" % (statement.left, what)

@@ -188,6 +188,12 @@ class Questions:
         """The protocols that were left out up to now. What asks of them needs no answer."""
         return self._settled.left_out
 
+    def settle(self) -> None:
+        """Leaves out the protocols over which nothing can be answered. `ask` does so where it has to."""
+        if not self._is_settled:
+            self._settled.settle()
+            self._is_settled = True
+
     def ask(self, command: Command, functions: Sequence[Part]) -> Answered:
         """The answers to each function: one for each query, or the one signature."""
         found = Answered({}, [])
@@ -253,8 +259,7 @@ class Questions:
         if ended.status is Status.REFUSED:
             return self._after_refusal(span, ended, found)
         if not self._is_settled:
-            self._settled.settle()
-            self._is_settled = True
+            self.settle()
             return [span]
         return self._after_limit(span, ended, found)
 

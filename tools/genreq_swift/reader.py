@@ -16,13 +16,14 @@ ReadFile = Tuple[Source, Tuple[DeclarationSyntax, ...]]
 def read(paths: Sequence[str], beside: Sequence[str] = (), configuration: Configuration = Configuration()) -> Reading:
     """Reads sources, and others beside them whose signatures are not wanted, but to which names may refer."""
     problems: List[Problem] = []
-    named = _declarations(paths, configuration, problems)
+    named = read_syntax(paths, configuration, problems)
     seen = {source.file for source, _ in named}
-    others = [(source, declared) for source, declared in _declarations(beside, configuration, problems) if source.file not in seen]
+    others = [(source, declared) for source, declared in read_syntax(beside, configuration, problems) if source.file not in seen]
     return reading_of(named, others, problems)
 
 
-def _declarations(paths: Sequence[str], configuration: Configuration, problems: List[Problem]) -> List[ReadFile]:
+def read_syntax(paths: Sequence[str], configuration: Configuration, problems: List[Problem]) -> List[ReadFile]:
+    """The declarations of all sources that can be read. What is told of the others is added to the problems."""
     files = read_files(paths)
     problems += files.problems
     found: List[ReadFile] = []
@@ -45,6 +46,6 @@ def reading_of(named: Sequence[ReadFile], others: Sequence[ReadFile], problems: 
     all_protocols = tuple(maker.protocols())
     signatures = tuple(signature for roots in maker.names.roots[: len(named)] for signature in maker.signatures(roots))
     own_files = {source.file for source, _ in named}
-    own = {protocol.label for protocol in all_protocols if protocol.place.file in own_files}
+    own = frozenset(protocol.label for protocol in all_protocols if protocol.place.file in own_files)
     protocols = needed_protocols(all_protocols, own, signatures)
-    return Reading(protocols, signatures, tuple(problems) + tuple(maker.problems), maker.counts(len(named)))
+    return Reading(protocols, own, signatures, tuple(problems) + tuple(maker.problems), maker.counts(len(named)))

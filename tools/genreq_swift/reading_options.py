@@ -7,7 +7,7 @@ from .conditions import DARWIN, DARWIN_MODULES, LINUX_MODULES, Configuration
 from .model import Reading, Signature, Status
 from .reader import read
 
-STANDARD = Path(__file__).resolve().parent / "standard.swift"
+STANDARD = Path(__file__).resolve().parent / "standard"
 
 
 def add_reading_options(parser: argparse.ArgumentParser) -> None:
@@ -19,7 +19,7 @@ def add_reading_options(parser: argparse.ArgumentParser) -> None:
         action="append",
         default=[],
         metavar="FILE|FOLDER|standard",
-        help="reads these beside, for the names that the files mean; `standard` is the outline of Swift's standard library that comes along",
+        help="reads these beside, for the names that the files mean; `standard` is the outline of Swift's standard library that comes with this tool",
     )
     parser.add_argument("--os", default="Linux", metavar="NAME", help="the system for which #if is read (Linux)")
     parser.add_argument("--arch", default="x86_64", metavar="NAME", help="the processor for which #if is read (x86_64)")
@@ -31,10 +31,11 @@ def add_reading_options(parser: argparse.ArgumentParser) -> None:
 def reading_of(arguments: argparse.Namespace) -> Reading:
     """Reads what the command line names."""
     beside = [str(STANDARD) if name == "standard" else name for name in arguments.beside]
-    return read(arguments.files, beside, _configuration(arguments))
+    return read(arguments.files, beside, configuration_of(arguments))
 
 
-def _configuration(arguments: argparse.Namespace) -> Configuration:
+def configuration_of(arguments: argparse.Namespace) -> Configuration:
+    """The configuration that the command line names."""
     modules = DARWIN_MODULES if arguments.os in DARWIN else LINUX_MODULES
     return Configuration(
         arguments.os,

@@ -7,7 +7,7 @@ from .meanings import Meaning, NominalType, OtherType, Replacement, Statement, S
 from .model import Cause, DeclarationKind, GenericParameter, Origin, TypeParameter, label_of
 from .names import Alias, Context, Entity, Member, Names
 from .tokens import Source
-from .type_syntax import CompoundType, FunctionType, MemberType, NamedType, Shape, Step, Type
+from .type_syntax import CompoundType, FunctionType, MemberType, NamedType, Shape, Step, Type, spelled
 
 _INFERRING = frozenset(
     (DeclarationKind.FUNCTION, DeclarationKind.INITIALISER, DeclarationKind.SUBSCRIPT, DeclarationKind.TYPEALIAS)
@@ -176,7 +176,7 @@ class Scopes:
                     context.source,
                     argument.start,
                     argument.start,
-                    "%s == %s" % (left, context.source.written(argument.start, _end_of(argument, context))),
+                    "%s == %s" % (left, spelled(argument)),
                     Origin.OWN,
                 )
             )
@@ -218,14 +218,35 @@ class Scopes:
         """States what the types of a declaration need, but for what is stated already or has no type parameter."""
         start = context.declaration.start
         known = {statement.same_as() for statement in scope.statements} if needs else set()
-        for statement in needs:
+        waiting = list(reversed(needs))
+        while waiting:
+            statement = waiting.pop()
             if statement.cause is Cause.SUPPRESSED or not any(has_parameters(side) for side in statement.sides()):
                 continue
-            if statement.same_as() not in known:
-                known.add(statement.same_as())
-                scope.own.append(
-                    replace(statement, source=context.source, start=start, clause=start, text="", origin=Origin.INFERRED, argument=False)
-                )
+            if statement.same_as() in known:
+                continue
+            known.add(statement.same_as())
+            instead = self._of_conformance(statement)
+            if instead is not None:
+                waiting += reversed(instead)
+                continue
+            text = statement.text if isinstance(statement.left, OtherType) and statement.left.text == statement.text else ""
+            scope.own.append(
+                replace(statement, source=context.source, start=start, clause=start, text=text, origin=Origin.INFERRED, argument=False)
+            )
+
+    def _of_conformance(self, statement: Statement) -> Optional[List[Statement]]:
+        """What is needed that a declared type conforms to a protocol, where it is declared to do so: the conditions of that."""
+        left, right = statement.left, statement.right
+        if statement.kind is not StatementKind.CONFORMANCE or not isinstance(left, NominalType) or not isinstance(right, Entity):
+            return None
+        declared = self.names.conformance(left.entity, right)
+        if declared is None or left.arguments is None:
+            return None
+        if declared is left.entity.context:
+            return []
+        sides = self._outer_sides(left)
+        return [self.replaced_statement(condition, sides) for condition in self.scope(declared).own]
 
     # Requirements.
 
@@ -333,12 +354,15 @@ class Scopes:
             entity = self.names.top(_SUGAR[written.shape], context.source)
             if isinstance(entity, Entity):
                 return self._nominal(entity, parts)
-            return OtherType("%s<%s>" % (_SUGAR[written.shape], ", ".join(map(str, parts))), Cause.CONCRETE, parts)
+            sugar = OtherType(spelled(written), Cause.CONCRETE, parts)
+            if written.shape is Shape.DICTIONARY:  # its keys are hashable, and no source says so
+                self._need_unknown(sugar, written.start, context)
+            return sugar
         if written.shape is Shape.TUPLE and len(written.parts) == 1:
             return self.meaning(written.parts[0], context, scope)
         parts = tuple(self.meaning(part, context, scope) for part in written.parts)
         cause = Cause.PACK if written.shape is Shape.PACK else Cause.VALUE if written.shape is Shape.NUMBER else Cause.CONCRETE
-        return OtherType(written.shape.value, cause, parts)
+        return OtherType(spelled(written), cause, parts)
 
     def _function_meaning(self, written: FunctionType, context: Context, scope: Scope) -> Meaning:
         parts = [self.meaning(part, context, scope) for part in written.parameters.parts]
@@ -347,7 +371,7 @@ class Scopes:
             self._need_error(thrown, context)
             parts.append(thrown)
         parts.append(self.meaning(written.result, context, scope))
-        return OtherType("(..) -> ..", Cause.CONCRETE, tuple(parts))
+        return OtherType(spelled(written), Cause.CONCRETE, tuple(parts))
 
     def _arguments(self, step: Step, context: Context, scope: Scope) -> Tuple[Meaning, ...]:
         return tuple(self.meaning(argument, context, scope) for argument in step.arguments)
@@ -483,11 +507,24 @@ class Scopes:
             return self._nominal(found.entity, front + arguments)
         if not isinstance(found, Found):
             if isinstance(found, OtherType) and arguments:
-                return replace(found, parts=found.parts + arguments)
+                return self._unknown_generic(found, arguments, step, context)
             return found
         if isinstance(found.member, Alias):
             return self._alias_meaning(found, arguments)
         return self._entity_meaning(found, arguments, as_base)
+
+    def _unknown_generic(self, found: OtherType, arguments: Tuple[Meaning, ...], step: Step, context: Context) -> OtherType:
+        """A generic type that no source declares. What it needs of its arguments is not known."""
+        unknown = OtherType("%s<%s>" % (found.text, ", ".join(map(str, arguments))), found.cause, found.parts + arguments)
+        self._need_unknown(unknown, step.start, context)
+        return unknown
+
+    def _need_unknown(self, left: OtherType, start: int, context: Context) -> None:
+        """Notes that it is not known what a type needs."""
+        if self._needs is not None:
+            cause = left.cause if left.cause is not Cause.CONCRETE else Cause.UNKNOWN
+            source = context.source
+            self._needs.append(Statement(StatementKind.OUTSIDE, left, None, source, start, start, left.text, Origin.INFERRED, cause))
 
     def _entity_meaning(self, found: Found, arguments: Tuple[Meaning, ...], as_base: bool) -> Meaning:
         entity = found.member
@@ -614,13 +651,3 @@ class _Noting:
 def _cause(cause: Cause, start: int) -> Bound:
     return Bound(StatementKind.OUTSIDE, None, (), cause, start)
 
-
-def _end_of(written: Type, context: Context) -> int:
-    """Where a type ends that is an argument of an extended type."""
-    text, depth, at = context.source.text, 0, written.start
-    while at < len(text):
-        depth += {"<": 1, ">": -1, "(": 1, ")": -1, "[": 1, "]": -1}.get(text[at], 0)
-        if depth < 0 or (depth == 0 and text[at] == ","):
-            return at
-        at += 1
-    return at

@@ -1,7 +1,7 @@
 """How declarations become protocols and signatures."""
 from dataclasses import dataclass, replace
 import re
-from typing import Dict, Iterator, List, Optional, Sequence, Set, Tuple
+from typing import Dict, Iterable, Iterator, List, Optional, Sequence, Set, Tuple
 
 from .declarations import DeclarationSyntax
 from .meanings import Statement, StatementKind
@@ -112,6 +112,7 @@ class SignatureMaker:
         return Protocol(
             entity.name,
             self.profile.labels[entity],
+            source.module,
             source.place(declaration.start),
             source.line(max(declaration.start, declaration.end - 1)),
             split.parameter,
@@ -258,7 +259,7 @@ def _labels(protocols: Sequence[Entity]) -> Dict[Entity, str]:
     return labels
 
 
-def needed_protocols(protocols: Sequence[Protocol], always: Set[str], signatures: Sequence[Signature]) -> Tuple[Protocol, ...]:
+def needed_protocols(protocols: Sequence[Protocol], always: Iterable[str], signatures: Sequence[Signature]) -> Tuple[Protocol, ...]:
     """Of all protocols those with the given labels, and what they and the signatures need, in order."""
     by_label = {protocol.label: protocol for protocol in protocols}
     waiting = [label for label in always if label in by_label] + [

@@ -25,18 +25,18 @@ class NamedType:
 
 
 class Shape(Enum):
-    """What stands around the parts of a compound type."""
+    """What stands around the parts of a compound type: around each, or around the parts with commas or `&` between them."""
 
-    TUPLE = "(..)"  # also a type in parentheses
-    ARRAY = "[..]"
-    DICTIONARY = "[..: ..]"
-    OPTIONAL = "..?"
-    METATYPE = "...Type"
-    COMPOSITION = ".. & .."
-    SUPPRESSED = "~.."
-    OPAQUE = "some .."
-    EXISTENTIAL = "any .."
-    PACK = "each .."  # also `repeat`
+    TUPLE = "(%s)"  # also a type in parentheses
+    ARRAY = "[%s]"
+    DICTIONARY = "[%s: %s]"
+    OPTIONAL = "%s?"
+    METATYPE = "%s.Type"
+    COMPOSITION = "%s"
+    SUPPRESSED = "~%s"
+    OPAQUE = "some %s"
+    EXISTENTIAL = "any %s"
+    PACK = "each %s"  # also `repeat`
     NUMBER = "number"  # no part
 
 
@@ -69,6 +69,25 @@ class FunctionType:
 
 
 Type = Union[NamedType, CompoundType, MemberType, FunctionType]
+
+
+def spelled(written: Type) -> str:
+    """A type as Swift writes it, without attributes and labels."""
+    if isinstance(written, NamedType):
+        return ".".join(_spelled_step(step) for step in written.steps)
+    if isinstance(written, MemberType):
+        return "%s.%s" % (spelled(written.base), _spelled_step(written.step))
+    if isinstance(written, FunctionType):
+        throws = " throws(%s)" % spelled(written.thrown) if written.thrown is not None else ""
+        return "%s%s -> %s" % (spelled(written.parameters), throws, spelled(written.result))
+    parts = tuple(spelled(part) for part in written.parts)
+    between = {Shape.TUPLE: ", ", Shape.COMPOSITION: " & "}.get(written.shape)
+    return written.shape.value % (parts if between is None else between.join(parts))
+
+
+def _spelled_step(step: Step) -> str:
+    return step.name + ("<%s>" % ", ".join(spelled(argument) for argument in step.arguments) if step.arguments else "")
+
 
 _SPECIFIERS = frozenset(
     "inout __owned __shared borrowing consuming sending isolated _const nonisolated _resultDependsOn _borrow _consume _mutate dependsOn".split()

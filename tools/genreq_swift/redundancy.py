@@ -1,0 +1,238 @@
+"""Which written requirements of signatures are redundant.
+
+A requirement is redundant where it is derivable from the other requirements of its declaration and of those around it, and these are between
+types without it too. So it is asked of a function without it, and what is told has a derivation that `verify` accepts.
+
+The function is written in rounds. It begins with the requirements between generic parameters, and gets further ones when their sides are types
+of it. So it is not refused, and a requirement without which another side is no type is not redundant.
+
+Inferred requirements are there to make sides types, and for nothing else: it is no fault to write what the type of a parameter needs.
+"""
+from collections import Counter
+from dataclasses import dataclass, replace
+import re
+from typing import Dict, FrozenSet, List, Mapping, Optional, Sequence, Tuple
+
+from .model import Declaration, Origin, Place, Requirement, RequirementKind, Signature, TypeParameter
+from .parts import function_part
+from .printed import Conformance, Layout, SameType, read_signature, types_of, unbound
+from .program import Answer, Command, Part, ProgramFailed
+from .questions import LeftOut, Questions
+
+_WRITTEN = re.compile(r" by (?:CONF|SAME|LAYOUT) (\d+)$")
+
+
+@dataclass(frozen=True)
+class Unit:
+    """What can be taken out of a declaration as one: a requirement, or a constraint with arguments.
+
+    `numbers` are those of its requirements among all of the declaration, from 0.
+    """
+
+    declaration: Declaration
+    numbers: Tuple[int, ...]
+
+    @property
+    def requirements(self) -> Tuple[Requirement, ...]:
+        return tuple(self.declaration.requirements[number] for number in self.numbers)
+
+    @property
+    def place(self) -> Place:
+        return self.requirements[0].place
+
+
+@dataclass(frozen=True)
+class Finding:
+    """A redundant unit, what it follows from, and a derivation of each of its requirements, as genreq prints it."""
+
+    unit: Unit
+    follows_from: Tuple[Requirement, ...]
+    derivations: Tuple[Tuple[str, ...], ...]
+
+
+def units_of(declaration: Declaration) -> List[Unit]:
+    """The units that a declaration itself writes, in written order. What is omitted in part is none."""
+    omitted = {omission.clause for omission in declaration.omissions}
+    by_clause: Dict[object, List[int]] = {}
+    for number, requirement in enumerate(declaration.requirements):
+        if requirement.origin is Origin.OWN and requirement.clause not in omitted:
+            by_clause.setdefault(requirement.clause, []).append(number)
+    return [Unit(declaration, tuple(numbers)) for numbers in by_clause.values()]
+
+
+@dataclass(frozen=True)
+class Attempt:
+    """A unit, asked of a function with some requirements of its signature.
+
+    `used` are the numbers of those that the function has, `waiting` of those whose sides are not known to be types, and `spare` of the inferred
+    ones, which join when no other can.
+    """
+
+    unit: Unit
+    used: Tuple[int, ...]
+    waiting: Tuple[int, ...]
+    spare: Tuple[int, ...]
+
+    def part(self, label: str, with_sides: bool = True) -> Part:
+        """The function, with the unit's requirements as its first queries, and behind them the waiting sides."""
+        signature = self.unit.declaration
+        assert isinstance(signature, Signature)
+        queries = [requirement.labelled for requirement in self.unit.requirements]
+        if with_sides:
+            queries += [side.labelled for number in self.waiting for side in sides_of(signature.requirements[number])]
+        chosen = [signature.requirements[number] for number in self.used]
+        return function_part(replace(signature, label=label), chosen, queries)
+
+    def follows(self, answers: Sequence[Answer]) -> bool:
+        return all(answer.line == "yes" for answer in answers[: len(self.unit.numbers)])
+
+    def next(self, answers: Sequence[Answer]) -> Optional["Attempt"]:
+        """The attempt with those that can join, or None where none can."""
+        sides = iter(answers[len(self.unit.numbers) :])
+        joining, waiting = [], []
+        for number in self.waiting:
+            are_types = [next(sides).line != "invalid" for _ in sides_of(self.unit.declaration.requirements[number])]
+            (joining if all(are_types) else waiting).append(number)
+        if joining:
+            return replace(self, used=tuple(sorted([*self.used, *joining])), waiting=tuple(waiting))
+        if waiting and self.spare:
+            return replace(self, waiting=tuple(sorted([*waiting, *self.spare])), spare=())
+        return None
+
+
+def sides_of(requirement: Requirement) -> Tuple[TypeParameter, ...]:
+    """The types of a requirement."""
+    return (requirement.subject, requirement.other) if requirement.other else (requirement.subject,)
+
+
+def first_attempt(unit: Unit, without: FrozenSet[int]) -> Attempt:
+    """The attempt to derive a unit, without these requirements, its own among them."""
+    requirements = unit.declaration.requirements
+    own = {requirement.labelled for requirement in unit.requirements}
+    used, waiting, spare = [], [], []
+    for number, requirement in enumerate(requirements):
+        if number in without:
+            continue
+        if requirement.origin is Origin.INFERRED:
+            if requirement.labelled not in own:
+                spare.append(number)
+        elif any(side.members for side in sides_of(requirement)):
+            waiting.append(number)
+        else:
+            used.append(number)
+    return Attempt(unit, tuple(used), tuple(waiting), tuple(spare))
+
+
+def is_minimised(signature: Signature, printed: str) -> bool:
+    """Whether the requirements of a signature are those of its minimised form, as they are written. Then none is redundant."""
+    places = {parameter.label: "τ_0_%d" % number for number, parameter in enumerate(signature.parameters)}
+
+    def placed(side: TypeParameter) -> str:
+        return ".".join([places[side.parameter.label], *side.labelled.split(".")[1:]])
+
+    written = Counter(
+        (frozenset(placed(side) for side in sides_of(requirement)), requirement.kind, requirement.protocol.label if requirement.protocol else "")
+        for requirement in signature.requirements
+    )
+    kept = Counter(
+        (frozenset(str(side) for side in types_of(requirement)), KINDS[type(requirement)], getattr(requirement, "protocol", ""))
+        for requirement in map(unbound, read_signature(printed).requirements)
+    )
+    return written == kept
+
+
+KINDS = {Conformance: RequirementKind.CONFORMANCE, Layout: RequirementKind.LAYOUT, SameType: RequirementKind.SAME_TYPE}
+
+
+class Redundancy:
+    """Looks for redundant requirements of signatures. `left_out` tells which signatures, or single requirements of them, could not be asked."""
+
+    def __init__(self, questions: Questions):
+        self.questions = questions
+        self.left_out: List[LeftOut] = []
+
+    def findings(self, signatures: Sequence[Signature]) -> List[Finding]:
+        """The redundant units, which can all be taken out together. Of several that follow from each other the last ones are told."""
+        answered = self.questions.ask(Command.SIGNATURES, [function_part(signature) for signature in signatures])
+        self.left_out += answered.left_out
+        minimised = answered.answers
+        asked = [one for one in signatures if one.label in minimised and not is_minimised(one, minimised[one.label][0].line)]
+        units = [unit for signature in asked for unit in units_of(signature)]
+        found = self._followed([first_attempt(unit, frozenset(unit.numbers)) for unit in units])
+        return self._explained(self._together(found))
+
+    def _followed(self, attempts: Sequence[Attempt]) -> List[Attempt]:
+        """The attempts that succeed, with the requirements with which they do, in their order."""
+        found: Dict[int, Attempt] = {}
+        going = dict(enumerate(attempts))
+        while going:
+            answers = self._answers(Command.ANSWER, going, [attempt.part(asked_label(number)) for number, attempt in going.items()])
+            ahead: Dict[int, Attempt] = {}
+            for number, given in answers.items():
+                further = going[number].next(given)
+                if going[number].follows(given):
+                    found[number] = going[number]
+                elif further:
+                    ahead[number] = further
+            going = ahead
+        return [found[number] for number in sorted(found)]
+
+    def _answers(self, command: Command, attempts: Mapping[int, Attempt], parts: Sequence[Part]) -> Dict[int, Tuple[Answer, ...]]:
+        """The answers by numbers of attempts. What is not answered is told of its signature."""
+        answered = self.questions.ask(command, parts)
+        reasons = {one.label: one.reason for one in answered.left_out}
+        for number, attempt in attempts.items():
+            if asked_label(number) in reasons:
+                reason = "'%s' is not asked: %s" % (attempt.unit.requirements[0], reasons[asked_label(number)])
+                self.left_out.append(LeftOut(attempt.unit.declaration.label, False, reason))
+        return {number: answered.answers[asked_label(number)] for number in attempts if asked_label(number) in answered.answers}
+
+    def _together(self, attempts: Sequence[Attempt]) -> List[Attempt]:
+        """Those that succeed too without what is found behind them in their signatures, from the last on."""
+        left: Dict[str, List[Attempt]] = {}
+        for attempt in attempts:
+            left.setdefault(attempt.unit.declaration.label, []).append(attempt)
+        found = [waiting.pop() for waiting in left.values()]
+        out = {attempt.unit.declaration.label: frozenset(attempt.unit.numbers) for attempt in found}
+        while any(left.values()):
+            lasts = [waiting.pop().unit for waiting in left.values() if waiting]
+            more = self._followed([first_attempt(unit, out[unit.declaration.label] | frozenset(unit.numbers)) for unit in lasts])
+            for attempt in more:
+                out[attempt.unit.declaration.label] |= frozenset(attempt.unit.numbers)
+            found += more
+        return sorted(found, key=lambda attempt: attempt.unit.place)
+
+    def _explained(self, attempts: Sequence[Attempt]) -> List[Finding]:
+        """The findings with their derivations. What follows from an inferred requirement is none."""
+        numbered = dict(enumerate(attempts))
+        parts = [attempt.part(asked_label(number), with_sides=False) for number, attempt in numbered.items()]
+        answers = self._answers(Command.EXPLAIN, numbered, parts)
+        check(self.questions, [parts[number] for number in answers], [answers[number] for number in answers])
+        found = []
+        for number, given in answers.items():
+            attempt = numbered[number]
+            derivations = tuple(answer.under for answer in given)
+            follows_from = tuple(attempt.unit.declaration.requirements[attempt.used[place]] for place in written_in(derivations))
+            if all(requirement.origin is not Origin.INFERRED for requirement in follows_from):
+                found.append(Finding(attempt.unit, follows_from, derivations))
+        return found
+
+
+def asked_label(number: int) -> str:
+    """The label of the function of an attempt."""
+    return "asked_%d" % number
+
+
+def check(questions: Questions, parts: Sequence[Part], answers: Sequence[Tuple[Answer, ...]]) -> None:
+    """ProgramFailed unless `verify` accepts a derivation of each query."""
+    verdicts = questions.verify(parts, {part.label: given for part, given in zip(parts, answers)})
+    for part in parts:
+        for query, verdict in zip(part.queries, verdicts[part.label]):
+            if verdict != "ok":
+                raise ProgramFailed("`verify` says of the derivation of %s: %s" % (query, verdict))
+
+
+def written_in(derivations: Sequence[Sequence[str]]) -> List[int]:
+    """The numbers of the written requirements that derivations use, from 0, in order."""
+    numbers = {int(step[1]) - 1 for derivation in derivations for step in map(_WRITTEN.search, derivation) if step}
+    return sorted(numbers)
