@@ -59,7 +59,7 @@ def by_place(workshop: Workshop, found: Found, read: Sequence[Path], language: s
         tell("%s: the compiler tells %d errors" % (module.name, printed.errors))
     words = ["--language", language]
     signed, signatures = asked("signatures", ["--as", "swift", *words], module.files, read)
-    required, requirements = asked("requirements", words, module.files, read)
+    required, requirements = asked("requirements", ["--as", "swift", *words], module.files, read)
     found.signatures = pairs(signatures, printed)
     found.requirements = pairs(files_named(requirements, module.files), printed)
     found.seconds = (compiled.seconds, signed.seconds, required.seconds)

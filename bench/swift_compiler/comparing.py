@@ -12,6 +12,8 @@ EXTENSION = "extension"
 PROTOCOL = "protocol"
 INCOMPLETE = "incomplete"
 WHOLE = "whole"
+# To these the compiler adds no `Copyable` and no `Escapable`, though no source says so.
+MARKERS = ("Copyable", "Escapable", "Sendable")
 BOUND = re.compile(r"\[[^\]]*\]")
 
 
@@ -31,7 +33,10 @@ class Pair:
         declares a member, so neither does the compiler's. Raises Malformed."""
         text = self.theirs or ""
         ours, theirs = form_of(self.own.text), form_of(BOUND.sub("", text) if self.own.kind == PROTOCOL else text)
-        return (ours, theirs) if self.own.status == WHOLE else (ours.without_suppressed(), theirs.without_suppressed())
+        is_marker = self.own.kind == PROTOCOL and self.own.name in MARKERS
+        if self.own.status == WHOLE and not is_marker:
+            return ours, theirs
+        return ours.without_suppressed(), theirs.without_suppressed()
 
     def likeness(self) -> Likeness:
         try:

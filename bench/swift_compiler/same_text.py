@@ -77,7 +77,7 @@ def same_text(workshop: Workshop, module: Module, beside: Sequence[Path], langua
         for part in functions
     ]
     kept = [
-        Own(file, lines[part.label], COLUMN_OF_PROTOCOL, PROTOCOL, part.label, WHOLE, required.signatures[part.label].line)
+        Own(file, lines[part.label], COLUMN_OF_PROTOCOL, PROTOCOL, part.label, WHOLE, in_compilers_form(required.signatures[part.label].line))
         for part in settled
         if part.label in lines
     ]
