@@ -2,9 +2,10 @@
 import argparse
 import json
 from dataclasses import dataclass, replace
-from typing import List, Tuple
+from typing import List, Mapping, Sequence, Tuple
 
-from .model import Declaration, Problem, Protocol, Reading, Status
+from .derivations import Lists, shown
+from .model import Declaration, Problem, Protocol, Reading, Requirement, Status
 from .output import print_text
 from .own_names import OwnNames, own_names
 from .parts import SELF_OF_FUNCTION, conforming_part, function_part, protocol_part
@@ -67,7 +68,8 @@ def answers_to(query: Query, reading: Reading, command: Command, program: Progra
     questions = Questions(program, closure.restricted(closure.needed({label for part in parts.values() for label in part.needs})))
     asked = questions.ask(command, list(parts.values()))
     of_label = dict(zip(parts, declarations))
-    found = [Answered(of_label[label], query, in_own_names(given[0], of_label[label], names)) for label, given in asked.answers.items()]
+    required = {protocol.label: protocol.requirements for protocol in reading.protocols}
+    found = [Answered(of_label[label], query, in_own_names(given[0], of_label[label], names, required)) for label, given in asked.answers.items()]
     told = left_out_lines(reading, questions.protocols_left_out)
     told += [str(Problem("%s is left out: %s" % (of_label[one.label].name, one.reason), of_label[one.label].place)) for one in asked.left_out]
     return sorted(found, key=lambda one: one.declaration.place), told
@@ -85,8 +87,10 @@ def asked_part(label: str, declaration: Declaration, query: Query, labels: Label
     return replace(part, needs=part.needs | asked.protocols)
 
 
-def in_own_names(answer: Answer, declaration: Declaration, names: OwnNames) -> Answer:
-    return Answer(names.of(answer.line, declaration.parameters), tuple(names.of(line, declaration.parameters) for line in answer.under))
+def in_own_names(answer: Answer, declaration: Declaration, names: OwnNames, required: Mapping[str, Sequence[Requirement]]) -> Answer:
+    """An answer in own names, with the places of the requirements that a derivation uses."""
+    lists = Lists(() if isinstance(declaration, Protocol) else declaration.requirements, required)
+    return Answer(names.of(answer.line, declaration.parameters), tuple(shown(answer.under, lists, names, declaration.parameters)))
 
 
 def as_lines(one: Answered) -> List[str]:

@@ -3,6 +3,7 @@ import argparse
 import json
 from typing import Dict, List, Sequence, Tuple
 
+from .derivations import shown
 from .model import Reading, Requirement
 from .output import print_text
 from .own_names import OwnNames, own_names
@@ -50,7 +51,7 @@ def findings_of(reading: Reading, program: Program) -> Tuple[List[Finding], Sequ
     """What is redundant in the named sources, by place, and what could not be asked."""
     questions = Questions(program, [protocol_part(protocol) for protocol in reading.protocols])
     questions.settle()
-    signatures = Redundancy(questions)
+    signatures = Redundancy(questions, reading.protocols)
     found = signatures.findings(reading.signatures)
     there = {part.label for part in questions.protocols}
     protocols = ProtocolRedundancy(program, [protocol for protocol in reading.protocols if protocol.label in there])
@@ -86,8 +87,8 @@ def as_lines(finding: Finding, names: OwnNames, why: bool) -> List[str]:
 
 
 def derivations_of(finding: Finding, names: OwnNames) -> List[List[str]]:
-    """The derivations in own names."""
-    return [[names.of(line, finding.unit.declaration.parameters) for line in derivation] for derivation in finding.derivations]
+    """The derivations in own names, with places."""
+    return [shown(derivation, finding.lists, names, finding.unit.declaration.parameters) for derivation in finding.derivations]
 
 
 def as_object(finding: Finding, names: OwnNames) -> str:

@@ -5,9 +5,9 @@ without what was found before, and what is told has a derivation that `verify` a
 """
 from collections import Counter
 from dataclasses import replace
-import re
-from typing import Dict, FrozenSet, List, Mapping, Optional, Sequence
+from typing import Dict, FrozenSet, List, Mapping, Optional, Sequence, Tuple
 
+from .derivations import Lists
 from .model import Protocol, Requirement
 from .parts import conforming_part, in_function, protocol_part
 from .printed import read_signature
@@ -52,10 +52,14 @@ class ProtocolRedundancy:
         if given is None or any(answer.line != "yes" for answer in given):
             return None
         check(questions, [part], [given])
-        left = [number for number in range(len(unit.declaration.requirements)) if number not in out[label]]
         derivations = tuple(answer.under for answer in given)
-        follows_from = tuple(unit.declaration.requirements[left[place]] for place in required_in(derivations, label))
-        return Finding(unit, follows_from, derivations)
+        lists = Lists((), {protocol.label: kept_of(protocol, out.get(protocol.label, frozenset())) for protocol in self.protocols})
+        return Finding(unit, lists.used_of(derivations, label), derivations, lists)
+
+
+def kept_of(protocol: Protocol, without: FrozenSet[int]) -> Tuple[Requirement, ...]:
+    """The requirements of a protocol but for those with these numbers."""
+    return tuple(requirement for number, requirement in enumerate(protocol.requirements) if number not in without)
 
 
 def may_go(unit: Unit, kept: Optional[Answer]) -> bool:
@@ -75,9 +79,3 @@ def query_of(requirement: Requirement) -> str:
     """A requirement of a protocol as a query of what conforms to it."""
     other = in_function(requirement.other) if requirement.other else None
     return replace(requirement, subject=in_function(requirement.subject), other=other).labelled
-
-
-def required_in(derivations: Sequence[Sequence[str]], label: str) -> List[int]:
-    """The numbers of the requirements of a protocol that derivations use, from 0, in order."""
-    used = re.compile(r" by ASSOC(?:CONF|SAME|LAYOUT) %s (\d+) from " % re.escape(label))
-    return sorted({int(step[1]) - 1 for derivation in derivations for step in map(used.search, derivation) if step})

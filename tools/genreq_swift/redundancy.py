@@ -10,17 +10,14 @@ Inferred requirements are there to make sides types, and for nothing else: it is
 """
 from collections import Counter
 from dataclasses import dataclass, replace
-import re
 from typing import Dict, FrozenSet, List, Mapping, Optional, Sequence, Tuple
 
-from .model import Declaration, Origin, Place, Requirement, RequirementKind, Signature, TypeParameter
+from .derivations import Lists
+from .model import Declaration, Origin, Place, Protocol, Requirement, RequirementKind, Signature, TypeParameter
 from .parts import function_part
 from .printed import Conformance, Layout, SameType, read_signature, types_of, unbound
 from .program import Answer, Command, Part, ProgramFailed
 from .questions import LeftOut, Questions
-
-_WRITTEN = re.compile(r" by (?:CONF|SAME|LAYOUT) (\d+)$")
-
 
 @dataclass(frozen=True)
 class Unit:
@@ -43,11 +40,12 @@ class Unit:
 
 @dataclass(frozen=True)
 class Finding:
-    """A redundant unit, what it follows from, and a derivation of each of its requirements, as genreq prints it."""
+    """A redundant unit, what it follows from, and a derivation of each of its requirements, as genreq prints it of `lists`."""
 
     unit: Unit
     follows_from: Tuple[Requirement, ...]
     derivations: Tuple[Tuple[str, ...], ...]
+    lists: Lists
 
 
 def units_of(declaration: Declaration) -> List[Unit]:
@@ -80,8 +78,12 @@ class Attempt:
         queries = [requirement.labelled for requirement in self.unit.requirements]
         if with_sides:
             queries += [side.labelled for number in self.waiting for side in sides_of(signature.requirements[number])]
-        chosen = [signature.requirements[number] for number in self.used]
-        return function_part(replace(signature, label=label), chosen, queries)
+        return function_part(replace(signature, label=label), self.chosen, queries)
+
+    @property
+    def chosen(self) -> Tuple[Requirement, ...]:
+        """The requirements that the function has."""
+        return tuple(self.unit.declaration.requirements[number] for number in self.used)
 
     def follows(self, answers: Sequence[Answer]) -> bool:
         return all(answer.line == "yes" for answer in answers[: len(self.unit.numbers)])
@@ -147,8 +149,9 @@ KINDS = {Conformance: RequirementKind.CONFORMANCE, Layout: RequirementKind.LAYOU
 class Redundancy:
     """Looks for redundant requirements of signatures. `left_out` tells which signatures, or single requirements of them, could not be asked."""
 
-    def __init__(self, questions: Questions):
+    def __init__(self, questions: Questions, protocols: Sequence[Protocol]):
         self.questions = questions
+        self.required = {protocol.label: protocol.requirements for protocol in protocols}
         self.left_out: List[LeftOut] = []
 
     def findings(self, signatures: Sequence[Signature]) -> List[Finding]:
@@ -212,9 +215,10 @@ class Redundancy:
         for number, given in answers.items():
             attempt = numbered[number]
             derivations = tuple(answer.under for answer in given)
-            follows_from = tuple(attempt.unit.declaration.requirements[attempt.used[place]] for place in written_in(derivations))
+            lists = Lists(attempt.chosen, self.required)
+            follows_from = lists.used_of(derivations)
             if all(requirement.origin is not Origin.INFERRED for requirement in follows_from):
-                found.append(Finding(attempt.unit, follows_from, derivations))
+                found.append(Finding(attempt.unit, follows_from, derivations, lists))
         return found
 
 
@@ -230,9 +234,3 @@ def check(questions: Questions, parts: Sequence[Part], answers: Sequence[Tuple[A
         for query, verdict in zip(part.queries, verdicts[part.label]):
             if verdict != "ok":
                 raise ProgramFailed("`verify` says of the derivation of %s: %s" % (query, verdict))
-
-
-def written_in(derivations: Sequence[Sequence[str]]) -> List[int]:
-    """The numbers of the written requirements that derivations use, from 0, in order."""
-    numbers = {int(step[1]) - 1 for derivation in derivations for step in map(_WRITTEN.search, derivation) if step}
-    return sorted(numbers)
