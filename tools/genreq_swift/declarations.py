@@ -1,5 +1,5 @@
 """Declarations as they are written. Bodies of functions and values of variables are not looked at."""
-from dataclasses import dataclass
+from dataclasses import dataclass, replace
 from typing import FrozenSet, List, Optional, Tuple
 
 from .conditions import Configuration
@@ -11,12 +11,11 @@ from .type_syntax import KEYWORDS, CompoundType, FunctionType, MemberType, Named
 
 @dataclass(frozen=True)
 class ParameterSyntax:
-    """A generic parameter. `written` says from where to where it stands with its bound, `is_pack` and `is_value` that it is `each T` or `let N`."""
+    """A generic parameter. `is_pack` and `is_value` say that it is `each T` or `let N`."""
 
     name: str
     start: int
     bound: Optional[Type]
-    end: int
     is_pack: bool = False
     is_value: bool = False
 
@@ -61,6 +60,7 @@ class DeclarationSyntax:
     thrown: Optional[Type] = None
     target: Optional[Type] = None
     members: "Tuple[DeclarationSyntax, ...]" = ()
+    is_private: bool = False  # seen in its file alone
 
 
 _MODIFIERS: FrozenSet[str] = frozenset(
@@ -101,7 +101,12 @@ class DeclarationReader(TypeReader):
 
     def _declaration(self) -> Optional[DeclarationSyntax]:
         """Reads one declaration, or goes past it where nothing in it is looked at."""
-        self._modifiers()
+        is_private = self._modifiers()
+        declaration = self._unmodified()
+        return replace(declaration, is_private=True) if declaration is not None and is_private else declaration
+
+    def _unmodified(self) -> Optional[DeclarationSyntax]:
+        """The same behind its attributes and modifiers."""
         cursor = self.cursor
         if cursor.token.kind is TokenKind.NAME:
             word = cursor.token.text
@@ -116,8 +121,9 @@ class DeclarationReader(TypeReader):
         self._skip_rest()
         return None
 
-    def _modifiers(self) -> None:
-        cursor = self.cursor
+    def _modifiers(self) -> bool:
+        """Goes past attributes and modifiers. Whether one of them is `private` or `fileprivate`."""
+        cursor, is_private = self.cursor, False
         while True:
             token = cursor.token
             if token.text == "@" and token.kind is TokenKind.MARK:
@@ -126,8 +132,10 @@ class DeclarationReader(TypeReader):
                 cursor.advance()
                 if cursor.at("(") and not cursor.token.after_space:
                     cursor.skip_brackets()
+                elif token.text in ("private", "fileprivate"):
+                    is_private = True
             else:
-                return
+                return is_private
 
     def _class_modifies(self) -> bool:
         """Whether the word `class` here says that a member is one of the class, and declares no class."""
@@ -184,7 +192,7 @@ class DeclarationReader(TypeReader):
         elif kind is DeclarationKind.INITIALISER and cursor.token.text in ("?", "!"):
             cursor.advance()
         parameters = self._parameters()
-        opaque = _OpaqueParameters(cursor)
+        opaque = _OpaqueParameters()
         types = [opaque.replaced(written) for written in self._parameter_types()]
         thrown = self._effects()
         if cursor.take("->"):
@@ -257,7 +265,7 @@ class DeclarationReader(TypeReader):
             is_pack, is_value = cursor.take("each"), cursor.take("let")
             name = self._name()
             bound = self.type() if cursor.take(":") else None
-            found.append(ParameterSyntax(name.text, name.start, bound, cursor.last_end, is_pack, is_value))
+            found.append(ParameterSyntax(name.text, name.start, bound, is_pack, is_value))
             if not cursor.take(",") and not cursor.at(">"):
                 raise cursor.wanted("',' or '>'")
         return tuple(found)
@@ -322,8 +330,7 @@ class DeclarationReader(TypeReader):
 class _OpaqueParameters:
     """The generic parameters that stand for `some P` in the types of parameters: `some_1`, `some_2`, and so on."""
 
-    def __init__(self, cursor: Cursor):
-        self.cursor = cursor
+    def __init__(self) -> None:
         self.parameters: List[ParameterSyntax] = []
 
     def replaced(self, written: Type) -> Type:
@@ -349,8 +356,7 @@ class _OpaqueParameters:
 
     def _parameter(self, opaque: CompoundType) -> Type:
         name = "some_%d" % (len(self.parameters) + 1)
-        bound = opaque.parts[0]
-        self.parameters.append(ParameterSyntax(name, opaque.start, bound, self.cursor.last_end))
+        self.parameters.append(ParameterSyntax(name, opaque.start, opaque.parts[0]))
         return NamedType((Step(name, (), opaque.start),), opaque.start)
 
 

@@ -7,7 +7,7 @@ All values are frozen. What a user of this module may rely on:
   of generic parameters in their signature. A label of a member depends on its name alone (`label_of`).
 - `str(..)` of a type parameter or a requirement has own names, `labelled` has labels.
 - The requirements of a signature are those of the declarations around it first, outermost first, then its own in written order, then the
-  inferred ones. One that is written twice stands twice.
+  inferred ones, then those of concrete types. One that is written twice stands twice.
 - Whatever was written and is no requirement here is an omission. Without omissions a signature or a protocol is whole.
 """
 from dataclasses import dataclass, field
@@ -51,7 +51,7 @@ class GenericParameter:
 
     `name` is its own name: `Self` in a protocol and its extensions, `some_1` and so on for those that stand for `some P`. In a protocol the
     label of `Self` is `Self`, and in a signature a name. `depth` and `index` are those of the compiler, so that it prints τ_depth_index.
-    `place` is where it is declared.
+    `place` is where it is declared. One that stands for a concrete type (`--concrete`) is behind the others, with the type's name.
     """
 
     name: str
@@ -59,6 +59,7 @@ class GenericParameter:
     depth: int
     index: int
     place: Place = field(compare=False)
+    is_concrete: bool = False
 
 
 @dataclass(frozen=True)
@@ -91,6 +92,7 @@ class Origin(Enum):
     OWN = "own"  # the declaration itself writes it
     CONTEXT = "context"  # it belongs to a declaration around it
     INFERRED = "inferred"  # a type in the declaration needs it, as `Set<T>` needs `T: Hashable`
+    CONCRETE = "concrete"  # the sources declare it of a concrete type that stands as a parameter
 
 
 @dataclass(frozen=True)
@@ -164,20 +166,22 @@ class Omission:
 class Status(Enum):
     WHOLE = "whole"
     WITHOUT_SUPPRESSED = "without ~Copyable"
+    WITH_CONCRETE = "with parameters for concrete types"
     INCOMPLETE = "incomplete"
 
 
-def status_of(omissions: Tuple[Omission, ...]) -> Status:
-    if not omissions:
-        return Status.WHOLE
-    if all(omission.cause is Cause.SUPPRESSED for omission in omissions):
-        return Status.WITHOUT_SUPPRESSED
-    return Status.INCOMPLETE
+def status_of(omissions: Tuple[Omission, ...], parameters: Tuple[GenericParameter, ...]) -> Status:
+    """The last status that has a cause among these, or WHOLE."""
+    if any(omission.cause is not Cause.SUPPRESSED for omission in omissions):
+        return Status.INCOMPLETE
+    if any(parameter.is_concrete for parameter in parameters):
+        return Status.WITH_CONCRETE
+    return Status.WITHOUT_SUPPRESSED if omissions else Status.WHOLE
 
 
-def status_line(omissions: Tuple[Omission, ...]) -> str:
-    """`whole`, `without ~Copyable`, or `incomplete: CAUSE at PLACE` with the first cause that makes it so."""
-    status = status_of(omissions)
+def status_line(omissions: Tuple[Omission, ...], parameters: Tuple[GenericParameter, ...]) -> str:
+    """The value of a status, behind which `: CAUSE at PLACE` stands for the first cause that makes a declaration incomplete."""
+    status = status_of(omissions, parameters)
     if status is not Status.INCOMPLETE:
         return status.value
     first = next(omission for omission in omissions if omission.cause is not Cause.SUPPRESSED)
@@ -220,11 +224,11 @@ class Signature:
 
     @property
     def status(self) -> Status:
-        return status_of(self.omissions)
+        return status_of(self.omissions, self.parameters)
 
     @property
     def status_line(self) -> str:
-        return status_line(self.omissions)
+        return status_line(self.omissions, self.parameters)
 
 
 @dataclass(frozen=True)
@@ -268,11 +272,11 @@ class Protocol:
 
     @property
     def status(self) -> Status:
-        return status_of(self.omissions)
+        return status_of(self.omissions, self.parameters)
 
     @property
     def status_line(self) -> str:
-        return status_line(self.omissions)
+        return status_line(self.omissions, self.parameters)
 
 
 Declaration = Union[Protocol, Signature]

@@ -130,8 +130,9 @@ class Names:
         if outer is not None:
             outer.members.setdefault(name, member)
             return
-        self._everywhere.setdefault(name, member)
-        self._by_module.setdefault(source.module, {}).setdefault(name, member)
+        if not context.declaration.is_private:
+            self._everywhere.setdefault(name, member)
+            self._by_module.setdefault(source.module, {}).setdefault(name, member)
         self._by_file.setdefault(source.file, {}).setdefault(name, member)
 
     def _bind_extensions(self) -> None:
@@ -269,6 +270,20 @@ class Names:
                 if any(protocol in self.inherited(bound) for bound in self._conforms(context)):
                     return context
         return None
+
+    def declared_conformances(self, entity: Entity) -> Dict[Entity, None]:
+        """The protocols to which a type, or a superclass of it, is declared to conform without a condition."""
+        found: Dict[Entity, None] = {}
+        seen: Set[Entity] = set()
+        current: Optional[Entity] = entity
+        while current is not None and current not in seen:
+            seen.add(current)
+            for context in [current.context] + current.extensions:
+                if context is current.context or not context.declaration.conditions:
+                    found.update((protocol, None) for protocol in self._conforms(context))
+            superclass = self.superclass(current)
+            current = superclass[0] if superclass is not None else None
+        return found
 
     def _conforms(self, context: Context) -> List[Entity]:
         """The protocols in the inheritance clause of a type or of an extension."""

@@ -13,13 +13,18 @@ _DEEPEST = 3000  # nested calls; what is nested more deeply is told
 ReadFile = Tuple[Source, Tuple[DeclarationSyntax, ...]]
 
 
-def read(paths: Sequence[str], beside: Sequence[str] = (), configuration: Configuration = Configuration()) -> Reading:
-    """Reads sources, and others beside them whose signatures are not wanted, but to which names may refer."""
+def read(
+    paths: Sequence[str], beside: Sequence[str] = (), configuration: Configuration = Configuration(), concrete: bool = False
+) -> Reading:
+    """Reads sources, and others beside them whose signatures are not wanted, but to which names may refer.
+
+    Where `concrete` is set, concrete types without generic arguments stand as further generic parameters of signatures.
+    """
     problems: List[Problem] = []
     named = read_syntax(paths, configuration, problems)
     seen = {source.file for source, _ in named}
     others = [(source, declared) for source, declared in read_syntax(beside, configuration, problems) if source.file not in seen]
-    return reading_of(named, others, problems)
+    return reading_of(named, others, problems, concrete)
 
 
 def read_syntax(paths: Sequence[str], configuration: Configuration, problems: List[Problem]) -> List[ReadFile]:
@@ -40,9 +45,11 @@ def read_syntax(paths: Sequence[str], configuration: Configuration, problems: Li
     return found
 
 
-def reading_of(named: Sequence[ReadFile], others: Sequence[ReadFile], problems: Sequence[Problem] = ()) -> Reading:
+def reading_of(
+    named: Sequence[ReadFile], others: Sequence[ReadFile], problems: Sequence[Problem] = (), concrete: bool = False
+) -> Reading:
     """The protocols and signatures of files that are read."""
-    maker = SignatureMaker(list(named) + list(others))
+    maker = SignatureMaker(list(named) + list(others), concrete)
     all_protocols = tuple(maker.protocols())
     signatures = tuple(signature for roots in maker.names.roots[: len(named)] for signature in maker.signatures(roots))
     own_files = {source.file for source, _ in named}

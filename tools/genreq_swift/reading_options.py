@@ -25,13 +25,19 @@ def add_reading_options(parser: argparse.ArgumentParser) -> None:
     parser.add_argument("--arch", default="x86_64", metavar="NAME", help="the processor for which #if is read (x86_64)")
     parser.add_argument("--compiler", default="6.0.3", metavar="VERSION", help="the compiler for which #if is read (6.0.3)")
     parser.add_argument("--language", default="6", metavar="VERSION", help="the language mode for which #if is read (6)")
+    parser.add_argument(
+        "--concrete",
+        action="store_true",
+        help="lets concrete types without generic arguments stand as further generic parameters of a signature, with the conformances that the "
+        "sources declare for them: what follows then follows in Swift too, but not all that does",
+    )
     parser.add_argument("-D", dest="defined", action="append", default=[], metavar="NAME", help="a name that is set for #if")
 
 
 def reading_of(arguments: argparse.Namespace) -> Reading:
     """Reads what the command line names."""
     beside = [str(STANDARD) if name == "standard" else name for name in arguments.beside]
-    return read(arguments.files, beside, configuration_of(arguments))
+    return read(arguments.files, beside, configuration_of(arguments), arguments.concrete)
 
 
 def configuration_of(arguments: argparse.Namespace) -> Configuration:

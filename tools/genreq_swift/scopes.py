@@ -148,7 +148,7 @@ class Scopes:
         for written in context.declaration.parameters:
             if written.bound is not None and not written.is_value:
                 left = self._parameter(written.name, scope)
-                text = context.source.written(written.start, written.end)
+                text = "%s: %s" % (written.name, spelled(written.bound))
                 scope.own += self.stated(left, self.bounds(written.bound, context, scope), context.source, text)
 
     def _state_target(self, context: Context, scope: Scope) -> None:

@@ -3,6 +3,7 @@ from dataclasses import dataclass, replace
 import re
 from typing import Dict, Iterable, Iterator, List, Optional, Sequence, Set, Tuple
 
+from .concrete import StandIns
 from .declarations import DeclarationSyntax
 from .meanings import Statement, StatementKind
 from .model import (
@@ -70,7 +71,8 @@ class _ProtocolSplit:
 class SignatureMaker:
     """Makes the protocols and signatures of sources that are read."""
 
-    def __init__(self, files: Sequence[Tuple[Source, Sequence[DeclarationSyntax]]]):
+    def __init__(self, files: Sequence[Tuple[Source, Sequence[DeclarationSyntax]]], concrete: bool = False):
+        self.concrete = concrete
         self.names = Names(files)
         self.scopes = Scopes(self.names)
         self.profile = Profile(_labels(self.names.protocols))
@@ -189,20 +191,32 @@ class SignatureMaker:
             return None
         declaration, source = context.declaration, context.source
         scope = self.scopes.scope(context)
-        requirements, omissions = self._split_around(context)
-        own, left_out = self.profile.split(scope.own)
+        parameters = tuple(scope.parameters)
+        if self.concrete:
+            parameters, requirements, omissions = self._with_stand_ins(scope)
+        else:
+            around, around_out = self._split_around(context)
+            own, own_out = self.profile.split(scope.own)
+            requirements, omissions = around + own, around_out + own_out
         self._number += 1
-        name = _name(context)
         return Signature(
-            name,
+            _name(context),
             "%s_%d" % (_word(context), self._number),
             context.kind,
             source.place(declaration.start),
             source.line(max(declaration.start, declaration.end - 1)),
-            tuple(scope.parameters),
-            tuple(requirements) + tuple(own),
-            tuple(omissions) + tuple(left_out),
+            parameters,
+            tuple(requirements),
+            tuple(omissions),
         )
+
+    def _with_stand_ins(self, scope: Scope) -> Tuple[Tuple[GenericParameter, ...], List[Requirement], List[Omission]]:
+        """The parameters of a scope and those for concrete types, with what is required of all of them."""
+        stand_ins = StandIns(self.names, scope.statements, scope.parameters, scope.depth)
+        requirements, omissions = self.profile.split(stand_ins.replaced(scope.around), Origin.CONTEXT)
+        own, own_out = self.profile.split(stand_ins.replaced(scope.own))
+        more, _ = self.profile.split(list(stand_ins.conformances()))
+        return (*scope.parameters, *stand_ins.parameters.values()), requirements + own + more, omissions + own_out
 
     def _split_around(self, context: Context) -> Tuple[List[Requirement], List[Omission]]:
         """The requirements and omissions of what is around a declaration."""

@@ -26,10 +26,8 @@ def told(reading: Reading) -> List[str]:
 
 def _count_lines(what: str, declarations: Sequence[Declaration]) -> List[str]:
     statuses = Counter(declaration.status for declaration in declarations)
-    lines = [
-        "%d %s: %d whole, %d without ~Copyable, %d incomplete"
-        % (len(declarations), what, statuses[Status.WHOLE], statuses[Status.WITHOUT_SUPPRESSED], statuses[Status.INCOMPLETE])
-    ]
+    by_status = ["%d %s" % (statuses[status], status.value) for status in Status if statuses[status] or status is not Status.WITH_CONCRETE]
+    lines = ["%d %s: %s" % (len(declarations), what, ", ".join(by_status))]
     causes = Counter(cause for declaration in declarations for cause in {omission.cause for omission in declaration.omissions})
     lines += ["  %d with %s" % (count, cause.value) for cause, count in causes.most_common()]
     return lines

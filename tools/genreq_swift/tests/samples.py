@@ -15,11 +15,11 @@ def declared(text: str, configuration: Configuration = Configuration()) -> Seque
     return read_declarations(Source(FILE, text), configuration)
 
 
-def reading(text: str, beside: str = "") -> Reading:
+def reading(text: str, beside: str = "", concrete: bool = False) -> Reading:
     """What is read of a text, with another beside it."""
     others = [(source, read_declarations(source, Configuration())) for source in [Source("beside.swift", beside, "Beside")] if beside]
     source = Source(FILE, text, "Sample")
-    return reading_of([(source, read_declarations(source, Configuration()))], others)
+    return reading_of([(source, read_declarations(source, Configuration()))], others, concrete=concrete)
 
 
 def shown(signature: Signature) -> str:

@@ -88,6 +88,10 @@ class Requirements(unittest.TestCase):
         text = PROTOCOLS + "class Base<T> { typealias M = T }; class Sub<U: P>: Base<U.A> { func f<V: P>(_: V) where V.A == M {} }"
         self.assertEqual(signatures(text)[2:], ["Sub.f <U, V where U : P, V : P, V.A == U.A>"])
 
+    def test_a_private_name_of_another_file_is_not_seen(self):
+        self.assertEqual(signatures("func f<T: P>() {}", "private protocol P {}; public private(set) var x = 1"), ["f <T>"])
+        self.assertEqual(omissions("func f<T: P>(_: some P) {}", "fileprivate protocol P {}"), ["T: P: unknown name", "some_1: P: unknown name"])
+
     def test_a_name_means_what_its_own_file_and_module_declare(self):
         text = PROTOCOLS + "func f<T: P>() {}; func g<T: Beside.P>() {}"
         one, other = reading(text, "protocol P {}").signatures
@@ -163,6 +167,29 @@ class Omissions(unittest.TestCase):
         found = reading(PROTOCOLS + "struct Int {}\nstruct S<T: ~Copyable> {\n  func f<U: P>(_: U) where U.A == Int {} }\nfunc g<T>() {}").signatures
         self.assertEqual([signature.status_line for signature in found], ["without ~Copyable", "incomplete: concrete type at sample.swift:6:28", "whole"])
         self.assertEqual([omission.origin for omission in found[1].omissions], [Origin.CONTEXT, Origin.OWN])
+
+
+class ConcreteTypes(unittest.TestCase):
+    """With --concrete."""
+
+    BESIDE = "protocol Named {}; protocol Hashable {}; struct Key: Hashable {}; extension Key: Named {}; class Base: Named {}; class Sub: Base {}"
+
+    def concrete(self, text):
+        found = reading(PROTOCOLS + text, self.BESIDE, concrete=True).signatures[-1]
+        return shown(found), found.status
+
+    def test_one_stands_as_a_parameter_with_its_declared_conformances(self):
+        self.assertEqual(
+            self.concrete("struct S<T: P> where T.A == Key { func f<U: Q>(_: U) where U.A == Key {} }"),
+            ("<T, U, Key where T : P, T.A == Key, U : Q, U.A == Key, Key : Hashable, Key : Named>", Status.WITH_CONCRETE),
+        )
+
+    def test_a_class_is_an_object_and_conforms_as_its_superclass_does(self):
+        self.assertEqual(self.concrete("func f<T: P>() where T.A == Sub {}")[0], "<T, Sub where T : P, T.A == Sub, Sub : AnyObject, Sub : Named>")
+
+    def test_what_has_generic_arguments_or_is_not_declared_is_left_out_still(self):
+        for text in ["func f<T: P>() where T.A == [Key] {}", "func f<T: P>() where T.A == Unknown {}", "func f<T: P>() where T.A == (Key, Key) {}"]:
+            self.assertEqual(self.concrete(text), ("<T where T : P>", Status.INCOMPLETE))
 
 
 class Protocols(unittest.TestCase):
