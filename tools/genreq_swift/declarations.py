@@ -355,8 +355,10 @@ class _OpaqueParameters:
         return Step(step.name, self._all(step.arguments), step.start)
 
     def _parameter(self, opaque: CompoundType) -> Type:
-        name = "some_%d" % (len(self.parameters) + 1)
-        self.parameters.append(ParameterSyntax(name, opaque.start, opaque.parts[0]))
+        place = len(self.parameters)
+        name = "some_%d" % (place + 1)
+        self.parameters.append(ParameterSyntax(name, opaque.start, None))
+        self.parameters[place] = ParameterSyntax(name, opaque.start, self.replaced(opaque.parts[0]))
         return NamedType((Step(name, (), opaque.start),), opaque.start)
 
 

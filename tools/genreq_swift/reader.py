@@ -14,14 +14,21 @@ ReadFile = Tuple[Source, Tuple[DeclarationSyntax, ...]]
 
 
 def read(
-    paths: Sequence[str], beside: Sequence[str] = (), configuration: Configuration = Configuration(), concrete: bool = False
+    paths: Sequence[str],
+    beside: Sequence[str] = (),
+    configuration: Configuration = Configuration(),
+    concrete: bool = False,
+    module: str = "",
 ) -> Reading:
     """Reads sources, and others beside them whose signatures are not wanted, but to which names may refer.
 
-    Where `concrete` is set, concrete types without generic arguments stand as further generic parameters of signatures.
+    Where `concrete` is set, concrete types without generic arguments stand as further generic parameters of signatures. `module` is the module
+    of the sources, where they should not be of those that their headers or folders say.
     """
     problems: List[Problem] = []
     named = read_syntax(paths, configuration, problems)
+    for source, _ in named:
+        source.module = module or source.module
     seen = {source.file for source, _ in named}
     others = [(source, declared) for source, declared in read_syntax(beside, configuration, problems) if source.file not in seen]
     return reading_of(named, others, problems, concrete)

@@ -21,6 +21,9 @@ def add_reading_options(parser: argparse.ArgumentParser) -> None:
         metavar="FILE|FOLDER|standard",
         help="reads these beside, for the names that the files mean; `standard` is the outline of Swift's standard library that comes with this tool",
     )
+    parser.add_argument(
+        "--module", default="", metavar="NAME", help="the module of the files, where it is not the folder below Sources, or the one that they are in"
+    )
     parser.add_argument("--os", default="Linux", metavar="NAME", help="the system for which #if is read (Linux)")
     parser.add_argument("--arch", default="x86_64", metavar="NAME", help="the processor for which #if is read (x86_64)")
     parser.add_argument("--compiler", default="6.0.3", metavar="VERSION", help="the compiler for which #if is read (6.0.3)")
@@ -37,7 +40,7 @@ def add_reading_options(parser: argparse.ArgumentParser) -> None:
 def reading_of(arguments: argparse.Namespace) -> Reading:
     """Reads what the command line names."""
     beside = [str(STANDARD) if name == "standard" else name for name in arguments.beside]
-    return read(arguments.files, beside, configuration_of(arguments), arguments.concrete)
+    return read(arguments.files, beside, configuration_of(arguments), arguments.concrete, arguments.module)
 
 
 def configuration_of(arguments: argparse.Namespace) -> Configuration:

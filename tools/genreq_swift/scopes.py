@@ -152,46 +152,42 @@ class Scopes:
                 scope.own += self.stated(left, self.bounds(written.bound, context, scope), context.source, text)
 
     def _state_target(self, context: Context, scope: Scope) -> None:
-        """What the extended type says beside the type: `extension P<T>`, `extension S<Int>`, or an alias with requirements."""
+        """What an extended type says beside the type: `extension P<T>`, `extension S<Int>`, `extension [Int]`, or an alias of such a type."""
         target, entity = context.declaration.target, context.entity
-        if not isinstance(target, NamedType) or entity is None:
+        if target is None or entity is None:
             return
-        arguments = target.steps[-1].arguments
-        if not arguments:
-            self._state_alias_target(target, context, scope)
-            return
-        lefts: List[Meaning]
         if entity.is_protocol:
             subject = TypeParameter(scope.parameters[0])
-            lefts = [subject.member(name) for name in entity.context.declaration.primaries]
-        else:
-            own = len(entity.context.declaration.parameters)
-            lefts = [TypeParameter(parameter) for parameter in scope.parameters[len(scope.parameters) - own :]]
-        for left, argument in zip(lefts, arguments):
-            scope.own.append(
-                Statement(
-                    StatementKind.SAME_TYPE,
-                    left,
-                    self.meaning(argument, context, scope),
-                    context.source,
-                    argument.start,
-                    argument.start,
-                    "%s == %s" % (left, spelled(argument)),
-                    Origin.OWN,
-                )
-            )
-
-    def _state_alias_target(self, target: NamedType, context: Context, scope: Scope) -> None:
-        """Of an alias `typealias A<T> = S<T> where ..`, an extension of A has the requirements."""
-        if context.entity is None or context.entity.is_protocol:
+            stated = self.stated(subject, self.bounds(target, context, scope), context.source, spelled(target))
+            scope.own += [statement for statement in stated if statement.right is not entity]
             return
-        found = self._found(target, context, scope)
-        alias = found.member if isinstance(found, Found) else None
-        if not isinstance(alias, Alias) or not alias.context.declaration.parameters or alias.context.declaration.target is None:
+        found = self._found(target, context, scope) if isinstance(target, NamedType) and not target.steps[-1].arguments else None
+        if isinstance(found, Found) and isinstance(found.member, Alias) and found.member.context.declaration.parameters:
+            self._state_alias_target(found.member, context, scope)
+        else:
+            self._state_arguments(target, context, scope)
+
+    def _state_arguments(self, target: Type, context: Context, scope: Scope) -> None:
+        """The generic parameters of an extended type are its arguments."""
+        meant = self.meaning(target, context, scope)
+        if not isinstance(meant, NominalType) or meant.entity is not context.entity or meant.arguments is None:
+            return
+        written = target.steps[-1].arguments if isinstance(target, NamedType) else target.parts if isinstance(target, CompoundType) else ()
+        starts = [target.start] * (len(meant.arguments) - len(written)) + [argument.start for argument in written]
+        for parameter, argument, start in zip(scope.parameters, meant.arguments, starts):
+            left = self._parameter(parameter.name, scope)
+            if argument != left:
+                text = "%s == %s" % (left, argument)
+                scope.own.append(Statement(StatementKind.SAME_TYPE, left, argument, context.source, start, start, text, Origin.OWN))
+
+    def _state_alias_target(self, alias: Alias, context: Context, scope: Scope) -> None:
+        """Of an alias `typealias A<T> = S<T> where ..`, an extension of A has the requirements."""
+        target = alias.context.declaration.target
+        if target is None:
             return
         alias_scope = self.scope(alias.context)
         with _Noting(self, None):
-            meant = self.meaning(alias.context.declaration.target, alias.context, alias_scope)
+            meant = self.meaning(target, alias.context, alias_scope)
         if not isinstance(meant, NominalType) or not meant.arguments:
             return
         sides: Replacement = {}
@@ -199,9 +195,10 @@ class Scopes:
             if not isinstance(argument, TypeParameter) or argument.members:
                 return
             sides[argument.parameter] = TypeParameter(parameter)
+        start = context.declaration.start
         for statement in alias_scope.own:
             stated = self.replaced_statement(statement, sides)
-            scope.own.append(replace(stated, source=context.source, start=target.start, clause=target.start, origin=Origin.INFERRED))
+            scope.own.append(replace(stated, source=context.source, start=start, clause=start, origin=Origin.INFERRED))
 
     def _look_at_types(self, context: Context, scope: Scope) -> None:
         """Looks at the types of a declaration for what they need."""
@@ -268,9 +265,8 @@ class Scopes:
             yield Statement(bound.kind, left, bound.protocol, source, start, start, text, Origin.OWN, bound.cause)
             for name, argument, place in bound.arguments:
                 subject = self.member(left, Step(name, (), place), ())
-                yield Statement(
-                    StatementKind.SAME_TYPE, subject, argument, source, place, start, text, Origin.OWN, argument=True
-                )
+                equation = "%s == %s" % (subject, argument)
+                yield Statement(StatementKind.SAME_TYPE, subject, argument, source, place, start, equation, Origin.OWN, argument=True)
 
     def bounds(self, written: Type, context: Context, scope: Scope) -> List[Bound]:
         """What a bound says. The places are those of the parts of the bound as it is written here, also where they are aliases."""

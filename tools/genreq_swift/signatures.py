@@ -24,7 +24,6 @@ from .names import Context, Entity, Names
 from .profile import Profile
 from .scopes import Scope, Scopes
 from .tokens import Source
-from .type_syntax import NamedType
 
 _WITH_SIGNATURE = frozenset(
     (
@@ -186,11 +185,11 @@ class SignatureMaker:
         if not self.scopes.scope(context).parameters:
             self._tally.not_generic += 1
             return None
-        if not _has_own(context):
-            self._tally.as_around += 1
-            return None
         declaration, source = context.declaration, context.source
         scope = self.scopes.scope(context)
+        if not (declaration.parameters or declaration.conditions or scope.own):
+            self._tally.as_around += 1
+            return None
         parameters = tuple(scope.parameters)
         if self.concrete:
             parameters, requirements, omissions = self._with_stand_ins(scope)
@@ -227,15 +226,6 @@ class SignatureMaker:
         if known is None:
             known = self._around[around] = self.profile.split(self.scopes.scope(around).statements, Origin.CONTEXT)
         return known
-
-
-def _has_own(context: Context) -> bool:
-    """Whether a declaration has generic parameters or a where clause, or an extension arguments."""
-    declaration = context.declaration
-    if declaration.parameters or declaration.conditions:
-        return True
-    target = declaration.target
-    return context.kind is DeclarationKind.EXTENSION and isinstance(target, NamedType) and bool(target.steps[-1].arguments)
 
 
 def _name(context: Context) -> str:

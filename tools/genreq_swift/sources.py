@@ -1,5 +1,6 @@
 """The files that are read: Swift files, and the folders in which they are looked for."""
 from dataclasses import dataclass
+import os
 from pathlib import Path
 import re
 from typing import List, Sequence, Tuple
@@ -57,11 +58,14 @@ def _files_in(path: Path) -> List[Path]:
     if not path.is_dir():
         return [path]
     found = []
-    for file in path.rglob("*"):
-        inside = file.relative_to(path).parts
-        if file.suffix in _SUFFIXES and not _BESIDE.intersection(inside) and not _MANIFEST.fullmatch(file.name) and file.is_file():
-            found.append(file)
+    for folder, folders, files in os.walk(path, onerror=_raise):
+        folders[:] = [name for name in folders if name not in _BESIDE]
+        found += [Path(folder, name) for name in files if name.endswith(_SUFFIXES) and not _MANIFEST.fullmatch(name)]
     return sorted(found)
+
+
+def _raise(error: OSError) -> None:
+    raise error
 
 
 def _module(file: Path, under: Path, text: str) -> str:

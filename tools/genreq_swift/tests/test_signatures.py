@@ -62,7 +62,18 @@ class Requirements(unittest.TestCase):
         self.assertEqual((first.clause, first.argument, conformance.argument), (conformance.place, True, False))
         self.assertEqual(omissions(text), ["Self.E == Int: concrete type", "Self.I == Int: concrete type"])
 
+    def test_an_extension_states_the_arguments_of_what_it_extends(self):
+        text = PROTOCOLS + """
+        struct Array<E> {}; struct Int {}; struct S<T, U> {}; typealias Ints = Array<Int>; typealias Of<V, W> = S<W, V> where V: P
+        protocol C<E> { associatedtype E }; typealias IntC = C<Int>
+        extension [Int] {}; extension Ints {}; extension S<Int, S<Int, Int>> {}; extension IntC {}; extension Of {}
+        """
+        wanted = ["E == Int", "E == Int", "T == Int", "U == S<Int, Int>", "Self.E == Int"]
+        self.assertEqual([line.split(":")[0] for line in omissions(text)], wanted)
+        self.assertEqual(signatures(text)[-1], "S <T, U where U : P>")
+
     def test_some_parameters_follow_the_written_ones(self):
+        self.assertEqual(signatures(PROTOCOLS + "protocol C<E> { associatedtype E }; func g(_: some C<some P>) {}")[0], "g <some_1, some_2 where some_1 : C, some_1.E == some_2, some_2 : P>")
         self.assertEqual(signatures(PROTOCOLS + "func f<T>(_ a: some P, _ b: T, _ c: [some Q]) {}"), ["f <T, some_1, some_2 where some_1 : P, some_2 : Q>"])
 
     def test_members_of_a_type_and_its_aliases_are_found(self):
