@@ -51,15 +51,15 @@ class Found:
     text: Optional[SameText] = None
 
 
-def by_place(workshop: Workshop, found: Found, read: Sequence[Path], language: str) -> None:
+def by_place(workshop: Workshop, found: Found, read: Sequence[str], language: str) -> None:
     """Compares a module by the places of its sources."""
     module = found.module
     compiled, printed = workshop.compile(module)
     if printed.errors:
         tell("%s: the compiler tells %d errors" % (module.name, printed.errors))
-    words = ["--language", language]
-    signed, signatures = asked("signatures", ["--as", "swift", *words], module.files, read)
-    required, requirements = asked("requirements", ["--as", "swift", *words], module.files, read)
+    words = ["--as", "swift", "--language", language, "--module", module.name]
+    signed, signatures = asked("signatures", words, module.files, read)
+    required, requirements = asked("requirements", words, module.files, read)
     found.signatures = pairs(signatures, printed)
     found.requirements = pairs(files_named(requirements, module.files), printed)
     found.seconds = (compiled.seconds, signed.seconds, required.seconds)
@@ -78,7 +78,7 @@ def compared(options: argparse.Namespace, compiler: Compiler) -> List[Found]:
         for at, module in enumerate(modules):
             tell(module.name)
             found = Found(module)
-            read = beside(module, modules[:at], compiler)
+            read = beside(module, modules[:at])
             if not options.no_sources:
                 by_place(workshop, found, read, options.language)
             found.text = same_text(workshop, module, read, options.language)

@@ -6,8 +6,8 @@ from typing import List, Sequence, Tuple
 from swift_compiler.compiler import Compiler
 
 STANDARD = "standard"
-# What every source imports without saying so.
-IMPLICIT = ("Swift", "_Concurrency", "_StringProcessing")
+# The modules that `--with standard` has.
+OUTLINED = ("Swift", "_Concurrency")
 
 
 class NoModule(Exception):
@@ -59,10 +59,9 @@ def module_of(word: str, flags: Sequence[str], compiler: Compiler) -> Module:
     return Module(name, files_of(path), usual + tuple(flags), path.suffix == ".swiftinterface")
 
 
-def beside(module: Module, before: Sequence[Module], compiler: Compiler) -> List[Path]:
-    """The files that are read beside a module: what it imports without saying so, and the modules that are named before it."""
+def beside(module: Module, before: Sequence[Module]) -> List[str]:
+    """What `--with` names for a module: the standard library, as it comes with the tool, and the files of the modules that are named before it."""
     if module.name == "Swift":
         return []
-    implicit = [compiler.interface(name) for name in IMPLICIT if name != module.name]
-    named = [file for other in before for file in other.files if other.name != module.name]
-    return list(dict.fromkeys([path for path in implicit if path is not None] + named))
+    named = [str(file) for other in before for file in other.files if other.name not in (module.name, *OUTLINED)]
+    return [STANDARD, *named]

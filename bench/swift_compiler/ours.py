@@ -47,9 +47,9 @@ def program() -> str:
     return os.environ.get("GENREQ_SWIFT", str(PROGRAM))
 
 
-def asked(command: str, words: Sequence[str], files: Sequence[Path], beside: Sequence[Path]) -> Tuple[Run, List[Own]]:
+def asked(command: str, words: Sequence[str], files: Sequence[Path], beside: Sequence[str]) -> Tuple[Run, List[Own]]:
     """What a command prints of these files, with others read beside them, and how it ended. Raises Unreadable where it fails."""
-    options = [word for path in beside for word in ("--with", str(path))]
+    options = [word for name in beside for word in ("--with", name)]
     line = [program(), command, "--json", *words, *options, *(str(file) for file in files)]
     with timed(line, quiet=True) as (run, printed):
         lines = printed.read().decode("utf-8", "replace").splitlines()

@@ -2,7 +2,6 @@
 
 Here the compiler sees no more than genreq does. So incomplete signatures are compared too, and sources that the compiler cannot compile."""
 from dataclasses import dataclass
-from pathlib import Path
 from typing import Dict, List, Sequence, Tuple
 
 from genreq_swift.conditions import Configuration
@@ -10,13 +9,14 @@ from genreq_swift.parts import function_part, protocol_part
 from genreq_swift.program import Command, LEVELS, Limits, Part, Program, Status, default_program, written
 from genreq_swift.questions import Questions, requirement_signatures
 from genreq_swift.reader import read
+from genreq_swift.reading_options import STANDARD as STANDARD_OUTLINE
 from genreq_swift.swift_form import as_swift as in_compilers_form
 
 from swift_compiler.as_swift import as_swift
 from swift_compiler.comparing import PROTOCOL, WHOLE, Pair, pairs
 from swift_compiler.compiler import spent
 from swift_compiler.compiling import Workshop
-from swift_compiler.modules import Module
+from swift_compiler.modules import STANDARD, Module
 from swift_compiler.ours import Own
 
 COLUMN_OF_FUNCTION = len("func ") + 1
@@ -52,10 +52,11 @@ def seconds_of(program: Program, command: Command, parts: Sequence[Part]) -> flo
     return float("nan")
 
 
-def answered(program: Program, module: Module, beside: Sequence[Path], language: str) -> Tuple[List[Part], Dict[str, str], List[Part]]:
+def answered(program: Program, module: Module, beside: Sequence[str], language: str) -> Tuple[List[Part], Dict[str, str], List[Part]]:
     """The functions of a module that are answered, their signatures, and the protocols over which they are."""
     version = Configuration(language=tuple(int(part) for part in language.split(".")))
-    reading = read([str(file) for file in module.files], [str(path) for path in beside], version)
+    paths = [str(STANDARD_OUTLINE) if name == STANDARD else name for name in beside]
+    reading = read([str(file) for file in module.files], paths, version, module=module.name)
     questions = Questions(program, [protocol_part(protocol) for protocol in reading.protocols])
     functions = [function_part(signature) for signature in reading.signatures]
     found = questions.ask(Command.SIGNATURES, functions).answers
@@ -63,7 +64,7 @@ def answered(program: Program, module: Module, beside: Sequence[Path], language:
     return kept, {label: in_compilers_form(answers[0].line) for label, answers in found.items()}, questions.protocols
 
 
-def same_text(workshop: Workshop, module: Module, beside: Sequence[Path], language: str) -> SameText:
+def same_text(workshop: Workshop, module: Module, beside: Sequence[str], language: str) -> SameText:
     program = Program(default_program())
     functions, signatures, protocols = answered(program, module, beside, language)
     required = requirement_signatures(program, protocols)

@@ -52,8 +52,8 @@ class Modules(unittest.TestCase):
         self.written("A/a.swift")
         self.written("B/b.swift")
         one, other = self.named(str(self.folder / "A")), self.named(str(self.folder / "B"))
-        self.assertEqual(beside(other, [one], self.compiler), [self.standard, self.folder / "A/a.swift"])
-        self.assertEqual(beside(self.named("standard"), [], self.compiler), [])
+        self.assertEqual(beside(other, [self.named("standard"), one]), ["standard", str(self.folder / "A/a.swift")])
+        self.assertEqual(beside(self.named("standard"), []), [])
 
 
 if __name__ == "__main__":
