@@ -18,12 +18,14 @@ from swift_compiler.ours import Unreadable, asked
 from swift_compiler.same_text import SameText, same_text
 from swift_compiler.table import differences, row, seconds_table, table, text_table
 
+DIFFERS = 1
 FAILED = 70
 DESCRIPTION = """Lays the signatures and requirement signatures that genreq-swift prints of Swift modules beside those of the Swift compiler: each
 by its place in the sources, and then those of the text for genreq, which the compiler reads as Swift. It prints tables, and each difference."""
 EPILOGUE = """A MODULE is `standard`, the interface of the standard library; the name of another module of the compiler that has an interface; a
 folder with sources, whose name is that of the module; or NAME=PATH, where PATH is a folder, a source, or a text that lists sources, a path in
-each line. Each module imports those named before it. Without any, the modules of the compiler are compared."""
+each line. Each module imports those named before it. Without any, the modules of the compiler are compared. The status is 1 where something
+differs by more than its form, and 70 where a program fails."""
 OWN_MODULES = ["standard", "_Concurrency", "_StringProcessing", "RegexBuilder", "_Differentiation", "Synchronization", "Observation", "Distributed"]
 COMPILER = Path(__file__).resolve().parent.parent / "out" / "swift"
 
@@ -50,13 +52,20 @@ class Found:
     seconds: Sequence[float] = ()
     text: Optional[SameText] = None
 
+    @property
+    def pairs(self) -> List[Pair]:
+        """All pairs that were found, by place and of the text."""
+        return self.signatures + self.requirements + (self.text.signatures + self.text.requirements if self.text else [])
+
 
 def by_place(workshop: Workshop, found: Found, read: Sequence[str], language: str) -> None:
     """Compares a module by the places of its sources."""
     module = found.module
     compiled, printed = workshop.compile(module)
     if printed.errors:
-        tell("%s: the compiler tells %d errors" % (module.name, printed.errors))
+        tell("%s: the compiler tells %d errors, the first is %s" % (module.name, len(printed.errors), printed.errors[0]))
+    if compiled.status < 0:
+        tell("%s: the compiler ended by signal %d" % (module.name, -compiled.status))
     words = ["--as", "swift", "--language", language, "--module", module.name]
     signed, signatures = asked("signatures", words, module.files, read)
     required, requirements = asked("requirements", words, module.files, read)
@@ -97,11 +106,7 @@ def report(everything: Sequence[Found], with_sources: bool, kinds: Sequence[Like
     lines += table("signatures of the text", [row(name, text.signatures) for name, text in texts]) + [""]
     lines += table("requirement signatures of the text", [row(name, text.requirements) for name, text in texts]) + [""]
     lines += text_table([(name, text.times) for name, text in texts])
-    for one in everything:
-        lines += differences(one.signatures + one.requirements, kinds)
-    for name, text in texts:
-        lines += differences(text.signatures + text.requirements, kinds)
-    return lines
+    return lines + differences((pair for one in everything for pair in one.pairs), kinds)
 
 
 def run(arguments: Sequence[str]) -> int:
@@ -113,7 +118,7 @@ def run(arguments: Sequence[str]) -> int:
     everything = compared(options, compiler)
     kinds = list(Likeness)[1:] if options.form else [Likeness.OTHER]
     print("\n".join(report(everything, not options.no_sources, kinds)))
-    return 0
+    return DIFFERS if any(pair.differs for one in everything for pair in one.pairs) else 0
 
 
 def main(arguments: Sequence[str]) -> int:

@@ -28,6 +28,11 @@ class Pair:
     def is_compared(self) -> bool:
         return self.theirs is not None and not self.own.status.startswith(INCOMPLETE)
 
+    @property
+    def differs(self) -> bool:
+        """Whether the two differ by more than their form."""
+        return self.is_compared and self.likeness() is Likeness.OTHER
+
     def forms(self) -> Tuple[Form, Form]:
         """Both taken apart. Where ours is without `~Copyable`, so is the compiler's. In requirement signatures ours does not say which protocol
         declares a member, so neither does the compiler's. Raises Malformed."""

@@ -91,7 +91,7 @@ class Compiler:
         try:
             done = subprocess.run(self.command(["--version"]), stdout=subprocess.PIPE, stderr=subprocess.STDOUT, check=False)
         except OSError as error:
-            raise NoCompiler("%s: %s" % (error.filename, error.strerror)) from error
+            raise NoCompiler("there is no compiler below %s: --set-up sets it up" % self.root.parent) from error
         if done.returncode != 0:
             raise NoCompiler("the compiler below %s does not run" % self.root)
         return next((line for line in done.stdout.decode("utf-8", "replace").split("\n") if "version" in line), "")

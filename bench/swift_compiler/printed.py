@@ -13,7 +13,7 @@ with `Requirement signature: <Self where ..>` for a protocol, and for an extensi
 """
 from dataclasses import dataclass, field
 import re
-from typing import Dict, Iterable, Optional, Set, Tuple
+from typing import Dict, Iterable, List, Optional, Set, Tuple
 
 DECLARED = re.compile(r"[^@\s][^@]*\.\(file\)\.[^@]*@(.+):(\d+):(\d+)$")
 UNIT = re.compile(r'\s*0x[0-9a-f]+ FileUnit file="(.*)"$')
@@ -29,13 +29,13 @@ Line = Tuple[str, int]
 @dataclass
 class Printed:
     """Signatures by file, line and column, those of extensions by file and line, requirement signatures of protocols by file, line and
-    column, and how many errors the compiler told. Two extensions of one line with several signatures are `doubtful`."""
+    column, and the errors that the compiler told. Two extensions of one line with several signatures are `doubtful`."""
 
     signatures: Dict[At, str] = field(default_factory=dict)
     extensions: Dict[Line, str] = field(default_factory=dict)
     protocols: Dict[At, str] = field(default_factory=dict)
     doubtful: Set[Line] = field(default_factory=set)
-    errors: int = 0
+    errors: List[str] = field(default_factory=list)
 
 
 class Reader:
@@ -62,7 +62,7 @@ class Reader:
         elif line.startswith(REQUIREMENTS) and self.place:
             self.printed.protocols.setdefault(self.place, line[len(REQUIREMENTS) :])
         elif ERROR.match(line) and not line.startswith(" "):
-            self.printed.errors += 1
+            self.printed.errors.append(line)
 
     def signature(self, text: str) -> None:
         """The first signature of a place is that of what is declared there. Behind it stand those of what the compiler makes of it."""

@@ -48,7 +48,7 @@ class Read(unittest.TestCase):
         self.assertEqual(read(PRINTED.split("\n")).signatures[("/a/b.swift", 3, 8)], "<τ_0_0 where τ_0_0 : P>")
 
     def test_an_error_counts_once(self) -> None:
-        self.assertEqual(read(PRINTED.split("\n")).errors, 1)
+        self.assertEqual(read(PRINTED.split("\n")).errors, ["/a/b.swift:7:4: error: cannot find type 'X' in scope"])
 
     def test_a_signature_is_found_by_its_place(self) -> None:
         self.assertIs(pair(own("struct", 3, 8, "<τ_0_0 where τ_0_0 : P>")).likeness(), Likeness.SAME)
