@@ -33,7 +33,7 @@ COMPILER = Path(__file__).resolve().parent.parent / "out" / "swift"
 def parser() -> argparse.ArgumentParser:
     made = argparse.ArgumentParser(prog="bench/swift", description=DESCRIPTION, epilog=EPILOGUE)
     made.add_argument("--compiler", metavar="FOLDER", type=Path, default=COMPILER, help="where the compiler is set up (bench/out/swift)")
-    made.add_argument("--set-up", action="store_true", help="set the compiler up there first: 540 MB to fetch, 2.4 GB of files")
+    made.add_argument("--set-up", action="store_true", help="set the compiler up there where it is not yet: 540 MB to fetch, 2.4 GB of files")
     made.add_argument("--flag", metavar="FLAG", action="append", default=[], help="a further flag for the compiler, as --flag=-DDEBUG")
     made.add_argument("--language", metavar="VERSION", default="5", help="the language mode in which sources are read and compiled (5)")
     made.add_argument("--form", action="store_true", help="print the differences of form too, and not only those of content")

@@ -98,6 +98,6 @@ class Compiler:
 
 
 def set_up(folder: Path) -> None:
-    """Fetches the compiler and unpacks it into a folder. Raises NoCompiler where that fails."""
-    if subprocess.run(["sh", str(SET_UP), str(folder)], check=False).returncode != 0:
+    """Fetches the compiler and unpacks it into a folder, where it is not there already. Raises NoCompiler where that fails."""
+    if not (folder / "root").exists() and subprocess.run(["sh", str(SET_UP), str(folder)], check=False).returncode != 0:
         raise NoCompiler("the compiler could not be set up in %s" % folder)
