@@ -25,6 +25,7 @@ The variable GENREQ names another program to run in place of ./genreq."""
 
 
 def parser_of_words() -> argparse.ArgumentParser:
+    """The parser of the words, with all subcommands."""
     parser = argparse.ArgumentParser(
         prog="genreq-swift", description=DESCRIPTION, epilog=EPILOG, formatter_class=argparse.RawDescriptionHelpFormatter
     )

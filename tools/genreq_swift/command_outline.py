@@ -11,6 +11,7 @@ from .telling import SOMETHING_LEFT_OUT, tell
 
 
 def add(subparsers: "argparse._SubParsersAction[argparse.ArgumentParser]") -> None:
+    """Adds the subcommand."""
     parser = subparsers.add_parser(
         "outline",
         help="sources without functions and bodies, to be read with --with",
@@ -21,6 +22,7 @@ def add(subparsers: "argparse._SubParsersAction[argparse.ArgumentParser]") -> No
 
 
 def run(arguments: argparse.Namespace) -> int:
+    """Runs it, and answers its status."""
     problems: List[Problem] = []
     files = read_syntax(arguments.files, configuration_of(arguments), problems)
     lines = [line for _, declarations in files for line in outline(declarations)]

@@ -5,7 +5,7 @@ from typing import List
 
 from .model import Protocol, Status
 from .output import print_text
-from .own_names import OwnNames, own_names
+from .own_names import own_names
 from .parts import protocol_part
 from .printed import read_signature
 from .program import Program, default_program
@@ -17,6 +17,7 @@ from .telling import left_out_lines, status_of, tell, told
 
 
 def add(subparsers: "argparse._SubParsersAction[argparse.ArgumentParser]") -> None:
+    """Adds the subcommand."""
     parser = subparsers.add_parser(
         "requirements",
         help="the requirement signature of each protocol",
@@ -30,6 +31,7 @@ def add(subparsers: "argparse._SubParsersAction[argparse.ArgumentParser]") -> No
 
 
 def run(arguments: argparse.Namespace) -> int:
+    """Runs it, and answers its status."""
     reading = reading_of(arguments)
     found = requirement_signatures(Program(default_program()), [protocol_part(protocol) for protocol in reading.protocols])
     names, key = own_names(reading), ProtocolOrder(reading)

@@ -5,7 +5,7 @@ import json
 import re
 from typing import List, Sequence
 
-from .model import GenericParameter, Reading, Signature, Status
+from .model import GenericParameter, Signature, Status
 from .output import print_text
 from .own_names import OwnNames, own_names
 from .parts import function_part, protocol_part
@@ -21,6 +21,7 @@ _PARAMETER = re.compile(r"τ_0_(\d+)")
 
 
 def add(subparsers: "argparse._SubParsersAction[argparse.ArgumentParser]") -> None:
+    """Adds the subcommand."""
     parser = subparsers.add_parser(
         "signatures",
         help="the minimised signature of each declaration",
@@ -34,6 +35,7 @@ def add(subparsers: "argparse._SubParsersAction[argparse.ArgumentParser]") -> No
 
 
 def run(arguments: argparse.Namespace) -> int:
+    """Runs it, and answers its status."""
     reading = reading_of(arguments)
     signatures = kept(reading.signatures, arguments.strict)
     questions = Questions(Program(default_program()), [protocol_part(protocol) for protocol in reading.protocols])

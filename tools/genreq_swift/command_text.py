@@ -8,6 +8,7 @@ from .text import map_of, text_of
 
 
 def add(subparsers: "argparse._SubParsersAction[argparse.ArgumentParser]") -> None:
+    """Adds the subcommand."""
     parser = subparsers.add_parser(
         "text",
         help="the text for genreq",
@@ -20,6 +21,7 @@ def add(subparsers: "argparse._SubParsersAction[argparse.ArgumentParser]") -> No
 
 
 def run(arguments: argparse.Namespace) -> int:
+    """Runs it, and answers its status."""
     reading = reading_of(arguments)
     text = text_of(reading.protocols, kept(reading.signatures, arguments.strict))
     if arguments.map:

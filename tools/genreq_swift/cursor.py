@@ -41,6 +41,7 @@ class Cursor:
 
     @property
     def at_name(self) -> bool:
+        """Whether this token is a name."""
         kind = self.token.kind
         return kind is _NAME or kind is _QUOTED
 
@@ -49,6 +50,7 @@ class Cursor:
         return self.token.text == text and self.token.kind is not _QUOTED
 
     def want(self, text: str) -> Token:
+        """Goes past a mark or keyword. Raises SourceError where it does not stand here."""
         if not self.at(text):
             raise self.wanted(repr(text))
         return self.advance()
@@ -61,6 +63,7 @@ class Cursor:
         return True
 
     def wanted(self, what: str) -> SourceError:
+        """The error that something else is wanted here."""
         found = repr(self.token.text) if self.token.kind is not TokenKind.END else "the end"
         return self.source.error("%s is wanted, and not %s" % (what, found), self.token.start)
 

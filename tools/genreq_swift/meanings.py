@@ -38,6 +38,7 @@ Replacement = Dict[GenericParameter, Meaning]
 
 
 def parts_of(meaning: Meaning) -> "Tuple[Meaning, ...]":
+    """The types in a type."""
     if isinstance(meaning, NominalType):
         return meaning.arguments or ()
     return meaning.parts if isinstance(meaning, OtherType) else ()
@@ -48,7 +49,18 @@ def has_parameters(meaning: Meaning) -> bool:
     return isinstance(meaning, TypeParameter) or any(has_parameters(part) for part in parts_of(meaning))
 
 
+def is_larger(meaning: Meaning, most: int) -> bool:
+    """Whether a type has more than so many parts."""
+    waiting = [meaning]
+    while waiting and most >= 0:
+        most -= 1
+        waiting += parts_of(waiting.pop())
+    return most < 0
+
+
 class StatementKind(Enum):
+    """What a statement states. The value is what stands between or behind its sides."""
+
     CONFORMANCE = ":"
     LAYOUT = ": AnyObject"
     SAME_TYPE = "=="
@@ -74,6 +86,7 @@ class Statement:
     argument: bool = False
 
     def sides(self) -> Iterator[Meaning]:
+        """The types that it speaks of."""
         yield self.left
         if self.right is not None and not isinstance(self.right, Entity):
             yield self.right

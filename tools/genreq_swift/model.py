@@ -70,6 +70,7 @@ class TypeParameter:
     members: Tuple[str, ...] = ()
 
     def member(self, name: str) -> "TypeParameter":
+        """Its member of this name."""
         return TypeParameter(self.parameter, self.members + (name,))
 
     def __str__(self) -> str:
@@ -77,10 +78,13 @@ class TypeParameter:
 
     @property
     def labelled(self) -> str:
+        """The type parameter as it stands in a text for genreq."""
         return ".".join((self.parameter.label,) + tuple(label_of(member) for member in self.members))
 
 
 class RequirementKind(Enum):
+    """What a requirement requires."""
+
     CONFORMANCE = "conformance"
     LAYOUT = "layout"
     SAME_TYPE = "same-type"
@@ -164,6 +168,8 @@ class Omission:
 
 
 class Status(Enum):
+    """How much of a declaration is there. The value is how it is told."""
+
     WHOLE = "whole"
     WITHOUT_SUPPRESSED = "without ~Copyable"
     WITH_CONCRETE = "with parameters for concrete types"
@@ -224,10 +230,12 @@ class Signature:
 
     @property
     def status(self) -> Status:
+        """How much of it is there."""
         return status_of(self.omissions, self.parameters)
 
     @property
     def status_line(self) -> str:
+        """The same in a line, with the first cause."""
         return status_line(self.omissions, self.parameters)
 
 
@@ -244,8 +252,8 @@ class AssociatedType:
 class Protocol:
     """A protocol.
 
-    `module` is the name of the module in which it is declared. Its only generic parameter is `Self`. `inherited` are the requirements of its inheritance clause, `conditions` those of its where clause;
-    each associated type has its own.
+    `module` is the name of the module in which it is declared. Its only generic parameter is `Self`. `inherited` are the requirements of its
+    inheritance clause, `conditions` those of its where clause; each associated type has its own.
     """
 
     name: str
@@ -268,14 +276,17 @@ class Protocol:
 
     @property
     def parameters(self) -> Tuple[GenericParameter, ...]:
+        """Its generic parameters."""
         return (self.self_parameter,)
 
     @property
     def status(self) -> Status:
+        """How much of it is there."""
         return status_of(self.omissions, self.parameters)
 
     @property
     def status_line(self) -> str:
+        """The same in a line, with the first cause."""
         return status_line(self.omissions, self.parameters)
 
 

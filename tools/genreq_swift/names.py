@@ -28,6 +28,7 @@ class Context:
 
     @property
     def kind(self) -> DeclarationKind:
+        """The word that declares it."""
         return self.declaration.kind
 
     def around(self) -> "Iterator[Context]":
@@ -54,14 +55,17 @@ class Entity:
 
     @property
     def is_protocol(self) -> bool:
+        """Whether it is a protocol."""
         return self.context.kind is DeclarationKind.PROTOCOL
 
     @property
     def is_class(self) -> bool:
+        """Whether it is a class."""
         return self.context.kind is DeclarationKind.CLASS
 
     @property
     def name(self) -> str:
+        """Its own name behind those around it."""
         return ".".join(self.path)
 
 
@@ -73,6 +77,11 @@ class Alias:
     def __init__(self, context: Context, outer: Optional[Entity]):
         self.context = context
         self.outer = outer
+
+    @property
+    def is_in_protocol(self) -> bool:
+        """Whether it is declared in a protocol, or in an extension of one."""
+        return self.outer is not None and self.outer.is_protocol
 
 
 Member = Union[Entity, Alias]
@@ -90,6 +99,7 @@ class Names:
         self._by_module: Dict[str, Dict[str, Member]] = {}
         self._by_file: Dict[str, Dict[str, Member]] = {}
         self._inherited: Dict[Entity, Dict[Entity, None]] = {}
+        self._aliases: Dict[Entity, Dict[str, Alias]] = {}
         self._unbound: List[Context] = []
         for source, declarations in files:
             contexts = [Context(declaration, source, None) for declaration in declarations]
@@ -174,6 +184,7 @@ class Names:
         return self._everywhere.get(name)
 
     def is_module(self, name: str) -> bool:
+        """Whether a name is that of a module."""
         return name in self._by_module or name in _KNOWN_MODULES
 
     def in_module(self, module: str, name: str) -> Optional[Member]:
@@ -270,6 +281,19 @@ class Names:
                 if any(protocol in self.inherited(bound) for bound in self._conforms(context)):
                     return context
         return None
+
+    def aliases_of_protocols(self, entity: Entity) -> Dict[str, Alias]:
+        """The aliases that a type has of the protocols to which it is declared to conform, by name."""
+        known = self._aliases.get(entity)
+        if known is None:
+            known = self._aliases[entity] = {}
+            for context in [entity.context] + entity.extensions:
+                for bound in self._conforms(context):
+                    for protocol in self.inherited(bound):
+                        for name, member in protocol.members.items():
+                            if isinstance(member, Alias):
+                                known.setdefault(name, member)
+        return known
 
     def declared_conformances(self, entity: Entity) -> Dict[Entity, None]:
         """The protocols to which a type, or a superclass of it, is declared to conform without a condition."""

@@ -38,7 +38,8 @@ def _alias(declaration: DeclarationSyntax) -> str:
     if declaration.target is None:
         return "%s %s%s" % (declaration.kind.value, declaration.name, _clauses(declaration))
     target = " = " + spelled(declaration.target) if declaration.kind is DeclarationKind.TYPEALIAS else ""
-    return "%s %s%s%s%s" % (declaration.kind.value, declaration.name, _parameters(declaration), _inherited(declaration) + target, _conditions(declaration))
+    clauses = _parameters(declaration) + _inherited(declaration) + target + _conditions(declaration)
+    return "%s %s%s" % (declaration.kind.value, declaration.name, clauses)
 
 
 def _clauses(declaration: DeclarationSyntax) -> str:

@@ -1,21 +1,20 @@
 """Which written requirements of protocols are redundant.
 
-Those are asked that `requirements` does not keep. Each is asked of a function that requires its protocol, over the protocols without it and
-without what was found before, and what is told has a derivation that `verify` accepts.
+Those go that `requirements` does not keep. Each is then asked of a function that requires its protocol, over the protocols without all of them,
+and what is told has a derivation that `verify` accepts. Where `requirements` passes a limit, each is asked by itself whether it may go too.
 """
 from collections import Counter
 from dataclasses import replace
-from typing import Dict, FrozenSet, List, Mapping, Optional, Sequence, Tuple
+from typing import Dict, FrozenSet, List, Mapping, Sequence, Tuple
 
 from .derivations import Lists
 from .model import Protocol, Requirement
 from .parts import conforming_part, in_function, protocol_part
 from .printed import read_signature
-from .program import LEVELS, Answer, Command, Program
+from .program import LEVELS, Answer, Command, Part, Program
 from .questions import Closure, Questions, requirement_signatures
-from .redundancy import Finding, Unit, check, units_of
+from .redundancy import Finding, Unit, asked_label, check, units_of
 
-ASKED = "asked"
 Without = Mapping[str, FrozenSet[int]]
 
 
@@ -29,32 +28,54 @@ class ProtocolRedundancy:
     def findings(self, own: Sequence[Protocol]) -> List[Finding]:
         """The redundant units of some of the protocols, which can all be taken out together."""
         kept = requirement_signatures(self.program, [protocol_part(protocol) for protocol in self.protocols]).signatures
-        candidates = [unit for protocol in own for unit in units_of(protocol) if may_go(unit, kept.get(protocol.label))]
+        units = [unit for protocol in own for unit in units_of(protocol)]
+        found = [unit for unit in units if unit.declaration.label in kept and may_go(unit, kept[unit.declaration.label])]
         without: Dict[str, FrozenSet[int]] = {}
-        found = []
-        for unit in reversed(candidates):
-            finding = self._finding(unit, without)
-            if finding:
-                label = unit.declaration.label
-                without[label] = without.get(label, frozenset()) | frozenset(unit.numbers)
-                found.append(finding)
-        return found[::-1]
+        for unit in found:
+            add(without, unit)
+        for unit in reversed([unit for unit in units if unit.declaration.label not in kept]):
+            if self._follows(unit, without):
+                add(without, unit)
+                found.append(unit)
+        return self._explained(found, without)
 
-    def _finding(self, unit: Unit, without: Without) -> Optional[Finding]:
-        """The finding of a unit, where it follows when it is taken out beside what was taken out before."""
-        label = unit.declaration.label
-        out = dict(without)
-        out[label] = out.get(label, frozenset()) | frozenset(unit.numbers)
-        closure = Closure([protocol_part(protocol, out.get(protocol.label, frozenset())) for protocol in self.protocols])
-        questions = Questions(self.program, closure.restricted(closure.needed([label])), LEVELS[:1])
-        part = conforming_part(ASKED, unit.declaration, [query_of(requirement) for requirement in unit.requirements])
-        given = questions.ask(Command.EXPLAIN, [part]).answers.get(ASKED)
-        if given is None or any(answer.line != "yes" for answer in given):
-            return None
-        check(questions, [part], [given])
-        derivations = tuple(answer.under for answer in given)
-        lists = Lists((), {protocol.label: kept_of(protocol, out.get(protocol.label, frozenset())) for protocol in self.protocols})
-        return Finding(unit, lists.used_of(derivations, label), derivations, lists)
+    def _parts(self, without: Without) -> List[Part]:
+        return [protocol_part(protocol, without.get(protocol.label, frozenset())) for protocol in self.protocols]
+
+    def _follows(self, unit: Unit, without: Without) -> bool:
+        """Whether a unit follows when it is taken out beside these."""
+        more = dict(without)
+        add(more, unit)
+        closure = Closure(self._parts(more))
+        questions = Questions(self.program, closure.restricted(closure.needed([unit.declaration.label])), LEVELS[:1])
+        given = questions.ask(Command.ANSWER, [asking_part(0, unit)]).answers.get(asked_label(0))
+        return given is not None and all(answer.line == "yes" for answer in given)
+
+    def _explained(self, units: Sequence[Unit], without: Without) -> List[Finding]:
+        """The findings with their derivations, over the protocols without these requirements."""
+        questions = Questions(self.program, self._parts(without))
+        parts = [asking_part(number, unit) for number, unit in enumerate(units)]
+        answers = questions.ask(Command.EXPLAIN, parts).answers
+        asked = [(unit, part) for unit, part in zip(units, parts) if all(answer.line == "yes" for answer in answers.get(part.label, (Answer("no"),)))]
+        check(questions, [part for _, part in asked], [answers[part.label] for _, part in asked])
+        lists = Lists((), {protocol.label: kept_of(protocol, without.get(protocol.label, frozenset())) for protocol in self.protocols})
+        found = []
+        for unit, part in asked:
+            derivations = tuple(answer.under for answer in answers[part.label])
+            found.append(Finding(unit, lists.used_of(derivations, unit.declaration.label), derivations, lists))
+        return found
+
+
+def add(without: Dict[str, FrozenSet[int]], unit: Unit) -> None:
+    """Takes a unit out of its protocol too."""
+    label = unit.declaration.label
+    without[label] = without.get(label, frozenset()) | frozenset(unit.numbers)
+
+
+def asking_part(number: int, unit: Unit) -> Part:
+    """The function that requires the protocol of a unit, and is asked for the unit."""
+    assert isinstance(unit.declaration, Protocol)
+    return conforming_part(asked_label(number), unit.declaration, [query_of(requirement) for requirement in unit.requirements])
 
 
 def kept_of(protocol: Protocol, without: FrozenSet[int]) -> Tuple[Requirement, ...]:
@@ -62,10 +83,8 @@ def kept_of(protocol: Protocol, without: FrozenSet[int]) -> Tuple[Requirement, .
     return tuple(requirement for number, requirement in enumerate(protocol.requirements) if number not in without)
 
 
-def may_go(unit: Unit, kept: Optional[Answer]) -> bool:
-    """Whether a requirement signature keeps nothing of a unit. Of equal requirements it keeps the first ones. Without one all is asked."""
-    if kept is None:
-        return True
+def may_go(unit: Unit, kept: Answer) -> bool:
+    """Whether a requirement signature keeps nothing of a unit. Of equal requirements it keeps the first ones."""
     texts = Counter(str(requirement) for requirement in read_signature(kept.line).requirements)
     for number, requirement in enumerate(unit.declaration.requirements):
         text = requirement.labelled

@@ -191,19 +191,29 @@ class Redundancy:
         return {number: answered.answers[asked_label(number)] for number in attempts if asked_label(number) in answered.answers}
 
     def _together(self, attempts: Sequence[Attempt]) -> List[Attempt]:
-        """Those that succeed too without what is found behind them in their signatures, from the last on."""
-        left: Dict[str, List[Attempt]] = {}
+        """Those that can be taken out together, by place, each as it succeeds without all of them."""
+        out = self._taken_out([attempt.unit for attempt in attempts])
+        found, again = [], []
         for attempt in attempts:
-            left.setdefault(attempt.unit.declaration.label, []).append(attempt)
-        found = [waiting.pop() for waiting in left.values()]
-        out = {attempt.unit.declaration.label: frozenset(attempt.unit.numbers) for attempt in found}
+            unit, gone = attempt.unit, out[attempt.unit.declaration.label]
+            if gone == frozenset(unit.numbers):
+                found.append(attempt)
+            elif gone.issuperset(unit.numbers):
+                again.append(first_attempt(unit, gone))
+        return sorted(found + self._followed(again), key=lambda attempt: attempt.unit.place)
+
+    def _taken_out(self, units: Sequence[Unit]) -> Dict[str, FrozenSet[int]]:
+        """The numbers of requirements that go from each signature. Of units that each follow, one goes if it follows without those gone before it,
+        from the last on."""
+        left: Dict[str, List[Unit]] = {}
+        for unit in units:
+            left.setdefault(unit.declaration.label, []).append(unit)
+        out = {label: frozenset(of_one.pop().numbers) for label, of_one in left.items()}
         while any(left.values()):
-            lasts = [waiting.pop().unit for waiting in left.values() if waiting]
-            more = self._followed([first_attempt(unit, out[unit.declaration.label] | frozenset(unit.numbers)) for unit in lasts])
-            for attempt in more:
+            lasts = [of_one.pop() for of_one in left.values() if of_one]
+            for attempt in self._followed([first_attempt(unit, out[unit.declaration.label].union(unit.numbers)) for unit in lasts]):
                 out[attempt.unit.declaration.label] |= frozenset(attempt.unit.numbers)
-            found += more
-        return sorted(found, key=lambda attempt: attempt.unit.place)
+        return out
 
     def _explained(self, attempts: Sequence[Attempt]) -> List[Finding]:
         """The findings with their derivations. What follows from an inferred requirement is none."""

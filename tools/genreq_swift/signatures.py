@@ -56,6 +56,7 @@ class _ProtocolSplit:
         self.omissions: List[Omission] = []
 
     def kept(self, statements: Sequence[Statement]) -> Tuple[Requirement, ...]:
+        """The requirements among statements."""
         requirements, omissions = self.profile.split(statements)
         self.omissions += omissions
         return tuple(
@@ -81,12 +82,14 @@ class SignatureMaker:
         self._number = 0
 
     def counts(self, files: int) -> Counts:
+        """How many declarations stand in no list."""
         tally = self._tally
         return Counts(files, tally.not_generic, tally.as_around, tally.of_unknown_types)
 
     # Protocols.
 
     def protocols(self) -> Iterator[Protocol]:
+        """All protocols."""
         for entity in self.names.protocols:
             try:
                 yield self._protocol(entity)

@@ -32,6 +32,8 @@ _QUOTED_NAME = re.compile(r"`[^`\n\r]+`")
 
 
 class TokenKind(Enum):
+    """What a token is."""
+
     NAME = 1
     QUOTED = 2  # a name in backticks, which is no keyword; its text is without them
     NUMBER = 3
@@ -75,17 +77,20 @@ class Source:
         self._starts: Optional[List[int]] = None
 
     def line(self, offset: int) -> int:
+        """The line of a place, from 1."""
         if self._starts is None:
             self._starts = [0] + [found.end() for found in re.finditer(r"\r\n?|\n", self.text)]
         return bisect.bisect_right(self._starts, offset)
 
     def place(self, offset: int) -> Place:
+        """A place as it is told."""
         line = self.line(offset)
         assert self._starts is not None
         before = self.text[self._starts[line - 1] : offset]
         return Place(self.file, line, 1 + (len(before) if before.isascii() else len(before.encode("utf-8", "replace"))))
 
     def error(self, message: str, offset: int) -> SourceError:
+        """The error that something is wrong at a place."""
         return SourceError(message, self.place(offset))
 
     def written(self, start: int, end: int) -> str:

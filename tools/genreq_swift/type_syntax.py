@@ -135,6 +135,7 @@ class TypeReader:
         return tuple(found)
 
     def type(self) -> Type:
+        """Reads a type."""
         cursor = self.cursor
         self._specifiers()
         start = cursor.token.start

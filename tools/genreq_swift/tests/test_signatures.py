@@ -95,6 +95,14 @@ class Requirements(unittest.TestCase):
             ],
         )
 
+    def test_aliases_of_protocols_are_members_of_the_types_that_conform(self):
+        text = PROTOCOLS + "protocol N { associatedtype M; typealias X = M }; struct S<T>: N { typealias M = T; func f<U: P>(_: U) where U.A == X {} }"
+        self.assertEqual(signatures(text)[1], "S.f <T, U where U : P, U.A == T>")
+
+    def test_a_generic_alias_without_arguments_has_no_meaning(self):
+        text = PROTOCOLS + "struct S<T> { typealias M = T; typealias N<U> = U }; func f<T: P>(_: T) where T.A == S.M, T.A == S<T>.N {}"
+        self.assertEqual(omissions(text), ["T.A == S.M: unknown name", "T.A == S<T>.N: unknown name"])
+
     def test_members_of_a_superclass_are_found(self):
         text = PROTOCOLS + "class Base<T> { typealias M = T }; class Sub<U: P>: Base<U.A> { func f<V: P>(_: V) where V.A == M {} }"
         self.assertEqual(signatures(text)[2:], ["Sub.f <U, V where U : P, V : P, V.A == U.A>"])
@@ -143,6 +151,12 @@ class Inferred(unittest.TestCase):
         self.assertEqual(self.inferred("func f<T>(_: Set<[T]>) {}"), (["T : Hashable"], Status.WHOLE))
         self.assertEqual(self.inferred("func f<T>(_: Set<Set<T>>) {}"), (["T : Hashable"], Status.WHOLE))
         self.assertEqual(self.inferred("struct S<U> {}; func f<T>(_: Set<S<T>>) {}")[0], [])
+
+    def test_what_grows_without_end_is_given_up(self):
+        text = "struct B<T> {}; extension B: Hashable where B<B<T>>: Hashable {}; func f<T>(_: Set<B<T>>) {}"
+        self.assertEqual(reading(text, self.BESIDE).signatures[-1].status, Status.INCOMPLETE)
+        doubling = "typealias A<T> = (T, T);" + "".join("typealias A%d<T> = A%s<A%s<T>>;" % (n, n - 1 or "", n - 1 or "") for n in range(1, 9))
+        self.assertEqual(len(reading(doubling + "func f<T>(_: A8<T>) {}").signatures), 10)
 
     def test_nothing_is_inferred_of_a_declaration_without_generics_of_its_own(self):
         self.assertEqual(signatures("struct S<T> { func f(_: Set<T>) {} }", self.BESIDE), ["S <T>"])
