@@ -4,8 +4,8 @@ A printed signature is `<τ_0_0 where τ_0_0 : Sequence, τ_0_0.[Sequence]Elemen
 requirements of a protocol, or a name of a declaration.
 """
 import re
-from dataclasses import dataclass, replace
-from typing import Callable, Optional, Tuple, Union
+from dataclasses import dataclass
+from typing import Optional, Tuple, Union
 
 _MEMBER = re.compile(r"\.(?:\[([^\[\], ]+)\])?([^.\[\], ]+)")
 _PARAMETER = re.compile(r"[^.\[\], <>:=]+")
@@ -129,15 +129,3 @@ def read_signature(text: str) -> PrintedSignature:
 def types_of(requirement: PrintedRequirement) -> Tuple[PrintedType, ...]:
     """The sides of a requirement that are types."""
     return (requirement.subject, requirement.other) if isinstance(requirement, SameType) else (requirement.subject,)
-
-
-def with_types(requirement: PrintedRequirement, change: Callable[[PrintedType], PrintedType]) -> PrintedRequirement:
-    """The requirement with each of its types changed."""
-    if isinstance(requirement, SameType):
-        return SameType(change(requirement.subject), change(requirement.other))
-    return replace(requirement, subject=change(requirement.subject))
-
-
-def unbound(requirement: PrintedRequirement) -> PrintedRequirement:
-    """The requirement with unbound members alone, as it is written."""
-    return with_types(requirement, lambda one: PrintedType(one.parameter, tuple(PrintedMember(member.name) for member in one.members)))

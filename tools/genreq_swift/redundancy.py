@@ -8,16 +8,15 @@ of it. So it is not refused, and a requirement without which another side is no 
 
 Inferred requirements are there to make sides types, and for nothing else: it is no fault to write what the type of a parameter needs.
 """
-from collections import Counter
 from dataclasses import dataclass, replace
 from typing import Dict, FrozenSet, List, Mapping, Optional, Sequence, Tuple
 
 from .derivations import Lists
-from .model import Declaration, Origin, Place, Protocol, Requirement, RequirementKind, Signature, TypeParameter
+from .model import Declaration, Origin, Place, Protocol, Requirement, Signature, TypeParameter
 from .parts import function_part
-from .printed import Conformance, Layout, SameType, read_signature, types_of, unbound
 from .program import Answer, Command, Part, ProgramFailed
 from .questions import LeftOut, Questions
+
 
 @dataclass(frozen=True)
 class Unit:
@@ -125,27 +124,6 @@ def first_attempt(unit: Unit, without: FrozenSet[int]) -> Attempt:
     return Attempt(unit, tuple(used), tuple(waiting), tuple(spare))
 
 
-def is_minimised(signature: Signature, printed: str) -> bool:
-    """Whether the requirements of a signature are those of its minimised form, as they are written. Then none is redundant."""
-    places = {parameter.label: "τ_0_%d" % number for number, parameter in enumerate(signature.parameters)}
-
-    def placed(side: TypeParameter) -> str:
-        return ".".join([places[side.parameter.label], *side.labelled.split(".")[1:]])
-
-    written = Counter(
-        (frozenset(placed(side) for side in sides_of(requirement)), requirement.kind, requirement.protocol.label if requirement.protocol else "")
-        for requirement in signature.requirements
-    )
-    kept = Counter(
-        (frozenset(str(side) for side in types_of(requirement)), KINDS[type(requirement)], getattr(requirement, "protocol", ""))
-        for requirement in map(unbound, read_signature(printed).requirements)
-    )
-    return written == kept
-
-
-KINDS = {Conformance: RequirementKind.CONFORMANCE, Layout: RequirementKind.LAYOUT, SameType: RequirementKind.SAME_TYPE}
-
-
 class Redundancy:
     """Looks for redundant requirements of signatures. `left_out` tells which signatures, or single requirements of them, could not be asked."""
 
@@ -156,11 +134,9 @@ class Redundancy:
 
     def findings(self, signatures: Sequence[Signature]) -> List[Finding]:
         """The redundant units, which can all be taken out together. Of several that follow from each other the last ones are told."""
-        answered = self.questions.ask(Command.SIGNATURES, [function_part(signature) for signature in signatures])
+        answered = self.questions.ask(Command.ANSWER, [function_part(signature) for signature in signatures])
         self.left_out += answered.left_out
-        minimised = answered.answers
-        asked = [one for one in signatures if one.label in minimised and not is_minimised(one, minimised[one.label][0].line)]
-        units = [unit for signature in asked for unit in units_of(signature)]
+        units = [unit for signature in signatures if signature.label in answered.answers for unit in units_of(signature)]
         found = self._followed([first_attempt(unit, frozenset(unit.numbers)) for unit in units])
         return self._explained(self._together(found))
 

@@ -77,6 +77,14 @@ class OfSignatures(unittest.TestCase):
             ["sample.swift:5:11: warning: requirement 'T : P' is redundant: it follows from 'U : R' and 'U.B == T'"],
         )
 
+    def test_what_no_minimised_signature_lacks_is_told(self):
+        # Here genreq keeps T : X, since T.[X]B is no type without it, and swift-frontend prints <T where T : Y, T == T.[X]B>.
+        protocols = "protocol X { associatedtype B: X }\nprotocol Y { associatedtype B: X }\n"
+        self.assertEqual(
+            warnings(protocols + "func f<T: Y>(_: T) where T: X, T == T.B {}"),
+            ["sample.swift:7:29: warning: requirement 'T : X' is redundant: it follows from 'T : Y' and 'T == T.B'"],
+        )
+
     def test_a_constraint_with_arguments_is_one(self):
         self.assertEqual(
             warnings("func f<T: R, U>(_: T) where T: R<U> {}"),

@@ -1,6 +1,6 @@
 import unittest
 
-from genreq_swift.printed import PrintedMember, PrintedType, Unreadable, read_signature, read_type, unbound
+from genreq_swift.printed import PrintedMember, PrintedType, Unreadable, read_signature, read_type
 from genreq_swift.swift_form import as_genreq, as_swift, compiler_form
 
 # What genreq prints of a signature, and what swift-frontend 6.0.3 prints with -debug-generic-signatures, of these declarations:
@@ -70,9 +70,6 @@ class SwiftForm(unittest.TestCase):
 class Printed(unittest.TestCase):
     def test_types_are_read(self):
         self.assertEqual(read_type("τ_0_0.[P]A.B"), PrintedType("τ_0_0", (PrintedMember("A", "P"), PrintedMember("B"))))
-
-    def test_members_are_unbound(self):
-        self.assertEqual([str(unbound(each)) for each in read_signature("<T where T.[P]A : Q, T == T.[P]A.[Q]B>").requirements], ["T.A : Q", "T == T.A.B"])
 
     def test_other_texts_are_unreadable(self):
         for text in ("", "<T", "<T where >", "<T where T>", "<T where T : >", "<T where U : P>", "<T where T : P, >", "<T where T.[P : Q>", "<T where T == >"):
