@@ -1,5 +1,5 @@
 #!/bin/sh
-# Sets up the Swift compiler of Debian trixie (6.0.3) in a folder of its own, with the libraries that it wants. It installs nothing: apt fetches
+# Sets up the Swift compiler of Debian trixie (6.0.3) in a folder of its own, with the libraries and headers that it wants. It installs nothing: apt fetches
 # the packages by lists of its own, and they are unpacked below FOLDER/root. Some 540 MB are fetched, and 2.4 GB unpacked.
 # Usage: set_up.sh FOLDER
 set -e
@@ -36,7 +36,7 @@ APT::Sandbox::User "";
 END
 export APT_CONFIG="$made/apt.conf"
 apt-get update -qq
-apt-get install -qq -y --download-only swiftlang
+apt-get install -qq -y --download-only swiftlang libc6-dev
 for package in "$made"/cache/archives/*.deb; do
     dpkg-deb -x "$package" "$made/root"
 done
