@@ -36,11 +36,14 @@ class Scopes(RequirementMeanings):
         around = self._scope_around(context)
         scope = self._scopes[context] = Scope(around)
         self._declare_parameters(context, scope)
+        before, self.viewpoint = self.viewpoint, context
         try:
             self._state_all(context, scope)
         except RecursionError:
             del self._scopes[context]
             raise
+        finally:
+            self.viewpoint = before
         return scope
 
     def _state_all(self, context: Context, scope: Scope) -> None:

@@ -101,6 +101,7 @@ class SignatureMaker:
         context = entity.context
         declaration, source = context.declaration, context.source
         scope = self.scopes.scope(context)
+        self.scopes.viewpoint = context
         subject = TypeParameter(scope.parameters[0])
         split = _ProtocolSplit(self.profile, scope.parameters[0])
         inherited = split.kept(self._inherited(declaration, subject, context, scope))

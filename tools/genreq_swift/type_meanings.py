@@ -2,6 +2,7 @@
 from dataclasses import dataclass, replace
 from typing import Dict, List, Optional, Set, Tuple, Union
 
+from .known_protocols import KnownProtocols
 from .meanings import Meaning, NominalType, OtherType, Replacement, Statement, StatementKind, has_parameters, is_larger
 from .model import Cause, Origin, TypeParameter
 from .names import Alias, Context, Entity, Member, Names
@@ -28,6 +29,8 @@ class TypeMeanings:
         self.names = names
         self.aliases_open = 0
         self.needs: Optional[List[Statement]] = None  # what the types that are looked at need, where that is wanted
+        self.viewpoint: Optional[Context] = None  # the declaration whose requirements are looked at
+        self.known_protocols = KnownProtocols(names)
         self._superclasses: Dict[Entity, Optional[Meaning]] = {}
 
     def scope(self, context: Context) -> Scope:
@@ -279,13 +282,26 @@ class TypeMeanings:
         return OtherType("%s.%s" % (base, name), base.cause if base.cause is not Cause.CONCRETE else Cause.UNKNOWN, (base,))
 
     def _member_of_parameter(self, base: TypeParameter, name: str) -> Meaning:
-        if name in self.names.associated:
+        aliases = self.names.aliases_in_protocols.get(name, [])
+        if name in self.names.associated and (not aliases or not self._is_alias_alone(base, name)):
             return base.member(name)
-        for alias in self.names.aliases_in_protocols.get(name, ()):
+        if len(aliases) > 1 and self.viewpoint is not None:
+            known = self.known_protocols.of(base, self.viewpoint)
+            aliases = [alias for alias in aliases if alias.outer in known] or aliases
+        for alias in aliases:
             assert alias.outer is not None
             meant = self._alias_meaning(Found(alias), ())
             return self.replaced(meant, {self.scope(alias.outer.context).parameters[0]: base})
         return OtherType("%s.%s" % (base, name), Cause.UNKNOWN, (base,))
+
+    def _is_alias_alone(self, base: TypeParameter, name: str) -> bool:
+        """Whether the protocols of a type parameter have an alias of a name, and no associated type."""
+        if self.viewpoint is None:
+            return False
+        known = self.known_protocols.of(base, self.viewpoint)
+        if any(name in protocol.associated for protocol in known):
+            return False
+        return any(isinstance(protocol.members.get(name), Alias) for protocol in known)
 
     def replaced(self, meaning: Meaning, sides: Replacement) -> Meaning:
         """The type with others in place of generic parameters."""

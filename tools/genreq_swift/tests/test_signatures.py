@@ -95,6 +95,20 @@ class Requirements(unittest.TestCase):
             ],
         )
 
+    def test_of_aliases_of_one_name_that_of_the_conformance_is_meant(self):
+        text = """
+        protocol P1 { associatedtype A; typealias X = A }
+        protocol P2 { associatedtype B; typealias X = B; typealias Y = B }
+        protocol P3: P2 { associatedtype C: P1 where D: P2; associatedtype D }
+        protocol P4 { associatedtype Y }
+        func f<T: P1, U: P3>(_: T, _: U) where T.X == U.X, U.C.X == U.D.X, U.Y == T {}
+        func g<T, U>(_: T, _: U) where T.X == U.Y, T: P2, U: P4 {}
+        """
+        self.assertEqual(
+            signatures(text),
+            ["f <T, U where T : P1, U : P3, T.A == U.B, U.C.A == U.D.B, U.B == T>", "g <T, U where T.B == U.Y, T : P2, U : P4>"],
+        )
+
     def test_aliases_of_protocols_are_members_of_the_types_that_conform(self):
         text = PROTOCOLS + "protocol N { associatedtype M; typealias X = M }; struct S<T>: N { typealias M = T; func f<U: P>(_: U) where U.A == X {} }"
         self.assertEqual(signatures(text)[1], "S.f <T, U where U : P, U.A == T>")
