@@ -2,13 +2,16 @@
 
 Those go that `requirements` does not keep. Each is then asked of a function that requires its protocol, over the protocols without all of them,
 and what is told has a derivation that `verify` accepts. Where `requirements` passes a limit, each is asked by itself whether it may go too.
+
+Swift wants a protocol to name what it inherits, also where an equation of `Self` implies it. So what is required of `Self` itself goes only where
+it is inherited from a protocol that is named.
 """
 from collections import Counter
 from dataclasses import replace
-from typing import Dict, FrozenSet, List, Mapping, Sequence, Tuple
+from typing import Dict, FrozenSet, List, Mapping, Sequence, Set, Tuple
 
 from .derivations import Lists
-from .model import Protocol, Requirement
+from .model import Declaration, Protocol, Requirement
 from .parts import conforming_part, in_function, protocol_part
 from .printed import read_signature
 from .program import LEVELS, Answer, Command, Part, Program
@@ -28,7 +31,7 @@ class ProtocolRedundancy:
     def findings(self, own: Sequence[Protocol]) -> List[Finding]:
         """The redundant units of some of the protocols, which can all be taken out together."""
         kept = requirement_signatures(self.program, [protocol_part(protocol) for protocol in self.protocols]).signatures
-        units = [unit for protocol in own for unit in units_of(protocol)]
+        units = [unit for protocol in own for unit in units_of(protocol) if self._need_not_be_named(unit)]
         found = [unit for unit in units if unit.declaration.label in kept and may_go(unit, kept[unit.declaration.label])]
         without: Dict[str, FrozenSet[int]] = {}
         for unit in found:
@@ -38,6 +41,24 @@ class ProtocolRedundancy:
                 add(without, unit)
                 found.append(unit)
         return self._explained(found, without)
+
+    def _need_not_be_named(self, unit: Unit) -> bool:
+        """Whether each requirement of a unit is one of a member, or is written also in what the protocol inherits, or again in itself."""
+        named = [requirement for requirement in unit.requirements if not (requirement.other or requirement.subject.members)]
+        inherited = self._inherited(unit)
+        return all(requirement.labelled in inherited for requirement in named)
+
+    def _inherited(self, unit: Unit) -> Set[str]:
+        """What is written of `Self` in the protocol of a unit, but for the unit, and in the protocols that are inherited by that."""
+        by_label = {protocol.label: protocol.requirements for protocol in self.protocols}
+        ahead = [kept_of(unit.declaration, frozenset(unit.numbers))]
+        found: Set[str] = set()
+        while ahead:
+            for requirement in ahead.pop():
+                if not (requirement.other or requirement.subject.members or requirement.labelled in found):
+                    found.add(requirement.labelled)
+                    ahead.append(by_label[requirement.protocol.label] if requirement.protocol else ())
+        return found
 
     def _parts(self, without: Without) -> List[Part]:
         return [protocol_part(protocol, without.get(protocol.label, frozenset())) for protocol in self.protocols]
@@ -78,7 +99,7 @@ def asking_part(number: int, unit: Unit) -> Part:
     return conforming_part(asked_label(number), unit.declaration, [query_of(requirement) for requirement in unit.requirements])
 
 
-def kept_of(protocol: Protocol, without: FrozenSet[int]) -> Tuple[Requirement, ...]:
+def kept_of(protocol: Declaration, without: FrozenSet[int]) -> Tuple[Requirement, ...]:
     """The requirements of a protocol but for those with these numbers."""
     return tuple(requirement for number, requirement in enumerate(protocol.requirements) if number not in without)
 

@@ -88,9 +88,8 @@ def fitting(parts: Sequence[Part], room: int) -> Tuple[List[Part], List[Part]]:
 class Settled:
     """Protocols over which genreq answers a command, and the level of limits at which it does."""
 
-    def __init__(self, program: Program, command: Command, protocols: Sequence[Part], levels: Sequence[Limits]):
+    def __init__(self, program: Program, protocols: Sequence[Part], levels: Sequence[Limits]):
         self.program = program
-        self.command = command
         self.levels = levels
         self.protocols = list(protocols)
         self.level = 0
@@ -102,16 +101,16 @@ class Settled:
         self.protocols, needing = Closure(self.protocols).without(label)
         self.left_out += needing
 
-    def settle(self) -> Ended:
-        """Leaves out protocols, and raises the level, until the command is answered over the protocols alone."""
+    def settle(self, command: Command) -> Ended:
+        """Leaves out protocols, and raises the level, until a command is answered over the protocols alone."""
         while True:
-            ended = self._run(self.protocols, self.level)
+            ended = self._run(command, self.protocols, self.level)
             if ended.status is Status.ANSWERED:
                 return ended
             if ended.status is Status.REFUSED:
                 self.leave_out_at(ended)
             else:
-                self._judge(self._first_that_passes(), ended)
+                self._judge(command, self._first_that_passes(command), ended)
 
     def leave_out_at(self, ended: Ended) -> None:
         """Leaves out the protocol that is refused."""
@@ -120,25 +119,25 @@ class Settled:
         number, offset = part_at(self.protocols, ended.offset)
         self.leave_out(self.protocols[number].label, ended.reason, offset)
 
-    def _run(self, protocols: Sequence[Part], level: int) -> Ended:
-        return self.program.run(self.command, written(protocols), self.levels[level])
+    def _run(self, command: Command, protocols: Sequence[Part], level: int) -> Ended:
+        return self.program.run(command, written(protocols), self.levels[level])
 
-    def _first_that_passes(self) -> Front:
+    def _first_that_passes(self, command: Command) -> Front:
         """The shortest front of the protocols that passes a limit at this level. The whole does."""
         fronts = Closure(self.protocols).fronts()
         low, high = 0, len(fronts) - 1
         while low < high:
             middle = (low + high) // 2
-            if self._run(fronts[middle].protocols, self.level).status is Status.LIMIT:
+            if self._run(command, fronts[middle].protocols, self.level).status is Status.LIMIT:
                 high = middle
             else:
                 low = middle + 1
         return fronts[low]
 
-    def _judge(self, front: Front, passed: Ended) -> None:
+    def _judge(self, command: Command, front: Front, passed: Ended) -> None:
         """Raises the level to one at which a front is answered, or leaves out its own protocol where there is none."""
         for level in range(self.level + 1, len(self.levels)):
-            passed = self._run(front.protocols, level)
+            passed = self._run(command, front.protocols, level)
             if passed.status is not Status.LIMIT:
                 self.level = level
                 return
@@ -175,7 +174,7 @@ class Questions:
 
     def __init__(self, program: Program, protocols: Sequence[Part], levels: Sequence[Limits] = LEVELS):
         self.program = program
-        self._settled = Settled(program, Command.SIGNATURES, protocols, levels)
+        self._settled = Settled(program, protocols, levels)
         self._is_settled = False
 
     @property
@@ -191,7 +190,7 @@ class Questions:
     def settle(self) -> None:
         """Leaves out the protocols over which nothing can be answered. `ask` does so where it has to."""
         if not self._is_settled:
-            self._settled.settle()
+            self._settled.settle(Command.SIGNATURES)
             self._is_settled = True
 
     def ask(self, command: Command, functions: Sequence[Part]) -> Answered:
@@ -313,9 +312,11 @@ class RequirementSignatures:
 def requirement_signatures(program: Program, protocols: Sequence[Part], levels: Sequence[Limits] = LEVELS) -> RequirementSignatures:
     """The requirement signatures of the protocols of which `requirements` is answered.
 
-    What is kept of a protocol depends on those alone that it needs, so one can be left out with those that need it.
+    What is kept of a protocol depends on those alone that it needs, so one can be left out with those that need it. What passes a limit without
+    `requirements` is left out first, since that is found sooner.
     """
-    settled = Settled(program, Command.REQUIREMENTS, protocols, levels)
-    answers = answers_of(settled.settle().output)
+    settled = Settled(program, protocols, levels)
+    settled.settle(Command.SIGNATURES)
+    answers = answers_of(settled.settle(Command.REQUIREMENTS).output)
     signatures = {protocol.label: without_name(answer) for protocol, answer in zip(settled.protocols, answers)}
     return RequirementSignatures(signatures, settled.left_out)

@@ -140,6 +140,14 @@ class OfProtocols(unittest.TestCase):
             ],
         )
 
+    def test_what_swift_wants_to_be_inherited_by_name_is_not_told(self):
+        # swift-frontend says of it without P: protocol 'X' should be declared to refine 'P' due to a same-type constraint on 'Self'.
+        self.assertEqual(warnings("protocol X: R, P where B == Self { }"), [])
+        self.assertEqual(
+            warnings("protocol X: R, Q, P where B == Self { }"),
+            ["sample.swift:5:19: warning: requirement 'Self : P' is redundant: it follows from 'Self : Q'"],
+        )
+
     def test_protocols_beside_are_not_told(self):
         found = reading("protocol X: Y { }", "protocol Z { }\nprotocol Y: Z { }\nprotocol W: Y, Z { }")
         self.assertEqual(findings_of(found, Program(default_program())), ([], []))
