@@ -1,5 +1,5 @@
 """What types and requirements mean: values over type parameters and declared types."""
-from dataclasses import dataclass
+from dataclasses import dataclass, replace
 from enum import Enum
 from typing import Dict, Iterator, Optional, Tuple, Union
 
@@ -90,6 +90,23 @@ class Statement:
         yield self.left
         if self.right is not None and not isinstance(self.right, Entity):
             yield self.right
+
+    def parts(self) -> "Iterator[Statement]":
+        """The statement, or where it equates two of a declared type, those that equate their arguments."""
+        left, right = self.left, self.right
+        if (
+            self.kind is StatementKind.SAME_TYPE
+            and isinstance(left, NominalType)
+            and isinstance(right, NominalType)
+            and left.entity is right.entity
+            and left.arguments
+            and right.arguments
+        ):
+            for one, other in zip(left.arguments, right.arguments):
+                if one != other:
+                    yield from replace(self, left=one, right=other).parts()
+        else:
+            yield self
 
     def same_as(self) -> Tuple[object, ...]:
         """What two statements have in common if they state the same."""

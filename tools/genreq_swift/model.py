@@ -150,6 +150,7 @@ class Cause(Enum):
     PACK = "parameter pack"
     VALUE = "integer parameter"
     UNKNOWN = "unknown name"  # a name that no source declares
+    ALIAS = "alias that meets a member"  # aliases of protocols and associated types of one name are equal in a type that has them
     BOUND = "bound that is no protocol"
 
 

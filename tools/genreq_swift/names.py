@@ -1,4 +1,5 @@
 """What the names in Swift sources refer to: the types, protocols and aliases that the sources declare, and what is a member of what."""
+from dataclasses import dataclass
 from typing import Dict, FrozenSet, Iterator, List, Optional, Sequence, Set, Tuple, Union
 
 from .conditions import DARWIN_MODULES, LINUX_MODULES
@@ -83,8 +84,23 @@ class Alias:
         """Whether it is declared in a protocol, or in an extension of one."""
         return self.outer is not None and self.outer.is_protocol
 
+    @property
+    def equates(self) -> bool:
+        """Whether a protocol itself declares it, without generic parameters: then all members of its name are equal to what it refers to."""
+        declaration, parent = self.context.declaration, self.context.parent
+        return parent is not None and parent.kind is DeclarationKind.PROTOCOL and not declaration.parameters and declaration.target is not None
+
 
 Member = Union[Entity, Alias]
+
+
+@dataclass(frozen=True)
+class Meeting:
+    """Members of one name in several protocols: whether one is an associated type, and those that are aliases."""
+
+    name: str
+    is_declared: bool
+    aliases: Tuple[Alias, ...]
 
 
 class Names:
@@ -100,6 +116,7 @@ class Names:
         self._by_file: Dict[str, Dict[str, Member]] = {}
         self._inherited: Dict[Entity, Dict[Entity, None]] = {}
         self._aliases: Dict[Entity, Dict[str, Alias]] = {}
+        self._names_of_aliases: Optional[List[str]] = None
         self._unbound: List[Context] = []
         for source, declarations in files:
             contexts = [Context(declaration, source, None) for declaration in declarations]
@@ -294,6 +311,35 @@ class Names:
                             if isinstance(member, Alias):
                                 known.setdefault(name, member)
         return known
+
+    def names_of_aliases(self) -> List[str]:
+        """The names that a protocol has for an alias of its own, and another one for an associated type or for an alias of its own."""
+        if self._names_of_aliases is None:
+            own = {name: [alias for alias in aliases if alias.equates] for name, aliases in self.aliases_in_protocols.items()}
+            self._names_of_aliases = [name for name, aliases in own.items() if len(aliases) > 1 or (aliases and name in self.associated)]
+        return self._names_of_aliases
+
+    def meetings_in(self, protocol: Entity) -> "Iterator[Meeting]":
+        """The members of one name that meet in a protocol, and not in one that it inherits."""
+        parents = [bound for bound in self._inherits(protocol.context) if bound.is_protocol]
+        return self._meetings([self.inherited(parent) for parent in parents if parent is not protocol] + [{protocol: None}])
+
+    def meetings(self, protocols: Sequence[Entity]) -> "Iterator[Meeting]":
+        """The members of one name that meet where a type conforms to all of several protocols, and not in one of these alone."""
+        return self._meetings([self.inherited(protocol) for protocol in protocols])
+
+    def _meetings(self, parts: Sequence[Dict[Entity, None]]) -> "Iterator[Meeting]":
+        known = {entity: None for part in parts for entity in part}
+        for name in self.names_of_aliases():
+            aliases = {}
+            for entity in known:
+                member = entity.members.get(name)
+                if isinstance(member, Alias) and member.equates:
+                    aliases[entity] = member
+            declaring = [entity for entity in known if name in entity.associated]
+            places = {**dict.fromkeys(declaring), **dict.fromkeys(aliases)}
+            if aliases and len(places) > 1 and not any(all(place in part for place in places) for part in parts):
+                yield Meeting(name, bool(declaring), tuple(aliases.values()))
 
     def declared_conformances(self, entity: Entity) -> Dict[Entity, None]:
         """The protocols to which a type, or a superclass of it, is declared to conform without a condition."""

@@ -22,7 +22,7 @@ class Profile:
         """The requirements and the omissions among statements, each in order."""
         kept: List[Requirement] = []
         left_out: List[Omission] = []
-        for statement in statements:
+        for statement in (part for statement in statements for part in statement.parts()):
             origin = origin_of_all or statement.origin
             cause = self._cause(statement)
             if cause is None:

@@ -56,6 +56,7 @@ class Scopes(RequirementMeanings):
                 self._state_target(context, scope)
             for condition in declaration.conditions:
                 scope.own += self.condition(condition, context, scope)
+            self._tell_aliases(context, scope)
             if kind in _INFERRING and (declaration.parameters or declaration.conditions):
                 self._look_at_types(context, scope)
         self._infer(needs, context, scope)
@@ -152,6 +153,19 @@ class Scopes(RequirementMeanings):
         for statement in alias_scope.own:
             stated = self.replaced_statement(statement, sides)
             scope.own.append(replace(stated, source=context.source, start=start, clause=start, origin=Origin.INFERRED))
+
+    def _tell_aliases(self, context: Context, scope: Scope) -> None:
+        """Tells where members of one name meet in a type that conforms to several protocols. Then more is equal than is required here."""
+        direct: Dict[TypeParameter, List[Entity]] = {}
+        for statement in scope.statements if scope.own and self.names.names_of_aliases() else ():
+            if isinstance(statement.left, TypeParameter) and isinstance(statement.right, Entity):
+                direct.setdefault(statement.left, []).append(statement.right)
+        start, source = context.declaration.start, context.source
+        for subject, protocols in direct.items():
+            if len(protocols) > 1:
+                for meeting in self.names.meetings(protocols):
+                    text = "%s.%s" % (subject, meeting.name)
+                    scope.own.append(Statement(StatementKind.OUTSIDE, subject, None, source, start, start, text, Origin.INFERRED, Cause.ALIAS))
 
     def _look_at_types(self, context: Context, scope: Scope) -> None:
         """Looks at the types of a declaration for what they need."""

@@ -146,24 +146,13 @@ class SignatureMaker:
         ]
 
     def _alias_equations(self, entity: Entity, subject: TypeParameter) -> List[Statement]:
-        """An alias and an associated type of one name, the one in a protocol and the other in one that it inherits, are equal."""
-        found: List[Statement] = []
-        inherited = self.names.inherited(entity)
-        for protocol in inherited:
-            for member in protocol.context.members:
-                declaration = member.declaration
-                if member.kind is not DeclarationKind.TYPEALIAS or declaration.parameters or declaration.target is None:
-                    continue
-                meet = inherited if protocol is entity else (entity,)
-                if any(declaration.name in other.associated for other in meet if other is not protocol):
-                    right = self.scopes.meaning(declaration.target, member, self.scopes.scope(member))
-                    left = subject.member(declaration.name)
-                    text = "%s == %s" % (left, right)
-                    start = declaration.start if protocol is entity else entity.context.declaration.start
-                    found.append(
-                        Statement(StatementKind.SAME_TYPE, left, right, entity.context.source, start, start, text, Origin.INFERRED)
-                    )
-        return found
+        """An alias of a protocol is equal to the associated types and aliases of its name of the protocols that inherit it, or that it inherits."""
+        source, start = entity.context.source, entity.context.declaration.start
+        return [
+            Statement(StatementKind.SAME_TYPE, left, right, source, start, start, "%s == %s" % (left, right), Origin.INFERRED)
+            for meeting in self.names.meetings_in(entity)
+            for left, right in self.scopes.equated(subject, meeting)
+        ]
 
     # Signatures.
 
@@ -267,16 +256,29 @@ def _labels(protocols: Sequence[Entity]) -> Dict[Entity, str]:
     return labels
 
 
+def needs_of(protocols: Sequence[Protocol]) -> Dict[str, Set[str]]:
+    """The labels of the protocols that each protocol needs, itself among them, by its label."""
+    direct = {
+        protocol.label: {requirement.protocol.label for requirement in protocol.requirements if requirement.protocol is not None}
+        for protocol in protocols
+    }
+    needs: Dict[str, Set[str]] = {}
+    for label in direct:
+        needs[label] = found = {label}
+        waiting = [label]
+        while waiting:
+            more = direct.get(waiting.pop(), set()) - found
+            found |= more
+            waiting += more
+    return needs
+
+
 def needed_protocols(protocols: Sequence[Protocol], always: Iterable[str], signatures: Sequence[Signature]) -> Tuple[Protocol, ...]:
     """Of all protocols those with the given labels, and what they and the signatures need, in order."""
-    by_label = {protocol.label: protocol for protocol in protocols}
-    waiting = [label for label in always if label in by_label] + [
-        requirement.protocol.label for signature in signatures for requirement in signature.requirements if requirement.protocol is not None
-    ]
-    found: Set[str] = set()
-    while waiting:
-        label = waiting.pop()
-        if label in by_label and label not in found:
-            found.add(label)
-            waiting += [requirement.protocol.label for requirement in by_label[label].requirements if requirement.protocol is not None]
+    needs = needs_of(protocols)
+    found: Set[str] = set().union(*(needs[label] for label in always))
+    for signature in signatures:
+        for requirement in signature.requirements:
+            if requirement.protocol is not None and requirement.protocol.label not in found:
+                found |= needs[requirement.protocol.label]
     return tuple(protocol for protocol in protocols if protocol.label in found)

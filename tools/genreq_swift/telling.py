@@ -5,6 +5,7 @@ from typing import Iterable, List, Sequence
 
 from .model import Declaration, Problem, Reading, Status
 from .questions import LeftOut
+from .signatures import needs_of
 
 SOMETHING_LEFT_OUT = 3
 
@@ -19,6 +20,7 @@ def told(reading: Reading) -> List[str]:
     lines = [str(problem) for problem in reading.problems]
     lines += _count_lines("signatures", reading.signatures)
     lines += _count_lines("protocols", reading.protocols)
+    lines += _over_incomplete(reading)
     if reading.counts.of_unknown_types:
         lines.append("%d extensions of types that are not declared here are left out" % reading.counts.of_unknown_types)
     return lines
@@ -31,6 +33,24 @@ def _count_lines(what: str, declarations: Sequence[Declaration]) -> List[str]:
     causes = Counter(cause for declaration in declarations for cause in {omission.cause for omission in declaration.omissions})
     lines += ["  %d with %s" % (count, cause.value) for cause, count in causes.most_common()]
     return lines
+
+
+def _over_incomplete(reading: Reading) -> List[str]:
+    """How many signatures are whole by themselves, and need protocols that are not."""
+    incomplete = {protocol.label: protocol.name for protocol in reading.protocols if protocol.status is Status.INCOMPLETE}
+    needed: "Counter[str]" = Counter()
+    count = 0
+    needs = needs_of(reading.protocols)
+    for signature in reading.signatures:
+        if signature.status is not Status.INCOMPLETE:
+            direct = {requirement.protocol.label for requirement in signature.requirements if requirement.protocol is not None}
+            missing = {incomplete[label] for label in direct.union(*(needs[label] for label in direct)) if label in incomplete}
+            count += bool(missing)
+            needed.update(missing)
+    if not count:
+        return []
+    names = ", ".join(name for name, _ in needed.most_common())
+    return ["%d of the signatures that are not incomplete need protocols that are, where less may follow: %s" % (count, names)]
 
 
 def left_out_lines(reading: Reading, left_out: Sequence[LeftOut]) -> List[str]:

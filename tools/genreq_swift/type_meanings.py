@@ -1,11 +1,11 @@
 """What the types that are written in declarations mean, and what they need."""
 from dataclasses import dataclass, replace
-from typing import Dict, List, Optional, Set, Tuple, Union
+from typing import Dict, Iterator, List, Optional, Set, Tuple, Union
 
 from .known_protocols import KnownProtocols
 from .meanings import Meaning, NominalType, OtherType, Replacement, Statement, StatementKind, has_parameters, is_larger
 from .model import Cause, Origin, TypeParameter
-from .names import Alias, Context, Entity, Member, Names
+from .names import Alias, Context, Entity, Meeting, Member, Names
 from .scope import Scope
 from .type_syntax import FunctionType, MemberType, NamedType, Shape, Step, Type, spelled
 
@@ -200,7 +200,7 @@ class TypeMeanings:
                 return self._unknown_generic(found, arguments, step, context)
             return found
         if isinstance(found.member, Alias):
-            return self._alias_meaning(found, arguments)
+            return self.alias_meaning(found, arguments)
         return self._entity_meaning(found, arguments, as_base)
 
     def _unknown_generic(self, found: OtherType, arguments: Tuple[Meaning, ...], step: Step, context: Context) -> OtherType:
@@ -230,7 +230,8 @@ class TypeMeanings:
             return NominalType(entity, None)
         return self._nominal(entity, front + arguments)
 
-    def _alias_meaning(self, found: Found, arguments: Tuple[Meaning, ...]) -> Meaning:
+    def alias_meaning(self, found: Found, arguments: Tuple[Meaning, ...]) -> Meaning:
+        """To what an alias refers, with the meanings of its generic arguments."""
         assert isinstance(found.member, Alias)
         alias = found.member.context
         name = alias.declaration.name
@@ -263,7 +264,7 @@ class TypeMeanings:
         if not isinstance(found, Found):
             return found
         if isinstance(found.member, Alias):
-            return self._alias_meaning(found, arguments)
+            return self.alias_meaning(found, arguments)
         return self._entity_meaning(found, arguments, False)
 
     def _member(self, base: Meaning, name: str) -> Union[Meaning, Found]:
@@ -289,9 +290,7 @@ class TypeMeanings:
             known = self.known_protocols.of(base, self.viewpoint)
             aliases = [alias for alias in aliases if alias.outer in known] or aliases
         for alias in aliases:
-            assert alias.outer is not None
-            meant = self._alias_meaning(Found(alias), ())
-            return self.replaced(meant, {self.scope(alias.outer.context).parameters[0]: base})
+            return self.replaced(self.alias_meaning(Found(alias), ()), self.sides_of_self(alias, base))
         return OtherType("%s.%s" % (base, name), Cause.UNKNOWN, (base,))
 
     def _is_alias_alone(self, base: TypeParameter, name: str) -> bool:
@@ -321,6 +320,16 @@ class TypeMeanings:
         if not meaning.parts:
             return meaning
         return replace(meaning, parts=tuple(self.replaced(part, sides) for part in meaning.parts))
+
+    def equated(self, subject: TypeParameter, meeting: Meeting) -> Iterator[Tuple[Meaning, Meaning]]:
+        """The types that are equal since members of one name meet in a type parameter."""
+        meanings = [self.replaced(self.alias_meaning(Found(alias), ()), self.sides_of_self(alias, subject)) for alias in meeting.aliases]
+        first = subject.member(meeting.name) if meeting.is_declared else meanings.pop(0)
+        return ((first, other) for other in meanings if other != first)
+
+    def sides_of_self(self, alias: Alias, base: Meaning) -> Replacement:
+        """A type in place of the `Self` of the protocol in which an alias is declared."""
+        return {self.scope(alias.context).parameters[0]: base}
 
     def replaced_statement(self, statement: Statement, sides: Replacement) -> Statement:
         """The statement with others in place of generic parameters."""

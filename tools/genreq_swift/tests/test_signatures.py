@@ -246,6 +246,24 @@ class Protocols(unittest.TestCase):
         found = self.protocol(PROTOCOLS + "protocol R: Q { typealias A = B }; protocol S: R { associatedtype A }", "R")
         self.assertEqual([str(each) for each in found.conditions], ["Self.A == Self.B"])
 
+    def test_aliases_of_one_name_in_inherited_protocols_are_equal(self):
+        text = """
+        struct G<T> {}
+        protocol P1 { typealias T = G<X>; associatedtype X }
+        protocol P2 { typealias T = G<Y>; associatedtype Y }
+        protocol R: P1, P2 {}
+        protocol R2: R {}
+        func f<T: P1 & P2>(_: T) {}
+        func g<T: R>(_: T) where T: P1 {}
+        """
+        self.assertEqual([str(each) for each in self.protocol(text, "R").conditions], ["Self.X == Self.Y"])
+        self.assertEqual([str(each) for each in self.protocol(text, "R2").requirements], ["Self : R"])
+        self.assertEqual(omissions(text), ["T.T: alias that meets a member"])
+
+    def test_equal_generic_types_have_equal_arguments(self):
+        text = PROTOCOLS + "struct G<T, U> {}; func f<T: P, U: P>(_: T, _: U) where G<T.A, U> == G<U, U> {}"
+        self.assertEqual(signatures(text)[-1], "f <T, U where T : P, U : P, T.A == U>")
+
     def test_names_of_inherited_protocols_are_found_through_aliases(self):
         found = self.protocol(PROTOCOLS + "typealias Both = Q & P; protocol R: Both where A == B.A { }", "R")
         self.assertEqual([str(each) for each in found.requirements], ["Self : Q", "Self : P", "Self.A == Self.B.A"])
