@@ -4,7 +4,7 @@ import argparse
 from .output import print_text, write_file
 from .reading_options import add_reading_options, kept, reading_of
 from .telling import status_of, tell, told
-from .text import map_of, text_of
+from .text import map_of, text_of, too_long
 
 
 def add(subparsers: "argparse._SubParsersAction[argparse.ArgumentParser]") -> None:
@@ -27,5 +27,5 @@ def run(arguments: argparse.Namespace) -> int:
     if arguments.map:
         write_file(arguments.map, map_of(text))
     print_text(text.content)
-    tell(told(reading))
+    tell(told(reading) + too_long(text))
     return status_of(reading)

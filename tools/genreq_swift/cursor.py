@@ -1,6 +1,6 @@
 """The tokens of a source in those branches of `#if` that are taken, with a look ahead."""
 from collections import deque
-from typing import Deque, Tuple
+from typing import Callable, Deque, Tuple
 
 from .conditions import Configuration, condition
 from .tokens import Source, SourceError, Token, TokenKind
@@ -74,6 +74,16 @@ class Cursor:
     def skip_braces(self) -> None:
         """The same for `{`, where brackets of other kinds are not looked at."""
         self._jump(self.source.after_braces(self.token.start))
+
+    def behind_braces(self) -> "Callable[[], None]":
+        """What goes behind the `}` that closes the `{` here, from wherever the cursor is by then."""
+        start, is_open = self.token.start, self._open_here
+
+        def go() -> None:
+            self._open_here = is_open
+            self._jump(self.source.after_braces(start))
+
+        return go
 
     def operator(self) -> Token:
         """Takes the operator here, as a declaration names it."""

@@ -5,7 +5,7 @@ from typing import FrozenSet, List, Optional, Tuple
 from .conditions import Configuration
 from .cursor import Cursor
 from .model import DeclarationKind
-from .tokens import Source, Token, TokenKind
+from .tokens import Source, SourceError, Token, TokenKind
 from .type_syntax import KEYWORDS, CompoundType, FunctionType, MemberType, NamedType, Shape, Step, Type, TypeReader
 
 
@@ -80,7 +80,12 @@ _NAMES = (TokenKind.NAME, TokenKind.QUOTED)
 
 
 class DeclarationReader(TypeReader):
-    """Reads declarations at a cursor."""
+    """Reads declarations at a cursor. One that cannot be read is left out, with the error in a list; a protocol is read as a whole or not."""
+
+    def __init__(self, cursor: Cursor, errors: List[SourceError]):
+        super().__init__(cursor)
+        self.errors = errors
+        self._whole = 0  # in how many protocols it stands
 
     def source_file(self) -> Tuple[DeclarationSyntax, ...]:
         """All declarations of a source."""
@@ -93,11 +98,26 @@ class DeclarationReader(TypeReader):
         """The declarations up to the `}` that ends them, or to the end."""
         cursor, found = self.cursor, []
         while cursor.token.kind is not TokenKind.END and not cursor.at("}"):
-            if not cursor.take(";"):
+            if cursor.take(";"):
+                continue
+            start = cursor.token.start
+            try:
                 declaration = self._declaration()
+            except SourceError as error:
+                if self._whole or cursor.token.start == start:
+                    raise
+                self.errors.append(error)
+                self._go_on()
+            else:
                 if declaration is not None:
                     found.append(declaration)
         return tuple(found)
+
+    def _go_on(self) -> None:
+        """Goes from where something could not be read to the next declaration."""
+        token = self.cursor.token
+        if not (token.after_line and (token.text in _STARTS or token.text == "@")):
+            self._skip_rest(True)
 
     def _declaration(self) -> Optional[DeclarationSyntax]:
         """Reads one declaration, or goes past it where nothing in it is looked at."""
@@ -162,7 +182,7 @@ class DeclarationReader(TypeReader):
         primaries = self._primaries() if is_protocol else ()
         parameters = () if is_protocol else self._parameters()
         inherited, conditions = self._inherited(), self._conditions()
-        members, end = self._members()
+        members, end = self._whole_members() if is_protocol else self._members()
         return DeclarationSyntax(
             kind, name.text, name.start, end, parameters, primaries, inherited, conditions, members=members
         )
@@ -183,6 +203,20 @@ class DeclarationReader(TypeReader):
         self.cursor.want("{")
         members = self._declarations()
         return members, self.cursor.want("}").end
+
+    def _whole_members(self) -> Tuple[Tuple[DeclarationSyntax, ...], int]:
+        """The same, where nothing may be left out. Where something cannot be read, goes behind the braces."""
+        if not self.cursor.at("{"):
+            raise self.cursor.wanted("'{'")
+        go_behind = self.cursor.behind_braces()
+        self._whole += 1
+        try:
+            return self._members()
+        except SourceError:
+            go_behind()
+            raise
+        finally:
+            self._whole -= 1
 
     def _function_declaration(self, kind: DeclarationKind) -> DeclarationSyntax:
         cursor = self.cursor
@@ -299,8 +333,8 @@ class DeclarationReader(TypeReader):
             if not cursor.take(","):
                 return tuple(found)
 
-    def _skip_rest(self) -> None:
-        """Goes to the next declaration that begins a line, or to what ends those here."""
+    def _skip_rest(self, in_brackets: bool = False) -> None:
+        """Goes to the next declaration that begins a line, or to what ends those here. It may begin in brackets, where that is said."""
         cursor, is_first = self.cursor, True
         while True:
             token = cursor.token
@@ -312,7 +346,7 @@ class DeclarationReader(TypeReader):
                     return
                 if token.text == "@" and token.after_line and not is_first:
                     return
-                if token.text in ")]":
+                if token.text in ")]" and not in_brackets:
                     raise cursor.wanted("a declaration")
                 if token.text in "([{":
                     if token.text == "{":
@@ -362,9 +396,22 @@ class _OpaqueParameters:
         return NamedType((Step(name, (), opaque.start),), opaque.start)
 
 
-def read_declarations(source: Source, configuration: Configuration) -> Tuple[DeclarationSyntax, ...]:
-    """The declarations of a source. Raises SourceError where it cannot be read."""
+def read_declarations(
+    source: Source, configuration: Configuration, errors: Optional[List[SourceError]] = None
+) -> Tuple[DeclarationSyntax, ...]:
+    """The declarations of a source. Those that cannot be read are left out, and added to the errors.
+
+    Raises SourceError where nothing can be read, or where something cannot be read and there is no list of errors.
+    """
+    found: List[SourceError] = []
     try:
-        return DeclarationReader(Cursor(source, configuration)).source_file()
+        declarations = DeclarationReader(Cursor(source, configuration), found).source_file()
     except RecursionError:
         raise source.error("nested too deeply", 0) from None
+    except SourceError as error:
+        raise (found or [error])[0] from None
+    if found and errors is None:
+        raise found[0]
+    if errors is not None:
+        errors += found
+    return declarations

@@ -43,10 +43,13 @@ def read_syntax(paths: Sequence[str], configuration: Configuration, problems: Li
     sys.setrecursionlimit(max(before, _DEEPEST))
     try:
         for source in files.sources:
+            errors: List[SourceError] = []
             try:
-                found.append((source, read_declarations(source, configuration)))
+                found.append((source, read_declarations(source, configuration, errors)))
             except SourceError as error:
-                problems.append(Problem(error.message, error.place, source.file))
+                problems.append(Problem("%s; this file is left out" % error.message, error.place, source.file))
+            else:
+                problems += [Problem("%s; this declaration is left out" % error.message, error.place, source.file) for error in errors]
     finally:
         sys.setrecursionlimit(before)
     return found

@@ -5,6 +5,7 @@ from typing import Dict, List, Sequence
 
 from .model import Declaration, Omission, Protocol, Requirement, Signature
 from .parts import function_part, protocol_part
+from .program import TEXT_LIMIT
 
 
 @dataclass(frozen=True)
@@ -25,6 +26,12 @@ def text_of(protocols: Sequence[Protocol], signatures: Sequence[Signature]) -> T
         offsets.append(length)
         length += len(part.written)
     return Text("".join(part.text + "\n" for part in parts), (*protocols, *signatures), offsets)
+
+
+def too_long(text: Text) -> List[str]:
+    """What is told of a text that genreq does not read."""
+    length = len(text.content.encode("utf-8"))
+    return ["the text has %d bytes, and genreq reads %d: give less files, or --strict" % (length, TEXT_LIMIT)] if length > TEXT_LIMIT else []
 
 
 def map_of(text: Text) -> str:

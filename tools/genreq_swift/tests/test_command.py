@@ -60,11 +60,13 @@ class Commands(unittest.TestCase):
         self.assertEqual([p.name for p in self.folder.iterdir() if p.name.startswith("map")], ["map"])
 
     def test_a_file_that_cannot_be_read_is_told_and_the_rest_is_read(self):
-        (self.folder / "bad.swift").write_text("struct {")
+        (self.folder / "bad.swift").write_text("struct { }")
+        (self.folder / "worse.swift").write_text("func f<T>() { /*")
         (self.folder / "bytes.swift").write_bytes(b"\xff")
         status, printed, told = self.run_tool("text", self.folder, self.folder / "none.swift")
         self.assertEqual((status, printed), (3, TEXT))
-        self.assertIn("bad.swift:1:8: error: a name is wanted, and not '{'", told)
+        self.assertIn("bad.swift:1:8: error: a name is wanted, and not '{'; this declaration is left out", told)
+        self.assertIn("worse.swift:1:15: error: the comment is not closed; this file is left out", told)
         self.assertIn("bytes.swift: error: not UTF-8 at byte 0", told)
         self.assertIn("none.swift: error: No such file or directory", told)
 

@@ -1,8 +1,10 @@
 """Declarations as they are written."""
 import unittest
 
+from ..conditions import Configuration
+from ..declarations import read_declarations
 from ..model import DeclarationKind
-from ..tokens import SourceError
+from ..tokens import Source, SourceError
 from ..type_syntax import spelled
 from .samples import declared
 
@@ -83,6 +85,26 @@ class Declarations(unittest.TestCase):
             with self.assertRaises(SourceError) as raised:
                 declared(text)
             self.assertEqual((raised.exception.place.line, raised.exception.place.column), (line, column), text)
+
+    def test_what_cannot_be_read_is_left_out_and_the_rest_is_read(self):
+        text = """
+        struct A {
+          func bad(a: #x, b: [Int]) -> Int { return 1 }
+          func good() {}
+          init<T: where>() {}
+        }
+        protocol P {
+          #if os(Linux)
+          associatedtype B: ]
+          #endif
+        }
+        struct C {}
+        protocol D"""
+        errors = []
+        found = read_declarations(Source("f", text), Configuration(), errors)
+        self.assertEqual([declaration.name for declaration in found], ["A", "C"])
+        self.assertEqual([member.name for member in found[0].members], ["good"])
+        self.assertEqual([error.place.line for error in errors], [3, 5, 9, 13])
 
     def test_deep_nesting_is_told(self):
         with self.assertRaises(SourceError):
