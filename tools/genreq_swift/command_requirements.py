@@ -7,11 +7,11 @@ from .model import Protocol, Status
 from .output import print_text
 from .own_names import own_names
 from .parts import protocol_part
-from .printed import read_signature
 from .program import Program, default_program
 from .protocol_order import ProtocolOrder
 from .questions import requirement_signatures
 from .reading_options import add_reading_options, reading_of
+from .requirement_form import reduced_signatures
 from .swift_form import compiler_form
 from .telling import left_out_lines, status_of, tell, told
 
@@ -33,14 +33,15 @@ def add(subparsers: "argparse._SubParsersAction[argparse.ArgumentParser]") -> No
 def run(arguments: argparse.Namespace) -> int:
     """Runs it, and answers its status."""
     reading = reading_of(arguments)
-    found = requirement_signatures(Program(default_program()), [protocol_part(protocol) for protocol in reading.protocols])
-    names, key = own_names(reading), ProtocolOrder(reading)
+    program, names, key = Program(default_program()), own_names(reading), ProtocolOrder(reading)
+    found = requirement_signatures(program, [protocol_part(protocol) for protocol in reading.protocols])
+    reduced = reduced_signatures(program, reading.protocols, found.signatures) if arguments.form == "swift" else {}
     lines: List[str] = []
     for protocol in reading.own_protocols:
         if protocol.label in found.signatures and (protocol.status is Status.WHOLE or not arguments.strict):
             printed = found.signatures[protocol.label].line
             if arguments.form == "swift":
-                printed = str(compiler_form(read_signature(printed), key))
+                printed = str(compiler_form(reduced[protocol.label], key))
             printed = names.of(printed, protocol.parameters)
             lines.append(_object(protocol, printed) if arguments.json else _line(protocol, printed))
     print_text("".join(line + "\n" for line in lines))

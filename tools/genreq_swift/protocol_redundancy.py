@@ -6,17 +6,16 @@ and what is told has a derivation that `verify` accepts. Where `requirements` pa
 Swift wants a protocol to name what it inherits, also where an equation of `Self` implies it. So what is required of `Self` itself goes only where
 it is inherited from a protocol that is named.
 """
-from collections import Counter
 from dataclasses import replace
 from typing import Dict, FrozenSet, List, Mapping, Sequence, Set, Tuple
 
 from .derivations import Lists
 from .model import Declaration, Protocol, Requirement
 from .parts import conforming_part, in_function, protocol_part
-from .printed import read_signature
 from .program import LEVELS, Answer, Command, Part, Program
 from .questions import Closure, Questions, requirement_signatures
 from .redundancy import Finding, Unit, asked_label, check, units_of
+from .requirement_form import kept_numbers
 
 Without = Mapping[str, FrozenSet[int]]
 
@@ -32,7 +31,8 @@ class ProtocolRedundancy:
         """The redundant units of some of the protocols, which can all be taken out together."""
         kept = requirement_signatures(self.program, [protocol_part(protocol) for protocol in self.protocols]).signatures
         units = [unit for protocol in own for unit in units_of(protocol) if self._need_not_be_named(unit)]
-        found = [unit for unit in units if unit.declaration.label in kept and may_go(unit, kept[unit.declaration.label])]
+        staying = {protocol.label: kept_numbers(protocol, kept[protocol.label]) for protocol in own if protocol.label in kept}
+        found = [unit for unit in units if unit.declaration.label in kept and staying[unit.declaration.label].isdisjoint(unit.numbers)]
         without: Dict[str, FrozenSet[int]] = {}
         for unit in found:
             add(without, unit)
@@ -102,17 +102,6 @@ def asking_part(number: int, unit: Unit) -> Part:
 def kept_of(protocol: Declaration, without: FrozenSet[int]) -> Tuple[Requirement, ...]:
     """The requirements of a protocol but for those with these numbers."""
     return tuple(requirement for number, requirement in enumerate(protocol.requirements) if number not in without)
-
-
-def may_go(unit: Unit, kept: Answer) -> bool:
-    """Whether a requirement signature keeps nothing of a unit. Of equal requirements it keeps the first ones."""
-    texts = Counter(str(requirement) for requirement in read_signature(kept.line).requirements)
-    for number, requirement in enumerate(unit.declaration.requirements):
-        text = requirement.labelled
-        texts[text] -= 1
-        if number in unit.numbers and texts[text] >= 0:
-            return False
-    return True
 
 
 def query_of(requirement: Requirement) -> str:

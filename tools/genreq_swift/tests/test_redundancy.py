@@ -20,9 +20,9 @@ class Lying(Program):
         return Ended(ended.status, ended.output.replace(" by CONF 1", " by CONF 2")) if command is Command.EXPLAIN else ended
 
 
-def warnings(text, why=False, program=None):
+def warnings(text, why=False, program=None, concrete=False):
     """The lines of the lint, of declarations behind the protocols above."""
-    found = reading(PROTOCOLS + text)
+    found = reading(PROTOCOLS + text, concrete=concrete)
     findings, left_out = findings_of(found, program or Program(default_program()))
     assert not left_out
     return [line for finding in findings for line in as_lines(finding, own_names(found), why)]
@@ -113,6 +113,14 @@ class OfSignatures(unittest.TestCase):
 
     def test_what_always_holds_is_told(self):
         self.assertEqual(warnings("func f<T: P>(_: T) where T == T {}"), ["sample.swift:5:26: warning: requirement 'T == T' is redundant: it holds of itself"])
+
+    def test_what_a_concrete_type_declares_is_known_where_that_is_wanted(self):
+        text = "struct X: P { struct A {} }\nfunc f<T: P>(_: T) where T.A == X, T.A: P {}"
+        self.assertEqual(warnings(text), [])
+        self.assertEqual(
+            warnings(text, concrete=True),
+            ["sample.swift:6:41: warning: requirement 'T.A : P' is redundant: it follows from 'T.A == X' and 'X : P'"],
+        )
 
     def test_nothing_else_is_told(self):
         self.assertEqual(warnings("func f<T: Q, U: R>(_: T, _: U) where T.A: R, T.A.B == U.B {}\nstruct S<T> where T: R<Int> {}"), [])
