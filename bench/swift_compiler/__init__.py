@@ -1,0 +1,1 @@
+"""Lays what `tools/genreq-swift` prints beside what the Swift compiler prints of the same sources."""

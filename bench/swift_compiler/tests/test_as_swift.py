@@ -1,0 +1,29 @@
+"""A text for genreq as Swift."""
+import unittest
+
+from swift_compiler.as_swift import Untranslated, as_swift, function
+
+
+class AsSwift(unittest.TestCase):
+    def test_a_function_uses_its_generic_parameters(self) -> None:
+        self.assertEqual(function("func f<T, U>() where T : P, U == T.A"), "func f<T, U>(_: T.Type, _: U.Type) where T : P, U == T.A {}")
+
+    def test_a_function_without_generic_parameters(self) -> None:
+        self.assertEqual(function("func f()"), "func f() {}")
+
+    def test_each_protocol_and_function_is_known_by_its_line(self) -> None:
+        made = as_swift(["protocol P {\n  associatedtype A\n}", "protocol Q: P { }"], ["func f<T>() where T : Q"])
+        self.assertEqual(made.label_at, {2: "P", 5: "Q", 6: "f"})
+        lines = made.content.split("\n")
+        self.assertEqual([lines[line - 1].split(" ")[1].rstrip(":")[:1] for line in made.label_at], ["P", "Q", "f"])
+
+    def test_what_the_compiler_has_itself_is_left_out(self) -> None:
+        self.assertEqual(as_swift(["protocol Copyable { }", "protocol CopyableToo { }"], []).label_at, {2: "CopyableToo"})
+
+    def test_a_function_with_something_else(self) -> None:
+        with self.assertRaises(Untranslated):
+            function("func f<T: P>()")
+
+
+if __name__ == "__main__":
+    unittest.main()

@@ -1,0 +1,1 @@
+"""Reads Swift sources, and asks genreq of their protocols and generic declarations."""

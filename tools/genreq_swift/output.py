@@ -1,0 +1,33 @@
+"""Output that is whole or not there."""
+import os
+from pathlib import Path
+import sys
+import tempfile
+
+
+class OutputError(Exception):
+    """A file could not be written."""
+
+
+def print_text(text: str) -> None:
+    """Writes a text to the standard output, as UTF-8."""
+    sys.stdout.flush()
+    sys.stdout.buffer.write(text.encode("utf-8", "replace"))
+    sys.stdout.buffer.flush()
+
+
+def write_file(path: str, text: str) -> None:
+    """Writes a file at once: beside it first, then in its place. Raises OutputError."""
+    target = Path(path)
+    try:
+        handle, beside = tempfile.mkstemp(dir=str(target.parent), prefix=target.name + ".")
+        try:
+            with os.fdopen(handle, "wb") as file:
+                file.write(text.encode("utf-8", "replace"))
+            os.chmod(beside, 0o644)
+            os.replace(beside, path)
+        except OSError:
+            os.unlink(beside)
+            raise
+    except OSError as error:
+        raise OutputError("%s: %s" % (path, error.strerror)) from error
