@@ -39,41 +39,51 @@ const G: FuncId = FuncId { place: 1 };
 fn add_word(world: &World, word: &str, out: &mut String) -> Result<(), Fail>
     requires { 1 < length world.now.signatures }
 {
-    let name = word.as_bytes();
-    write!(
+    let proto = world.find_proto(word.as_bytes());
+    let name = world.find_name(word.as_bytes());
+    let top = world.find_func(None, word.as_bytes());
+    let nested = world.find_func(Some(b"S"), word.as_bytes());
+    let param = world.find_param(G, word.as_bytes());
+    Ok(write!(
         out,
-        "{word} {:?} {:?}",
-        world.find_proto(name),
-        world.find_name(name)
-    )?;
-    write!(out, " {:?}", world.find_func(None, name))?;
-    write!(out, " {:?}", world.find_func(Some(b"S"), name))?;
-    write!(out, " {:?}\n", world.find_param(G, name))?;
-    Ok(())
+        "{word} {proto:?} {name:?} {top:?} {nested:?} {param:?}\n"
+    )?)
 }
 
-/// What is found in the world.
+/// Appends what there is to P.
+fn add_counts(world: &World, out: &mut String) -> Result<(), Fail> {
+    let p = ProtoId { rank: 0 };
+    let has = world.has_member(p, NameId { rank: 0 });
+    let inherits = world.inherits(p, ProtoId { rank: 1 });
+    let depth = world.depth(p);
+    let nested = world.find_func(Some(b"S"), b"g");
+    Ok(write!(out, "{has} {inherits} {depth} {nested:?}\n")?)
+}
+
 fn found(rt: &impl Abort, alloc: Global, world: &World) -> Result<String, Fail> {
     assert!(rt; world.functions() == 4);
     let mut out = String::new(alloc);
     for word in "P Q A f g S k T U".split(' ') {
         add_word(world, word, &mut out)?;
     }
-    let p = ProtoId { rank: 0 };
-    let has = world.has_member(p, NameId { rank: 0 });
-    let inherits = world.inherits(p, ProtoId { rank: 1 });
-    let nested = world.find_func(Some(b"S"), b"g");
-    write!(out, "{has} {inherits} {} {nested:?}\n", world.depth(p))?;
+    add_counts(world, &mut out)?;
     Ok(out)
+}
+
+/// The world of the text, over the table.
+fn world_of(alloc: Global, table: &mut ParamTable) -> Result<World, Fail> {
+    let skeleton = skeleton_of(alloc, TEXT)?;
+    match World::resolve(alloc, TEXT, &skeleton, table) {
+        Ok(world) => Ok(world),
+        Err(_) => Err("no world".into()),
+    }
 }
 
 #[test]
 fn names_are_found(rt: HostRuntime) -> Result<(), Fail> {
     let mut table = ParamTable::new(rt.alloc());
-    let skeleton = skeleton_of(rt.alloc(), TEXT)?;
-    match World::resolve(rt.alloc(), TEXT, &skeleton, &mut table) {
-        Ok(world) => assert_eq!(rt; found(&rt, rt.alloc(), &world)?.as_str(), FOUND),
-        Err(_) => return Err("no world".into()),
-    }
+    let world = world_of(rt.alloc(), &mut table)?;
+    let lines = found(&rt, rt.alloc(), &world)?;
+    assert_eq!(rt; lines.as_str(), FOUND);
     Ok(())
 }

@@ -29,15 +29,21 @@ fn is_of_the_grammar_or_ends_too_early(
     }
 }
 
+/// Each front of the text before a space is of the grammar, or refused at its end.
+fn has_fronts(rt: &impl Abort, alloc: Global, whole: &[u8]) -> Result<(), Fail> {
+    for (length, byte) in whole.iter().enumerate() {
+        if *byte == b' ' {
+            let holds = is_of_the_grammar_or_ends_too_early(rt, alloc, &whole[..length])?;
+            assert!(rt; holds);
+        }
+    }
+    Ok(())
+}
+
 #[test]
 fn a_text_that_ends_in_a_construct_is_refused_at_its_end(rt: HostRuntime) -> Result<(), Fail> {
     for whole in WHOLES {
-        for (length, byte) in whole.as_bytes().iter().enumerate() {
-            let front = &whole.as_bytes()[..length];
-            if *byte == b' ' && !is_of_the_grammar_or_ends_too_early(&rt, rt.alloc(), front)? {
-                return Err("a front is refused elsewhere".into());
-            }
-        }
+        has_fronts(&rt, rt.alloc(), whole.as_bytes())?;
     }
     Ok(())
 }
