@@ -2,10 +2,11 @@
 from dataclasses import dataclass, replace
 from typing import Dict, Iterator, List, Optional, Set, Tuple, Union
 
+from .contexts import Alias, Context, Entity, Member
+from .hierarchy import Hierarchy, Meeting
 from .known_protocols import KnownProtocols
 from .meanings import Meaning, NominalType, OtherType, Replacement, Statement, StatementKind, has_parameters, is_larger
 from .model import Cause, Origin, TypeParameter
-from .names import Alias, Context, Entity, Meeting, Member, Names
 from .scope import Scope
 from .type_syntax import FunctionType, MemberType, NamedType, Shape, Step, Type, spelled
 
@@ -25,7 +26,7 @@ class Found:
 class TypeMeanings:
     """The meanings of types. The scopes of declarations come from a class below."""
 
-    def __init__(self, names: Names):
+    def __init__(self, names: Hierarchy):
         self.names = names
         self.aliases_open = 0
         self.needs: Optional[List[Statement]] = None  # what the types that are looked at need, where that is wanted
