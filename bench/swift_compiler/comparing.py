@@ -1,7 +1,6 @@
 """The signatures of a module, ours beside the compiler's, each by its place."""
 from dataclasses import dataclass
 from pathlib import Path
-import re
 from typing import List, Optional, Sequence, Tuple
 
 from swift_compiler.forms import Form, Likeness, Malformed, form_of, likeness
@@ -14,7 +13,6 @@ INCOMPLETE = "incomplete"
 WHOLE = "whole"
 # To these the compiler adds no `Copyable` and no `Escapable`, though no source says so.
 MARKERS = ("Copyable", "Escapable", "Sendable")
-BOUND = re.compile(r"\[[^\]]*\]")
 
 
 @dataclass(frozen=True)
@@ -34,10 +32,8 @@ class Pair:
         return self.is_compared and self.likeness() is Likeness.OTHER
 
     def forms(self) -> Tuple[Form, Form]:
-        """Both taken apart. Where ours is without `~Copyable`, so is the compiler's. In requirement signatures ours does not say which protocol
-        declares a member, so neither does the compiler's. Raises Malformed."""
-        text = self.theirs or ""
-        ours, theirs = form_of(self.own.text), form_of(BOUND.sub("", text) if self.own.kind == PROTOCOL else text)
+        """Both taken apart. Where ours is without `~Copyable`, so is the compiler's. Raises Malformed."""
+        ours, theirs = form_of(self.own.text), form_of(self.theirs or "")
         is_marker = self.own.kind == PROTOCOL and self.own.name in MARKERS
         if self.own.status == WHOLE and not is_marker:
             return ours, theirs

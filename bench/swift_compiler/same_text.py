@@ -2,7 +2,7 @@
 
 Here the compiler sees no more than genreq does. So incomplete signatures are compared too, and sources that the compiler cannot compile."""
 from dataclasses import dataclass
-from typing import Dict, List, Sequence, Tuple
+from typing import Dict, List, Sequence
 
 from genreq_swift.conditions import Configuration
 from genreq_swift.parts import function_part, protocol_part
@@ -10,7 +10,8 @@ from genreq_swift.program import Command, LEVELS, Limits, Part, Program, Status,
 from genreq_swift.questions import Questions, requirement_signatures
 from genreq_swift.reader import read
 from genreq_swift.reading_options import STANDARD as STANDARD_OUTLINE
-from genreq_swift.swift_form import as_swift as in_compilers_form
+from genreq_swift.requirement_form import reduced_signatures
+from genreq_swift.swift_form import as_swift as in_compilers_form, compiler_form
 
 from swift_compiler.as_swift import as_swift
 from swift_compiler.comparing import PROTOCOL, WHOLE, Pair, pairs
@@ -52,40 +53,52 @@ def seconds_of(program: Program, command: Command, parts: Sequence[Part]) -> flo
     return float("nan")
 
 
-def answered(program: Program, module: Module, beside: Sequence[str], language: str) -> Tuple[List[Part], Dict[str, str], List[Part]]:
-    """The functions of a module that are answered, their signatures, and the protocols over which they are."""
+@dataclass(frozen=True)
+class Ours:
+    """The functions of a module that are answered and the protocols over which they are, with their signatures by labels in the form of the
+    compiler. Protocols of which no requirement signature is answered have none."""
+
+    functions: List[Part]
+    signatures: Dict[str, str]
+    protocols: List[Part]
+    requirements: Dict[str, str]
+
+
+def answered(program: Program, module: Module, beside: Sequence[str], language: str) -> Ours:
+    """What genreq answers of the text of a module."""
     version = Configuration(language=tuple(int(part) for part in language.split(".")))
     paths = [str(STANDARD_OUTLINE) if name == STANDARD else name for name in beside]
     reading = read([str(file) for file in module.files], paths, version, module=module.name)
     questions = Questions(program, [protocol_part(protocol) for protocol in reading.protocols])
     functions = [function_part(signature) for signature in reading.signatures]
     found = questions.ask(Command.SIGNATURES, functions).answers
+    signatures = {label: in_compilers_form(answers[0].line) for label, answers in found.items()}
     kept = [function for function in functions if function.label in found]
-    return kept, {label: in_compilers_form(answers[0].line) for label, answers in found.items()}, questions.protocols
+    required = requirement_signatures(program, questions.protocols).signatures
+    reduced = reduced_signatures(program, reading.protocols, required)
+    return Ours(kept, signatures, questions.protocols, {label: str(compiler_form(one)) for label, one in reduced.items()})
 
 
 def same_text(workshop: Workshop, module: Module, beside: Sequence[str], language: str) -> SameText:
+    """Makes the text of a module, and lays what both print of it side by side."""
     program = Program(default_program())
-    functions, signatures, protocols = answered(program, module, beside, language)
-    required = requirement_signatures(program, protocols)
-    settled = [part for part in protocols if part.label in required.signatures]
-    text = as_swift([part.text for part in protocols], [part.text for part in functions])
+    ours = answered(program, module, beside, language)
+    settled = [part for part in ours.protocols if part.label in ours.requirements]
+    text = as_swift([part.text for part in ours.protocols], [part.text for part in ours.functions])
     run, printed = workshop.check_text(text.content)
-    lines = {label: line for line, label in text.label_at.items()}
-    file = str(workshop.text)
-    owns = [
-        Own(file, lines[part.label], COLUMN_OF_FUNCTION, "func", part.text, WHOLE, signatures[part.label])
-        for part in functions
+    file, lines = str(workshop.text), {label: line for line, label in text.label_at.items()}
+    functions = [
+        Own(file, lines[part.label], COLUMN_OF_FUNCTION, "func", part.text, WHOLE, ours.signatures[part.label]) for part in ours.functions
     ]
-    kept = [
-        Own(file, lines[part.label], COLUMN_OF_PROTOCOL, PROTOCOL, part.label, WHOLE, in_compilers_form(required.signatures[part.label].line))
+    protocols = [
+        Own(file, lines[part.label], COLUMN_OF_PROTOCOL, PROTOCOL, part.label, WHOLE, ours.requirements[part.label])
         for part in settled
         if part.label in lines
     ]
     times = Times(
-        len(written([*protocols, *functions])),
-        seconds_of(program, Command.SIGNATURES, [*protocols, *functions]),
+        len(written([*ours.protocols, *ours.functions])),
+        seconds_of(program, Command.SIGNATURES, [*ours.protocols, *ours.functions]),
         seconds_of(program, Command.REQUIREMENTS, settled),
         run.seconds,
     )
-    return SameText(times, pairs(owns, printed), pairs(kept, printed))
+    return SameText(times, pairs(functions, printed), pairs(protocols, printed))

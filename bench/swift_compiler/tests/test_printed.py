@@ -65,8 +65,8 @@ class Read(unittest.TestCase):
         twice = PRINTED + PRINTED.replace("τ_0_0 : P,", "τ_0_0 : Q,")
         self.assertFalse(pair(own("extension", 9, 11, "<τ_0_0 where τ_0_0 : P>"), twice).is_compared)
 
-    def test_a_requirement_signature_is_compared_without_the_protocols_of_members(self) -> None:
-        self.assertIs(pair(own("protocol", 1, 10, "<Self where Self.A : P>")).likeness(), Likeness.SAME)
+    def test_a_requirement_signature_is_found_by_the_place_of_its_protocol(self) -> None:
+        self.assertIs(pair(own("protocol", 1, 10, "<Self where Self.[P]A : P>")).likeness(), Likeness.SAME)
 
     def test_what_is_incomplete_is_not_compared(self) -> None:
         self.assertFalse(pair(own("struct", 3, 8, "<τ_0_0>", "incomplete")).is_compared)
