@@ -226,6 +226,10 @@ class ConcreteTypes(unittest.TestCase):
     def test_a_class_is_an_object_and_conforms_as_its_superclass_does(self):
         self.assertEqual(self.concrete("func f<T: P>() where T.A == Sub {}")[0], "<T, Sub where T : P, T.A == Sub, Sub : AnyObject, Sub : Named>")
 
+    def test_an_unavailable_conformance_is_none(self):
+        text = "@available(*, unavailable)\nextension Key: Q {}\n@available(macOS 13, *) extension Key: P {}; func f<T: P>() where T.A == Key {}"
+        self.assertEqual(self.concrete(text)[0], "<T, Key where T : P, T.A == Key, Key : Hashable, Key : P, Key : Named>")
+
     def test_what_has_generic_arguments_or_is_not_declared_is_left_out_still(self):
         for text in ["func f<T: P>() where T.A == [Key] {}", "func f<T: P>() where T.A == Unknown {}", "func f<T: P>() where T.A == (Key, Key) {}"]:
             self.assertEqual(self.concrete(text), ("<T where T : P>", Status.INCOMPLETE))
