@@ -29,9 +29,11 @@ class ProtocolRedundancy:
 
     def findings(self, own: Sequence[Protocol]) -> List[Finding]:
         """The redundant units of some of the protocols, which can all be taken out together."""
-        kept = requirement_signatures(self.program, [protocol_part(protocol) for protocol in self.protocols]).signatures
-        units = [unit for protocol in own for unit in units_of(protocol) if self._need_not_be_named(unit)]
-        staying = {protocol.label: kept_numbers(protocol, kept[protocol.label]) for protocol in own if protocol.label in kept}
+        asked = [protocol for protocol in own if can_lack_one(protocol)]
+        parts = [protocol_part(protocol) for protocol in self.protocols]
+        kept = requirement_signatures(self.program, parts, {protocol.label for protocol in asked}).signatures
+        units = [unit for protocol in asked for unit in units_of(protocol) if self._need_not_be_named(unit)]
+        staying = {protocol.label: kept_numbers(protocol, kept[protocol.label]) for protocol in asked if protocol.label in kept}
         found = [unit for unit in units if unit.declaration.label in kept and staying[unit.declaration.label].isdisjoint(unit.numbers)]
         without: Dict[str, FrozenSet[int]] = {}
         for unit in found:
@@ -85,6 +87,11 @@ class ProtocolRedundancy:
             derivations = tuple(answer.under for answer in answers[part.label])
             found.append(Finding(unit, lists.used_of(derivations, unit.declaration.label), derivations, lists))
         return found
+
+
+def can_lack_one(protocol: Protocol) -> bool:
+    """Whether a requirement of a protocol may be redundant. A conformance or a layout that stands alone follows from nothing."""
+    return len(protocol.requirements) > 1 or any(requirement.other for requirement in protocol.requirements)
 
 
 def add(without: Dict[str, FrozenSet[int]], unit: Unit) -> None:
