@@ -152,8 +152,19 @@ class DeclarationReader(TypeReader):
                 return self._function_declaration(DeclarationKind(word))
             if word in ("typealias", "associatedtype"):
                 return self._alias(DeclarationKind(word))
+            if word == "import":
+                self._import()
         self._skip_rest()
         return None
+
+    def _import(self) -> None:
+        """Takes up the module of an import, as `A` in `import struct A.B`."""
+        cursor = self.cursor
+        cursor.advance()
+        if cursor.next().kind in _NAMES and not cursor.next().after_line:
+            cursor.advance()
+        if cursor.at_name:
+            self.cursor.source.imports.append(cursor.token.text)
 
     def _modifiers(self) -> "Set[_Modifier]":
         """Goes past attributes and modifiers, and answers what they say."""

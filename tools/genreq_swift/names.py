@@ -12,6 +12,7 @@ _NOMINAL = frozenset(
     (DeclarationKind.STRUCT, DeclarationKind.CLASS, DeclarationKind.ENUM, DeclarationKind.ACTOR, DeclarationKind.PROTOCOL)
 )
 _KNOWN_MODULES: FrozenSet[str] = LINUX_MODULES | DARWIN_MODULES | {"Builtin", "SwiftShims"}
+_IMPLICIT = ("Swift", "_Concurrency", "_StringProcessing")  # the modules that every source imports
 _DEEPEST_ALIAS = 10
 
 
@@ -26,6 +27,7 @@ class Names:
         self._everywhere: Dict[str, Member] = {}
         self._by_module: Dict[str, Dict[str, Member]] = {}
         self._by_file: Dict[str, Dict[str, Member]] = {}
+        self._seen: Dict[str, List[Dict[str, Member]]] = {}
         self._unbound: List[Context] = []
         for source, declarations in files:
             contexts = [Context(declaration, source, None) for declaration in declarations]
@@ -103,19 +105,28 @@ class Names:
     # Looking up.
 
     def top(self, name: str, source: Source) -> Optional[Member]:
-        """What a name at the top means in a source: what its file declares, or its module, or any other."""
-        for names in (self._by_file.get(source.file), self._by_module.get(source.module)):
-            if names and name in names:
+        """What a name at the top means in a source: what its file declares, or its module, or one that it imports, or any other."""
+        for names in self._seen_from(source):
+            if name in names:
                 return names[name]
-        return self._everywhere.get(name)
+        return None
+
+    def _seen_from(self, source: Source) -> List[Dict[str, Member]]:
+        """The names that a source sees, nearest first."""
+        known = self._seen.get(source.file)
+        if known is None:
+            modules = (source.module, *source.imports, *_IMPLICIT)
+            known = [self._by_file.get(source.file), *(self._by_module.get(module) for module in modules), self._everywhere]
+            known = self._seen[source.file] = [names for names in known if names]
+        return known
 
     def is_module(self, name: str) -> bool:
         """Whether a name is that of a module."""
         return name in self._by_module or name in _KNOWN_MODULES
 
-    def in_module(self, module: str, name: str) -> Optional[Member]:
-        """What a name means with that of a module before it. Modules also tell what they import, so it may be declared in any."""
-        return self._by_module.get(module, {}).get(name) or self._everywhere.get(name)
+    def in_module(self, module: str, name: str, source: Source) -> Optional[Member]:
+        """What a name means with that of a module before it. Modules also tell what they import, so it may be declared in another."""
+        return self._by_module.get(module, {}).get(name) or self.top(name, source)
 
     def referred(self, written: Type, context: Context, depth: int = 0) -> Optional[Member]:
         """The type or protocol to which a name refers, as seen from around a declaration, behind all aliases."""
@@ -126,7 +137,7 @@ class Names:
         steps = [step.name for step in written.steps]
         found = self._first(steps[0], context)
         if len(steps) > 1 and self.is_module(steps[0]) and not (isinstance(found, Entity) and steps[1] in found.members):
-            found = self.in_module(steps[0], steps[1])
+            found = self.in_module(steps[0], steps[1], context.source)
             steps = steps[1:]
         for name in steps[1:]:
             found = self.behind_aliases(found, depth)

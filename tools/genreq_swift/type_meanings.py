@@ -81,7 +81,7 @@ class TypeMeanings:
         first = steps[0]
         found = self._first(first.name, context, scope)
         if len(steps) > 1 and self._is_module(found, steps):
-            member = self.names.in_module(first.name, steps[1].name)
+            member = self.names.in_module(first.name, steps[1].name, context.source)
             found = Found(member) if member is not None else OtherType("%s.%s" % (first.name, steps[1].name), Cause.UNKNOWN)
             steps = steps[1:]
         for before, step in zip(steps, steps[1:]):

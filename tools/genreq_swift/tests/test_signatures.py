@@ -1,7 +1,11 @@
 """How declarations become signatures and protocols."""
 import unittest
 
+from ..conditions import Configuration
+from ..declarations import read_declarations
 from ..model import Cause, Origin, Place, Status, label_of
+from ..reader import reading_of
+from ..tokens import Source
 from .samples import omissions, reading, shown, signatures
 
 PROTOCOLS = """
@@ -120,6 +124,17 @@ class Requirements(unittest.TestCase):
     def test_members_of_a_superclass_are_found(self):
         text = PROTOCOLS + "class Base<T> { typealias M = T }; class Sub<U: P>: Base<U.A> { func f<V: P>(_: V) where V.A == M {} }"
         self.assertEqual(signatures(text)[2:], ["Sub.f <U, V where U : P, V : P, V.A == U.A>"])
+
+    def test_a_name_means_what_an_imported_module_declares(self):
+        modules = [("A", "protocol P {}"), ("B", "struct P {}; struct Q {}"), ("C", "public protocol Q {}")]
+        text = "import B\n@testable import struct C.Q\nfunc f<T: Q, U: A.P>(_: T) {}\n"
+        sources = [Source("f", text, "M")] + [Source(module, declared, module) for module, declared in modules]
+        files = [(source, read_declarations(source, Configuration())) for source in sources]
+        (found,) = reading_of(files[:1], files[1:]).signatures
+        self.assertEqual([omission.cause for omission in found.omissions], [Cause.BOUND])
+        self.assertEqual(shown(found), "<T, U where U : P>")
+        sources[0].imports.remove("B")
+        self.assertEqual(shown(reading_of(files[:1], files[1:]).signatures[0]), "<T, U where T : Q, U : P>")
 
     def test_a_private_name_of_another_file_is_not_seen(self):
         self.assertEqual(signatures("func f<T: P>() {}", "private protocol P {}; public private(set) var x = 1"), ["f <T>"])
