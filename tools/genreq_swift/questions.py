@@ -129,16 +129,16 @@ class Settled:
             if ended.status is Status.ANSWERED:
                 return ended
             if ended.status is Status.REFUSED:
-                self.leave_out_at(ended)
+                self.leave_out_at(ended, self.protocols)
             else:
                 self._judge(command, self._first_that_passes(command), ended)
 
-    def leave_out_at(self, ended: Ended) -> None:
-        """Leaves out the protocol that is refused."""
+    def leave_out_at(self, ended: Ended, protocols: Sequence[Part]) -> None:
+        """Leaves out the one of the asked protocols that is refused."""
         if ended.offset is None:
             raise ProgramFailed(ended.reason)
-        number, offset = part_at(self.protocols, ended.offset)
-        self.leave_out(self.protocols[number].label, ended.reason, offset)
+        number, offset = part_at(protocols, ended.offset)
+        self.leave_out(protocols[number].label, ended.reason, offset)
 
     def _run(self, command: Command, protocols: Sequence[Part], level: int) -> Ended:
         return self.program.run(command, written(protocols), self.levels[level])
@@ -197,6 +197,7 @@ class Questions:
         self.program = program
         self._settled = Settled(program, protocols, levels)
         self._is_settled = False
+        self._closure = Closure(self._settled.protocols)
 
     @property
     def protocols(self) -> List[Part]:
@@ -232,7 +233,7 @@ class Questions:
         found: Dict[str, Tuple[str, ...]] = {}
         for together in self._verifiable(functions, answers):
             given = [answer for function in together for answer in answers[function.label]]
-            verdicts = iter(self.program.verify(written([*self.protocols, *together]), given))
+            verdicts = iter(self.program.verify(written([*self._needed(together), *together]), given))
             found.update((function.label, tuple(next(verdicts) for _ in function.queries)) for function in together)
         return found
 
@@ -270,9 +271,16 @@ class Questions:
             rest = rest[1:]
         return front, rest
 
+    def _needed(self, functions: Sequence[Part]) -> List[Part]:
+        """The protocols that functions need, to which their answers are the same as to all."""
+        if self._closure.protocols is not self.protocols:
+            self._closure = Closure(self.protocols)
+        return self._closure.restricted(self._closure.needed({label for function in functions for label in function.needs}))
+
     def _ask_span(self, command: Command, span: Span, found: Answered) -> List[Span]:
         """Asks of functions that have room in one text. What is to be asked again comes back, the first last."""
-        ended = self.program.run(command, written([*self.protocols, *span.functions]), self._settled.levels[span.level])
+        limits = self._settled.levels[span.level].for_functions(len(span.functions))
+        ended = self.program.run(command, written([*self._needed(span.functions), *span.functions]), limits)
         if ended.status is Status.ANSWERED:
             found.answers.update(by_function(command, span.functions, ended.output))
             return []
@@ -296,9 +304,10 @@ class Questions:
     def _after_refusal(self, span: Span, ended: Ended, found: Answered) -> List[Span]:
         if ended.offset is None:
             raise ProgramFailed(ended.reason)
-        functions, before = span.functions, len(written(self.protocols))
+        functions, protocols = span.functions, self._needed(span.functions)
+        before = len(written(protocols))
         if ended.offset < before:
-            self._settled.leave_out_at(ended)
+            self._settled.leave_out_at(ended, protocols)
             return [span]
         number, offset = part_at(functions, ended.offset - before)
         found.left_out.append(LeftOut(functions[number].label, False, ended.reason, offset))
