@@ -11,7 +11,7 @@ from .own_names import OwnNames, own_names
 from .parts import SELF_OF_FUNCTION, conforming_part, function_part, protocol_part
 from .program import Answer, Command, Part, Program, default_program
 from .query import Labels, Query, declarations_of, read_query
-from .questions import Closure, Questions
+from .questions import Questions
 from .reading_options import add_reading_options, reading_of
 from .telling import SOMETHING_LEFT_OUT, left_out_lines, status_of, tell
 
@@ -64,8 +64,7 @@ def answers_to(query: Query, reading: Reading, command: Command, program: Progra
     """The answers of a query in the declarations that it means, and what is told of those that could not be asked."""
     declarations, labels, names = declarations_of(query, reading), Labels(reading.protocols), own_names(reading)
     parts = {"asked_%d" % number: asked_part("asked_%d" % number, one, query, labels) for number, one in enumerate(declarations)}
-    closure = Closure([protocol_part(protocol) for protocol in reading.protocols])
-    questions = Questions(program, closure.restricted(closure.needed({label for part in parts.values() for label in part.needs})))
+    questions = Questions(program, [protocol_part(protocol) for protocol in reading.protocols])
     asked = questions.ask(command, list(parts.values()))
     of_label = dict(zip(parts, declarations))
     required = {protocol.label: protocol.requirements for protocol in reading.protocols}

@@ -6,9 +6,10 @@ other way round it need not.
 from dataclasses import replace
 from typing import Dict, Iterator, List, Sequence
 
+from .contexts import Entity
+from .hierarchy import Hierarchy
 from .meanings import Meaning, NominalType, Statement, StatementKind
 from .model import DeclarationKind, GenericParameter, Origin, TypeParameter, label_of
-from .names import Entity, Names
 
 _CLASSES = (DeclarationKind.CLASS, DeclarationKind.ACTOR)
 
@@ -16,7 +17,7 @@ _CLASSES = (DeclarationKind.CLASS, DeclarationKind.ACTOR)
 class StandIns:
     """The parameters for the concrete types without generic arguments in the statements of a signature."""
 
-    def __init__(self, names: Names, statements: Sequence[Statement], parameters: Sequence[GenericParameter], depth: int):
+    def __init__(self, names: Hierarchy, statements: Sequence[Statement], parameters: Sequence[GenericParameter], depth: int):
         self.names = names
         self._first: Dict[Entity, Statement] = {}
         for statement in statements:

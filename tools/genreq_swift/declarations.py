@@ -1,6 +1,8 @@
 """Declarations as they are written. Bodies of functions and values of variables are not looked at."""
 from dataclasses import dataclass, replace
-from typing import FrozenSet, List, Optional, Tuple
+from enum import Enum
+import re
+from typing import FrozenSet, List, Optional, Set, Tuple
 
 from .conditions import Configuration
 from .cursor import Cursor
@@ -77,6 +79,14 @@ _TYPES = {
     for kind in (DeclarationKind.STRUCT, DeclarationKind.CLASS, DeclarationKind.ENUM, DeclarationKind.ACTOR, DeclarationKind.PROTOCOL)
 }
 _NAMES = (TokenKind.NAME, TokenKind.QUOTED)
+_UNAVAILABLE = re.compile(r"@available\s*\(\s*\*\s*,\s*unavailable\b")
+
+
+class _Modifier(Enum):
+    """What modifiers and attributes say, as far as it is looked at."""
+
+    PRIVATE = "private"
+    UNAVAILABLE = "unavailable"
 
 
 class DeclarationReader(TypeReader):
@@ -121,9 +131,13 @@ class DeclarationReader(TypeReader):
 
     def _declaration(self) -> Optional[DeclarationSyntax]:
         """Reads one declaration, or goes past it where nothing in it is looked at."""
-        is_private = self._modifiers()
+        modifiers = self._modifiers()
         declaration = self._unmodified()
-        return replace(declaration, is_private=True) if declaration is not None and is_private else declaration
+        if declaration is not None and _Modifier.PRIVATE in modifiers:
+            declaration = replace(declaration, is_private=True)
+        if declaration is not None and declaration.kind is DeclarationKind.EXTENSION and _Modifier.UNAVAILABLE in modifiers:
+            declaration = replace(declaration, inherited=())  # it says that a conformance is not there
+        return declaration
 
     def _unmodified(self) -> Optional[DeclarationSyntax]:
         """The same behind its attributes and modifiers."""
@@ -138,24 +152,37 @@ class DeclarationReader(TypeReader):
                 return self._function_declaration(DeclarationKind(word))
             if word in ("typealias", "associatedtype"):
                 return self._alias(DeclarationKind(word))
+            if word == "import":
+                self._import()
         self._skip_rest()
         return None
 
-    def _modifiers(self) -> bool:
-        """Goes past attributes and modifiers. Whether one of them is `private` or `fileprivate`."""
-        cursor, is_private = self.cursor, False
+    def _import(self) -> None:
+        """Takes up the module of an import, as `A` in `import struct A.B`."""
+        cursor = self.cursor
+        cursor.advance()
+        if cursor.next().kind in _NAMES and not cursor.next().after_line:
+            cursor.advance()
+        if cursor.at_name:
+            self.cursor.source.imports.append(cursor.token.text)
+
+    def _modifiers(self) -> "Set[_Modifier]":
+        """Goes past attributes and modifiers, and answers what they say."""
+        cursor, found = self.cursor, set()
         while True:
             token = cursor.token
             if token.text == "@" and token.kind is TokenKind.MARK:
                 self.attribute()
+                if _UNAVAILABLE.match(cursor.source.text, token.start):
+                    found.add(_Modifier.UNAVAILABLE)
             elif token.kind is TokenKind.NAME and (token.text in _MODIFIERS or token.text == "class" and self._class_modifies()):
                 cursor.advance()
                 if cursor.at("(") and not cursor.token.after_space:
                     cursor.skip_brackets()
                 elif token.text in ("private", "fileprivate"):
-                    is_private = True
+                    found.add(_Modifier.PRIVATE)
             else:
-                return is_private
+                return found
 
     def _class_modifies(self) -> bool:
         """Whether the word `class` here says that a member is one of the class, and declares no class."""

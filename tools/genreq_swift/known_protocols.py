@@ -1,9 +1,10 @@
 """To which protocols a type parameter conforms, as far as it is written: in bounds, where clauses and protocols, without what equations say."""
 from typing import Dict, Iterator, Optional, Set
 
+from .contexts import Context, Entity
 from .declarations import DeclarationSyntax
+from .hierarchy import Hierarchy
 from .model import DeclarationKind, TypeParameter
-from .names import Context, Entity, Names
 from .type_syntax import spelled
 
 Protocols = Dict[Entity, None]
@@ -12,7 +13,7 @@ Protocols = Dict[Entity, None]
 class KnownProtocols:
     """Looks for the protocols of type parameters."""
 
-    def __init__(self, names: Names):
+    def __init__(self, names: Hierarchy):
         self.names = names
 
     def of(self, one: TypeParameter, context: Context) -> Protocols:

@@ -3,8 +3,8 @@ from dataclasses import dataclass, replace
 from enum import Enum
 from typing import Dict, Iterator, Optional, Tuple, Union
 
+from .contexts import Entity
 from .model import Cause, GenericParameter, Origin, TypeParameter
-from .names import Entity
 from .tokens import Source
 
 

@@ -1,8 +1,8 @@
-"""What the names in Swift sources refer to: the types, protocols and aliases that the sources declare, and what is a member of what."""
-from dataclasses import dataclass
-from typing import Dict, FrozenSet, Iterator, List, Optional, Sequence, Set, Tuple, Union
+"""What the names in Swift sources refer to: the types, protocols and aliases that the sources declare."""
+from typing import Dict, FrozenSet, Iterator, List, Optional, Sequence, Set, Tuple
 
 from .conditions import DARWIN_MODULES, LINUX_MODULES
+from .contexts import Alias, Context, Entity, Member
 from .declarations import DeclarationSyntax
 from .model import DeclarationKind
 from .tokens import Source
@@ -12,95 +12,8 @@ _NOMINAL = frozenset(
     (DeclarationKind.STRUCT, DeclarationKind.CLASS, DeclarationKind.ENUM, DeclarationKind.ACTOR, DeclarationKind.PROTOCOL)
 )
 _KNOWN_MODULES: FrozenSet[str] = LINUX_MODULES | DARWIN_MODULES | {"Builtin", "SwiftShims"}
+_IMPLICIT = ("Swift", "_Concurrency", "_StringProcessing")  # the modules that every source imports
 _DEEPEST_ALIAS = 10
-
-
-class Context:
-    """A declaration in its place: in its source, and in the declaration around it."""
-
-    __slots__ = ("declaration", "source", "parent", "entity", "members")
-
-    def __init__(self, declaration: DeclarationSyntax, source: Source, parent: "Optional[Context]"):
-        self.declaration = declaration
-        self.source = source
-        self.parent = parent
-        self.entity: Optional[Entity] = None  # the type or protocol that it declares or extends
-        self.members = [Context(member, source, self) for member in declaration.members]
-
-    @property
-    def kind(self) -> DeclarationKind:
-        """The word that declares it."""
-        return self.declaration.kind
-
-    def around(self) -> "Iterator[Context]":
-        """The declarations of types and protocols, and the extension, in which it stands, innermost first; itself, if it is one."""
-        context: Optional[Context] = self
-        while context is not None:
-            if context.entity is not None:
-                yield context
-            context = context.parent
-
-
-class Entity:
-    """A type or protocol with what is declared in it and in its extensions."""
-
-    __slots__ = ("context", "outer", "path", "members", "associated", "extensions")
-
-    def __init__(self, context: Context, outer: "Optional[Entity]"):
-        self.context = context
-        self.outer = outer
-        self.path: Tuple[str, ...] = (outer.path if outer else ()) + (context.declaration.name,)
-        self.members: Dict[str, Member] = {}
-        self.associated: Set[str] = set()
-        self.extensions: List[Context] = []
-
-    @property
-    def is_protocol(self) -> bool:
-        """Whether it is a protocol."""
-        return self.context.kind is DeclarationKind.PROTOCOL
-
-    @property
-    def is_class(self) -> bool:
-        """Whether it is a class."""
-        return self.context.kind is DeclarationKind.CLASS
-
-    @property
-    def name(self) -> str:
-        """Its own name behind those around it."""
-        return ".".join(self.path)
-
-
-class Alias:
-    """A type alias."""
-
-    __slots__ = ("context", "outer")
-
-    def __init__(self, context: Context, outer: Optional[Entity]):
-        self.context = context
-        self.outer = outer
-
-    @property
-    def is_in_protocol(self) -> bool:
-        """Whether it is declared in a protocol, or in an extension of one."""
-        return self.outer is not None and self.outer.is_protocol
-
-    @property
-    def equates(self) -> bool:
-        """Whether a protocol itself declares it, without generic parameters: then all members of its name are equal to what it refers to."""
-        declaration, parent = self.context.declaration, self.context.parent
-        return parent is not None and parent.kind is DeclarationKind.PROTOCOL and not declaration.parameters and declaration.target is not None
-
-
-Member = Union[Entity, Alias]
-
-
-@dataclass(frozen=True)
-class Meeting:
-    """Members of one name in several protocols: whether one is an associated type, and those that are aliases."""
-
-    name: str
-    is_declared: bool
-    aliases: Tuple[Alias, ...]
 
 
 class Names:
@@ -114,9 +27,7 @@ class Names:
         self._everywhere: Dict[str, Member] = {}
         self._by_module: Dict[str, Dict[str, Member]] = {}
         self._by_file: Dict[str, Dict[str, Member]] = {}
-        self._inherited: Dict[Entity, Dict[Entity, None]] = {}
-        self._aliases: Dict[Entity, Dict[str, Alias]] = {}
-        self._names_of_aliases: Optional[List[str]] = None
+        self._seen: Dict[str, List[Dict[str, Member]]] = {}
         self._unbound: List[Context] = []
         for source, declarations in files:
             contexts = [Context(declaration, source, None) for declaration in declarations]
@@ -146,6 +57,9 @@ class Names:
     def _declare_nominal(self, context: Context, outer: Optional[Entity]) -> None:
         entity = Entity(context, outer)
         context.entity = entity
+        twin = self._by_module.get(context.source.module, {}).get(context.declaration.name) if outer is None else None
+        if isinstance(twin, Entity) and not context.declaration.is_private:
+            entity.share(twin)  # a module may have a type in two files of which one configuration has one
         if entity.is_protocol:
             self.protocols.append(entity)
         self._register(context, outer, entity)
@@ -194,19 +108,28 @@ class Names:
     # Looking up.
 
     def top(self, name: str, source: Source) -> Optional[Member]:
-        """What a name at the top means in a source: what its file declares, or its module, or any other."""
-        for names in (self._by_file.get(source.file), self._by_module.get(source.module)):
-            if names and name in names:
+        """What a name at the top means in a source: what its file declares, or its module, or one that it imports, or any other."""
+        for names in self._seen_from(source):
+            if name in names:
                 return names[name]
-        return self._everywhere.get(name)
+        return None
+
+    def _seen_from(self, source: Source) -> List[Dict[str, Member]]:
+        """The names that a source sees, nearest first."""
+        known = self._seen.get(source.file)
+        if known is None:
+            modules = (source.module, *source.imports, *_IMPLICIT)
+            known = [self._by_file.get(source.file), *(self._by_module.get(module) for module in modules), self._everywhere]
+            known = self._seen[source.file] = [names for names in known if names]
+        return known
 
     def is_module(self, name: str) -> bool:
         """Whether a name is that of a module."""
         return name in self._by_module or name in _KNOWN_MODULES
 
-    def in_module(self, module: str, name: str) -> Optional[Member]:
-        """What a name means with that of a module before it. Modules also tell what they import, so it may be declared in any."""
-        return self._by_module.get(module, {}).get(name) or self._everywhere.get(name)
+    def in_module(self, module: str, name: str, source: Source) -> Optional[Member]:
+        """What a name means with that of a module before it. Modules also tell what they import, so it may be declared in another."""
+        return self._by_module.get(module, {}).get(name) or self.top(name, source)
 
     def referred(self, written: Type, context: Context, depth: int = 0) -> Optional[Member]:
         """The type or protocol to which a name refers, as seen from around a declaration, behind all aliases."""
@@ -217,7 +140,7 @@ class Names:
         steps = [step.name for step in written.steps]
         found = self._first(steps[0], context)
         if len(steps) > 1 and self.is_module(steps[0]) and not (isinstance(found, Entity) and steps[1] in found.members):
-            found = self.in_module(steps[0], steps[1])
+            found = self.in_module(steps[0], steps[1], context.source)
             steps = steps[1:]
         for name in steps[1:]:
             found = self.behind_aliases(found, depth)
@@ -253,126 +176,3 @@ class Names:
         elif isinstance(found, Alias) and found not in seen and found.context.declaration.target is not None:
             seen.add(found)
             yield from self.bounds(found.context.declaration.target, found.context, seen)
-
-    def inherited(self, protocol: Entity) -> Dict[Entity, None]:
-        """A protocol and those that it inherits, in order."""
-        known = self._inherited.get(protocol)
-        if known is None:
-            known = self._inherited[protocol] = {}
-            waiting = [protocol]
-            while waiting:
-                entity = waiting.pop(0)
-                if entity not in known:
-                    known[entity] = None
-                    waiting += [bound for bound in self._inherits(entity.context) if bound.is_protocol]
-        return known
-
-    def _inherits(self, context: Context) -> Iterator[Entity]:
-        """What a protocol, or an extension of one, says that `Self` is."""
-        for inherited in context.declaration.inherited:
-            yield from self.bounds(inherited.bound, context)
-        for declaration in (context.declaration,) + context.declaration.members:
-            if declaration is context.declaration or declaration.kind is DeclarationKind.ASSOCIATED_TYPE:
-                for condition in declaration.conditions:
-                    if not condition.is_equation and _is_self(condition.left):
-                        yield from self.bounds(condition.right, context)
-
-    def protocols_around(self, context: Context) -> Dict[Entity, None]:
-        """The protocols to which `Self` conforms in a protocol, or in an extension of one."""
-        assert context.entity is not None
-        known = self.inherited(context.entity)
-        if context.kind is DeclarationKind.EXTENSION and context.declaration.conditions:
-            known = dict(known)
-            for bound in self._inherits(context):
-                if bound.is_protocol:
-                    known.update(self.inherited(bound))
-        return known
-
-    def conformance(self, entity: Entity, protocol: Entity) -> Optional[Context]:
-        """The declaration that says that a type conforms to a protocol: the type or an extension of it, or one that says more without a condition."""
-        for context in [entity.context] + entity.extensions:
-            if protocol in self._conforms(context):
-                return context
-        for context in [entity.context] + entity.extensions:
-            if context is entity.context or not context.declaration.conditions:
-                if any(protocol in self.inherited(bound) for bound in self._conforms(context)):
-                    return context
-        return None
-
-    def aliases_of_protocols(self, entity: Entity) -> Dict[str, Alias]:
-        """The aliases that a type has of the protocols to which it is declared to conform, by name."""
-        known = self._aliases.get(entity)
-        if known is None:
-            known = self._aliases[entity] = {}
-            for context in [entity.context] + entity.extensions:
-                for bound in self._conforms(context):
-                    for protocol in self.inherited(bound):
-                        for name, member in protocol.members.items():
-                            if isinstance(member, Alias):
-                                known.setdefault(name, member)
-        return known
-
-    def names_of_aliases(self) -> List[str]:
-        """The names that a protocol has for an alias of its own, and another one for an associated type or for an alias of its own."""
-        if self._names_of_aliases is None:
-            own = {name: [alias for alias in aliases if alias.equates] for name, aliases in self.aliases_in_protocols.items()}
-            self._names_of_aliases = [name for name, aliases in own.items() if len(aliases) > 1 or (aliases and name in self.associated)]
-        return self._names_of_aliases
-
-    def meetings_in(self, protocol: Entity) -> "Iterator[Meeting]":
-        """The members of one name that meet in a protocol, and not in one that it inherits."""
-        parents = [bound for bound in self._inherits(protocol.context) if bound.is_protocol]
-        return self._meetings([self.inherited(parent) for parent in parents if parent is not protocol] + [{protocol: None}])
-
-    def meetings(self, protocols: Sequence[Entity]) -> "Iterator[Meeting]":
-        """The members of one name that meet where a type conforms to all of several protocols, and not in one of these alone."""
-        return self._meetings([self.inherited(protocol) for protocol in protocols])
-
-    def _meetings(self, parts: Sequence[Dict[Entity, None]]) -> "Iterator[Meeting]":
-        known = {entity: None for part in parts for entity in part}
-        for name in self.names_of_aliases():
-            aliases = {}
-            for entity in known:
-                member = entity.members.get(name)
-                if isinstance(member, Alias) and member.equates:
-                    aliases[entity] = member
-            declaring = [entity for entity in known if name in entity.associated]
-            places = {**dict.fromkeys(declaring), **dict.fromkeys(aliases)}
-            if aliases and len(places) > 1 and not any(all(place in part for place in places) for part in parts):
-                yield Meeting(name, bool(declaring), tuple(aliases.values()))
-
-    def declared_conformances(self, entity: Entity) -> Dict[Entity, None]:
-        """The protocols to which a type, or a superclass of it, is declared to conform without a condition."""
-        found: Dict[Entity, None] = {}
-        seen: Set[Entity] = set()
-        current: Optional[Entity] = entity
-        while current is not None and current not in seen:
-            seen.add(current)
-            for context in [current.context] + current.extensions:
-                if context is current.context or not context.declaration.conditions:
-                    found.update((protocol, None) for protocol in self._conforms(context))
-            superclass = self.superclass(current)
-            current = superclass[0] if superclass is not None else None
-        return found
-
-    def _conforms(self, context: Context) -> List[Entity]:
-        """The protocols in the inheritance clause of a type or of an extension."""
-        return [
-            bound
-            for inherited in context.declaration.inherited
-            for bound in self.bounds(inherited.bound, context)
-            if bound.is_protocol
-        ]
-
-    def superclass(self, entity: Entity) -> Optional[Tuple[Entity, Type]]:
-        """The class that a class inherits, and how that is written."""
-        if entity.is_class:
-            for inherited in entity.context.declaration.inherited:
-                found = self.referred(inherited.bound, entity.context)
-                if isinstance(found, Entity) and found.is_class:
-                    return found, inherited.bound
-        return None
-
-
-def _is_self(written: Type) -> bool:
-    return isinstance(written, NamedType) and len(written.steps) == 1 and written.steps[0].name == "Self"

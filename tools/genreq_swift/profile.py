@@ -1,9 +1,9 @@
 """What genreq's language has, and what it lacks: statements become requirements, or omissions with their causes."""
 from typing import Dict, List, Sequence, Tuple, Union
 
+from .contexts import Entity
 from .meanings import OtherType, Statement, StatementKind
 from .model import Cause, Omission, Origin, Place, ProtocolName, Requirement, RequirementKind, TypeParameter
-from .names import Entity
 
 _KINDS = {
     StatementKind.CONFORMANCE: RequirementKind.CONFORMANCE,

@@ -2,7 +2,7 @@
 import os
 import re
 import subprocess
-from dataclasses import dataclass
+from dataclasses import dataclass, replace
 from enum import Enum
 from pathlib import Path
 from typing import FrozenSet, List, Optional, Sequence, Tuple
@@ -32,6 +32,7 @@ class Status(Enum):
 
 
 MEMORY_RAN_OUT = 6
+SECONDS_EACH = 0.2
 
 
 @dataclass(frozen=True)
@@ -45,6 +46,10 @@ class Limits:
     @property
     def words(self) -> Tuple[str, ...]:
         return ("--max-rules", str(self.rules), "--max-length", str(self.length))
+
+    def for_functions(self, count: int) -> "Limits":
+        """The limits with time for so many functions."""
+        return replace(self, seconds=self.seconds + SECONDS_EACH * count) if self.seconds else self
 
 
 # The limits by level: those of genreq, greater ones, and the greatest.
@@ -86,7 +91,8 @@ class Answer:
 class Part:
     """A protocol or a function in a text. A label is unique among those of protocols, or of functions.
 
-    `needs` are the labels of the protocols that it names, `queries` what is asked of a function, as it stands in the parentheses of a query.
+    `needs` are the labels of the protocols that it names, also in its queries; `queries` are what is asked of a function, as it stands in the
+    parentheses of a query.
     """
 
     label: str

@@ -11,9 +11,9 @@ from typing import Dict, FrozenSet, List, Mapping, Sequence, Set, Tuple
 
 from .derivations import Lists
 from .model import Declaration, Protocol, Requirement
-from .parts import conforming_part, in_function, protocol_part
-from .program import LEVELS, Answer, Command, Part, Program
-from .questions import Closure, Questions, requirement_signatures
+from .parts import conforming_part, in_function, protocol_part, protocols_of
+from .program import LEVELS, Command, Part, Program
+from .questions import Questions, requirement_signatures
 from .redundancy import Finding, Unit, asked_label, check, units_of
 from .requirement_form import kept_numbers
 
@@ -29,9 +29,11 @@ class ProtocolRedundancy:
 
     def findings(self, own: Sequence[Protocol]) -> List[Finding]:
         """The redundant units of some of the protocols, which can all be taken out together."""
-        kept = requirement_signatures(self.program, [protocol_part(protocol) for protocol in self.protocols]).signatures
-        units = [unit for protocol in own for unit in units_of(protocol) if self._need_not_be_named(unit)]
-        staying = {protocol.label: kept_numbers(protocol, kept[protocol.label]) for protocol in own if protocol.label in kept}
+        asked = [protocol for protocol in own if can_lack_one(protocol)]
+        parts = [protocol_part(protocol) for protocol in self.protocols]
+        kept = requirement_signatures(self.program, parts, {protocol.label for protocol in asked}).signatures
+        units = [unit for protocol in asked for unit in units_of(protocol) if self._need_not_be_named(unit)]
+        staying = {protocol.label: kept_numbers(protocol, kept[protocol.label]) for protocol in asked if protocol.label in kept}
         found = [unit for unit in units if unit.declaration.label in kept and staying[unit.declaration.label].isdisjoint(unit.numbers)]
         without: Dict[str, FrozenSet[int]] = {}
         for unit in found:
@@ -67,24 +69,28 @@ class ProtocolRedundancy:
         """Whether a unit follows when it is taken out beside these."""
         more = dict(without)
         add(more, unit)
-        closure = Closure(self._parts(more))
-        questions = Questions(self.program, closure.restricted(closure.needed([unit.declaration.label])), LEVELS[:1])
+        questions = Questions(self.program, self._parts(more), LEVELS[:1])
         given = questions.ask(Command.ANSWER, [asking_part(0, unit)]).answers.get(asked_label(0))
         return given is not None and all(answer.line == "yes" for answer in given)
 
     def _explained(self, units: Sequence[Unit], without: Without) -> List[Finding]:
         """The findings with their derivations, over the protocols without these requirements."""
         questions = Questions(self.program, self._parts(without))
-        parts = [asking_part(number, unit) for number, unit in enumerate(units)]
-        answers = questions.ask(Command.EXPLAIN, parts).answers
-        asked = [(unit, part) for unit, part in zip(units, parts) if all(answer.line == "yes" for answer in answers.get(part.label, (Answer("no"),)))]
-        check(questions, [part for _, part in asked], [answers[part.label] for _, part in asked])
         lists = Lists((), {protocol.label: kept_of(protocol, without.get(protocol.label, frozenset())) for protocol in self.protocols})
         found = []
-        for unit, part in asked:
-            derivations = tuple(answer.under for answer in answers[part.label])
-            found.append(Finding(unit, lists.used_of(derivations, unit.declaration.label), derivations, lists))
+        for number, unit in enumerate(units):
+            part = asking_part(number, unit)
+            given = questions.ask(Command.EXPLAIN, [part]).answers.get(part.label)
+            if given and all(answer.line == "yes" for answer in given):
+                check(questions, [part], [given])
+                derivations = tuple(answer.under for answer in given)
+                found.append(Finding(unit, lists.used_of(derivations, unit.declaration.label), derivations, lists))
         return found
+
+
+def can_lack_one(protocol: Protocol) -> bool:
+    """Whether a requirement of a protocol may be redundant. A conformance or a layout that stands alone follows from nothing."""
+    return len(protocol.requirements) > 1 or any(requirement.other for requirement in protocol.requirements)
 
 
 def add(without: Dict[str, FrozenSet[int]], unit: Unit) -> None:
@@ -96,7 +102,8 @@ def add(without: Dict[str, FrozenSet[int]], unit: Unit) -> None:
 def asking_part(number: int, unit: Unit) -> Part:
     """The function that requires the protocol of a unit, and is asked for the unit."""
     assert isinstance(unit.declaration, Protocol)
-    return conforming_part(asked_label(number), unit.declaration, [query_of(requirement) for requirement in unit.requirements])
+    part = conforming_part(asked_label(number), unit.declaration, [query_of(requirement) for requirement in unit.requirements])
+    return replace(part, needs=part.needs | protocols_of(unit.requirements))
 
 
 def kept_of(protocol: Declaration, without: FrozenSet[int]) -> Tuple[Requirement, ...]:

@@ -10,6 +10,9 @@ from .program import LEVELS, TEXT_LIMIT, Answer, Command, Ended, Limits, Part, P
 
 Answers = Dict[str, Tuple[Answer, ...]]
 
+# So many protocols are asked in one run even where they do not need each other.
+SMALL_COVER = 16
+
 
 @dataclass(frozen=True)
 class LeftOut:
@@ -64,6 +67,19 @@ class Closure:
                 found.append(Front(label, self.restricted(reached)))
         return found
 
+    def covers(self, wanted: Set[str]) -> List[Set[str]]:
+        """Sets of labels that need no others, which together have those that are wanted. Small ones are put together."""
+        covered: Set[str] = set()
+        found: List[Set[str]] = []
+        for label in sorted(wanted, key=lambda label: (-len(self._needed[label]), label)):
+            if label not in covered:
+                covered |= self._needed[label]
+                if found and len(found[-1] | self._needed[label]) <= SMALL_COVER:
+                    found[-1] |= self._needed[label]
+                else:
+                    found.append(set(self._needed[label]))
+        return found
+
     def without(self, label: str) -> Tuple[List[Part], List[LeftOut]]:
         """The protocols that do not need this one, and the others, told."""
         needing = [protocol for protocol in self.protocols if label in self._needed[protocol.label] and protocol.label != label]
@@ -86,18 +102,23 @@ def fitting(parts: Sequence[Part], room: int) -> Tuple[List[Part], List[Part]]:
 
 
 class Settled:
-    """Protocols over which genreq answers a command, and the level of limits at which it does."""
+    """Protocols over which genreq answers a command, and the level of limits at which it does.
 
-    def __init__(self, program: Program, protocols: Sequence[Part], levels: Sequence[Limits]):
+    `left_out` tells the others, and `causes` those of them that do not only need another one.
+    """
+
+    def __init__(self, program: Program, protocols: Sequence[Part], levels: Sequence[Limits], level: int = 0):
         self.program = program
         self.levels = levels
         self.protocols = list(protocols)
-        self.level = 0
+        self.level = level
         self.left_out: List[LeftOut] = []
+        self.causes: List[LeftOut] = []
 
     def leave_out(self, label: str, reason: str, offset: Optional[int] = None) -> None:
         """Leaves out a protocol, and those that need it."""
-        self.left_out.append(LeftOut(label, True, reason, offset))
+        self.causes.append(LeftOut(label, True, reason, offset))
+        self.left_out.append(self.causes[-1])
         self.protocols, needing = Closure(self.protocols).without(label)
         self.left_out += needing
 
@@ -108,16 +129,16 @@ class Settled:
             if ended.status is Status.ANSWERED:
                 return ended
             if ended.status is Status.REFUSED:
-                self.leave_out_at(ended)
+                self.leave_out_at(ended, self.protocols)
             else:
                 self._judge(command, self._first_that_passes(command), ended)
 
-    def leave_out_at(self, ended: Ended) -> None:
-        """Leaves out the protocol that is refused."""
+    def leave_out_at(self, ended: Ended, protocols: Sequence[Part]) -> None:
+        """Leaves out the one of the asked protocols that is refused."""
         if ended.offset is None:
             raise ProgramFailed(ended.reason)
-        number, offset = part_at(self.protocols, ended.offset)
-        self.leave_out(self.protocols[number].label, ended.reason, offset)
+        number, offset = part_at(protocols, ended.offset)
+        self.leave_out(protocols[number].label, ended.reason, offset)
 
     def _run(self, command: Command, protocols: Sequence[Part], level: int) -> Ended:
         return self.program.run(command, written(protocols), self.levels[level])
@@ -176,6 +197,7 @@ class Questions:
         self.program = program
         self._settled = Settled(program, protocols, levels)
         self._is_settled = False
+        self._closure = Closure(self._settled.protocols)
 
     @property
     def protocols(self) -> List[Part]:
@@ -211,7 +233,7 @@ class Questions:
         found: Dict[str, Tuple[str, ...]] = {}
         for together in self._verifiable(functions, answers):
             given = [answer for function in together for answer in answers[function.label]]
-            verdicts = iter(self.program.verify(written([*self.protocols, *together]), given))
+            verdicts = iter(self.program.verify(written([*self._needed(together), *together]), given))
             found.update((function.label, tuple(next(verdicts) for _ in function.queries)) for function in together)
         return found
 
@@ -249,9 +271,16 @@ class Questions:
             rest = rest[1:]
         return front, rest
 
+    def _needed(self, functions: Sequence[Part]) -> List[Part]:
+        """The protocols that functions need, to which their answers are the same as to all."""
+        if self._closure.protocols is not self.protocols:
+            self._closure = Closure(self.protocols)
+        return self._closure.restricted(self._closure.needed({label for function in functions for label in function.needs}))
+
     def _ask_span(self, command: Command, span: Span, found: Answered) -> List[Span]:
         """Asks of functions that have room in one text. What is to be asked again comes back, the first last."""
-        ended = self.program.run(command, written([*self.protocols, *span.functions]), self._settled.levels[span.level])
+        limits = self._settled.levels[span.level].for_functions(len(span.functions))
+        ended = self.program.run(command, written([*self._needed(span.functions), *span.functions]), limits)
         if ended.status is Status.ANSWERED:
             found.answers.update(by_function(command, span.functions, ended.output))
             return []
@@ -275,9 +304,10 @@ class Questions:
     def _after_refusal(self, span: Span, ended: Ended, found: Answered) -> List[Span]:
         if ended.offset is None:
             raise ProgramFailed(ended.reason)
-        functions, before = span.functions, len(written(self.protocols))
+        functions, protocols = span.functions, self._needed(span.functions)
+        before = len(written(protocols))
         if ended.offset < before:
-            self._settled.leave_out_at(ended)
+            self._settled.leave_out_at(ended, protocols)
             return [span]
         number, offset = part_at(functions, ended.offset - before)
         found.left_out.append(LeftOut(functions[number].label, False, ended.reason, offset))
@@ -309,14 +339,22 @@ class RequirementSignatures:
     left_out: List[LeftOut]
 
 
-def requirement_signatures(program: Program, protocols: Sequence[Part], levels: Sequence[Limits] = LEVELS) -> RequirementSignatures:
-    """The requirement signatures of the protocols of which `requirements` is answered.
+def requirement_signatures(
+    program: Program, protocols: Sequence[Part], wanted: Optional[Set[str]] = None, levels: Sequence[Limits] = LEVELS
+) -> RequirementSignatures:
+    """The requirement signatures of protocols, of all or of those with these labels, of which `requirements` is answered.
 
-    What is kept of a protocol depends on those alone that it needs, so one can be left out with those that need it. What passes a limit without
-    `requirements` is left out first, since that is found sooner.
+    What is kept of a protocol depends on those alone that it needs, so one can be left out with those that need it, and one is asked with these
+    alone: the time of `requirements` grows with the square of the text. What passes a limit without it is left out first, which is found sooner.
     """
     settled = Settled(program, protocols, levels)
     settled.settle(Command.SIGNATURES)
-    answers = answers_of(settled.settle(Command.REQUIREMENTS).output)
-    signatures = {protocol.label: without_name(answer) for protocol, answer in zip(settled.protocols, answers)}
+    labels = {protocol.label for protocol in settled.protocols}
+    signatures: Dict[str, Answer] = {}
+    for cover in Closure(settled.protocols).covers(labels if wanted is None else wanted & labels):
+        together = Settled(program, [protocol for protocol in settled.protocols if protocol.label in cover], levels, settled.level)
+        answers = answers_of(together.settle(Command.REQUIREMENTS).output)
+        signatures.update((protocol.label, without_name(answer)) for protocol, answer in zip(together.protocols, answers))
+        for one in together.causes:
+            settled.leave_out(one.label, one.reason, one.offset)
     return RequirementSignatures(signatures, settled.left_out)

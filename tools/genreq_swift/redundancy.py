@@ -13,7 +13,7 @@ from typing import Dict, FrozenSet, List, Mapping, Optional, Sequence, Tuple
 
 from .derivations import Lists
 from .model import Declaration, Origin, Place, Protocol, Requirement, Signature, TypeParameter
-from .parts import function_part
+from .parts import function_part, protocols_of
 from .program import Answer, Command, Part, ProgramFailed
 from .questions import LeftOut, Questions
 
@@ -77,7 +77,8 @@ class Attempt:
         queries = [requirement.labelled for requirement in self.unit.requirements]
         if with_sides:
             queries += [side.labelled for number in self.waiting for side in sides_of(signature.requirements[number])]
-        return function_part(replace(signature, label=label), self.chosen, queries)
+        part = function_part(replace(signature, label=label), self.chosen, queries)
+        return replace(part, needs=part.needs | protocols_of(self.unit.requirements))
 
     @property
     def chosen(self) -> Tuple[Requirement, ...]:
@@ -192,19 +193,17 @@ class Redundancy:
         return out
 
     def _explained(self, attempts: Sequence[Attempt]) -> List[Finding]:
-        """The findings with their derivations. What follows from an inferred requirement is none."""
-        numbered = dict(enumerate(attempts))
-        parts = [attempt.part(asked_label(number), with_sides=False) for number, attempt in numbered.items()]
-        answers = self._answers(Command.EXPLAIN, numbered, parts)
-        check(self.questions, [parts[number] for number in answers], [answers[number] for number in answers])
+        """The findings with their derivations, each asked over the protocols that it needs. What follows from an inferred requirement is none."""
         found = []
-        for number, given in answers.items():
-            attempt = numbered[number]
-            derivations = tuple(answer.under for answer in given)
-            lists = Lists(attempt.chosen, self.required)
-            follows_from = lists.used_of(derivations)
-            if all(requirement.origin is not Origin.INFERRED for requirement in follows_from):
-                found.append(Finding(attempt.unit, follows_from, derivations, lists))
+        for number, attempt in enumerate(attempts):
+            part = attempt.part(asked_label(number), with_sides=False)
+            for given in self._answers(Command.EXPLAIN, {number: attempt}, [part]).values():
+                check(self.questions, [part], [given])
+                derivations = tuple(answer.under for answer in given)
+                lists = Lists(attempt.chosen, self.required)
+                follows_from = lists.used_of(derivations)
+                if all(requirement.origin is not Origin.INFERRED for requirement in follows_from):
+                    found.append(Finding(attempt.unit, follows_from, derivations, lists))
         return found
 
 

@@ -12,7 +12,7 @@ from .model import Protocol, Requirement, TypeParameter
 from .parts import conforming_part, in_function, protocol_part
 from .printed import Conformance, Layout, PrintedMember, PrintedRequirement, PrintedSignature, PrintedType, SameType, read_signature, read_type
 from .program import Answer, Command, Part, Program
-from .questions import Closure, Questions
+from .questions import Questions
 
 SELF = "Self"
 
@@ -89,9 +89,9 @@ def reduced_alone(program: Program, parts: Sequence[Part], asked: Asked) -> Prin
     """An equation whose copy conforms to the protocol itself, by another equation: it is asked where the protocol itself lacks it."""
     label = asked.protocol.label
     lacking = replace(asked.conforms_to, label=label, text=asked.conforms_to.text.replace(asked.conforms_to.label, label, 1))
-    closure = Closure([lacking if part.label == label else part for part in parts])
     function = conforming_part(asked.function.label, asked.protocol, asked.function.queries)
-    answers = Questions(program, closure.restricted(closure.needed([label]))).ask(Command.ANSWER, [function]).answers
+    questions = Questions(program, [lacking if part.label == label else part for part in parts])
+    answers = questions.ask(Command.ANSWER, [function]).answers
     return reduced(replace(asked, conforms_to=lacking), answers.get(function.label))
 
 

@@ -2,10 +2,10 @@
 from dataclasses import dataclass, replace
 from typing import Iterator, List, Optional, Sequence, Tuple
 
+from .contexts import Alias, Context, Entity
 from .declarations import ConditionSyntax
 from .meanings import Meaning, NominalType, OtherType, Statement, StatementKind
 from .model import Cause, Origin
-from .names import Alias, Context, Entity
 from .scope import Scope
 from .tokens import Source
 from .type_meanings import DEEPEST_ALIAS, Found, Noting, TypeMeanings

@@ -2,10 +2,11 @@
 from dataclasses import replace
 from typing import Dict, List, Optional, Sequence
 
+from .contexts import Alias, Context, Entity
 from .declarations import ParameterSyntax
+from .hierarchy import Hierarchy
 from .meanings import NominalType, OtherType, Replacement, Statement, StatementKind, has_parameters
 from .model import Cause, DeclarationKind, Origin, TypeParameter
-from .names import Alias, Context, Entity, Names
 from .requirement_meanings import RequirementMeanings
 from .scope import Scope
 from .type_meanings import Found, Noting
@@ -21,7 +22,7 @@ _MOST_NEEDS = 500  # behind so many, conditions of conformances are not followed
 class Scopes(RequirementMeanings):
     """The scopes of all declarations."""
 
-    def __init__(self, names: Names):
+    def __init__(self, names: Hierarchy):
         super().__init__(names)
         self._scopes: Dict[Context, Scope] = {}
 

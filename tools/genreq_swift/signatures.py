@@ -4,7 +4,9 @@ import re
 from typing import Dict, Iterable, Iterator, List, Optional, Sequence, Set, Tuple
 
 from .concrete import StandIns
+from .contexts import Context, Entity
 from .declarations import DeclarationSyntax
+from .hierarchy import Hierarchy
 from .meanings import Statement, StatementKind
 from .model import (
     AssociatedType,
@@ -20,7 +22,6 @@ from .model import (
     TypeParameter,
     label_of,
 )
-from .names import Context, Entity, Names
 from .profile import Profile
 from .scopes import Scope, Scopes
 from .tokens import Source
@@ -73,7 +74,7 @@ class SignatureMaker:
 
     def __init__(self, files: Sequence[Tuple[Source, Sequence[DeclarationSyntax]]], concrete: bool = False):
         self.concrete = concrete
-        self.names = Names(files)
+        self.names = Hierarchy(files)
         self.scopes = Scopes(self.names)
         self.profile = Profile(_labels(self.names.protocols))
         self.problems: List[Problem] = []

@@ -68,12 +68,13 @@ class SourceError(Exception):
 
 
 class Source:
-    """A file, the module to which it belongs, and its text."""
+    """A file, the module to which it belongs, and its text. `imports` are the modules that it imports, after its declarations are read."""
 
     def __init__(self, file: str, text: str, module: str = ""):
         self.file = file
         self.text = text
         self.module = module
+        self.imports: List[str] = []
         self._starts: Optional[List[int]] = None
 
     def line(self, offset: int) -> int:

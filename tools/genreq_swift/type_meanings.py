@@ -2,10 +2,11 @@
 from dataclasses import dataclass, replace
 from typing import Dict, Iterator, List, Optional, Set, Tuple, Union
 
+from .contexts import Alias, Context, Entity, Member
+from .hierarchy import Hierarchy, Meeting
 from .known_protocols import KnownProtocols
 from .meanings import Meaning, NominalType, OtherType, Replacement, Statement, StatementKind, has_parameters, is_larger
 from .model import Cause, Origin, TypeParameter
-from .names import Alias, Context, Entity, Meeting, Member, Names
 from .scope import Scope
 from .type_syntax import FunctionType, MemberType, NamedType, Shape, Step, Type, spelled
 
@@ -25,7 +26,7 @@ class Found:
 class TypeMeanings:
     """The meanings of types. The scopes of declarations come from a class below."""
 
-    def __init__(self, names: Names):
+    def __init__(self, names: Hierarchy):
         self.names = names
         self.aliases_open = 0
         self.needs: Optional[List[Statement]] = None  # what the types that are looked at need, where that is wanted
@@ -80,7 +81,7 @@ class TypeMeanings:
         first = steps[0]
         found = self._first(first.name, context, scope)
         if len(steps) > 1 and self._is_module(found, steps):
-            member = self.names.in_module(first.name, steps[1].name)
+            member = self.names.in_module(first.name, steps[1].name, context.source)
             found = Found(member) if member is not None else OtherType("%s.%s" % (first.name, steps[1].name), Cause.UNKNOWN)
             steps = steps[1:]
         for before, step in zip(steps, steps[1:]):

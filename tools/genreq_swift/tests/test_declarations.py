@@ -106,6 +106,24 @@ class Declarations(unittest.TestCase):
         self.assertEqual([member.name for member in found[0].members], ["good"])
         self.assertEqual([error.place.line for error in errors], [3, 5, 9, 13])
 
+    def test_every_front_of_a_source_is_read_or_told(self):
+        text = """@available(*, unavailable) public protocol P<A>: Q where A: R<[Int: T?]> { associatedtype A: S = Int where A.B == Self }
+        #if os(Linux) && !DEBUG
+        extension A.B<(C, inout D) throws(E) -> F> : @retroactive G { static func == <T>(l: some H, r: T = "\\(x)") async {} }
+        #else
+        let s = #"/* "# + /[}"]/ // }
+        #endif
+        final class K<each T, let n: Int>: L where repeat each T: ~Copyable { subscript(`in` i: Int...) -> any M { get } }
+        """
+        for end in range(len(text)):
+            errors = []
+            try:
+                read_declarations(Source("f", text[:end]), Configuration(), errors)
+            except SourceError as error:
+                errors.append(error)
+            self.assertTrue(all(str(error.place).startswith("f:") for error in errors))
+        self.assertEqual([found.name for found in declared(text)], ["P", "", "K"])
+
     def test_deep_nesting_is_told(self):
         with self.assertRaises(SourceError):
             declared("typealias A = " + "[" * 100000)

@@ -2,7 +2,7 @@ import pathlib
 import unittest
 
 from genreq_swift.program import LEVELS, Answer, Command, Ended, Part, Program, ProgramFailed, Status, answers_of, default_program
-from genreq_swift.questions import LeftOut, Questions, requirement_signatures
+from genreq_swift.questions import Closure, LeftOut, Questions, requirement_signatures
 
 P = Part("P", "protocol P { associatedtype A }")
 Q = Part("Q", "protocol Q: P { }", frozenset(["P"]))
@@ -103,10 +103,18 @@ class Asking(unittest.TestCase):
 class RequirementSignatures(unittest.TestCase):
     def test_those_of_the_others_are_answered(self):
         double = Part("Double", "protocol Double: Q, P { }", frozenset("PQ"))
-        found = requirement_signatures(Program(default_program()), [SORTED, double, HEIR, LIST, P, Q], LEVELS[:1])
+        found = requirement_signatures(Program(default_program()), [SORTED, double, HEIR, LIST, P, Q], levels=LEVELS[:1])
         wanted = {"Double": "<Self where Self : Q>", "List": "<Self where Self.Rest : List>", "P": "<Self>", "Q": "<Self where Self : P>"}
         self.assertEqual({label: answer.line for label, answer in found.signatures.items()}, wanted)
         self.assertEqual([one.label for one in found.left_out], ["Sorted", "Heir"])
+
+    def test_those_that_are_wanted_are_asked_with_what_they_need(self):
+        many = [Part("P%d" % number, "protocol P%d: P { }" % number, frozenset("P")) for number in range(40)]
+        found = requirement_signatures(Program(default_program()), [P, Q, *many], {"P7", "Q"}).signatures
+        self.assertEqual(found, {"P": Answer("<Self>"), "P7": Answer("<Self where Self : P>"), "Q": Answer("<Self where Self : P>")})
+        covers = Closure([P, Q, *many]).covers({"P", "Q", *(one.label for one in many)})
+        self.assertEqual([len(cover) for cover in covers], [16, 16, 12])
+        self.assertTrue(all("P" in cover for cover in covers))
 
 
 class Ending(unittest.TestCase):

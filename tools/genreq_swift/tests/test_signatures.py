@@ -1,7 +1,11 @@
 """How declarations become signatures and protocols."""
 import unittest
 
+from ..conditions import Configuration
+from ..declarations import read_declarations
 from ..model import Cause, Origin, Place, Status, label_of
+from ..reader import reading_of
+from ..tokens import Source
 from .samples import omissions, reading, shown, signatures
 
 PROTOCOLS = """
@@ -121,6 +125,22 @@ class Requirements(unittest.TestCase):
         text = PROTOCOLS + "class Base<T> { typealias M = T }; class Sub<U: P>: Base<U.A> { func f<V: P>(_: V) where V.A == M {} }"
         self.assertEqual(signatures(text)[2:], ["Sub.f <U, V where U : P, V : P, V.A == U.A>"])
 
+    def test_a_name_means_what_an_imported_module_declares(self):
+        modules = [("A", "protocol P {}"), ("B", "struct P {}; struct Q {}"), ("C", "public protocol Q {}")]
+        text = "import B\n@testable import struct C.Q\nfunc f<T: Q, U: A.P>(_: T) {}\n"
+        sources = [Source("f", text, "M")] + [Source(module, declared, module) for module, declared in modules]
+        files = [(source, read_declarations(source, Configuration())) for source in sources]
+        (found,) = reading_of(files[:1], files[1:]).signatures
+        self.assertEqual([omission.cause for omission in found.omissions], [Cause.BOUND])
+        self.assertEqual(shown(found), "<T, U where U : P>")
+        sources[0].imports.remove("B")
+        self.assertEqual(shown(reading_of(files[:1], files[1:]).signatures[0]), "<T, U where T : Q, U : P>")
+
+    def test_a_type_in_two_files_of_a_module_has_all_extensions(self):
+        texts = ["extension E { typealias A = P }; protocol P {}", "enum E {}", "enum E {}; func f<T: E.A>() {}"]
+        files = [(source, read_declarations(source, Configuration())) for source in (Source(text, text, "M") for text in texts)]
+        self.assertEqual([shown(signature) for signature in reading_of(files, []).signatures], ["<T where T : P>"])
+
     def test_a_private_name_of_another_file_is_not_seen(self):
         self.assertEqual(signatures("func f<T: P>() {}", "private protocol P {}; public private(set) var x = 1"), ["f <T>"])
         self.assertEqual(omissions("func f<T: P>(_: some P) {}", "fileprivate protocol P {}"), ["T: P: unknown name", "some_1: P: unknown name"])
@@ -225,6 +245,10 @@ class ConcreteTypes(unittest.TestCase):
 
     def test_a_class_is_an_object_and_conforms_as_its_superclass_does(self):
         self.assertEqual(self.concrete("func f<T: P>() where T.A == Sub {}")[0], "<T, Sub where T : P, T.A == Sub, Sub : AnyObject, Sub : Named>")
+
+    def test_an_unavailable_conformance_is_none(self):
+        text = "@available(*, unavailable)\nextension Key: Q {}\n@available(macOS 13, *) extension Key: P {}; func f<T: P>() where T.A == Key {}"
+        self.assertEqual(self.concrete(text)[0], "<T, Key where T : P, T.A == Key, Key : Hashable, Key : P, Key : Named>")
 
     def test_what_has_generic_arguments_or_is_not_declared_is_left_out_still(self):
         for text in ["func f<T: P>() where T.A == [Key] {}", "func f<T: P>() where T.A == Unknown {}", "func f<T: P>() where T.A == (Key, Key) {}"]:
