@@ -69,7 +69,9 @@ def answers_to(query: Query, reading: Reading, command: Command, program: Progra
     asked = questions.ask(command, list(parts.values()))
     of_label = dict(zip(parts, declarations))
     required = {protocol.label: protocol.requirements for protocol in reading.protocols}
-    found = [DeclarationAnswer(of_label[label], query, in_own_names(given[0], of_label[label], names, required)) for label, given in asked.answers.items()]
+    found = []
+    for label, (answer,) in asked.answers.items():
+        found.append(DeclarationAnswer(of_label[label], query, in_own_names(answer, of_label[label], names, required)))
     told = left_out_lines(reading, questions.protocols_left_out)
     told += [str(Problem("%s is left out: %s" % (of_label[one.label].name, one.reason), of_label[one.label].place)) for one in asked.left_out]
     return sorted(found, key=lambda one: one.declaration.place), told

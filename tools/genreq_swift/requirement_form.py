@@ -6,7 +6,7 @@ stands beside the protocols.
 """
 from collections import Counter
 from dataclasses import dataclass, replace
-from typing import Dict, FrozenSet, List, Mapping, Optional, Sequence, Set, Tuple
+from typing import Dict, FrozenSet, List, Mapping, Optional, Sequence, Set
 
 from .model import Protocol, Requirement
 from .parts import conforming_part, in_function, protocol_part, sides_of
