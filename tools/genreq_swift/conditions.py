@@ -9,6 +9,8 @@ LINUX_MODULES = frozenset(
     Synchronization Observation Distributed RegexBuilder _Concurrency _StringProcessing _RegexParser _Differentiation""".split()
 )
 DARWIN_MODULES = (LINUX_MODULES - {"Glibc"}) | {"Darwin", "os", "ObjectiveC", "Combine", "SwiftUI", "CoreFoundation", "CryptoKit"}
+# Features that a compiler has where they are asked for alone. All others it has.
+_ABSENT_FEATURES = frozenset(("Embedded", "NonescapableTypes"))
 DARWIN = frozenset(("macOS", "OSX", "iOS", "tvOS", "watchOS", "visionOS"))
 
 
@@ -79,7 +81,7 @@ class _Condition:
 
     def name(self, name: str) -> bool:
         if name.startswith("$"):
-            return name != "$Embedded"
+            return name[1:] not in _ABSENT_FEATURES
         return name == "true" or name in self.configuration.defined
 
     def call(self, name: str) -> bool:
@@ -115,7 +117,7 @@ _TESTS: "dict[str, Callable[[Configuration, List[str]], bool]]" = {
     "canImport": lambda configuration, words: words[0] in configuration.modules,
     "compiler": lambda configuration, words: _version(words, configuration.compiler),
     "swift": lambda configuration, words: _version(words, configuration.language),
-    "hasFeature": lambda configuration, words: words[0] != "Embedded",
+    "hasFeature": lambda configuration, words: words[0] not in _ABSENT_FEATURES,
     "hasAttribute": lambda configuration, words: True,
     "_runtime": _runtime,
     "_endian": lambda configuration, words: words[0] == "little",

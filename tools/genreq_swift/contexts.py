@@ -45,6 +45,11 @@ class Entity:
         self.associated: Set[str] = set()
         self.extensions: List[Context] = []
 
+    def share(self, twin: "Entity") -> None:
+        """Has what is declared in a type of the same name, and the other way round, if both are declared alike."""
+        if twin.context.kind is self.context.kind and len(twin.context.declaration.parameters) == len(self.context.declaration.parameters):
+            self.members, self.associated, self.extensions = twin.members, twin.associated, twin.extensions
+
     @property
     def is_protocol(self) -> bool:
         """Whether it is a protocol."""

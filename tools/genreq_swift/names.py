@@ -57,6 +57,9 @@ class Names:
     def _declare_nominal(self, context: Context, outer: Optional[Entity]) -> None:
         entity = Entity(context, outer)
         context.entity = entity
+        twin = self._by_module.get(context.source.module, {}).get(context.declaration.name) if outer is None else None
+        if isinstance(twin, Entity) and not context.declaration.is_private:
+            entity.share(twin)  # a module may have a type in two files of which one configuration has one
         if entity.is_protocol:
             self.protocols.append(entity)
         self._register(context, outer, entity)

@@ -20,7 +20,7 @@ class Conditions(unittest.TestCase):
     def test_each_test_asks_the_configuration(self):
         for text in ["os(Linux)", "arch(x86_64)", "compiler(>=6.0)", "swift(>=5.9)", "canImport(Glibc)", "_runtime(_Native)", "true", "!DEBUG"]:
             self.assertTrue(is_true(text), text)
-        for text in ["os(macOS)", "compiler(>=6.2)", "compiler(<6)", "canImport(Darwin)", "hasFeature(Embedded)", "$Embedded", "targetEnvironment(simulator)"]:
+        for text in ["os(macOS)", "compiler(>=6.2)", "compiler(<6)", "canImport(Darwin)", "hasFeature(Embedded)", "$NonescapableTypes", "$Embedded", "targetEnvironment(simulator)"]:
             self.assertFalse(is_true(text), text)
         for text in ["os(macOS)", "os(OSX)", "arch(arm64)", "compiler(>=5.9)", "compiler(<5.9.1)", "DEBUG", "canImport(Darwin)"]:
             self.assertTrue(is_true(text, MAC), text)

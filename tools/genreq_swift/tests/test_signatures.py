@@ -136,6 +136,11 @@ class Requirements(unittest.TestCase):
         sources[0].imports.remove("B")
         self.assertEqual(shown(reading_of(files[:1], files[1:]).signatures[0]), "<T, U where T : Q, U : P>")
 
+    def test_a_type_in_two_files_of_a_module_has_all_extensions(self):
+        texts = ["extension E { typealias A = P }; protocol P {}", "enum E {}", "enum E {}; func f<T: E.A>() {}"]
+        files = [(source, read_declarations(source, Configuration())) for source in (Source(text, text, "M") for text in texts)]
+        self.assertEqual([shown(signature) for signature in reading_of(files, []).signatures], ["<T where T : P>"])
+
     def test_a_private_name_of_another_file_is_not_seen(self):
         self.assertEqual(signatures("func f<T: P>() {}", "private protocol P {}; public private(set) var x = 1"), ["f <T>"])
         self.assertEqual(omissions("func f<T: P>(_: some P) {}", "fileprivate protocol P {}"), ["T: P: unknown name", "some_1: P: unknown name"])
