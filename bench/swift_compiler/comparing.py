@@ -11,7 +11,7 @@ EXTENSION = "extension"
 PROTOCOL = "protocol"
 INCOMPLETE = "incomplete"
 WHOLE = "whole"
-# To these the compiler adds no `Copyable` and no `Escapable`, though no source says so.
+# The compiler itself takes `Copyable` and `Escapable` from these, whatever their source says.
 MARKERS = ("Copyable", "Escapable", "Sendable")
 
 

@@ -17,9 +17,10 @@ from .telling import SOMETHING_LEFT_OUT, left_out_lines, status_of, tell
 
 NOT_YES = 1
 
-DESCRIPTION = """Answers one query in the context of a declaration: whether a requirement follows (yes, no, or invalid where a side is no type), what a type
-reduces to, or the minimised signature. QUERY is NAME(T.Element : Equatable), NAME(T == U.Index), NAME(T.SubSequence) or NAME(), where NAME is that of
-a declaration, as map or Sequence.map, or LINE or FILE:LINE for the innermost declaration around a line. Where several have the name, all answer."""
+DESCRIPTION = """Answers one query in the context of a declaration: whether a requirement follows (yes, no, or invalid where a side is no
+type), what a type reduces to, or the minimised signature. QUERY is NAME(T.Element : Equatable), NAME(T == U.Index), NAME(T.SubSequence) or
+NAME(), where NAME is that of a declaration, as map or Sequence.map, or LINE or FILE:LINE for the innermost declaration around a line. Where
+several have the name, all answer. The status is 1 where an answer is no or invalid."""
 
 
 def add(subparsers: "argparse._SubParsersAction[argparse.ArgumentParser]") -> None:
@@ -32,7 +33,7 @@ def add(subparsers: "argparse._SubParsersAction[argparse.ArgumentParser]") -> No
 
 
 @dataclass(frozen=True)
-class Answered:
+class DeclarationAnswer:
     """The answer of a query in one declaration, in own names."""
 
     declaration: Declaration
@@ -60,7 +61,7 @@ def run(arguments: argparse.Namespace) -> int:
     return SOMETHING_LEFT_OUT if left_out else status_of(reading)
 
 
-def answers_to(query: Query, reading: Reading, command: Command, program: Program) -> Tuple[List[Answered], List[str]]:
+def answers_to(query: Query, reading: Reading, command: Command, program: Program) -> Tuple[List[DeclarationAnswer], List[str]]:
     """The answers of a query in the declarations that it means, and what is told of those that could not be asked."""
     declarations, labels, names = declarations_of(query, reading), Labels(reading.protocols), own_names(reading)
     parts = {"asked_%d" % number: asked_part("asked_%d" % number, one, query, labels) for number, one in enumerate(declarations)}
@@ -68,7 +69,9 @@ def answers_to(query: Query, reading: Reading, command: Command, program: Progra
     asked = questions.ask(command, list(parts.values()))
     of_label = dict(zip(parts, declarations))
     required = {protocol.label: protocol.requirements for protocol in reading.protocols}
-    found = [Answered(of_label[label], query, in_own_names(given[0], of_label[label], names, required)) for label, given in asked.answers.items()]
+    found = []
+    for label, (answer,) in asked.answers.items():
+        found.append(DeclarationAnswer(of_label[label], query, in_own_names(answer, of_label[label], names, required)))
     told = left_out_lines(reading, questions.protocols_left_out)
     told += [str(Problem("%s is left out: %s" % (of_label[one.label].name, one.reason), of_label[one.label].place)) for one in asked.left_out]
     return sorted(found, key=lambda one: one.declaration.place), told
@@ -92,12 +95,12 @@ def in_own_names(answer: Answer, declaration: Declaration, names: OwnNames, requ
     return Answer(names.of(answer.line, declaration.parameters), tuple(shown(answer.under, lists, names, declaration.parameters)))
 
 
-def as_lines(one: Answered) -> List[str]:
+def as_lines(one: DeclarationAnswer) -> List[str]:
     status = "  // " + one.status if one.status else ""
     return ["%s: %s(%s): %s%s" % (one.declaration.place, one.declaration.name, one.query.asked, one.answer.line, status), *one.answer.under]
 
 
-def as_object(one: Answered) -> str:
+def as_object(one: DeclarationAnswer) -> str:
     place = one.declaration.place
     found = {
         "file": place.file,

@@ -17,17 +17,20 @@ from .telling import left_out_lines, status_of, tell, told
 
 FOUND = 1
 
-DESCRIPTION = """Prints a warning for each written requirement that follows from the others of its declaration, of the declarations around it and of the
-protocols: FILE:LINE:COLUMN: warning: requirement .. is redundant: it follows from ... The status is 1 where there is one.
+DESCRIPTION = """Prints a warning for each written requirement that follows from the others of its declaration, of the declarations around it
+and of the protocols: FILE:LINE:COLUMN: warning: requirement .. is redundant: it follows from ... The status is 1 where there is one.
 
-What is told can all be taken out together. Each requirement is asked of a function without it, and for each warning there is a derivation that
-`genreq verify` accepts; --why prints it. What is left out of an incomplete signature could only make more requirements redundant. What the type of a
-parameter needs makes no requirement redundant."""
+What is told can all be taken out together. Each requirement is asked of a function without it, and for each warning there is a derivation
+that `genreq verify` accepts; --why prints it, with the place of each requirement that it uses. What is left out of an incomplete signature
+could only make more requirements redundant. What the type of a parameter needs makes no requirement redundant."""
 
 
 def add(subparsers: "argparse._SubParsersAction[argparse.ArgumentParser]") -> None:
     parser = subparsers.add_parser(
-        "redundant", help="the written requirements that follow from others", description=DESCRIPTION, formatter_class=argparse.RawDescriptionHelpFormatter
+        "redundant",
+        help="the written requirements that follow from others",
+        description=DESCRIPTION,
+        formatter_class=argparse.RawDescriptionHelpFormatter,
     )
     add_reading_options(parser)
     parser.add_argument("--why", action="store_true", help="prints under each warning a derivation by the rules of docs/DERIVATION.md")

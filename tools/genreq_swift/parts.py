@@ -1,6 +1,6 @@
 """Protocols and signatures as parts of a text for genreq. Requirements stand in a part in the order of the model."""
 from dataclasses import replace
-from typing import FrozenSet, Iterable, List, Optional, Sequence
+from typing import FrozenSet, Iterable, List, Optional, Sequence, Tuple
 
 from .model import Protocol, Requirement, RequirementKind, Signature, TypeParameter, label_of
 from .program import Part
@@ -64,3 +64,8 @@ def where_clause(requirements: Iterable[Requirement]) -> str:
 def protocols_of(requirements: Iterable[Requirement]) -> FrozenSet[str]:
     """The labels of the protocols that these requirements name."""
     return frozenset(requirement.protocol.label for requirement in requirements if requirement.protocol)
+
+
+def sides_of(requirement: Requirement) -> Tuple[TypeParameter, ...]:
+    """The types of a requirement: its subject, and of an equation its other side."""
+    return (requirement.subject, requirement.other) if requirement.other else (requirement.subject,)

@@ -12,8 +12,8 @@ from dataclasses import dataclass, replace
 from typing import Dict, FrozenSet, List, Mapping, Optional, Sequence, Tuple
 
 from .derivations import Lists
-from .model import Declaration, Origin, Place, Protocol, Requirement, Signature, TypeParameter
-from .parts import function_part, protocols_of
+from .model import Declaration, Origin, Place, Protocol, Requirement, Signature
+from .parts import function_part, protocols_of, sides_of
 from .program import Answer, Command, Part, ProgramFailed
 from .questions import LeftOut, Questions
 
@@ -100,11 +100,6 @@ class Attempt:
         if waiting and self.spare:
             return replace(self, waiting=tuple(sorted([*waiting, *self.spare])), spare=())
         return None
-
-
-def sides_of(requirement: Requirement) -> Tuple[TypeParameter, ...]:
-    """The types of a requirement."""
-    return (requirement.subject, requirement.other) if requirement.other else (requirement.subject,)
 
 
 def first_attempt(unit: Unit, without: FrozenSet[int]) -> Attempt:

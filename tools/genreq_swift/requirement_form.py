@@ -6,10 +6,10 @@ stands beside the protocols.
 """
 from collections import Counter
 from dataclasses import dataclass, replace
-from typing import Dict, FrozenSet, List, Mapping, Optional, Sequence, Set, Tuple
+from typing import Dict, FrozenSet, List, Mapping, Optional, Sequence, Set
 
-from .model import Protocol, Requirement, TypeParameter
-from .parts import conforming_part, in_function, protocol_part
+from .model import Protocol, Requirement
+from .parts import conforming_part, in_function, protocol_part, sides_of
 from .printed import Conformance, Layout, PrintedMember, PrintedRequirement, PrintedSignature, PrintedType, SameType, read_signature, read_type
 from .program import Answer, Command, Part, Program
 from .questions import Questions
@@ -51,13 +51,9 @@ def asked_of(protocol: Protocol, kept: FrozenSet[int], taken: Set[str]) -> List[
         if requirement.other:
             label, without = fresh("%s_%d" % (label, number), taken), without | {number}
         copy = replace(protocol, label=label)
-        queries = [in_function(side).labelled for side in sides(requirement)]
+        queries = [in_function(side).labelled for side in sides_of(requirement)]
         found.append(Asked(protocol, number, protocol_part(copy, without), conforming_part("%s_%d" % (label, number), copy, queries)))
     return found
-
-
-def sides(requirement: Requirement) -> Tuple[TypeParameter, ...]:
-    return (requirement.subject, requirement.other) if requirement.other else (requirement.subject,)
 
 
 def fresh(label: str, taken: Set[str]) -> str:
@@ -100,7 +96,7 @@ def reduced(asked: Asked, given: Optional[Sequence[Answer]]) -> PrintedRequireme
     requirement = asked.requirement
     lines = [answer.line for answer in given] if given else ["invalid"]
     if "invalid" in lines:
-        types = [read_type(side.labelled) for side in sides(requirement)]
+        types = [read_type(side.labelled) for side in sides_of(requirement)]
     else:
         types = [of_protocol(read_type(line), asked) for line in lines]
     if requirement.other:
