@@ -32,6 +32,8 @@ SCRIPTS: Dict[str, List[str]] = {
 # A line of the toolchain's runner of tests, and the last line of a script that counts.
 RESULT = re.compile(r"^test (\S+) \.\.\. (\w+)", re.M)
 COUNTS = re.compile(r"^(\d+) passed, (\d+) failed$", re.M)
+# What ./genreq says of each run of the unproved program, which says nothing of a failure.
+UNPROVED = re.compile(r"^genreq: this run is not proved.*\n", re.M)
 SECONDS_A_TEST = 60
 # What building a program unproved takes of memory, in bytes.
 MEMORY = 2_500_000_000
@@ -67,7 +69,7 @@ def count_of_script(name: str, status: int, printed: str, seconds: float) -> Out
     passed, failed = map(int, counts[-1]) if counts else (int(status == 0), int(status != 0))
     if status and not failed:
         failed = 1
-    return Outcome(name, passed, failed, printed if failed else "", seconds)
+    return Outcome(name, passed, failed, UNPROVED.sub("", printed) if failed else "", seconds)
 
 
 class Testing:
