@@ -2,6 +2,7 @@
 import json
 import os
 from pathlib import Path
+import random
 import subprocess
 import sys
 import tempfile
@@ -25,6 +26,17 @@ func first_2<T, U>() where T : P, U == T.A, T.A : P
 func second_3<T>() where T : P
 func third_4<T>() where T : P
 """
+
+
+PIECES = ["(", ")", "{", "}", "<", ">", '"', '"""', "#/", "/*", "@", "&", ":", "==", "~", "#if", "protocol ", "where ", "some ", "\x00", "\U0001f600"]
+
+
+def edited(text, chance):
+    """The text cut off, or with some characters gone and something put in."""
+    at = chance.randrange(len(text))
+    if chance.random() < 0.3:
+        return text[:at]
+    return text[:at] + chance.choice(PIECES) + text[at + chance.choice([0, 1, 3, 20]) :]
 
 
 class Commands(unittest.TestCase):
@@ -80,6 +92,16 @@ class Commands(unittest.TestCase):
     def test_an_outline_has_types_and_no_functions(self):
         self.file.write_text("/* */ public struct S<T>: P where T: Q { let x = 1; func f() {}; typealias A = [T: (Int) -> T?] }\nextension S { init() {} }")
         self.assertEqual(self.run_tool("outline", self.file)[1], "struct S<T>: P where T : Q {\n  typealias A = [T: (Int) -> T?]\n}\n")
+
+    def test_a_spoilt_source_ends_with_a_status_and_is_told_by_its_place(self):
+        chance = random.Random(1)
+        for _ in range(25):
+            self.file.write_text(edited(edited(SAMPLE, chance), chance), encoding="utf-8")
+            status, _, told = self.run_tool("text", self.file)
+            self.assertIn(status, (0, 3))
+            errors = [line for line in told.splitlines() if "error:" in line]
+            self.assertEqual(status == 3, bool(errors), told)
+            self.assertTrue(all(line.startswith(str(self.file)) for line in errors), told)
 
     def test_wrong_words_have_status_2_and_an_output_that_cannot_be_written_70(self):
         self.assertEqual(self.run_tool("text")[0], 2)
