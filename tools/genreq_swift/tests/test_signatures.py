@@ -276,12 +276,12 @@ class Protocols(unittest.TestCase):
         protocol P1 { typealias T = G<X>; associatedtype X }
         protocol P2 { typealias T = G<Y>; associatedtype Y }
         protocol R: P1, P2 {}
-        protocol R2: R {}
+        protocol Both: R {}
         func f<T: P1 & P2>(_: T) {}
         func g<T: R>(_: T) where T: P1 {}
         """
         self.assertEqual([str(each) for each in self.protocol(text, "R").conditions], ["Self.X == Self.Y"])
-        self.assertEqual([str(each) for each in self.protocol(text, "R2").requirements], ["Self : R"])
+        self.assertEqual([str(each) for each in self.protocol(text, "Both").requirements], ["Self : R"])
         self.assertEqual(omissions(text), ["T.T: alias that meets a member"])
 
     def test_equal_generic_types_have_equal_arguments(self):
