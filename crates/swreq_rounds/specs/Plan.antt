@@ -3,6 +3,7 @@ use Rattle.std.specs.Prelude.{List, ◌++◌, map}
 use Rattle.swreq_word.specs.Relations.{Linked}
 use Rattle.swreq_rule.specs.declared.rules.Rule.{Rule}
 use Rattle.swreq_rule.specs.Steps.{Step}
+use Rattle.swreq_complete.specs.Alike.{ReduceAlike}
 use Rattle.swreq_derive.specs.Derivation.{TermRequirement, TermFacts, Source}
 use Rattle.swreq_correspondence.specs.Symbols.{Word, Symbols, left_side, right_side}
 use Rattle.swreq_correspondence.specs.Shown.{ShowsUsable}
@@ -30,3 +31,7 @@ given plan used = plan.basic ++ map (equation_of plan.symbols) used
 -- The rules show that the type parameters of the requirement are valid.
 abbrev pub AreShown : Plan → List Rule → Item → Type 0
 AreShown plan rules x = ShowsUsable plan.symbols plan.facts x.source (Linked (Step rules)) x.requirement
+
+-- Reduction by the rules shows it. By complete rules it shows just what the rules show.
+abbrev pub AreShownByReduction : Plan → List Rule → Item → Type 0
+AreShownByReduction plan rules x = ShowsUsable plan.symbols plan.facts x.source (ReduceAlike rules) x.requirement
