@@ -12,7 +12,7 @@ use Rattle.swreq_rule.specs.Steps.{Step}
 use Rattle.swreq_watch.specs.declared.events.Event.{Event}
 use Rattle.swreq_complete.specs.Alike.{ReduceAlike}
 use Rattle.swreq_complete.specs.declared.limit.Limits.{Limits}
-use Rattle.swreq_complete.proofs.Alike.{alike_linked}
+use Rattle.swreq_complete.proofs.Alike.{alike_are_linked}
 use Rattle.swreq_correspondence.specs.Symbols.{Word, Symbols, IsOfText, AreSymbolsOf, AreOfText, IsInText, left_side, right_side}
 use Rattle.swreq_correspondence.specs.Equations.{Equation, Linking, UsableOf, UsableIn, UsableEquation}
 use Rattle.swreq_correspondence.specs.Equations.Equation.{twice, member, of_protocol, of_source}
@@ -117,7 +117,7 @@ module _ (m : Symbols) (f : TermFacts) (fit : AreSymbolsOf m f) (ranges : AreOfT
       → (u v : Word) → ReduceAlike rules u v → Linking (Of used (Written [] [])) u v
   short_linking used within rules b u v a =
       reached_linking [] (given plan used) rules (λ l r. ⊥) (Of used (Written [] [])) b.0 b.1.reached none_presents (λ l r z. absurd z)
-      (given_is used within) u v (alike_linked rules u v a)
+      (given_is used within) u v (alike_are_linked rules u v a)
 
   round_usable : {used : List Item} {first : Option Passed} {told : List Event} → IsRound limits plan used first told → AreUsable used
   round_usable begin = λ p r h. no_member (of_self p r) h
@@ -212,7 +212,7 @@ module _ (m : Symbols) (f : TermFacts) (fit : AreSymbolsOf m f) (ranges : AreOfT
       → (u v : Word) → ReduceAlike rules u v → Linking (ByList used) u v
   short_list_linking used within rules b u v a =
       reached_linking base (given listed used) rules (ProtocolEquation m f) (ByList used) b.0 b.1.reached over (from_protocols used)
-      (list_given used within) u v (alike_linked rules u v a)
+      (list_given used within) u v (alike_are_linked rules u v a)
 
   list_usable : {used : List Item} {first : Option Passed} {told : List Event} → IsRound limits listed used first told
       → (r : TermRequirement) → Own used r → UsableIn f (Written gs rs) r

@@ -8,10 +8,11 @@ use Rattle.swreq_complete.specs.declared.limit.Failed.{Failed}
 use Rattle.swreq_complete.specs.declared.limit.Failed.TheVariants.{Limit, Memory}
 use Rattle.swreq_complete.specs.Answers.{IsAnswer, IsMemory}
 use Rattle.swreq_complete.specs.Events.{events}
+use Rattle.swreq_complete.specs.Short.{IsBorneBy}
 use Rattle.swreq_complete.proofs.Outcome.{answers_are_one}
-use Rattle.swreq_complete.proofs.Short.{bears_one}
+use Rattle.swreq_complete.proofs.Short.{borne_is_one}
 use Rattle.swreq_rounds.specs.Plan.{AreShownByReduction, Item, Plan, given}
-use Rattle.swreq_rounds.specs.Rounds.{Bears, ComesAfter, ComesAfterLimit, Ends, IsBegunAnew, IsClosed, IsDue, IsOutcome, IsRound, LeavesUsable, Next, Passed, Selects, Stops, Turns}
+use Rattle.swreq_rounds.specs.Rounds.{Bears, ComesAfter, ComesAfterLimit, Ends, IsBegunAnew, IsClosed, IsDue, IsOutcome, IsRound, Joins, LeavesUsable, Next, Passed, Selects, Stops, Turns}
 use Rattle.swreq_rounds.specs.Rounds.IsRound.{after, begin}
 use Rattle.swreq_rounds.specs.Rounds.Next.{ended, going}
 use Rattle.swreq_rounds.specs.Rounds.Selects.{none, takes, leaves}
@@ -64,7 +65,7 @@ module _ (limits : Limits) (plan : Plan) (used : List Item) where
   pub one_end : (r s : List Rule) → Ends limits plan used r → Ends limits plan used s → r ≡ s
   one_end r s h k = same_rules r s (one_answer (Ok r) (Ok s) h k (λ e. cc) (λ e. cc))
 
-  one_stop : (p q : Passed) → Stops limits plan used p.which p.trace → Stops limits plan used q.which q.trace → p ≡ q
+  pub one_stop : (p q : Passed) → Stops limits plan used p.which p.trace → Stops limits plan used q.which q.trace → p ≡ q
   one_stop p q h k =
       let e = one_answer (Err (Limit p.which p.trace)) (Err (Limit q.which q.trace)) h k (λ e. cc) (λ e. cc) in
       same_passed p q (same_which p.which q.which p.trace q.trace e) (same_trace p.which q.which p.trace q.trace e)
@@ -73,7 +74,21 @@ module _ (limits : Limits) (plan : Plan) (used : List Item) where
   not_both r w s h k = let e : ends_with r ≡ stops_with w s = one_answer (Ok r) (Err (Limit w s)) h k (λ i. cc) (λ i. cc) in absurd (cc)
 
   pub one_short : (r s : List Rule) → Bears limits plan used r → Bears limits plan used s → r ≡ s
-  one_short r s h k = bears_one limits plan.base (given plan used) r s h.0 h.1 k.0 k.1
+  one_short r s h k = elim (borne_is_one limits plan.base (given plan used) (Ok r) h (Ok s) k) [
+    | inl e ↦ same_rules r s e
+    | inr e ↦ elim e [ inl i ↦ absurd (let z : ends_with r ≡ Err Memory = i in cc) | inr i ↦ absurd (let z : ends_with s ≡ Err Memory = i in cc) ]
+  ]
+
+  -- where a rule that the equations bear by themselves passes a limit, there is no short round
+  pub closed_among : (w : Which) (t : List Rule) → IsBorneBy limits plan.base (given plan used) (Err (Limit w t)) → IsClosed limits plan used
+  closed_among w t h rules b = absurd (elim (borne_is_one limits plan.base (given plan used) (Ok rules) b (Err (Limit w t)) h) [
+    | inl e ↦ (let z : ends_with rules ≡ stops_with w t = e in cc)
+    | inr e ↦ elim e [ inl i ↦ (let z : ends_with rules ≡ Err Memory = i in cc) | inr i ↦ (let z : stops_with w t ≡ Err Memory = i in cc) ]
+  ])
+
+  -- where the short round shows no others, there are none
+  pub closed_by : (r : List Rule) → Bears limits plan used r → Joins plan r used used → IsClosed limits plan used
+  closed_by r h j s k = subst (λ z. Joins plan z used used) (one_short r s h k) j
 
   -- no others join by the rules of a round that is closed
   pub closed_not_begun : {B : Type 0} {p : Passed} {n : Next} → IsClosed limits plan used → IsBegunAnew limits plan used p n → B

@@ -1,9 +1,8 @@
 //! The run of the rounds of a machine.
-ghost use Rattle.std.specs.Prelude.{◌≡◌, ◌↔◌, ◌⊎◌, ◌<◌, ◌≤◌, List, [], ◌∷◌, ◌++◌, length, Contains, false, replicate, slice_get, Some, None, IfOk, OnOk, IsTrue, MatchOption, MatchResult, vec_len};
+ghost use Rattle.std.specs.Prelude.{◌≡◌, ◌↔◌, ◌≤◌, List, [], ◌∷◌, ◌++◌, length, Contains, false, replicate, Some, None, IfOk, OnOk, IsTrue, MatchOption, MatchResult, vec_len};
 ghost use Rattle.std.specs.Bool.{if◌then◌else◌};
 ghost use Rattle.std.specs.List.{list_all};
 ghost use Rattle.swreq_derive.specs.Derivation.{TermRequirement};
-ghost use Rattle.swreq_derive.specs.Facts.{requirement_of};
 ghost use Rattle.swreq_rule.specs.declared.rules.Rule.{Rule};
 ghost use Rattle.swreq_complete.specs.Answers.{IsAnswer};
 ghost use Rattle.swreq_complete.specs.declared.limit.Limits.{Limits};
@@ -12,15 +11,12 @@ ghost use Rattle.swreq_complete.specs.Limits.{AreInRange};
 ghost use Rattle.swreq_rounds.specs.Plan.{AreShown, AreShownByReduction, Item, Plan, equation_of, given};
 ghost use Rattle.swreq_rounds.specs.Rounds.{Ends, IsClosed, Passed as PassedLimit, Stops};
 ghost use Rattle.swreq_watch.specs.declared.events.Event.{Event};
-ghost use Rattle.swreq_world.specs.ByTable.{world_by};
 ghost use Rattle.swreq_symbols.specs.Known.{IsRequirementIn, IsTextOver};
 ghost use Rattle.swreq_symbols.specs.Meaning.{symbols_of};
 ghost use Rattle.swreq_valid.specs.Answers.{Answers, IsOnlyOutcome};
-ghost use Rattle.swreq_valid.specs.ByReduction.{ReducesUsable};
-ghost use Rattle.swreq_valid.specs.declared.wanted.RoundRequirement.{RoundRequirement};
-ghost use Rattle.swreq_valid.specs.Flags.{Tells, TellsMore, chosen};
+ghost use Rattle.swreq_valid.specs.Flags.{Tells, TellsMore, chosen, either_of};
 ghost use Rattle.swreq_valid.specs.Plans.{AreWanted, item_of, items_of, plan_of};
-ghost use Rattle.swreq_valid.specs.Rounds.{AreJoined, AreRounds, RoundView, first_rules, rules_of};
+ghost use Rattle.swreq_valid.specs.Rounds.{AreJoined, AreRounds, first_rules, rules_of};
 ghost use Rattle.swreq_valid.specs.Underway.{AreByItem, FailsWith, IsDueNow, IsTaken, IsUnderway, TurnsTo, first_of, used_by};
 
 use crate::by_reduction;
@@ -185,54 +181,43 @@ fn next_used(
     }
 }
 
-/// Whether the requirements join whose flags are set, or which reduction by these rules shows usable, by a flag for each.
-fn shown_more(
+/// Which requirements reduction by these rules shows usable, by a flag for each.
+fn shown_by_reduction(
     alloc: Global,
     text: &Text<'_>,
     start: &RoundStart,
     rules: &RewritingSystem<'_>,
-    used: &[bool],
 ) -> Result<Vec<bool>, AllocError>
     requires text { IsTextOver text.now.table.now text.now.world.now }
     requires wanted { AreWanted text.now.table.now text.now.world.now.lexicon start.now.all.items }
-    requires flags { length used.now ≡ vec_len start.now.all }
-    ensures { (base : List Rule) → IfOk result (λ v. TellsMore (AreShownByReduction (plan_of text.now.world.now text.now.table.now base start.now) rules.now)
-        (items_of text.now.table.now start.now.all.items) used.now v.items) }
+    ensures { (base : List Rule) → IfOk result (λ v. Tells (AreShownByReduction (plan_of text.now.world.now text.now.table.now base start.now) rules.now)
+        (items_of text.now.table.now start.now.all.items) v.items) }
 {
-    let mut more = Vec::new(alloc);
+    let mut flags = Vec::new(alloc);
     for k in 0..start.all.len() {
-        let joins = joins_at(alloc, text, start, rules, used[k], k)?;
-        more.push(joins)?;
+        let want = &start.all[k];
+        let by = ByReduction {
+            world: text.world,
+            table: text.table,
+            rules,
+            over: want.over,
+        };
+        let shown = by_reduction::is_usable(alloc, &by, want.requirement)?;
+        flags.push(shown)?;
     }
-    Ok(more)
+    Ok(flags)
 }
 
-/// Whether a requirement was used, or reduction by these rules shows it usable.
-fn joins_at(
-    alloc: Global,
-    text: &Text<'_>,
-    start: &RoundStart,
-    rules: &RewritingSystem<'_>,
-    used: bool,
-    k: usize,
-) -> Result<bool, AllocError>
-    requires text { IsTextOver text.now.table.now text.now.world.now }
-    requires wanted { AreWanted text.now.table.now text.now.world.now.lexicon start.now.all.items }
-    requires k { k < vec_len start.now.all }
-    ensures { (x : RoundRequirement) → slice_get start.now.all.items k ≡ Some x → IfOk result (λ b. IsTrue b
-        ↔ (IsTrue used ⊎ ReducesUsable (world_by text.now.table.now text.now.world.now) rules.now x.over (requirement_of text.now.table.now x.requirement))) }
+/// The flags that are set in the one list or in the other.
+fn either(alloc: Global, a: &[bool], b: &[bool]) -> Result<Vec<bool>, AllocError>
+    requires { length a.now ≡ length b.now }
+    ensures { IfOk result (λ v. v.items ≡ either_of a.now b.now) }
 {
-    if used {
-        return Ok(true);
+    let mut flags = Vec::new(alloc);
+    for k in 0..a.len() {
+        flags.push(a[k] || b[k])?;
     }
-    let want = &start.all[k];
-    let by = ByReduction {
-        world: text.world,
-        table: text.table,
-        rules,
-        over: want.over,
-    };
-    by_reduction::is_usable(alloc, &by, want.requirement)
+    Ok(flags)
 }
 
 /// What joins by a short round with these rules, or None where no others do.
@@ -253,7 +238,8 @@ fn joined_by<'b>(
         × TellsMore (AreShownByReduction (plan_of text.now.world.now text.now.table.now base start.now) rules.entry)
         (items_of text.now.table.now start.now.all.items) used.now j.more.items)) }
 {
-    let more = shown_more(alloc, text, start, &rules, used)?;
+    let shown = shown_by_reduction(alloc, text, start, &rules)?;
+    let more = either(alloc, used, &shown)?;
     if are_same(&more, used) {
         Ok(None)
     } else {
