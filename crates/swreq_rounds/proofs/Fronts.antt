@@ -94,8 +94,8 @@ module _ (limits : Limits) (plan : Plan) where
       (rest, i ∙ (ap (λ l. before ++ l) k ∙ (sym (append_assoc before (events (length plan.base) trace) rest) ∙ ap (λ l. l ++ rest) (sym e))))
 
 pub parts_are_fronts : (limits : Limits) (plan : Plan) → PartsAreFronts limits plan
-parts_are_fronts limits plan part told a comes outcome = elim (onward limits plan a told outcome) [
+parts_are_fronts limits plan part told a so_far outcome = elim (onward limits plan a told outcome) [
   | inr i ↦ inl i
-  | inl o ↦ (let (more, q, i) = from_round limits plan comes.round o in
-      inr (by_part limits plan comes.used comes.first comes.before part told more a q i comes.part))
+  | inl o ↦ (let (more, q, i) = from_round limits plan so_far.round o in
+      inr (by_part limits plan so_far.used so_far.first so_far.before part told more a q i so_far.part))
 ]

@@ -1,5 +1,5 @@
 -- Rounds have one outcome, and tell one list of events.
-use Rattle.std.proofs.Common.{◌≡◌, ◌⊎◌, ◌×◌, inl, inr, refl, sym, ap, ap₂, subst, ◌∙◌, List, [], ◌∷◌, ◌++◌, length, append_assoc, Contains, Option, Some, None, Result, Ok, Err}
+use Rattle.std.proofs.Common.{◌≡◌, ◌⊎◌, inl, inr, refl, sym, ap, ap₂, subst, ◌∙◌, List, [], ◌∷◌, ◌++◌, length, append_assoc, Contains, Option, Some, None, Result, Ok, Err}
 use Rattle.swreq_rule.specs.declared.rules.Rule.{Rule}
 use Rattle.swreq_watch.specs.declared.events.Event.{Event}
 use Rattle.swreq_complete.specs.declared.limit.Limits.{Limits}
@@ -164,10 +164,10 @@ module _ (limits : Limits) (plan : Plan) where
   one_onward {used = used} {first = first} {u = u} {b = b} (goes {more = more} {later = later} {now = now} x o e) (comes y) =
       goes_not_end (one_turn limits plan used first now u (going more later) (ended b) x y).1
   one_onward {used = used} {first = first} {b = b} (goes {more = more} {later = later} {now = now} {rest = rest} x o e)
-      (goes {more = others} {later = still} {now = also} {rest = after} y q i) =
+      (goes {more = others} {later = still} {now = also} {rest = tail} y q i) =
       let s = one_turn limits plan used first now also (going more later) (going others still) x y in
-      let p : Onward limits plan more later after b = subst (λ z. Onward limits plan more z after b) (sym (same_first s.1))
-      (subst (λ z. Onward limits plan z still after b) (sym (same_used s.1)) q) in
+      let p : Onward limits plan more later tail b = subst (λ z. Onward limits plan more z tail b) (sym (same_first s.1))
+      (subst (λ z. Onward limits plan z still tail b) (sym (same_used s.1)) q) in
       let k = one_onward o p in
       (k.0, e ∙ ap₂ (λ v w. v ++ w) s.0 k.1 ∙ sym i)
 
