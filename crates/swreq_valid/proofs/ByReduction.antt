@@ -1,7 +1,9 @@
 -- What reduction shows of type parameters, from what the code decides.
-use Rattle.std.proofs.Common.{◌≡◌, ◌↔◌, ◌∙◌, inl, inr, refl, sym, ap, subst, ℕ, ◌<◌, ◌≤◌, ◌+◌, arith, Bool, IsTrue, List, length, slice_get, Some}
+use Rattle.std.proofs.Common.{◌≡◌, ◌↔◌, ◌∙◌, inl, inr, refl, sym, ap, subst, ℕ, ◌<◌, ◌≤◌, ◌+◌, arith, Bool, IsTrue, List, length, slice_get, Some, Result, Ok, Err, IfOk}
 use Rattle.std.proofs.lemmas.Bool.{cases_eq}
 use Rattle.std.proofs.lemmas.Option.{same_Some, slice_get_within}
+use Rattle.std.specs.declared.alloc.AllocError.{AllocError}
+use Rattle.swreq_orders.proofs.Elements.{get_contains}
 use Rattle.swreq_param.specs.declared.ids.AssocId.{AssocId}
 use Rattle.swreq_param.specs.declared.ids.NameId.{NameId}
 use Rattle.swreq_param.specs.declared.ids.ProtoId.{ProtoId}
@@ -16,10 +18,11 @@ use Rattle.swreq_rule.proofs.Remaining.{one_result}
 use Rattle.swreq_complete.specs.Alike.{ReduceAlike}
 use Rattle.swreq_lexicon.specs.declared.pair.ProtocolName.{ProtocolName}
 use Rattle.swreq_lexicon.specs.Lexicons.{pair}
-use Rattle.swreq_lexicon.specs.Views.{LexiconView}
+use Rattle.swreq_lexicon.specs.Views.{IsProtocol, LexiconView}
 use Rattle.swreq_symbols.specs.declared.over.Over.{Over}
 use Rattle.swreq_symbols.specs.Vanishing.{DeclaresType}
 use Rattle.swreq_symbols.proofs.Declared.{at_rank, from_rank}
+use Rattle.swreq_world.specs.Closed.{AreIds}
 use Rattle.swreq_world.specs.Worlds.{TextWorld}
 use Rattle.swreq_valid.specs.ByReduction.{HasStepOf, IsGivenOf, ReducesConformance, ReducesValid}
 
@@ -71,6 +74,23 @@ module _ (x : LexiconView) (rules : List Rule) (over : Over) (t : Term) where
       ((λ h. (e.name, one.0 h)),
       λ h. k.1 (subst (λ (z : ProtocolName). ReducesConformance x rules over t z.proto) (declared_as h.0 d e at h.1.0 h.1.1) h.1.2))
 
+-- ---- results
+
+module _ (x : LexiconView) (rules : List Rule) (over : Over) (t : Term) where
+  pub given_result : (a : NameId) (d : AssocId) (e : ProtocolName) (r : Result Bool AllocError) → slice_get x.associated d.rank ≡ Some e
+      → e.name.rank ≡ a.rank → IfOk r (λ b. IsTrue b ↔ ReducesConformance x rules over t e.proto) → IfOk r (λ b. IsTrue b ↔ IsGivenOf x rules over t a d)
+  given_result a d e (Ok b) at named h = given_answer x rules over t a d e b at named h
+  given_result a d e (Err f) at named h = tt
+
+  pub assoc_result : (d : AssocId) (e : ProtocolName) (r : Result Bool AllocError) → slice_get x.associated d.rank ≡ Some e
+      → IfOk r (λ b. IsTrue b ↔ ReducesConformance x rules over t e.proto) → IfOk r (λ b. IsTrue b ↔ HasStepOf x rules over t (Bound d))
+  assoc_result d e (Ok b) at h = assoc_answer x rules over t d e b at h
+  assoc_result d e (Err f) at h = tt
+
+-- the protocol of an associated type is of the text
+pub in_text : (x : LexiconView) → AreIds x → (d : AssocId) (e : ProtocolName) → slice_get x.associated d.rank ≡ Some e → IsProtocol x e.proto
+in_text x ids d e at = (ids.associated e (get_contains x.associated d.rank e at)).0
+
 -- ---- members
 
 module _ (w : TextWorld) (rules : List Rule) (over : Over) where
@@ -92,6 +112,11 @@ module _ (w : TextWorld) (rules : List Rule) (over : Over) where
     (λ k. subst (ReducesValid w rules over) (sym e) (member_valid u s v (h.0 k))),
     λ k. h.1 (valid_step u s (subst (ReducesValid w rules over) e k)),
   )
+
+  pub member_result : (t u : Term) (s : Step) → t ≡ Member u s → (r : Result Bool AllocError) → ReducesValid w rules over u
+      → IfOk r (λ b. IsTrue b ↔ HasStepOf w.lexicon rules over u s) → IfOk r (λ b. IsTrue b ↔ ReducesValid w rules over t)
+  member_result t u s e (Ok b) v h = member_answer t u s e b v h
+  member_result t u s e (Err f) v h = tt
 
   pub no_member : (t u : Term) (s : Step) → t ≡ Member u s → (ReducesValid w rules over u → ⊥) → ReducesValid w rules over t → ⊥
   no_member t u s e n k = n (base_valid u s (subst (ReducesValid w rules over) e k))

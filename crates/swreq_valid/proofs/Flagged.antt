@@ -1,5 +1,5 @@
 -- Flags from round to round.
-use Rattle.std.proofs.lemmas.List.{drop_more}
+use Rattle.std.proofs.lemmas.List.{drop_all, drop_more}
 use Rattle.std.proofs.Common.{◌≡◌, ◌⊎◌, inl, inr, refl, sym, subst, ap, ap₂, drop, get_or, replicate, ◌∙◌, ℕ, zero, suc, ◌<◌, ◌≤◌, ◌+◌, arith, Bool, true, false, List, [], ◌∷◌, ◌++◌, length, map, Contains, IsTrue, true≢false}
 use Rattle.std.specs.Bool.{Decides, if◌then◌else◌, beq}
 use Rattle.std.specs.List.{list_all}
@@ -7,7 +7,7 @@ use Rattle.swreq_orders.proofs.Members.{first_member, later_member}
 use Rattle.swreq_rounds.specs.Rounds.{Selects}
 use Rattle.swreq_rounds.specs.Rounds.Selects.{none, takes, leaves}
 use Rattle.swreq_rounds.proofs.Members.{selected}
-use Rattle.swreq_valid.specs.Flags.{chosen, Tells, TellsMore, either_of, unset}
+use Rattle.swreq_valid.specs.Flags.{chosen, Tells, TellsMore, either_of, is_either, unset}
 
 module _ {A : Type 0} where
   -- flags of which none is set choose nothing
@@ -194,6 +194,14 @@ module _ {A : Type 0} where
   pub more_told : (P : A → Type 0) (xs : List A) (bs cs : List Bool) → Tells (Contains (chosen xs bs)) xs bs → TellsMore P xs bs cs
       → Tells (λ x. Contains (chosen xs bs) x ⊎ P x) xs cs
   more_told P xs bs cs t m = more_among P (chosen xs bs) xs bs cs t m
+
+-- what is left from a place on of the flags of either list
+pub either_from : (a b : List Bool) (k : ℕ) (c d : Bool) → k < length a → k < length b
+    → either_of (drop k a) (drop k b) ≡ is_either (get_or a k c) (get_or b k d) ∷ either_of (drop (k + 1) a) (drop (k + 1) b)
+either_from a b k c d l m = ap₂ either_of (drop_more a k c l) (drop_more b k d m)
+
+pub none_of_either : (a b : List Bool) (k : ℕ) → length a ≤ k → either_of (drop k a) (drop k b) ≡ []
+none_of_either a b k l = ap (λ z. either_of z (drop k b)) (drop_all k a l)
 
 pub more_to : {A : Type 0} (P Q : A → Type 0) → ((x : A) → P x → Q x) → ((x : A) → Q x → P x) → (xs : List A) (bs cs : List Bool)
     → TellsMore P xs bs cs → TellsMore Q xs bs cs

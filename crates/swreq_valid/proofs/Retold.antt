@@ -164,8 +164,8 @@ module _ (limits : Limits) (plan : Plan) where
 
   last_of_others : {used : List Bool} {first : Option Passed} {others : List RoundView} (r : RoundView) → AreRoundsFrom limits plan used first others
       → last_rules (r ∷ others) ≡ last_rules others
-  last_of_others r (the_last due ends t) = refl
-  last_of_others r (before_others due ends t n rest) = refl
+  last_of_others r (the_last due e t) = refl
+  last_of_others r (before_others due e t n rest) = refl
   last_of_others r (begun_anew p s j rest) = refl
   last_of_others r (once_more j rest) = refl
 

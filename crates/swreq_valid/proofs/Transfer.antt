@@ -134,7 +134,7 @@ module _ (limits : Limits) (plan : Plan) (g : TermFacts) (same : plan.facts.asso
     first = c.first;
     before = c.before;
     round = round_over c.round;
-    part = elim c.part [ inl e ↦ inl e | inr p ↦ inr (p.0, due_over c.used c.first p.1, p.2) ];
+    part = elim c.part [ inl e ↦ inl e | inr p ↦ inr (p.0, due_over c.used c.first p.1, p.2, p.3, p.4) ];
   }
 
   pub answers_over : (old new : Option (List Event)) (answer : Result (List Rule) Failed) → Answers limits plan old new answer → Answers limits other old new answer

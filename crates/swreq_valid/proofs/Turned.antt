@@ -1,7 +1,8 @@
 -- From what the code does after a round to what the round comes to.
-use Rattle.std.proofs.Common.{◌≡◌, ◌⊎◌, inl, inr, refl, sym, ap, subst, subst₂, ◌∙◌, ◌<◌, Bool, List, [], ◌∷◌, ◌++◌, length, Contains, Option, Some, None, Ok, Err}
+use Rattle.std.proofs.Common.{◌≡◌, ◌⊎◌, inl, inr, refl, sym, ap, subst, subst₂, ◌∙◌, ◌<◌, Bool, List, [], ◌∷◌, ◌++◌, length, Contains, Option, Some, None, MatchOption, Ok, Err}
 use Rattle.swreq_rule.specs.declared.rules.Rule.{Rule}
 use Rattle.swreq_watch.specs.declared.events.Event.{Event}
+use Rattle.swreq_complete.specs.declared.limit.Failed.{Failed}
 use Rattle.swreq_complete.specs.declared.limit.Failed.TheVariants.{Limit}
 use Rattle.swreq_complete.specs.declared.limit.Limits.{Limits}
 use Rattle.swreq_complete.specs.Events.{events}
@@ -13,7 +14,7 @@ use Rattle.swreq_valid.specs.declared.underway.Passed as stored
 use Rattle.swreq_valid.specs.declared.underway.Underway.{Underway}
 use Rattle.swreq_valid.specs.Flags.{Tells, TellsMore, chosen, unset}
 use Rattle.swreq_valid.specs.Rounds.{AreJoined, AreRoundsFrom, RoundView, ended_round, last_rules, short_round, stopped_round}
-use Rattle.swreq_valid.specs.Rounds.AreRoundsFrom as from
+use Rattle.swreq_valid.specs.Rounds.AreRoundsFrom.{before_others, begun_anew, once_more, the_last}
 use Rattle.swreq_valid.specs.Underway.{AreByItem, FailsWith, GoesTo, IsDueNow, IsLastOf, first_of, used_by}
 use Rattle.swreq_valid.proofs.Flagged.{by_item, fewer_unset, more_told, others_chosen, tells_length, tells_selects}
 use Rattle.swreq_valid.proofs.Running.{last_of_more}
@@ -64,7 +65,7 @@ module _ (limits : Limits) (plan : Plan) (u : Underway) (flags : AreByItem plan.
       );
       round = ended_round u.used.items rules;
       noted = e;
-      last = from.the_last due end t;
+      last = the_last due end t;
     }
 
     pub goes_after : (v : Underway) → Tells (AreShown plan rules) plan.all v.used.items → (v.used.items ≡ u.used.items → ⊥) → v.first ≡ None
@@ -81,7 +82,7 @@ module _ (limits : Limits) (plan : Plan) (u : Underway) (flags : AreByItem plan.
           fewer = fewer_unset plan.all u.used.items v.used.items long t shown n;
           round = ended_round u.used.items rules;
           noted = e;
-          lead = λ others h. from.before_others due end t n (subst (λ o. AreRoundsFrom limits plan v.used.items o others) (sym none) h);
+          lead = λ others h. before_others due end t n (subst (λ o. AreRoundsFrom limits plan v.used.items o others) (sym none) h);
         }
 
   -- after one that passes a limit and was not begun anew
@@ -106,7 +107,7 @@ module _ (limits : Limits) (plan : Plan) (u : Underway) (flags : AreByItem plan.
       round = stopped_round u.used.items passed.trace rules;
       noted = e;
       lead = λ others h. subst (λ o. AreRoundsFrom limits plan u.used.items o (stopped_round u.used.items passed.trace rules ∷ others)) (sym none)
-          (from.begun_anew passed stop j (subst (λ o. AreRoundsFrom limits plan v.used.items o others) f h));
+          (begun_anew passed stop j (subst (λ o. AreRoundsFrom limits plan v.used.items o others) f h));
     }
 
   -- after a short round
@@ -122,7 +123,7 @@ module _ (limits : Limits) (plan : Plan) (u : Underway) (flags : AreByItem plan.
           round = short_round u.used.items rules;
           noted = e;
           lead = λ others h. subst (λ o. AreRoundsFrom limits plan u.used.items o (short_round u.used.items rules ∷ others)) (sym first)
-              (from.once_more j (subst (λ o. AreRoundsFrom limits plan v.used.items o others) again h));
+              (once_more j (subst (λ o. AreRoundsFrom limits plan v.used.items o others) again h));
         }
 
   -- one that was begun anew and passes a limit ends in the limit that was passed first
@@ -133,3 +134,14 @@ module _ (limits : Limits) (plan : Plan) (u : Underway) (flags : AreByItem plan.
       let is = ap first_of e in
       subst (λ o. Turns limits plan (used_by limits plan u) o (events (length plan.base) passed.trace) (ended (Err (Limit f.which f.trace)))) (sym is)
       (stops passed (subst (IsDue limits plan (used_by limits plan u)) is due) stop refl refl)
+
+  -- so it ends in the limit that was passed first, where there was one
+  pub ends_in_first : (passed : Passed) (failed : Failed) → (u.first ≡ None → ⊥) → MatchOption u.first (Unit {0}) (λ f. failed ≡ Limit f.which f.trace)
+      → IsDueNow limits plan u → Stops limits plan (used_by limits plan u) passed.which passed.trace
+      → FailsWith limits plan u (events (length plan.base) passed.trace) failed
+  ends_in_first passed failed some is due stop = go u.first refl is
+    where
+      go : (o : Option stored.Passed) → u.first ≡ o → MatchOption o (Unit {0}) (λ f. failed ≡ Limit f.which f.trace)
+          → FailsWith limits plan u (events (length plan.base) passed.trace) failed
+      go None e i = absurd (some e)
+      go (Some f) e i = subst (FailsWith limits plan u (events (length plan.base) passed.trace)) (sym i) (stops_first f passed e due stop)

@@ -1,5 +1,5 @@
 //! What reduction by rules shows of type parameters, where the rules need not be complete.
-ghost use Rattle.std.specs.Prelude.{◌↔◌, ◌<◌, length, IfOk, IsTrue};
+ghost use Rattle.std.specs.Prelude.{◌≡◌, ◌↔◌, ◌<◌, length, IfOk, IsTrue};
 ghost use Rattle.swreq_param.specs.Tables.{term_at};
 ghost use Rattle.swreq_param.specs.declared.ids.AssocId.{AssocId};
 ghost use Rattle.swreq_param.specs.declared.ids.NameId.{NameId};

@@ -39,7 +39,7 @@ impl<'b> Round<'b> {
 
     /// The round that used these requirements and passed a limit with this trace, and the rules of its short round.
     pub fn stopped(used: Vec<bool>, trace: Seq<Rule>, rules: RewritingSystem<'b>) -> Round<'b>
-        ensures { result ≡ stopped_round used.items trace.entry rules.entry }
+        ensures { result ≡ stopped_round used.items trace rules.entry }
     {
         Round {
             used: Seq::new(used),
@@ -127,7 +127,7 @@ impl<'b> Rounds<'b> {
         used: Vec<bool>,
         last: CompleteRules<'b>,
     ) -> Rounds<'b>
-        ensures { result ≡ before.items ++ ended_round used.items last.entry ∷ [] }
+        ensures { result ≡ before.entry.items ++ ended_round used.items last.entry ∷ [] }
     {
         Rounds {
             before: Seq::new(before),

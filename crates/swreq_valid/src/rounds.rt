@@ -5,6 +5,7 @@ ghost use Rattle.std.specs.List.{list_all};
 ghost use Rattle.swreq_derive.specs.Derivation.{TermRequirement};
 ghost use Rattle.swreq_rule.specs.declared.rules.Rule.{Rule};
 ghost use Rattle.swreq_complete.specs.Answers.{IsAnswer};
+ghost use Rattle.swreq_complete.specs.declared.limit.Failed.TheVariants.{Limit};
 ghost use Rattle.swreq_complete.specs.declared.limit.Limits.{Limits};
 ghost use Rattle.swreq_complete.specs.Events.{TellsEvents, events};
 ghost use Rattle.swreq_complete.specs.Limits.{AreInRange};
@@ -14,7 +15,7 @@ ghost use Rattle.swreq_watch.specs.declared.events.Event.{Event};
 ghost use Rattle.swreq_symbols.specs.Known.{IsRequirementIn, IsTextOver};
 ghost use Rattle.swreq_symbols.specs.Meaning.{symbols_of};
 ghost use Rattle.swreq_valid.specs.Answers.{Answers, IsOnlyOutcome};
-ghost use Rattle.swreq_valid.specs.Flags.{Tells, TellsMore, chosen, either_of};
+ghost use Rattle.swreq_valid.specs.Flags.{Tells, TellsMore, chosen, either_of, is_either};
 ghost use Rattle.swreq_valid.specs.Plans.{AreWanted, item_of, items_of, plan_of};
 ghost use Rattle.swreq_valid.specs.Rounds.{AreJoined, AreRounds, first_rules, rules_of};
 ghost use Rattle.swreq_valid.specs.Underway.{AreByItem, FailsWith, IsDueNow, IsTaken, IsUnderway, TurnsTo, first_of, used_by};
@@ -208,6 +209,13 @@ fn shown_by_reduction(
     Ok(flags)
 }
 
+/// Whether one of the two is set.
+fn is_either(a: bool, b: bool) -> bool
+    ensures { result ≡ is_either a b }
+{
+    a || b
+}
+
 /// The flags that are set in the one list or in the other.
 fn either(alloc: Global, a: &[bool], b: &[bool]) -> Result<Vec<bool>, AllocError>
     requires { length a.now ≡ length b.now }
@@ -215,7 +223,8 @@ fn either(alloc: Global, a: &[bool], b: &[bool]) -> Result<Vec<bool>, AllocError
 {
     let mut flags = Vec::new(alloc);
     for k in 0..a.len() {
-        flags.push(a[k] || b[k])?;
+        let set = is_either(a[k], b[k]);
+        flags.push(set)?;
     }
     Ok(flags)
 }
@@ -279,7 +288,7 @@ fn noted<'b>(
     before: Vec<Round<'b>>,
     round: Round<'b>,
 ) -> Result<Vec<Round<'b>>, AllocError>
-    ensures { IfOk result (λ v. v.items ≡ before.items ++ round.entry ∷ []) }
+    ensures { IfOk result (λ v. v.items ≡ before.entry.items ++ round.entry ∷ []) }
 {
     let mut before = before;
     match before.push(round) {
@@ -341,9 +350,9 @@ fn anew<'b>(
     passed: Passed,
 ) -> Result<Turn<'b>, AllocError>
     ensures { (limits : Limits) (plan : Plan) → state.entry.first ≡ None → AreByItem plan.all state.entry.used.items
-        → Stops limits plan (used_by limits plan state.entry) passed.which passed.trace.entry
-        → AreJoined limits plan state.entry.used.items found.rules.entry found.entry.more.items
-        → IfOk result (TurnsTo limits plan state.entry (events (length plan.base) passed.trace.entry)) }
+        → Stops limits plan (used_by limits plan state.entry) passed.which passed.trace
+        → AreJoined limits plan state.entry.used.items found.entry.rules found.entry.more.items
+        → IfOk result (TurnsTo limits plan state.entry (events (length plan.base) passed.trace)) }
 {
     let trace = copied(alloc, passed.trace.items())?;
     let before = noted(
@@ -361,7 +370,7 @@ fn anew<'b>(
 fn once_more<'b>(state: Underway<'b>, found: Joined<'b>) -> Result<Turn<'b>, AllocError>
     ensures { (limits : Limits) (plan : Plan) (passed : PassedLimit) → first_of state.entry.first ≡ Some passed
         → AreByItem plan.all state.entry.used.items
-        → AreJoined limits plan state.entry.used.items found.rules.entry found.entry.more.items
+        → AreJoined limits plan state.entry.used.items found.entry.rules found.entry.more.items
         → IfOk result (TurnsTo limits plan state.entry []) }
 {
     let before = noted(state.before, Round::short(state.used, found.rules))?;
@@ -386,13 +395,13 @@ fn after_first_limit<'b>(
     requires wanted { AreWanted text.now.table.now text.now.world.now.lexicon start.now.all.items }
     requires flags { AreByItem (items_of text.now.table.now start.now.all.items) state.used.items }
     requires first { state.first ≡ None }
-    requires stops { Stops start.now.limits (plan_of text.now.world.now text.now.table.now (first_rules below.entry) start.now)
+    requires stops { Stops start.now.limits (plan_of text.now.world.now text.now.table.now (first_rules below) start.now)
         (chosen (items_of text.now.table.now start.now.all.items) state.used.items) passed.which passed.trace }
     ensures { MatchResult result
         (TurnsTo start.now.limits (plan_of text.now.world.now text.now.table.now (first_rules below.entry) start.now) state.entry
-        (events (length (first_rules below.entry)) passed.trace.entry))
+        (events (length (first_rules below.entry)) passed.trace))
         (FailsWith start.now.limits (plan_of text.now.world.now text.now.table.now (first_rules below.entry) start.now) state.entry
-        (events (length (first_rules below.entry)) passed.trace.entry)) }
+        (events (length (first_rules below.entry)) passed.trace)) }
 {
     match joined(alloc, text, below, start, &state.used)? {
         None => Err(Failed::Limit {
@@ -403,6 +412,19 @@ fn after_first_limit<'b>(
             let turn = anew(alloc, state, found, passed)?;
             Ok(turn)
         }
+    }
+}
+
+/// The limit that was passed first.
+fn first_limit(state: Underway<'_>) -> Failed
+    ensures { MatchOption state.entry.first (Unit {0}) (λ f. result ≡ Limit f.which f.trace) }
+{
+    match state.first {
+        Some(first) => Failed::Limit {
+            which: first.which,
+            trace: first.trace,
+        },
+        None => Failed::Memory,
     }
 }
 
@@ -419,22 +441,19 @@ fn after_limit<'b>(
     requires limits { AreInRange start.now.limits }
     requires wanted { AreWanted text.now.table.now text.now.world.now.lexicon start.now.all.items }
     requires flags { AreByItem (items_of text.now.table.now start.now.all.items) state.used.items }
-    requires due { IsDueNow start.now.limits (plan_of text.now.world.now text.now.table.now (first_rules below.entry) start.now) state }
-    requires stops { Stops start.now.limits (plan_of text.now.world.now text.now.table.now (first_rules below.entry) start.now)
+    requires due { IsDueNow start.now.limits (plan_of text.now.world.now text.now.table.now (first_rules below) start.now) state }
+    requires stops { Stops start.now.limits (plan_of text.now.world.now text.now.table.now (first_rules below) start.now)
         (chosen (items_of text.now.table.now start.now.all.items) state.used.items) passed.which passed.trace }
     ensures { MatchResult result
         (TurnsTo start.now.limits (plan_of text.now.world.now text.now.table.now (first_rules below.entry) start.now) state.entry
-        (events (length (first_rules below.entry)) passed.trace.entry))
+        (events (length (first_rules below.entry)) passed.trace))
         (FailsWith start.now.limits (plan_of text.now.world.now text.now.table.now (first_rules below.entry) start.now) state.entry
-        (events (length (first_rules below.entry)) passed.trace.entry)) }
+        (events (length (first_rules below.entry)) passed.trace)) }
 {
-    match state.first {
-        None => after_first_limit(alloc, text, below, start, state, passed),
-        Some(first) => Err(Failed::Limit {
-            which: first.which,
-            trace: first.trace,
-        }),
+    if state.first.is_none() {
+        return after_first_limit(alloc, text, below, start, state, passed);
     }
+    Err(first_limit(state))
 }
 
 /// Completes the round, and takes it from there.
@@ -450,8 +469,8 @@ fn completed<'b, W: Watch>(
     requires limits { AreInRange start.now.limits }
     requires wanted { AreWanted text.now.table.now text.now.world.now.lexicon start.now.all.items }
     requires underway { (told : List Event)
-        × IsUnderway start.now.limits (plan_of text.now.world.now text.now.table.now (first_rules below.entry) start.now) state told }
-    requires due { IsDueNow start.now.limits (plan_of text.now.world.now text.now.table.now (first_rules below.entry) start.now) state }
+        × IsUnderway start.now.limits (plan_of text.now.world.now text.now.table.now (first_rules below) start.now) state told }
+    requires due { IsDueNow start.now.limits (plan_of text.now.world.now text.now.table.now (first_rules below) start.now) state }
     ensures { IsTaken start.now.limits (plan_of text.now.world.now text.now.table.now (first_rules below.entry) start.now) state.entry
         (W.told watch.old) (W.told watch.new) result }
 {
@@ -480,7 +499,7 @@ fn turn<'b, W: Watch>(
     requires limits { AreInRange start.now.limits }
     requires wanted { AreWanted text.now.table.now text.now.world.now.lexicon start.now.all.items }
     requires underway { (told : List Event)
-        × IsUnderway start.now.limits (plan_of text.now.world.now text.now.table.now (first_rules below.entry) start.now) state told }
+        × IsUnderway start.now.limits (plan_of text.now.world.now text.now.table.now (first_rules below) start.now) state told }
     ensures { IsTaken start.now.limits (plan_of text.now.world.now text.now.table.now (first_rules below.entry) start.now) state.entry
         (W.told watch.old) (W.told watch.new) result }
 {
