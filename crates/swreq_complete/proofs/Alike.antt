@@ -1,5 +1,5 @@
 -- Words that reduce to one word are linked, and by complete rules linked words reduce to one.
-use Rattle.std.proofs.Common.{◌≡◌, sym, subst, List}
+use Rattle.std.proofs.Common.{◌≡◌, inl, inr, sym, subst, List}
 use Rattle.swreq_word.specs.declared.symbols.Symbol.{Symbol}
 use Rattle.swreq_word.specs.Relations.{Linked}
 use Rattle.swreq_word.specs.Relations.Chain.{done, more}

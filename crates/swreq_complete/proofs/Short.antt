@@ -1,5 +1,5 @@
 -- What equations bear by themselves: one answer, as far as their completion comes before its first pair.
-use Rattle.std.proofs.Common.{◌≡◌, ℕ, ◌⊎◌, inl, inr, refl, sym, ◌∙◌, ap, subst, arith, List, length, take, Option, Some, Ok, Err}
+use Rattle.std.proofs.Common.{◌≡◌, ℕ, ◌-◌, ◌<◌, ◌^◌, ◌⊎◌, inl, inr, refl, sym, ◌∙◌, ap, subst, arith, List, length, take, Option, Some, Ok, Err}
 use Rattle.std.specs.List.{slice_get}
 use Rattle.std.proofs.lemmas.Option.{slice_get_within}
 use Rattle.swreq_word.specs.declared.symbols.Symbol.{Symbol}
@@ -13,8 +13,8 @@ use Rattle.swreq_complete.specs.declared.limit.Failed.{Failed}
 use Rattle.swreq_complete.specs.declared.limit.Failed.TheVariants.{Limit, Memory}
 use Rattle.swreq_complete.specs.Moments.{HasSides}
 use Rattle.swreq_complete.specs.Settled.{Settled}
-use Rattle.swreq_complete.specs.Reached.{BeginsWith, IsReached}
-use Rattle.swreq_complete.specs.Limits.{IsWithin, Passes}
+use Rattle.swreq_complete.specs.Reached.{IsReached}
+use Rattle.swreq_complete.specs.Limits.{AreInRange, KeepsAll}
 use Rattle.swreq_complete.specs.Progress.{GivenBelow}
 use Rattle.swreq_complete.specs.Short.{IsOfEquation, AreOfEquations, BearsWithin, PassesAmong, IsBorneBy}
 use Rattle.swreq_complete.specs.Settling.{Grown, HasCome}
@@ -24,6 +24,7 @@ use Rattle.swreq_complete.proofs.Equations.{below_given}
 use Rattle.swreq_complete.proofs.Agreement.{goes_no_further, one_front}
 use Rattle.swreq_complete.proofs.Outcome.{keeps_or_passes, passes_one, within_is_prefix}
 use Rattle.swreq_complete.proofs.Answering.{over_grown}
+use Rattle.swreq_complete.proofs.Telling.{kept_length}
 
 -- all moments that are equations are settled
 settled_equations : (limits : Limits) (base : ℕ) (given : List (List Symbol × List Symbol)) (t : List Rule) → BearsWithin limits base given t
@@ -31,10 +32,11 @@ settled_equations : (limits : Limits) (base : ℕ) (given : List (List Symbol ×
 settled_equations limits base given t p (Given n) left right sides of = p.settled n left right sides
 settled_equations limits base given t p (Pair i j at) left right sides of = absurd of
 
-module _ (limits : Limits) (base : ℕ) (given : List (List Symbol × List Symbol)) (t u : List Rule) (same : take base t ≡ take base u) where
-  -- no reached trace whose rules are of equations goes past them
-  pub borne_last : BearsWithin limits base given t → IsReached base given u → AreOfEquations base u → u ≡ take (length u) t
-  borne_last p q of = goes_no_further base given t u IsOfEquation p.reached (settled_equations limits base given t p) q of same
+-- no reached trace whose rules are of equations goes past one that they bear
+borne_last : (limits : Limits) (base : ℕ) (given : List (List Symbol × List Symbol)) (t u : List Rule) → take base t ≡ take base u
+    → BearsWithin limits base given t → IsReached base given u → AreOfEquations base u → u ≡ take (length u) t
+borne_last limits base given t u same p q of =
+    goes_no_further base given t u IsOfEquation p.reached (settled_equations limits base given t p) q of same
 
 bears_or_passes : (limits : Limits) (base : ℕ) (given : List (List Symbol × List Symbol)) (t u : List Rule) → take base t ≡ take base u
     → (which : Which) → BearsWithin limits base given t → PassesAmong limits base given u which → ⊥
@@ -67,6 +69,11 @@ pub borne_is_prefix : (limits : Limits) (base : List Rule) (given : List (List S
 borne_is_prefix limits base given part whole o p = within_is_prefix limits base given part whole o (borne_is_within limits (length base) given part p)
 
 -- ---- from what settling did to the answer
+
+-- rules that keep the limits over a base with numbers of 32 bits have such numbers
+pub few_kept : (limits : Limits) (base new : List Rule) → AreInRange limits → length base < 2 ^ 32 - 1 → KeepsAll limits (length base) new
+    → length new < 2 ^ 32 - 1
+few_kept limits base new range few kept = let k = kept_length limits (length base) new kept in let m = range.1 in omega (arith, k, few, m)
 
 -- a completion that came as far as the last equation
 come_bears : (limits : Limits) (base : ℕ) (given : List (List Symbol × List Symbol)) (old new : List Rule) (told told' : Option (List Event))

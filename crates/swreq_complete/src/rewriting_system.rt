@@ -31,7 +31,7 @@ impl<'b> RewritingSystem<'b> {
     /// The system of these rules.
     pub(crate) fn new(list: Indexed<'b>) -> RewritingSystem<'b>
         requires { length list < 2 ^ 32 - 1 }
-        ensures { result ≡ list }
+        ensures { result ≡ list.entry }
     {
         RewritingSystem { list }
     }
