@@ -12,7 +12,6 @@ use Rattle.swreq_rule.specs.Reduction.{Reduces}
 use Rattle.swreq_rule.specs.Steps.{Step}
 use Rattle.swreq_rule.proofs.Downward.{step_down}
 use Rattle.swreq_rule.proofs.Search.{a_step, all_steps, reduction_step}
-use Rattle.swreq_complete.specs.Alike.{ReduceAlike}
 use Rattle.swreq_complete.specs.Complete.{IsComplete}
 use Rattle.swreq_complete.specs.Laws.{AlikeAreLinked, LinkedAreAlike}
 use Rattle.swreq_complete.proofs.Answering.{reduces_least}

@@ -1,4 +1,4 @@
-use Rattle.std.proofs.Common.{arith, ◌+◌, sym, ap, subst, length}
+use Rattle.std.proofs.Common.{arith, ◌+◌, sym, subst, length}
 use Rattle.std.proofs.lemmas.Result.{err_from_is_err_and}
 use Rattle.swreq_complete.specs.Progress.{UpTo, GivenBelow}
 use Rattle.swreq_complete.specs.Settling.{HasCome, HasStopped}
