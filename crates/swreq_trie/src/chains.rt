@@ -1,4 +1,4 @@
-//! The chains in which edges are found.
+//! The chains in which edges are found: each edge names the one before it in its chain, and a head is the place of the last one.
 
 ghost use Rattle.std.specs.Prelude.{◌≡◌, ℕ, ◌<◌, MatchOption, IfOk};
 ghost use Rattle.std.specs.Bool.{Decides};
@@ -47,7 +47,7 @@ fn is_same(a: Edge, b: Edge) -> bool
     a == b
 }
 
-// The node to which this edge leads, which stands in its chain no later than at this place.
+// The node to which the edge leads, or None where it is none of these. It is sought along its chain, in which it stands no later than here.
 fn find_from(links: &[Link], start: Option<u32>, edge: Edge) -> Option<usize>
     requires linked { AreLinked links.now }
     requires left { IsLeft links.now edge start }
@@ -77,7 +77,7 @@ pub(crate) fn find_child(links: &[Link], heads: &[Option<u32>], edge: Edge) -> O
     find_from(links, end_at(heads, chain(edge)), edge)
 }
 
-// The place as a number. There is none for 2^32 edges, which is told as want of memory.
+// The place as a number of 32 bits. Past these there is no room for an edge, which is told as want of memory.
 fn numbered(place: usize) -> Result<u32, AllocError>
     ensures { IfOk result (λ number. number ≡ place) }
 {
@@ -88,7 +88,7 @@ fn numbered(place: usize) -> Result<u32, AllocError>
     }
 }
 
-// Puts the edge last, also in its chain, and answers the node to which it leads. What was there stays, also for want of memory.
+// Puts the edge last, also in its chain, and answers the node to which it leads. For want of memory no edge is put there.
 fn add_child(
     links: &mut Vec<Link>,
     heads: &mut Vec<Option<u32>>,

@@ -1,4 +1,4 @@
-//! Which stored side ends at each node, by its number.
+//! Which stored side ends at each node, by its number. The last edges of chains are kept so too, by their places.
 
 ghost use Rattle.std.specs.Prelude.{ℕ, ◌<◌, length, MatchOption, OnOk};
 ghost use Rattle.swreq_trie.specs.Marks.{EndsAt, Marked, SameEnds};
