@@ -24,8 +24,11 @@ edge_is : (a b : Edge) → (a.from ≡ b.from) × (a.symbol ≡ b.symbol) → a 
 edge_is a b e = λ i. record { from = e.0 i; symbol = e.1 i }
 
 pub edge_decides : (a b : Edge) → Decides (edge-impl.eq-value.it a b) (a ≡ b)
-edge_decides a b = Decides-like (edge-impl.eq-value.it a b) (edge_is a b) (λ e. (ap (λ (x : Edge). x.from) e, ap (λ (x : Edge). x.symbol) e))
-    (Decides-and (a.from == b.from) (symbol-impl.eq-value.it a.symbol b.symbol) (Decides-eqb a.from b.from) (symbol_decides a.symbol b.symbol))
+edge_decides a b =
+    Decides-like (edge-impl.eq-value.it a b) (edge_is a b)
+    (λ e. (ap (λ (x : Edge). x.from) e, ap (λ (x : Edge). x.symbol) e))
+    (Decides-and (a.from == b.from) (symbol-impl.eq-value.it a.symbol b.symbol)
+    (Decides-eqb a.from b.from) (symbol_decides a.symbol b.symbol))
 
 -- ---- an edge is sought
 
@@ -52,7 +55,8 @@ ended_there heads chain None m j e = cc
 ended_there heads chain (Some n) m j e = let same : n ≡ j = cc in subst (EndsAt heads chain) same m
 
 -- from the last edge of its chain on
-pub left_first : (links : List Link) (heads : List (Option ℕ)) → AreChained links heads → (edge : Edge) (chain : ℕ) → chain ≡ chain_of edge → (found : Option ℕ)
+pub left_first : (links : List Link) (heads : List (Option ℕ)) → AreChained links heads → (edge : Edge) (chain : ℕ) → chain ≡ chain_of edge
+    → (found : Option ℕ)
     → MatchOption found ((number : ℕ) → EndsAt heads chain number → ⊥) (λ number. EndsAt heads chain number) → IsLeft links edge found
 left_first links heads chained edge chain is found m =
     let h : AreLast links chain (length links) (EndsAt heads chain) = chained.headed chain in
@@ -105,8 +109,9 @@ module _ (links : List Link) (edge : Edge) (last : Option ℕ) (left : IsLeft li
                   let low = r.2 in
                   elim (cases_eq k place) [
                     | inl same ↦ absurd (other (let g = edge_at links place link there in
-                        let h : slice_get (edges_of links) place ≡ Some edge = subst (λ n. slice_get (edges_of links) n ≡ Some edge) same e in cc))
-                    | inr differs ↦ before.all k (omega (arith, low, at, differs)) (subst (λ c. IsIn links c k) (sym same_chain) (in_its_chain links edge k e))
+                        let h = subst (λ n. slice_get (edges_of links) n ≡ Some edge) same e in cc))
+                    | inr differs ↦ before.all k (omega (arith, low, at, differs))
+                        (subst (λ c. IsIn links c k) (sym same_chain) (in_its_chain links edge k e))
                   ]);
               right = λ j e. subst (λ c. IsIn links c j) same_chain (before.right j e).1;
             }
@@ -128,11 +133,12 @@ last_like links chain count Last Other to from l = record {
 }
 
 -- room for more heads
-pub chained_same : (links : List Link) (heads heads' : List (Option ℕ)) → SameEnds heads heads' → AreChained links heads → AreChained links heads'
+pub chained_same : (links : List Link) (heads heads' : List (Option ℕ)) → SameEnds heads heads' → AreChained links heads
+    → AreChained links heads'
 chained_same links heads heads' same chained = record {
   linked = chained.linked;
-  headed = λ chain. last_like links chain (length links) (EndsAt heads chain) (EndsAt heads' chain) (λ j. (same chain j).0) (λ j. (same chain j).1)
-      (chained.headed chain);
+  headed = λ chain. last_like links chain (length links) (EndsAt heads chain) (EndsAt heads' chain)
+      (λ j. (same chain j).0) (λ j. (same chain j).1) (chained.headed chain);
   forked = chained.forked;
 }
 
@@ -169,7 +175,8 @@ module _ (links : List Link) (heads : List (Option ℕ)) (chained : AreChained l
     linked_new : AreLast more (chain_of edge) (length links) (λ j. before ≡ Some j)
     linked_new = subst (λ c. AreLast more c (length links) (λ j. before ≡ Some j)) is_chain
         (last_more chain (length links) (λ j. before ≡ Some j) (omega arith)
-        (last_like links chain (length links) (EndsAt heads chain) (λ j. before ≡ Some j) (ended_is heads chain before found) (ended_there heads chain before found)
+        (last_like links chain (length links) (EndsAt heads chain) (λ j. before ≡ Some j)
+        (ended_is heads chain before found) (ended_there heads chain before found)
         (chained.headed chain)))
 
     linked_more : AreLinked more
@@ -185,7 +192,11 @@ module _ (links : List Link) (heads : List (Option ℕ)) (chained : AreChained l
 
       headed_all : (c k : ℕ) → k < length more → IsIn more c k → (j : ℕ) × EndsAt heads' c j × (k ≤ j)
       headed_all c k l i = elim (cases_eq c chain) [
-        | inl e ↦ (number, subst (λ n. EndsAt heads' n number) (sym e) (set_here heads chain (Some number) room), omega (arith, l, longer, is_number))
+        | inl e ↦ (
+          number,
+          subst (λ n. EndsAt heads' n number) (sym e) (set_here heads chain (Some number) room),
+          omega (arith, l, longer, is_number),
+        )
         | inr differs ↦ elim (in_cases c k i) [
           | inl h ↦ (let r = (chained.headed c).all k (is_within links c k h) h in
               elim (set_kept heads chain (Some number) c (Some r.0) r.1) [

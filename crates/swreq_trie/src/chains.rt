@@ -1,4 +1,4 @@
-//! The chains in which edges are found: each edge names the one before it in its chain, and a head is the place of the last one.
+//! The chains in which edges are found. Each edge names the one before it in its chain, and a head names the last one.
 
 ghost use Rattle.std.specs.Prelude.{◌≡◌, ℕ, ◌<◌, MatchOption, IfOk};
 ghost use Rattle.std.specs.Bool.{Decides};
@@ -33,7 +33,8 @@ fn number(symbol: Symbol) -> u64
     }
 }
 
-// The chain of the edge. Those of one node go side by side, by the numbers of its symbols: the root has an edge for each symbol of a side.
+// The chain of the edge. Those of one node go side by side, by the numbers of symbols, since the root has an edge for
+// each symbol of a side.
 fn chain(edge: Edge) -> usize
     ensures { result ≡ chain_of edge }
 {
@@ -47,7 +48,8 @@ fn is_same(a: Edge, b: Edge) -> bool
     a == b
 }
 
-// The node to which the edge leads, or None where it is none of these. It is sought along its chain, in which it stands no later than here.
+// The node to which the edge leads, or None where it is none of these. It is sought along its chain, in which it stands
+// no later than here.
 fn find_from(links: &[Link], start: Option<u32>, edge: Edge) -> Option<usize>
     requires linked { AreLinked links.now }
     requires left { IsLeft links.now edge start }
@@ -88,7 +90,7 @@ fn numbered(place: usize) -> Result<u32, AllocError>
     }
 }
 
-// Puts the edge last, also in its chain, and answers the node to which it leads. For want of memory no edge is put there.
+// Puts the edge last, also in its chain, and answers the node to which it leads. For want of memory no edge is put in.
 fn add_child(
     links: &mut Vec<Link>,
     heads: &mut Vec<Option<u32>>,

@@ -38,5 +38,6 @@ returns-clause-chained c =
     let found = subst (λ ends. MatchOption before ((number : ℕ) → EndsAt ends chain number → ⊥) (λ number. EndsAt ends chain number))
     c.deref.ensures.value c.end_at-before.ensures in
     rw c.in_ok-push.ensures.items
-    (chained_more links heads (chained_same links c.args.heads.now.items heads c.make_room.ensures.same c.requires.chained) c.args.edge before
-    chain c.chain-chain.ensures found c.in_ok-number.number (c.in_ok-number.ensures ∙ count) c.in_ok-make_room.ensures.room c.requires.new)
+    (chained_more links heads
+    (chained_same links c.args.heads.now.items heads c.make_room.ensures.same c.requires.chained) c.args.edge before chain
+    c.chain-chain.ensures found c.in_ok-number.number (c.in_ok-number.ensures ∙ count) c.in_ok-make_room.ensures.room c.requires.new)
