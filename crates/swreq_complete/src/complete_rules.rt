@@ -123,13 +123,6 @@ impl<'b> CompleteRules<'b> {
         Ok(CompleteRules { list })
     }
 
-    /// The same rules, of which it is no longer said that they are complete.
-    pub fn into_system(self) -> RewritingSystem<'b>
-        ensures { result ≡ self.entry }
-    {
-        RewritingSystem::new(self.list)
-    }
-
     /// The reduced system of the congruence: as left sides all words that are reducible while none of their proper factors is, each
     /// once and in order, as right sides the words to which they reduce. A rule has the birth of the rule here with its left side.
     pub fn canonical(&self, alloc: Global) -> Result<Vec<Rule>, AllocError>

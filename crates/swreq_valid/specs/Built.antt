@@ -19,8 +19,8 @@ abbrev pub refusal : Failed → Refused
 refusal (failed.Limit which trace) = Limit which trace
 refusal failed.Memory = Memory
 
--- Building comes to the rules of the last round where no round passes a limit and each side is valid; else to the limit and the trace of
--- the round that passes one; else to the place of the first side that is not valid. What it tells in all are the events of the rounds.
+-- Building comes to the rules of the last round where the rounds do not stop at a limit and each side is valid; else to the limit at which
+-- they stop, with its trace; else to the place of the first side that is not valid. What it tells in all are the events of the rounds.
 abbrev pub IsBuilt : Limits → Plan → TermFacts → List Side → Result (List Rule) Refused → List Event → Type 0
 IsBuilt limits plan f sides (Ok rules) told = IsOutcome limits plan (Ok rules) told × HoldsOfEach (IsValidSide f) sides
 IsBuilt limits plan f sides (Err (Limit which trace)) told = IsOutcome limits plan (Err (failed.Limit which trace)) told

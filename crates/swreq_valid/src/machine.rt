@@ -87,7 +87,8 @@ fn in_signature(
 
 /// The machine of the usable part of a list, over the rules of the protocols.
 ///
-/// `Failed::Limit` comes exactly where a round of the list passes a limit, with that limit and the trace of that round.
+/// `Failed::Limit` comes exactly where the rounds of the list stop at a limit, with the limit that was passed first and the trace of that
+/// round.
 pub fn core<'b, W: Watch>(
     alloc: Global,
     world: &World,
