@@ -32,7 +32,7 @@ use Rattle.swreq_complete.proofs.Outcome.{fresh_of_reached}
 use Rattle.swreq_complete.proofs.Telling.{kept_length}
 use Rattle.swreq_complete.proofs.ReducedSystem.{irreducible_least, is_reduced, reduced_of}
 
-over_grown : (old new : List Rule) (told told' : Option (List Event)) → Grown old new told told' → BeginsWith old new
+pub over_grown : (old new : List Rule) (told told' : Option (List Event)) → Grown old new told told' → BeginsWith old new
 over_grown old new told told' g = ap (take (length old)) g.new_is ∙ take-append_seam old g.more
 
 events_grown : (old new : List Rule) (told told' told'' : Option (List Event)) → GrewBy told told' (Start (length old) ∷ [])

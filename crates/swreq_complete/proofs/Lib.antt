@@ -20,3 +20,5 @@ pub mod ReducedSystem
 pub mod OneReduced
 pub mod Answering
 pub mod Replaying
+pub mod Short
+pub mod Alike

@@ -19,7 +19,8 @@ use Rattle.swreq_complete.specs.declared.limit.Stop.TheVariants.{Limit, Memory}
 use Rattle.swreq_complete.specs.Limits.{Keeps, KeepsAll, KeepsButLast, IsWithin}
 use Rattle.swreq_complete.specs.Moments.{Before, HasSides}
 use Rattle.swreq_complete.specs.Progress.{Settles, SettlesPlace, Progress}
-use Rattle.swreq_complete.specs.Settling.{Grown, DoneWithin, StoppedAt, HasCome, HasStopped}
+use Rattle.swreq_complete.specs.Settling.{Grown, DoneWithin, StoppedAt, HasCome, HasStopped, HasStoppedAmong}
+use Rattle.swreq_complete.specs.Short.{IsOfEquation}
 use Rattle.swreq_orders.proofs.Elements.{get_cases, there_is}
 use Rattle.swreq_complete.proofs.Closed.{reached}
 
@@ -111,12 +112,33 @@ module _ (limits : Limits) (base : ℕ) (given : List (List Symbol × List Symbo
     d.2,
   )
 
+  -- where all that is visited then are equations, so are the births of all rules past the base
+  pub stops_among : ((m : Birth) → Next m → IsOfEquation m) → (s : Stop) → StoppedAt limits Done old new told told' s
+      → HasStoppedAmong limits base given old new told told' s
+  stops_among of (Limit which) d =
+      let h = stops (Limit which) d in
+      (record { passes = h.0; of_equations = λ k rule lo e. of rule.birth ((takes_on new d.0).born k rule lo e).1 }, h.1)
+  stops_among of Memory d = stops Memory d
+
+-- a stop at an equation is a stop
+pub stopped_among : (limits : Limits) (base : ℕ) (given : List (List Symbol × List Symbol)) (old new : List Rule)
+    (told told' : Option (List Event)) (s : Stop) → HasStoppedAmong limits base given old new told told' s
+    → HasStopped limits base given old new told told' s
+stopped_among limits base given old new told told' (Limit which) d = (d.0.passes, d.1)
+stopped_among limits base given old new told told' Memory d = d
+
 -- a stop after some rules were born
 pub stops_later : (limits : Limits) (base : ℕ) (given : List (List Symbol × List Symbol)) (a b c : List Rule)
     (told told' told'' : Option (List Event)) → Grown a b told told'
     → (s : Stop) → HasStopped limits base given b c told' told'' s → HasStopped limits base given a c told told'' s
 stops_later limits base given a b c told told' told'' g (Limit which) d = (d.0, grown_on a b c told told' told'' g d.1)
 stops_later limits base given a b c told told' told'' g Memory d = (d.0, d.1, grown_on a b d.0 told told' told'' g d.2)
+
+pub stops_among_later : (limits : Limits) (base : ℕ) (given : List (List Symbol × List Symbol)) (a b c : List Rule)
+    (told told' told'' : Option (List Event)) → Grown a b told told'
+    → (s : Stop) → HasStoppedAmong limits base given b c told' told'' s → HasStoppedAmong limits base given a c told told'' s
+stops_among_later limits base given a b c told told' told'' g (Limit which) d = (d.0, grown_on a b c told told' told'' g d.1)
+stops_among_later limits base given a b c told told' told'' g Memory d = stops_later limits base given a b c told told' told'' g Memory d
 
 pub goes_later : (limits : Limits) (base : ℕ) (given : List (List Symbol × List Symbol)) (Visited : Birth → Type 0) (a b c : List Rule)
     (told told' told'' : Option (List Event)) → Grown a b told told'

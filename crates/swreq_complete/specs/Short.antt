@@ -1,5 +1,5 @@
 -- What equations bear by themselves: how far a completion comes before its first pair.
-use Rattle.std.specs.Prelude.{◌≡◌, ℕ, ◌≤◌, List, length, slice_get, Some, Result, Ok, Err}
+use Rattle.std.specs.Prelude.{◌≡◌, ◌⊎◌, ℕ, ◌≤◌, List, length, slice_get, Some, Result, Ok, Err}
 use Rattle.swreq_word.specs.declared.symbols.Symbol.{Symbol}
 use Rattle.swreq_rule.specs.declared.rules.Birth.{Birth}
 use Rattle.swreq_rule.specs.declared.rules.Birth.TheVariants.{Given, Pair}
@@ -12,6 +12,7 @@ use Rattle.swreq_complete.specs.Limits.{KeepsAll, Passes}
 use Rattle.swreq_complete.specs.Moments.{HasSides}
 use Rattle.swreq_complete.specs.Reached.{BeginsWith, IsReached}
 use Rattle.swreq_complete.specs.Settled.{Settled}
+use Rattle.swreq_complete.specs.Answers.{IsMemory}
 
 -- The birth is of an equation, and not of a pair.
 abbrev pub IsOfEquation : Birth → Type 0
@@ -41,3 +42,8 @@ abbrev pub IsBorneBy : Limits → List Rule → List (List Symbol × List Symbol
 IsBorneBy limits base given (Ok trace) = BeginsWith base trace × BearsWithin limits (length base) given trace
 IsBorneBy limits base given (Err (Limit which trace)) = BeginsWith base trace × PassesAmong limits (length base) given trace which
 IsBorneBy limits base given (Err Memory) = Unit {0}
+
+-- but for want of memory there is no other answer
+abbrev pub IsOnlyBorne : Limits → List Rule → List (List Symbol × List Symbol) → Result (List Rule) Failed → Type 0
+IsOnlyBorne limits base given answer =
+    (other : Result (List Rule) Failed) → IsBorneBy limits base given other → (answer ≡ other) ⊎ (IsMemory answer ⊎ IsMemory other)

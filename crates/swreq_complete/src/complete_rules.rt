@@ -1,4 +1,4 @@
-//! Complete lists of rules, and the completion that makes them.
+//! Complete lists of rules, the completion that makes them, and what equations bear by themselves.
 
 ghost use Rattle.std.specs.Prelude.{◌≡◌, ◌⊎◌, ◌<◌, ◌≤◌, [], length, slice_get, Some, IfOk, vec_len, vec_capacity};
 ghost use Rattle.swreq_word.specs.Relations.{Linked};
@@ -12,17 +12,20 @@ ghost use Rattle.swreq_complete.specs.Events.{TellsEvents};
 ghost use Rattle.swreq_complete.specs.Limits.{AreInRange};
 ghost use Rattle.swreq_word.specs.Least.{IsLeast};
 ghost use Rattle.swreq_complete.specs.Reduced.{HasBirths, IsReducedOf, IsReducedSystem};
+ghost use Rattle.swreq_complete.specs.Short.{IsBorneBy, IsOnlyBorne};
 
 use crate::completion::complete;
 use crate::indexed::Indexed;
 use crate::limit::{Failed, Limits, Stop, Which};
 use crate::reduced::{find, reduced_at};
-use crate::task::Task;
+use crate::rewriting_system::RewritingSystem;
+use crate::settling::settle_given;
+use crate::task::{Sides, Task};
 use std::alloc::{AllocError, Global};
 use std::marker::Model;
 use swreq_rule::Rule;
 use swreq_text::Seq;
-use swreq_watch::{Event, Watch};
+use swreq_watch::{Event, Quiet, Watch};
 use swreq_word::{Symbol, Word};
 
 /// A list of rules that is complete: reduction leads congruent words to one word. It is empty, or what a completion ended with. Its first
@@ -120,6 +123,13 @@ impl<'b> CompleteRules<'b> {
         Ok(CompleteRules { list })
     }
 
+    /// The same rules, of which it is no longer said that they are complete.
+    pub fn into_system(self) -> RewritingSystem<'b>
+        ensures { result ≡ self.entry }
+    {
+        RewritingSystem::new(self.list)
+    }
+
     /// The reduced system of the congruence: as left sides all words that are reducible while none of their proper factors is, each
     /// once and in order, as right sides the words to which they reduce. A rule has the birth of the rule here with its left side.
     pub fn canonical(&self, alloc: Global) -> Result<Vec<Rule>, AllocError>
@@ -183,6 +193,37 @@ pub fn extend<'b, W: Watch>(
     };
     match complete(alloc, &task, &mut list, watch) {
         Ok(()) => Ok(CompleteRules { list }),
+        Err(Stop::Limit(which)) => Err(passed_limit(alloc, which, list)),
+        Err(Stop::Memory) => Err(Failed::Memory),
+    }
+}
+
+/// The rules that the equations bear by themselves over the base, within the limits.
+///
+/// The equations are settled in order, as a completion does, and no pair is. So the rules are sound, but words that they link may reduce
+/// to two. A completion that passes a limit only by its pairs has these rules first.
+///
+/// It is `Failed::Limit` exactly where a rule of an equation passes a limit, with that rule as the last of the trace, and
+/// `Failed::Memory` for want of memory.
+pub fn bear<'b>(
+    alloc: Global,
+    base: CompleteRules<'b>,
+    given: &[(Word, Word)],
+    limits: Limits,
+) -> Result<RewritingSystem<'b>, Failed>
+    requires { AreInRange limits }
+    ensures answer { IsBorneBy limits base.entry given.now result }
+    ensures only { IsOnlyBorne limits base.entry given.now result }
+{
+    let mut list = base.list;
+    let task = Task {
+        base: list.count(),
+        given,
+        limits,
+    };
+    let mut sides = Sides::new(alloc);
+    match settle_given(&task, &mut list, &mut Quiet, &mut sides) {
+        Ok(()) => Ok(RewritingSystem::new(list)),
         Err(Stop::Limit(which)) => Err(passed_limit(alloc, which, list)),
         Err(Stop::Memory) => Err(Failed::Memory),
     }

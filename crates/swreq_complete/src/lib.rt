@@ -8,8 +8,10 @@ pub mod laws;
 mod limit;
 mod paths;
 mod reduced;
+mod rewriting_system;
 mod settling;
 mod task;
 
-pub use complete_rules::{CompleteRules, extend};
+pub use complete_rules::{CompleteRules, bear, extend};
 pub use limit::{Failed, Limits, Which};
+pub use rewriting_system::RewritingSystem;

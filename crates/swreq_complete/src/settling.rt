@@ -9,7 +9,7 @@ ghost use Rattle.swreq_watch.specs.Told.{GrewBy};
 ghost use Rattle.swreq_complete.specs.declared.limit.Stop.TheVariants.{Memory};
 ghost use Rattle.swreq_complete.specs.Limits.{AreInRange};
 ghost use Rattle.swreq_complete.specs.Progress.{GivenBelow, Settles};
-ghost use Rattle.swreq_complete.specs.Settling.{DoneWithin, HasCome, HasStopped, StoppedAt};
+ghost use Rattle.swreq_complete.specs.Settling.{DoneWithin, HasCome, HasStoppedAmong, StoppedAt};
 
 use crate::indexed::Indexed;
 use crate::limit::{Limits, Stop, passed};
@@ -131,7 +131,7 @@ pub(crate) fn settle_given<W: Watch>(
     requires limits { AreInRange task.now.limits }
     ensures { MatchResult result
         (λ _. HasCome task.now.limits (length rules.old) task.now.given.now (GivenBelow (length task.now.given.now)) rules.old rules.new (W.told watch.old) (W.told watch.new))
-        (λ s. HasStopped task.now.limits (length rules.old) task.now.given.now rules.old rules.new (W.told watch.old) (W.told watch.new) s) }
+        (λ s. HasStoppedAmong task.now.limits (length rules.old) task.now.given.now rules.old rules.new (W.told watch.old) (W.told watch.new) s) }
 {
     let given = task.given;
     for n in 0..given.len() {

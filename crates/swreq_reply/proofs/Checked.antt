@@ -7,6 +7,7 @@ use Rattle.swreq_rule.specs.declared.rules.Rule.{Rule}
 use Rattle.swreq_complete.specs.Limits.{IsWithin}
 use Rattle.swreq_rounds.specs.Plan.{Plan, given}
 use Rattle.swreq_rounds.specs.Rounds.{ComesTo, IsOutcome, IsStoppedRound}
+use Rattle.swreq_rounds.proofs.Turning.{stopped_comes}
 use Rattle.swreq_watch.specs.declared.events.Event.{Event}
 use Rattle.swreq_lowering.specs.Requirements.{PlacedRequirement}
 use Rattle.swreq_world.specs.Closed.{IsClosed}
@@ -71,12 +72,17 @@ module _ (limits : Limits) (plan : Plan) where
   ends_come rules told (used, last) =
       let within : IsWithin limits (length plan.base) (given plan used) rules =
       record { reached = last.ends.1.ended.reached; kept = λ k rule b s e. last.ends.1.kept k rule b e } in
-      record { used = used; before = last.before; round = last.round; part = inr (rules, last.ends.0, within, last.told_is) }
+      record {
+        used = used;
+        first = last.first;
+        before = last.before;
+        round = last.round;
+        part = inr (rules, last.due, last.ends.0, within, last.told_is);
+      }
 
   pub stops_come : (which : Which) (trace : List Rule) (told : List Event) → IsStoppedRound limits plan which trace told
       → ComesTo limits plan told
-  stops_come which trace told h =
-      record { used = h.used; before = h.before; round = h.round; part = inr (trace, h.stops.0, h.stops.1.within, h.told_is) }
+  stops_come which trace told h = stopped_comes which trace told h
 
   refused_comes : (f : TermFacts) (every : List Side) (refused : Refused) (told : List Event) → refused ≢ Memory
       → IsBuilt limits plan f every (Err refused) told → ComesTo limits plan told

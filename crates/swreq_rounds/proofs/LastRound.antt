@@ -1,5 +1,5 @@
 -- The last round uses just the usable requirements, and its rules stand for their equations.
-use Rattle.std.proofs.Common.{◌≡◌, ◌⊎◌, inl, inr, sym, ap, subst, subst₂, List, [], map, ◌↔◌, Contains}
+use Rattle.std.proofs.Common.{◌≡◌, ◌⊎◌, inl, inr, sym, ap, subst, subst₂, List, [], map, ◌↔◌, Contains, Option}
 use Rattle.std.proofs.lemmas.List.Elements.{Contains-append_cases, Contains-append_left, Contains-append_right}
 use Rattle.swreq_param.specs.declared.ids.ParamId.{ParamId}
 use Rattle.swreq_param.specs.declared.ids.ProtoId.{ProtoId}
@@ -10,20 +10,24 @@ use Rattle.swreq_word.specs.Relations.{Linked}
 use Rattle.swreq_rule.specs.declared.rules.Rule.{Rule}
 use Rattle.swreq_rule.specs.Steps.{Step}
 use Rattle.swreq_watch.specs.declared.events.Event.{Event}
+use Rattle.swreq_complete.specs.Alike.{ReduceAlike}
 use Rattle.swreq_complete.specs.declared.limit.Limits.{Limits}
+use Rattle.swreq_complete.proofs.Alike.{alike_are_linked}
 use Rattle.swreq_correspondence.specs.Symbols.{Word, Symbols, IsOfText, AreSymbolsOf, AreOfText, IsInText, left_side, right_side}
 use Rattle.swreq_correspondence.specs.Equations.{Equation, Linking, UsableOf, UsableIn, UsableEquation}
 use Rattle.swreq_correspondence.specs.Equations.Equation.{twice, member, of_protocol, of_source}
 use Rattle.swreq_correspondence.specs.Shown.{ShowsUsable}
 use Rattle.swreq_correspondence.proofs.Chained.{self_in_range}
-use Rattle.swreq_correspondence.proofs.Shown.{more_equations, usable_by_more, shown_usable, usable_shown}
+use Rattle.swreq_correspondence.proofs.Shown.{linking_to, more_equations, usable_by_more, shown_usable, usable_shown}
 use Rattle.swreq_rounds.specs.Plan.{Item, Plan, given, equation_of}
-use Rattle.swreq_rounds.specs.Rounds.{Ends, LeavesUsable, IsRound, IsLastRound}
-use Rattle.swreq_rounds.specs.Rounds.IsRound.{first, next}
+use Rattle.swreq_rounds.specs.Rounds.{Bears, Ends, IsRound, IsLastRound, Passed}
+use Rattle.swreq_rounds.specs.Rounds.IsRound.{after, begin}
 use Rattle.swreq_rounds.specs.Given.{basic_equations, of_self, protocols_plan, of_list, list_plan}
 use Rattle.swreq_rounds.specs.Presents.{Presents, ProtocolEquation, AreProtocolRules, AreListRules}
-use Rattle.swreq_rounds.proofs.Members.{selected, selects, round_within, basic_is, has_doubled, has_named, items_are, has_item}
-use Rattle.swreq_rounds.proofs.Presented.{ended_presents, presents_to, none_presents}
+use Rattle.swreq_rounds.proofs.Members.{selected, selects, basic_is, has_doubled, has_named, items_are, has_item}
+use Rattle.swreq_rounds.proofs.Presented.{ended_presents, presents_to, none_presents, reached_linking}
+use Rattle.swreq_rounds.proofs.Turning.{goes_on, round_within}
+use Rattle.swreq_rounds.proofs.Turning.Goes.{joined, shown}
 
 -- what is shown by rules that present equations is what is shown by the equations
 pub shown_both : (m : Symbols) (f : TermFacts) (s : Source) (rules : List Rule) (E : Word → Word → Type 0) → Presents rules E
@@ -99,20 +103,32 @@ module _ (m : Symbols) (f : TermFacts) (fit : AreSymbolsOf m f) (ranges : AreOfT
       same : (q : ProtoId) (x : TermRequirement) → Contains (f.of_protocol q) x → of_self p r ≡ of_self q x → Contains (f.of_protocol p) r
       same q x k e = subst₂ (λ y z. Contains (f.of_protocol y) z) (sym (same_self (ap (λ z. z.source) e))) (sym (ap (λ z. z.requirement) e)) k
 
-  usable_next : (used usable : List Item) (rules : List Rule) → ((x : Item) → Contains used x → Contains plan.all x) → AreUsable used
-      → Ends limits plan used rules → LeavesUsable plan rules usable → AreUsable usable
-  usable_next used usable rules within sound e s p r h =
-      let q = selected s (of_self p r) h in
-      let k = of_all p r q.0 in
-      let o = ranges.owners p r k in (
-        k,
-        shown_usable m f fit ranges (SelfOf p) (self_in_range m p o) (Used used) (λ x. ⊥) sound (λ x z. z) r
-            ((shown_over_self used rules (round_presents used within rules e) p o r).0 q.1),
-      )
+  -- what a sound congruence shows of a round of usable requirements is usable
+  usable_by : (used : List Item) → AreUsable used → (C : Word → Word → Type 0) → ((u v : Word) → C u v → Linking (Of used (Written [] [])) u v)
+      → (p : ProtoId) (r : TermRequirement) → Contains (f.of_protocol p) r → ShowsUsable m f (SelfOf p) C r → UsableOf f p r
+  usable_by used sound C links p r k h = (
+    k,
+    shown_usable m f fit ranges (SelfOf p) (self_in_range m p (ranges.owners p r k)) (Used used) (λ x. ⊥) sound (λ x z. z) r
+        (usable_by_more m f (SelfOf p) C (Linking (Of used (SelfOf p))) (λ u v c. linking_to (into used p) (links u v c)) r h),
+  )
 
-  round_usable : {used : List Item} {told : List Event} → IsRound limits plan used told → AreUsable used
-  round_usable first = λ p r h. no_member (of_self p r) h
-  round_usable (next {used = used} {usable = usable} rules r e s d t) = usable_next used usable rules (round_within r) (round_usable r) e s
+  -- the rules of a short round are sound
+  short_linking : (used : List Item) → ((x : Item) → Contains used x → Contains plan.all x) → (rules : List Rule) → Bears limits plan used rules
+      → (u v : Word) → ReduceAlike rules u v → Linking (Of used (Written [] [])) u v
+  short_linking used within rules b u v a =
+      reached_linking [] (given plan used) rules (λ l r. ⊥) (Of used (Written [] [])) b.0 b.1.reached none_presents (λ l r z. absurd z)
+      (given_is used within) u v (alike_are_linked rules u v a)
+
+  round_usable : {used : List Item} {first : Option Passed} {told : List Event} → IsRound limits plan used first told → AreUsable used
+  round_usable begin = λ p r h. no_member (of_self p r) h
+  round_usable (after {used = used} r turn t) = λ p q h. elim (goes_on turn) [
+    | shown rules e l d ↦ (let s = selected l (of_self p q) h in
+        usable_by used (round_usable r) (Linked (Step rules)) (λ u v k. (round_presents used (round_within r) rules e u v).0 k) p q (of_all p q s.0) s.1)
+    | joined rules b j d ↦ (let s = selected j (of_self p q) h in elim s.1 [
+        | inl k ↦ round_usable r p q k
+        | inr k ↦ usable_by used (round_usable r) (ReduceAlike rules) (short_linking used (round_within r) rules b) p q (of_all p q s.0) k
+      ])
+  ]
 
   pub last_usable : (used : List Item) (rules : List Rule) (told : List Event) → IsLastRound limits plan used rules told → (p : ProtoId) (r : TermRequirement)
       → Used used p r ↔ UsableOf f p r
@@ -183,18 +199,32 @@ module _ (m : Symbols) (f : TermFacts) (fit : AreSymbolsOf m f) (ranges : AreOfT
       same : (x : TermRequirement) → Contains rs x → of_list gs rs r ≡ of_list gs rs x → Contains rs r
       same x k e = subst (λ z. Contains rs z) (sym (ap (λ z. z.requirement) e)) k
 
-  list_next : (used usable : List Item) (rules : List Rule) → ((x : Item) → Contains used x → Contains listed.all x) → ((r : TermRequirement) → Own used r → UsableIn f (Written gs rs) r)
-      → Ends limits listed used rules → LeavesUsable listed rules usable → (r : TermRequirement) → Own usable r → UsableIn f (Written gs rs) r
-  list_next used usable rules within sound e s r h =
-      let q = selected s (of_list gs rs r) h in (
-        of_listed r q.0,
-        shown_usable m f fit ranges (Written gs rs) n (UsableOf f) (Own used) (λ p x z. z) sound r
-            ((shown_both m f (Written gs rs) rules (ByList used) (list_presents used within rules e) r).0 q.1),
-      )
+  listed_by : (used : List Item) → ((r : TermRequirement) → Own used r → UsableIn f (Written gs rs) r) → (C : Word → Word → Type 0)
+      → ((u v : Word) → C u v → Linking (ByList used) u v) → (r : TermRequirement) → Contains rs r → ShowsUsable m f (Written gs rs) C r
+      → UsableIn f (Written gs rs) r
+  listed_by used sound C links r k h = (
+    k,
+    shown_usable m f fit ranges (Written gs rs) n (UsableOf f) (Own used) (λ p x z. z) sound r
+        (usable_by_more m f (Written gs rs) C (Linking (ByList used)) links r h),
+  )
 
-  list_usable : {used : List Item} {told : List Event} → IsRound limits listed used told → (r : TermRequirement) → Own used r → UsableIn f (Written gs rs) r
-  list_usable first = λ r h. no_member (of_list gs rs r) h
-  list_usable (next {used = used} {usable = usable} rules r e s d t) = list_next used usable rules (round_within r) (list_usable r) e s
+  short_list_linking : (used : List Item) → ((x : Item) → Contains used x → Contains listed.all x) → (rules : List Rule) → Bears limits listed used rules
+      → (u v : Word) → ReduceAlike rules u v → Linking (ByList used) u v
+  short_list_linking used within rules b u v a =
+      reached_linking base (given listed used) rules (ProtocolEquation m f) (ByList used) b.0 b.1.reached over (from_protocols used)
+      (list_given used within) u v (alike_are_linked rules u v a)
+
+  list_usable : {used : List Item} {first : Option Passed} {told : List Event} → IsRound limits listed used first told
+      → (r : TermRequirement) → Own used r → UsableIn f (Written gs rs) r
+  list_usable begin = λ r h. no_member (of_list gs rs r) h
+  list_usable (after {used = used} r turn t) = λ q h. elim (goes_on turn) [
+    | shown rules e l d ↦ (let s = selected l (of_list gs rs q) h in
+        listed_by used (list_usable r) (Linked (Step rules)) (λ u v k. (list_presents used (round_within r) rules e u v).0 k) q (of_listed q s.0) s.1)
+    | joined rules b j d ↦ (let s = selected j (of_list gs rs q) h in elim s.1 [
+        | inl k ↦ list_usable r q k
+        | inr k ↦ listed_by used (list_usable r) (ReduceAlike rules) (short_list_linking used (round_within r) rules b) q (of_listed q s.0) k
+      ])
+  ]
 
   pub last_listed : (used : List Item) (rules : List Rule) (told : List Event) → IsLastRound limits listed used rules told → (r : TermRequirement)
       → Own used r ↔ UsableIn f (Written gs rs) r

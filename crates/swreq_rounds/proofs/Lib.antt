@@ -4,3 +4,4 @@ pub mod Members
 pub mod LastRound
 pub mod Growing
 pub mod Fronts
+pub mod Turning

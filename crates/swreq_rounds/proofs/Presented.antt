@@ -12,7 +12,7 @@ use Rattle.swreq_word.proofs.Chains.{joined, at_once, linked_on, linked_back, li
 use Rattle.swreq_rule.specs.declared.rules.Rule.{Rule}
 use Rattle.swreq_rule.specs.Steps.{Step}
 use Rattle.swreq_rule.proofs.Context.{Step-before, Step-after}
-use Rattle.swreq_complete.specs.Reached.{BeginsWith, IsEnded}
+use Rattle.swreq_complete.specs.Reached.{BeginsWith, IsEnded, IsReached}
 use Rattle.swreq_complete.specs.Laws.{all_equations}
 use Rattle.swreq_complete.proofs.Ended.{by_rule}
 use Rattle.swreq_orders.proofs.Elements.{in_whole, get_of_map, get_contains, contains_get}
@@ -68,9 +68,8 @@ pub none_presents : Presents [] (λ l r. ⊥)
 none_presents u v = (linked_linking (λ a b s. no_rule a b s), linking_linked [] (λ l r e. absurd e))
 
 module _ (base : List Rule) (given : List (Word × Word)) (trace : List Rule) (E0 E : Word → Word → Type 0)
-    (over : BeginsWith base trace) (ended : IsEnded (length base) given trace) (before : Presents base E0)
-    (old : (l r : Word) → E0 l r → E l r) (new : (l r : Word) → Contains given (l, r) → E l r)
-    (all : (l r : Word) → E l r → E0 l r ⊎ Contains given (l, r)) where
+    (over : BeginsWith base trace) (reached : IsReached (length base) given trace) (before : Presents base E0)
+    (old : (l r : Word) → E0 l r → E l r) (new : (l r : Word) → Contains given (l, r) → E l r) where
   base_equation : (k : ℕ) (l r : Word) → slice_get {X = Word × Word} (map (λ (x : Rule). (x.left, x.right)) base) k ≡ Some (l, r) → Linked (Step base) l r
   base_equation k l r e =
       let x = get_of_map (λ (x : Rule). (x.left, x.right)) base k (l, r) e in
@@ -86,9 +85,14 @@ module _ (base : List Rule) (given : List (Word × Word)) (trace : List Rule) (E
         | inr h ↦ one_equation l r (new l r h)
       ]
 
-  down : (u v : Word) → Linked (Step trace) u v → Linking E u v
-  down u v l = linked_linking (λ a b s. at_place s.at (each_equation s.left s.right s.number s.is_equation)) (sound (length base) given trace ended.reached u v l)
+  -- the rules of a reached trace are sound
+  pub reached_linking : (u v : Word) → Linked (Step trace) u v → Linking E u v
+  reached_linking u v l = linked_linking (λ a b s. at_place s.at (each_equation s.left s.right s.number s.is_equation)) (sound (length base) given trace reached u v l)
 
+module _ (base : List Rule) (given : List (Word × Word)) (trace : List Rule) (E0 E : Word → Word → Type 0)
+    (over : BeginsWith base trace) (ended : IsEnded (length base) given trace) (before : Presents base E0)
+    (old : (l r : Word) → E0 l r → E l r) (new : (l r : Word) → Contains given (l, r) → E l r)
+    (all : (l r : Word) → E l r → E0 l r ⊎ Contains given (l, r)) where
   base_step : (a b : Word) → Step base a b → Linked (Step trace) a b
   base_step a b s = on_forth (record {
     rule = s.rule;
@@ -111,4 +115,4 @@ module _ (base : List Rule) (given : List (Word × Word)) (trace : List Rule) (E
   ])
 
   pub ended_presents : Presents trace E
-  ended_presents u v = (down u v, up u v)
+  ended_presents u v = (reached_linking base given trace E0 E over ended.reached before old new u v, up u v)

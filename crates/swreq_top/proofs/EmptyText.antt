@@ -1,5 +1,5 @@
 -- The empty text is answered: nothing refuses it, and no round of its machines passes a limit.
-use Rattle.std.proofs.Common.{◌≡◌, ◌≢◌, ◌∙◌, ◌⊎◌, refl, sym, ap, subst, inl, inr, ℕ, ◌≤◌, arith, le_refl, Bool, length, length-append, List, [], ◌∷◌, Option, Some}
+use Rattle.std.proofs.Common.{◌≡◌, ◌≢◌, ◌∙◌, ◌⊎◌, refl, sym, ap, subst, inl, inr, ℕ, ◌≤◌, arith, le_refl, Bool, length, length-append, List, [], ◌∷◌, Contains, Option, Some}
 use Rattle.std.proofs.lemmas.Option.{none-some}
 use Rattle.std.proofs.lemmas.Str.{IsUtf8-nil, chars-nil}
 use Rattle.swreq_lex.specs.declared.refusal.LexErr.{LexErr}
@@ -12,7 +12,7 @@ use Rattle.swreq_decl.specs.declared.skeleton.Skeleton.{Skeleton}
 use Rattle.swreq_decl.specs.Skeletons.{RefusedFor, StandsFor, skeleton_of}
 use Rattle.swreq_decl.specs.Source.{source}
 use Rattle.swreq_decl.proofs.Answering.{not_both, one_skeleton}
-use Rattle.swreq_orders.proofs.Members.{no_member}
+use Rattle.swreq_orders.proofs.Members.{first_member, no_member}
 use Rattle.swreq_resolve.specs.declared.refusal.NameErr.{NameErr}
 use Rattle.swreq_resolve.specs.Resolving.{RefusesSkeleton}
 use Rattle.swreq_rule.specs.declared.rules.Birth.{Birth}
@@ -24,9 +24,8 @@ use Rattle.swreq_complete.specs.declared.limit.Which.{Which}
 use Rattle.swreq_complete.specs.Limits.{Passes}
 use Rattle.swreq_complete.specs.Reached.{IsBorn}
 use Rattle.swreq_rounds.specs.Plan.{Item, given}
-use Rattle.swreq_rounds.specs.Rounds.{IsRound}
-use Rattle.swreq_rounds.specs.Rounds.IsRound.{first, next}
-use Rattle.swreq_rounds.specs.Rounds.Selects.{none}
+use Rattle.swreq_rounds.specs.Rounds.{IsStoppedRound}
+use Rattle.swreq_rounds.proofs.Turning.{round_within, stops_here}
 use Rattle.swreq_print.specs.declared.refusal.RefusalKind.{RefusalKind}
 use Rattle.swreq_print.specs.declared.refusal.RefusalKind.TheVariants as refusals
 use Rattle.swreq_valid.specs.declared.refused.Refused.{Refused}
@@ -128,13 +127,19 @@ never_passes limits (rule ∷ trace) which passes = of_birth rule.birth (passes.
 
 module _ (w : TextWorld) (limits : Limits) where
   -- no round has equations
-  never_stopped : {used : List Item} {told : List Event} (which : Which) (trace : List Rule)
-      → IsRound limits (protocols_of (emptied w)) used told → Passes limits 0 (given (protocols_of (emptied w)) used) trace which → ⊥
-  never_stopped which trace first passes = never_passes limits trace which passes
-  never_stopped which trace (next rules round ends none differs told_is) passes = never_passes limits trace which passes
+  never_stopped : {told : List Event} (which : Which) (trace : List Rule) → IsStoppedRound limits (protocols_of (emptied w)) which trace told → ⊥
+  never_stopped which trace h =
+      let s = stops_here which trace h.turns in
+      never_passes limits s.passed.trace s.passed.which
+      (subst (λ used. Passes limits 0 (given (protocols_of (emptied w)) used) s.passed.trace s.passed.which)
+      (none_of h.used (λ x c. no_member x (round_within h.round x c))) s.stops.1)
+    where
+      none_of : (used : List Item) → ((x : Item) → Contains used x → ⊥) → used ≡ []
+      none_of [] n = refl
+      none_of (x ∷ used) n = absurd (n x (first_member x used))
 
   unrefused : {refused : Refused} {told : List Event} → IsChecked limits (emptied w) (Some refused) told → ⊥
-  unrefused (protocols_refused (Limit which trace) real come) = never_stopped which trace come.round come.stops.1
+  unrefused (protocols_refused (Limit which trace) real come) = never_stopped which trace come
   unrefused (protocols_refused (NotATypeParameter at) real come) =
       let fails = come.2 in omega (arith, ap length fails.split, length-append fails.before (fails.side ∷ fails.after))
   unrefused (protocols_refused Memory real come) = real refl

@@ -57,7 +57,7 @@ module _ (limits : Limits) (plan : Plan) where
   comes_to_end used rules told l =
       let within : IsWithin limits (length plan.base) (given plan used) rules =
       record { reached = l.ends.1.ended.reached; kept = λ k rule b s e. l.ends.1.kept k rule b e } in
-      record { used = used; before = l.before; round = l.round; part = inr (rules, l.ends.0, within, l.told_is) }
+      record { used = used; first = l.first; before = l.before; round = l.round; part = inr (rules, l.due, l.ends.0, within, l.told_is) }
 
   -- where memory is wanting after the last round
   pub memory_at_end : (rules : List Rule) (old new : Option (List Event)) → Answers limits plan old new (Ok rules) → Answers limits plan old new (Err failed.Memory)

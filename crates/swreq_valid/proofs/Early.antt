@@ -14,18 +14,22 @@ use Rattle.swreq_watch.specs.declared.events.Event.{Event}
 use Rattle.swreq_complete.specs.declared.limit.Failed.{Failed}
 use Rattle.swreq_complete.specs.declared.limit.Failed.TheVariants.{Limit, Memory}
 use Rattle.swreq_complete.specs.declared.limit.Limits.{Limits}
+use Rattle.swreq_complete.specs.declared.limit.Which.{Which}
 use Rattle.swreq_complete.specs.Answers.{IsAnswer}
-use Rattle.swreq_complete.specs.Events.{TellsEvents}
+use Rattle.swreq_complete.specs.Events.{TellsEvents, events}
 use Rattle.swreq_complete.specs.Limits.{IsWithin}
 use Rattle.swreq_complete.specs.Moments.{Before, HasSides}
 use Rattle.swreq_complete.specs.Reached.{IsReached}
+use Rattle.swreq_complete.specs.Short.{IsOfEquation}
 use Rattle.swreq_complete.proofs.Outcome.{answers_are_one, within_is_prefix}
 use Rattle.swreq_rounds.specs.Plan.{Plan, given}
-use Rattle.swreq_rounds.specs.Rounds.IsRound.{first}
-use Rattle.swreq_watch.proofs.Told.{grew_none}
+use Rattle.swreq_rounds.specs.Rounds.{IsClosed}
+use Rattle.swreq_rounds.specs.Rounds.IsRound.{begin}
+use Rattle.swreq_rounds.specs.Rounds.Turns.{stops}
+use Rattle.swreq_rounds.proofs.OneOutcome.{closed_among}
 use Rattle.swreq_valid.specs.Answers.{Answers}
 use Rattle.swreq_valid.specs.Early.{IsFront, IsLimitAmong, StopsAmong, is_given, is_of_equation}
-use Rattle.swreq_valid.proofs.Running.{fails, same_answer, same_told}
+use Rattle.swreq_valid.proofs.Running.{same_answer, same_told}
 
 abbrev Equations : Type 0
 Equations = List (List Symbol × List Symbol)
@@ -119,12 +123,45 @@ module _ (limits : Limits) (front : Equations) (s : StopsAmong limits front) whe
     front_told Memory old new (inl h) = inl h
     front_told Memory old new (inr (trace, b, w, h)) = inr (trace, b, front_within trace w, h)
 
+  of_equation : (b : Birth) → IsTrue (is_of_equation b) → IsOfEquation b
+  of_equation (Given n) t = tt
+  of_equation (Pair i j at) t = absurd cc
+
+  -- where a rule that the first equations bear passes a limit, no others join by the first round
+  closed_first : (plan : Plan) (which : Which) (trace : List Rule) → IsAnswer limits [] front (Err (Limit which trace))
+      → IsAnswer limits plan.base (given plan []) (Err (Limit which trace)) → IsClosed limits plan []
+  closed_first plan which trace h a =
+      closed_among limits plan [] which trace
+      (a.0, record { passes = a.1; of_equations = λ k rule lo e. of_equation rule.birth (among_within trace h.1.within k rule e) })
+
+  first_fails : (plan : Plan) (e : Failed) (old new : Option (List Event)) → IsAnswer limits [] front (Err e)
+      → IsAnswer limits plan.base (given plan []) (Err e) → TellsEvents limits plan.base (given plan []) old new (Err e) → Answers limits plan old new (Err e)
+  first_fails plan (Limit which trace) old new h a t = (
+    events (length plan.base) trace,
+    record {
+      used = [];
+      first = None;
+      before = [];
+      now = events (length plan.base) trace;
+      round = begin;
+      turns = stops (record { which = which; trace = trace }) tt a refl (inr (closed_first plan which trace h a, refl));
+      told_is = refl;
+    },
+    t,
+  )
+  first_fails plan Memory old new h a (inl t) = ([], record { used = []; first = None; before = []; round = begin; part = inl refl }, t)
+  first_fails plan Memory old new h a (inr (trace, b, w, t)) = (
+    events (length plan.base) trace,
+    record { used = []; first = None; before = []; round = begin; part = inr (trace, tt, b, w, refl) },
+    t,
+  )
+
   -- the first round of a plan with more basic equations, over no rules, fails as the first equations do
   pub first_round_fails : (plan : Plan) (e : Failed) (old new : Option (List Event)) → plan.base ≡ [] → IsFront front plan.basic
       → IsAnswer limits [] front (Err e) → TellsEvents limits [] front old new (Err e) → Answers limits plan old new (Err e)
   first_round_fails plan e old new over (more, is) h t =
       let all : front ++ more ≡ given plan [] = sym is ∙ sym (append-nil plan.basic) in
-      fails limits plan [] [] old old new first (grew_none old) e
+      first_fails plan e old new h
       (same_answer limits plan.base [] (front ++ more) (given plan []) (Err e) (sym over) all (front_answer more e h))
       (same_told limits plan.base [] (front ++ more) (given plan []) old new (Err e) (sym over) all (front_told more e old new t))
 

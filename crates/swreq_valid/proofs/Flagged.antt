@@ -1,12 +1,13 @@
 -- Flags from round to round.
-use Rattle.std.proofs.lemmas.List.{drop_more}
-use Rattle.std.proofs.Common.{◌≡◌, refl, sym, ap, ap₂, drop, get_or, replicate, ◌∙◌, ℕ, zero, suc, ◌<◌, ◌≤◌, ◌+◌, arith, Bool, true, false, List, [], ◌∷◌, ◌++◌, length, map, Contains, IsTrue, true≢false}
+use Rattle.std.proofs.lemmas.List.{drop_all, drop_more}
+use Rattle.std.proofs.Common.{◌≡◌, ◌⊎◌, inl, inr, refl, sym, subst, ap, ap₂, drop, get_or, replicate, ◌∙◌, ℕ, zero, suc, ◌<◌, ◌≤◌, ◌+◌, arith, Bool, true, false, List, [], ◌∷◌, ◌++◌, length, map, Contains, IsTrue, true≢false}
 use Rattle.std.specs.Bool.{Decides, if◌then◌else◌, beq}
 use Rattle.std.specs.List.{list_all}
 use Rattle.swreq_orders.proofs.Members.{first_member, later_member}
 use Rattle.swreq_rounds.specs.Rounds.{Selects}
 use Rattle.swreq_rounds.specs.Rounds.Selects.{none, takes, leaves}
-use Rattle.swreq_valid.specs.Flags.{chosen, Tells, unset}
+use Rattle.swreq_rounds.proofs.Members.{selected}
+use Rattle.swreq_valid.specs.Flags.{chosen, Tells, TellsMore, either_of, is_either, unset}
 
 module _ {A : Type 0} where
   -- flags of which none is set choose nothing
@@ -138,6 +139,81 @@ others_chosen {P = P} xs cs bs e t h n same =
     let d = count_chosen xs bs (tells_length P xs bs t) in
     let k : length (chosen xs bs) ≡ length (chosen xs cs) = ap length same in
     omega (arith, a, b, d, k)
+
+-- ---- flags by item, and flags of more
+
+module _ {A : Type 0} where
+  -- what is chosen has what the flags tell
+  chosen_told : (P : A → Type 0) (xs : List A) (bs : List Bool) → Tells P xs bs → (x : A) → Contains (chosen xs bs) x → P x
+  chosen_told P xs bs t x h = (selected (tells_selects xs bs t) x h).1
+
+  told_among : (P : A → Type 0) (ys : List A) → ((x : A) → Contains ys x → P x) → (xs : List A) (bs : List Bool) → Tells P xs bs
+      → ((x : A) → Contains (chosen xs bs) x → Contains ys x) → Tells (Contains ys) xs bs
+  told_among P ys to [] [] t h = tt
+  told_among P ys to [] (b ∷ bs) t h = t
+  told_among P ys to (x ∷ xs) [] t h = t
+  told_among P ys to (x ∷ xs) (true ∷ bs) t h =
+      (((λ k. h x (first_member x (chosen xs bs))), λ k. refl), told_among P ys to xs bs t.1 (λ y c. h y (later_member x y (chosen xs bs) c)))
+  told_among P ys to (x ∷ xs) (false ∷ bs) t h = (((λ k. absurd (true≢false (sym k))), λ k. t.0.1 (to x k)), told_among P ys to xs bs t.1 h)
+
+  -- flags that tell of a property are set for just the chosen ones
+  pub by_item : (P : A → Type 0) (xs : List A) (bs : List Bool) → Tells P xs bs → Tells (Contains (chosen xs bs)) xs bs
+  by_item P xs bs t = told_among P (chosen xs bs) (λ x h. chosen_told P xs bs t x h) xs bs t (λ x h. h)
+
+  none_told : (xs : List A) → Tells (λ x. ⊥) xs (replicate (length xs) false)
+  none_told [] = tt
+  none_told (x ∷ xs) = (((λ k. absurd (true≢false (sym k))), λ k. absurd k), none_told xs)
+
+  pub none_by_item : (xs : List A) (bs : List Bool) → bs ≡ replicate (length xs) false → Tells (Contains (chosen xs bs)) xs bs
+  none_by_item xs bs e = by_item (λ x. ⊥) xs bs (subst (Tells (λ x. ⊥) xs) (sym e) (none_told xs))
+
+  -- flags that are set in either of two lists
+  pub either_tells : (P : A → Type 0) (xs : List A) (bs cs : List Bool) → length bs ≡ length xs → Tells P xs cs → TellsMore P xs bs (either_of bs cs)
+  either_tells P [] [] [] e t = tt
+  either_tells P [] (b ∷ bs) cs e t = absurd (omega (arith, e))
+  either_tells P [] [] (c ∷ cs) e t = absurd t
+  either_tells P (x ∷ xs) [] cs e t = absurd (omega (arith, e))
+  either_tells P (x ∷ xs) (b ∷ bs) [] e t = absurd t
+  either_tells P (x ∷ xs) (true ∷ bs) (c ∷ cs) e t = (((λ k. inl refl), λ k. refl), either_tells P xs bs cs (omega (arith, e)) t.1)
+  either_tells P (x ∷ xs) (false ∷ bs) (c ∷ cs) e t =
+      (((λ k. inr (t.0.0 k)), λ k. elim k [ inl z ↦ absurd (true≢false (sym z)) | inr z ↦ t.0.1 z ]), either_tells P xs bs cs (omega (arith, e)) t.1)
+
+  more_among : (P : A → Type 0) (ys : List A) (xs : List A) (bs cs : List Bool) → Tells (Contains ys) xs bs → TellsMore P xs bs cs
+      → Tells (λ x. Contains ys x ⊎ P x) xs cs
+  more_among P ys [] [] [] t m = tt
+  more_among P ys [] [] (c ∷ cs) t m = m
+  more_among P ys [] (b ∷ bs) cs t m = absurd t
+  more_among P ys (x ∷ xs) [] cs t m = absurd t
+  more_among P ys (x ∷ xs) (b ∷ bs) [] t m = m
+  more_among P ys (x ∷ xs) (b ∷ bs) (c ∷ cs) t m = (
+    ((λ k. elim (m.0.0 k) [ inl z ↦ inl (t.0.0 z) | inr z ↦ inr z ]), λ k. m.0.1 (elim k [ inl z ↦ inl (t.0.1 z) | inr z ↦ inr z ])),
+    more_among P ys xs bs cs t.1 m.1,
+  )
+
+  -- the flags of those that were chosen, and of those of which P holds
+  pub more_told : (P : A → Type 0) (xs : List A) (bs cs : List Bool) → Tells (Contains (chosen xs bs)) xs bs → TellsMore P xs bs cs
+      → Tells (λ x. Contains (chosen xs bs) x ⊎ P x) xs cs
+  more_told P xs bs cs t m = more_among P (chosen xs bs) xs bs cs t m
+
+-- what is left from a place on of the flags of either list
+pub either_from : (a b : List Bool) (k : ℕ) (c d : Bool) → k < length a → k < length b
+    → either_of (drop k a) (drop k b) ≡ is_either (get_or a k c) (get_or b k d) ∷ either_of (drop (k + 1) a) (drop (k + 1) b)
+either_from a b k c d l m = ap₂ either_of (drop_more a k c l) (drop_more b k d m)
+
+pub none_of_either : (a b : List Bool) (k : ℕ) → length a ≤ k → either_of (drop k a) (drop k b) ≡ []
+none_of_either a b k l = ap (λ z. either_of z (drop k b)) (drop_all k a l)
+
+pub more_to : {A : Type 0} (P Q : A → Type 0) → ((x : A) → P x → Q x) → ((x : A) → Q x → P x) → (xs : List A) (bs cs : List Bool)
+    → TellsMore P xs bs cs → TellsMore Q xs bs cs
+more_to P Q to back [] [] [] t = t
+more_to P Q to back [] [] (c ∷ cs) t = absurd t
+more_to P Q to back [] (b ∷ bs) cs t = absurd t
+more_to P Q to back (x ∷ xs) [] cs t = absurd t
+more_to P Q to back (x ∷ xs) (b ∷ bs) [] t = absurd t
+more_to P Q to back (x ∷ xs) (b ∷ bs) (c ∷ cs) t = (
+  ((λ h. elim (t.0.0 h) [ inl z ↦ inl z | inr z ↦ inr (to x z) ]), λ h. t.0.1 (elim h [ inl z ↦ inl z | inr z ↦ inr (back x z) ])),
+  more_to P Q to back xs bs cs t.1,
+)
 
 pub flags_decide : (a b : Bool) → Decides (beq a b) (a ≡ b)
 flags_decide true true = ((λ h. refl), λ h. refl)

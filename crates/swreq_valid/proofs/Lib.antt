@@ -1,6 +1,8 @@
 pub mod Flagged
 pub mod Planning
 pub mod Running
+pub mod Turned
+pub mod ByReduction
 pub mod FirstSide
 pub mod Deriving
 pub mod Listing

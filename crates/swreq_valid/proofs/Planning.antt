@@ -7,12 +7,13 @@ use Rattle.std.proofs.lemmas.List.{append-nil, drop_all, map-append}
 use Rattle.std.proofs.lemmas.Simd.{map-map}
 use Rattle.swreq_param.specs.Terms.{Term}
 use Rattle.swreq_rule.specs.declared.rules.Rule.{Rule}
+use Rattle.swreq_complete.specs.Alike.{ReduceAlike}
 use Rattle.swreq_derive.specs.Derivation.{TermRequirement, TermFacts}
 use Rattle.swreq_derive.specs.Facts.{generic_params, requirement_of}
 use Rattle.swreq_correspondence.specs.Symbols.{Word, Symbols}
 use Rattle.swreq_correspondence.specs.Shown.{ShowsUsable, ShowsValid}
 use Rattle.swreq_correspondence.proofs.Shown.{shown_by_params, usable_by_params}
-use Rattle.swreq_rounds.specs.Plan.{equation_of, given, AreShown}
+use Rattle.swreq_rounds.specs.Plan.{AreShown, AreShownByReduction, Item, equation_of, given}
 use Rattle.swreq_symbols.specs.declared.over.Over.{Over}
 use Rattle.swreq_symbols.specs.declared.over.Over.TheVariants.{Signature, Protocol}
 use Rattle.swreq_symbols.specs.Meaning.{facts_of, symbols_of}
@@ -51,19 +52,31 @@ module _ (w : IdWorld) (terms : List Term) where
   abbrev f : TermFacts
   f = facts_of (world_by terms w)
 
-  -- the rules show the requirement usable
+  -- the congruence shows the requirement usable
+  abbrev pub IsToldBy : (Word → Word → Type 0) → RoundRequirement → Type 0
+  IsToldBy C x = ShowsUsable m f (source_over x.over) C (requirement_of terms x.requirement)
+
+  -- the rules do
   abbrev pub IsTold : List Rule → RoundRequirement → Type 0
-  IsTold rules x = ShowsUsable m f (source_over x.over) (Links rules) (requirement_of terms x.requirement)
+  IsTold rules x = IsToldBy (Links rules) x
+
+  pub told_by : (start : RoundStart) (C : Word → Word → Type 0) (bs : List Bool) → Tells (IsToldBy C) start.all.items bs
+      → Tells (λ (i : Item). ShowsUsable m f i.source C i.requirement) (items_of terms start.all.items) bs
+  told_by start C bs t =
+      let rs = says terms start.all.items in
+      tells_map (λ (i : Item). ShowsUsable m f i.source C i.requirement) (item_of terms rs) start.all.items bs
+      (tells_to (IsToldBy C) (λ x. ShowsUsable m f (item_of terms rs x).source C (item_of terms rs x).requirement)
+      (λ x h. to_list m f rs C (requirement_of terms x.requirement) x.over h)
+      (λ x h. from_list m f rs C (requirement_of terms x.requirement) x.over h)
+      start.all.items bs t)
 
   pub told_shown : (start : RoundStart) (rules base : List Rule) (bs : List Bool) → Tells (IsTold rules) start.all.items bs
       → Tells (AreShown (plan_of w terms base start) rules) (items_of terms start.all.items) bs
-  told_shown start rules base bs t =
-      let rs = says terms start.all.items in
-      tells_map (AreShown (plan_of w terms base start) rules) (item_of terms rs) start.all.items bs
-      (tells_to (IsTold rules) (λ x. AreShown (plan_of w terms base start) rules (item_of terms rs x))
-      (λ x h. to_list m f rs (Links rules) (requirement_of terms x.requirement) x.over h)
-      (λ x h. from_list m f rs (Links rules) (requirement_of terms x.requirement) x.over h)
-      start.all.items bs t)
+  told_shown start rules base bs t = told_by start (Links rules) bs t
+
+  pub told_reduced : (start : RoundStart) (rules base : List Rule) (bs : List Bool) → Tells (IsToldBy (ReduceAlike rules)) start.all.items bs
+      → Tells (AreShownByReduction (plan_of w terms base start) rules) (items_of terms start.all.items) bs
+  told_reduced start rules base bs t = told_by start (ReduceAlike rules) bs t
 
   -- the equation of what the code has of a requirement
   abbrev pub equation_for : RoundStart → RoundRequirement → Word × Word

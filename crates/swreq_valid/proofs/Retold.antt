@@ -1,5 +1,5 @@
 -- What is told once more of rounds is what they told.
-use Rattle.std.proofs.Common.{◌≡◌, ◌⊎◌, ◌∙◌, inl, inr, refl, sym, ap, subst, ℕ, zero, suc, ◌+◌, ◌<◌, ◌≤◌, arith, Bool, List, [], ◌∷◌, ◌++◌, append_assoc, append-nil, length, map, take, drop, get_or, slice_get, Some, Option, Ok, Err, false, replicate}
+use Rattle.std.proofs.Common.{◌≡◌, ◌⊎◌, ◌∙◌, inl, inr, refl, sym, ap, subst, ℕ, zero, suc, ◌+◌, ◌<◌, ◌≤◌, arith, Bool, List, [], ◌∷◌, ◌++◌, append_assoc, append-nil, length, map, take, drop, get_or, slice_get, Some, None, Contains, Option, Ok, Err, false, replicate}
 use Rattle.std.proofs.lemmas.Bool.{cases_lt}
 use Rattle.std.proofs.lemmas.List.{drop_all, drop-append-le, length-replicate, length-take, map-append, take-take, take_more}
 use Rattle.std.proofs.lemmas.Option.{get_or_from_slice_get, slice_get_within}
@@ -23,15 +23,18 @@ use Rattle.swreq_complete.specs.RulesAt.{RulesAt}
 use Rattle.swreq_complete.specs.Settled.{Bears, BearsNone, SettledBy}
 use Rattle.swreq_complete.proofs.Moments.{not_both}
 use Rattle.swreq_rounds.specs.Plan.{AreShown, Item, Plan, given}
-use Rattle.swreq_rounds.specs.Rounds.{ComesTo, Ends, IsOutcome, IsRound}
-use Rattle.swreq_rounds.specs.Rounds.IsRound.{first, next}
+use Rattle.swreq_rounds.specs.Rounds.{ComesTo, Ends, IsDue, IsOutcome, IsRound, Passed, Stops}
+use Rattle.swreq_rounds.specs.Rounds.IsRound.{after, begin}
+use Rattle.swreq_rounds.specs.Rounds.Turns.{ends, joins, stops}
 use Rattle.swreq_rounds.proofs.Growing.{round_shows}
-use Rattle.swreq_valid.specs.Again.{IsFront, TellsFront, events_of}
+use Rattle.swreq_valid.specs.Again.{IsFront, IsFrontOf, TellsRound, events_of, round_events}
 use Rattle.swreq_valid.specs.Answers.{Answers}
 use Rattle.swreq_valid.specs.Flags.{Tells, chosen}
-use Rattle.swreq_valid.specs.Rounds.{AreRounds, AreRoundsFrom, RoundView, last_rules}
-use Rattle.swreq_valid.specs.Rounds.AreRoundsFrom.{before_others, the_last}
-use Rattle.swreq_valid.proofs.Flagged.{chosen_unset, others_chosen, tells_length, tells_selects}
+use Rattle.swreq_valid.specs.Rounds.{AreJoined, AreRounds, AreRoundsFrom, RoundView, ended_round, last_rules, short_round, stopped_round}
+use Rattle.swreq_valid.specs.Rounds.AreRoundsFrom.{before_others, begun_anew, once_more, the_last}
+use Rattle.swreq_valid.specs.Underway.{AreByItem}
+use Rattle.swreq_valid.proofs.Flagged.{by_item, chosen_unset, none_by_item, others_chosen, tells_length, tells_selects}
+use Rattle.swreq_valid.proofs.Turned.{begun_by, more_by_item}
 
 -- ---- a front of a reached trace is reached
 
@@ -137,20 +140,21 @@ one_birth base k rules rule from e =
     ∙ ap (λ (rs : List Rule). Start base ∷ map Born rs) (drop-append-le base (take k rules) (rule ∷ []) (omega (arith, l, w, from)))
     ∙ ap (λ (es : List Event). Start base ∷ es) (map-append Born (drop base (take k rules)) (rule ∷ []))
 
-pub one_round : (base : ℕ) (rounds : List RoundView) (r : RoundView) → events_of base (rounds ++ r ∷ []) ≡ events_of base rounds ++ events base r.rules
-one_round base [] r = append-nil (events base r.rules)
+pub one_round : (base : ℕ) (rounds : List RoundView) (r : RoundView)
+    → events_of base (rounds ++ r ∷ []) ≡ events_of base rounds ++ round_events base r
+one_round base [] r = append-nil (round_events base r)
 one_round base (s ∷ rounds) r =
-    ap (λ (es : List Event). events base s.rules ++ es) (one_round base rounds r)
-    ∙ sym (append_assoc (events base s.rules) (events_of base rounds) (events base r.rules))
+    ap (λ (es : List Event). round_events base s ++ es) (one_round base rounds r)
+    ∙ sym (append_assoc (round_events base s) (events_of base rounds) (round_events base r))
 
 pub one_more_round : (base : ℕ) (rounds : List RoundView) (k : ℕ) (r : RoundView) (old mid new : Option (List Event)) → k < length rounds
-    → get_or rounds k r ≡ r → GrewBy old mid (events_of base (take k rounds)) → GrewBy mid new (events base r.rules)
+    → get_or rounds k r ≡ r → GrewBy old mid (events_of base (take k rounds)) → GrewBy mid new (round_events base r)
     → GrewBy old new (events_of base (take (k + 1) rounds))
 one_more_round base rounds k r old mid new l is grew more =
     let longer : take (k + 1) rounds ≡ take k rounds ++ r ∷ [] =
     take_more rounds k r l ∙ ap (λ (x : RoundView). take k rounds ++ x ∷ []) is in
     subst (λ (es : List Event). GrewBy old new es) (sym (ap (events_of base) longer ∙ one_round base (take k rounds) r))
-    (grew_on old mid new (events_of base (take k rounds)) (events base r.rules) grew more)
+    (grew_on old mid new (events_of base (take k rounds)) (round_events base r) grew more)
 
 -- ---- what rounds that came to their end tell once more
 
@@ -158,80 +162,163 @@ module _ (limits : Limits) (plan : Plan) where
   abbrev base : ℕ
   base = length plan.base
 
-  last_of_others : {used : List Bool} {others : List RoundView} (r : RoundView) → AreRoundsFrom limits plan used others
+  last_of_others : {used : List Bool} {first : Option Passed} {others : List RoundView} (r : RoundView) → AreRoundsFrom limits plan used first others
       → last_rules (r ∷ others) ≡ last_rules others
-  last_of_others r (the_last ends t) = refl
-  last_of_others r (before_others ends t n rest) = refl
+  last_of_others r (the_last due e t) = refl
+  last_of_others r (before_others due e t n rest) = refl
+  last_of_others r (begun_anew p s j rest) = refl
+  last_of_others r (once_more j rest) = refl
+
+  -- a round of flags, and what those before it told
+  abbrev IsAt : List Bool → Option Passed → List Event → Type 0
+  IsAt used first before = AreByItem plan.all used × IsRound limits plan (chosen plan.all used) first before
 
   -- the round after one that ends
-  next_round : (used usable : List Bool) (before : List Event) → length used ≡ length plan.all → IsRound limits plan (chosen plan.all used) before
-      → (rules : List Rule) → Ends limits plan (chosen plan.all used) rules → Tells (AreShown plan rules) plan.all usable → (usable ≡ used → ⊥)
-      → IsRound limits plan (chosen plan.all usable) (before ++ events base rules)
-  next_round used usable before l round rules ends t n =
-      next rules round ends (tells_selects plan.all usable t)
-      (others_chosen plan.all used usable l t (λ x c. round_shows limits plan round rules ends x c) n) refl
+  next_round : (used usable : List Bool) (first : Option Passed) (before : List Event) → IsAt used first before
+      → (rules : List Rule) → IsDue limits plan (chosen plan.all used) first → Ends limits plan (chosen plan.all used) rules
+      → Tells (AreShown plan rules) plan.all usable → (usable ≡ used → ⊥) → IsAt usable None (before ++ events base rules)
+  next_round used usable first before at rules due end t n = (
+    by_item (AreShown plan rules) plan.all usable t,
+    after at.1 (ends rules due end refl (chosen plan.all usable, tells_selects plan.all usable t, inr (
+      others_chosen plan.all used usable (tells_length (Contains (chosen plan.all used)) plan.all used at.0) t
+          (λ x c. round_shows limits plan at.1 rules end x c) n,
+      refl,
+    ))) refl,
+  )
 
-  all_again : (used : List Bool) (before : List Event) → length used ≡ length plan.all → IsRound limits plan (chosen plan.all used) before
-      → (rounds : List RoundView) → AreRoundsFrom limits plan used rounds → IsOutcome limits plan (Ok (last_rules rounds)) (before ++ events_of base rounds)
-  all_again used before l round _ (the_last {rules = rules} ends t) = (
+  -- the one after a round that is begun anew
+  anew_round : (used more : List Bool) (before : List Event) → IsAt used None before → (rules : List Rule) (p : Passed)
+      → Stops limits plan (chosen plan.all used) p.which p.trace → AreJoined limits plan used rules more
+      → IsAt more (Some p) (before ++ events base p.trace)
+  anew_round used more before at rules p stop j = (
+    more_by_item limits plan used at.0 rules more j,
+    after at.1 (stops p tt stop refl (inl (begun_by limits plan used at.0 rules more j p))) refl,
+  )
+
+  -- the one after a short round
+  short_after : (used more : List Bool) (before : List Event) (p : Passed) → IsAt used (Some p) before → (rules : List Rule)
+      → AreJoined limits plan used rules more → IsAt more (Some p) before
+  short_after used more before p at rules j = (
+    more_by_item limits plan used at.0 rules more j,
+    after at.1 (joins p refl (begun_by limits plan used at.0 rules more j p) refl) (sym (append-nil before)),
+  )
+
+  on_again : (r : RoundView) (more : List Bool) (later : Option Passed) (before : List Event) (others : List RoundView)
+      → AreRoundsFrom limits plan more later others
+      → IsOutcome limits plan (Ok (last_rules others)) ((before ++ round_events base r) ++ events_of base others)
+      → IsOutcome limits plan (Ok (last_rules (r ∷ others))) (before ++ events_of base (r ∷ others))
+  on_again r more later before others rest h =
+      subst (λ (end : List Rule). IsOutcome limits plan (Ok end) (before ++ (round_events base r ++ events_of base others))) (sym (last_of_others r rest))
+      (subst (λ (es : List Event). IsOutcome limits plan (Ok (last_rules others)) es) (append_assoc before (round_events base r) (events_of base others)) h)
+
+  later_part : (r : RoundView) (before : List Event) (others : List RoundView) (k : ℕ) (part : List Event)
+      → ComesTo limits plan ((before ++ round_events base r) ++ (events_of base (take k others) ++ part))
+      → ComesTo limits plan (before ++ (events_of base (take (suc k) (r ∷ others)) ++ part))
+  later_part r before others k part h =
+      subst (λ (es : List Event). ComesTo limits plan es)
+      (append_assoc before (round_events base r) (events_of base (take k others) ++ part)
+      ∙ ap (λ (es : List Event). before ++ es) (sym (append_assoc (round_events base r) (events_of base (take k others)) part))) h
+
+  all_again : (used : List Bool) (first : Option Passed) (before : List Event) → IsAt used first before → (rounds : List RoundView)
+      → AreRoundsFrom limits plan used first rounds → IsOutcome limits plan (Ok (last_rules rounds)) (before ++ events_of base rounds)
+  all_again used first before at _ (the_last {rules = rules} due end t) = (
     chosen plan.all used,
     record {
+      first = first;
       before = before;
-      round = round;
-      ends = ends;
+      round = at.1;
+      due = due;
+      ends = end;
       repeats = tells_selects plan.all used t;
       told_is = ap (λ (es : List Event). before ++ es) (append-nil (events base rules));
     },
   )
-  all_again used before l round _ (before_others {usable = usable} {rules = rules} {others = others} ends t n rest) =
-      let later = all_again usable (before ++ events base rules) (tells_length (AreShown plan rules) plan.all usable t)
-      (next_round used usable before l round rules ends t n) others rest in
-      subst (λ (end : List Rule). IsOutcome limits plan (Ok end) (before ++ (events base rules ++ events_of base others)))
-      (sym (last_of_others (record { used = used; rules = rules }) rest))
-      (subst (λ (es : List Event). IsOutcome limits plan (Ok (last_rules others)) es) (append_assoc before (events base rules) (events_of base others)) later)
+  all_again used first before at _ (before_others {usable = usable} {rules = rules} {others = others} due end t n rest) =
+      on_again (ended_round used rules) usable None before others rest
+      (all_again usable None (before ++ events base rules) (next_round used usable first before at rules due end t n) others rest)
+  all_again used first before at _ (begun_anew {more = more} {rules = rules} {others = others} p s j rest) =
+      on_again (stopped_round used p.trace rules) more (Some p) before others rest
+      (all_again more (Some p) (before ++ events base p.trace) (anew_round used more before at rules p s j) others rest)
+  all_again used first before at _ (once_more {more = more} {passed = p} {rules = rules} {others = others} j rest) =
+      on_again (short_round used rules) more (Some p) before others rest
+      (subst (λ (es : List Event). IsOutcome limits plan (Ok (last_rules others)) (es ++ events_of base others)) (sym (append-nil before))
+      (all_again more (Some p) before (short_after used more before p at rules j) others rest))
 
-  -- a round that ends comes as far as each front of its rules
-  front_comes : (used : List Item) (before part : List Event) → IsRound limits plan used before → (rules : List Rule) → Ends limits plan used rules
-      → IsFront base rules part → ComesTo limits plan (before ++ part)
-  front_comes used before part round rules ends (inl none) =
-      record { used = used; before = before; round = round; part = inl (ap (λ (es : List Event). before ++ es) none ∙ append-nil before) }
-  front_comes used before part round rules ends (inr (n, from, is)) =
-      let begins : BeginsWith plan.base (take n rules) = take-take base n rules from ∙ ends.0 in
-      let within : IsWithin limits base (given plan used) (take n rules) = record {
-        reached = front_reached base (given plan used) rules n from ends.1.ended.reached;
-        kept = λ k rule lo l e. ends.1.kept k rule lo (in_whole rules n k rule e);
+  -- a front of what the completion of a round told
+  front_comes : (used : List Item) (first : Option Passed) (before part : List Event) → IsRound limits plan used first before
+      → IsDue limits plan used first → (trace : List Rule) → BeginsWith plan.base trace → IsWithin limits base (given plan used) trace
+      → IsFront base trace part → ComesTo limits plan (before ++ part)
+  front_comes used first before part round due trace begins within (inl none) = record {
+    used = used;
+    first = first;
+    before = before;
+    round = round;
+    part = inl (ap (λ (es : List Event). before ++ es) none ∙ append-nil before);
+  }
+  front_comes used first before part round due trace begins within (inr (n, from, is)) =
+      let front : BeginsWith plan.base (take n trace) = take-take base n trace from ∙ begins in
+      let so_far : IsWithin limits base (given plan used) (take n trace) = record {
+        reached = front_reached base (given plan used) trace n from within.reached;
+        kept = λ k rule lo l e. within.kept k rule lo (let s = length-take n trace in omega (arith, l, s)) (in_whole trace n k rule e);
       } in
-      record { used = used; before = before; round = round; part = inr (take n rules, begins, within, ap (λ (es : List Event). before ++ es) is) }
+      record {
+        used = used;
+        first = first;
+        before = before;
+        round = round;
+        part = inr (take n trace, due, front, so_far, ap (λ (es : List Event). before ++ es) is);
+      }
 
-  part_again : (used : List Bool) (before : List Event) → length used ≡ length plan.all → IsRound limits plan (chosen plan.all used) before
-      → (rounds : List RoundView) → AreRoundsFrom limits plan used rounds → (k : ℕ) (d : RoundView) (part : List Event) → k < length rounds
-      → IsFront base (get_or rounds k d).rules part → ComesTo limits plan (before ++ (events_of base (take k rounds) ++ part))
-  part_again used before l round _ (the_last {rules = rules} ends t) zero d part w is = front_comes (chosen plan.all used) before part round rules ends is
-  part_again used before l round _ (the_last {rules = rules} ends t) (suc k) d part w is = absurd (omega (arith, w))
-  part_again used before l round _ (before_others {rules = rules} ends t n rest) zero d part w is =
-      front_comes (chosen plan.all used) before part round rules ends is
-  part_again used before l round _ (before_others {usable = usable} {rules = rules} {others = others} ends t n rest) (suc k) d part w is =
-      let later = part_again usable (before ++ events base rules) (tells_length (AreShown plan rules) plan.all usable t)
-      (next_round used usable before l round rules ends t n) others rest k d part (omega (arith, w)) is in
-      subst (λ (es : List Event). ComesTo limits plan es)
-      (append_assoc before (events base rules) (events_of base (take k others) ++ part)
-      ∙ ap (λ (es : List Event). before ++ es) (sym (append_assoc (events base rules) (events_of base (take k others)) part))) later
+  ended_within : (used : List Item) (rules : List Rule) → Ends limits plan used rules → IsWithin limits base (given plan used) rules
+  ended_within used rules end = record { reached = end.1.ended.reached; kept = λ k rule lo l e. end.1.kept k rule lo e }
+
+  part_again : (used : List Bool) (first : Option Passed) (before : List Event) → IsAt used first before → (rounds : List RoundView)
+      → AreRoundsFrom limits plan used first rounds → (k : ℕ) (d : RoundView) (part : List Event) → k < length rounds
+      → IsFrontOf base (get_or rounds k d).told part → ComesTo limits plan (before ++ (events_of base (take k rounds) ++ part))
+  part_again used first before at _ (the_last {rules = rules} due end t) zero d part w is =
+      front_comes (chosen plan.all used) first before part at.1 due rules end.0 (ended_within (chosen plan.all used) rules end) is
+  part_again used first before at _ (the_last due end t) (suc k) d part w is = absurd (omega (arith, w))
+  part_again used first before at _ (before_others {rules = rules} due end t n rest) zero d part w is =
+      front_comes (chosen plan.all used) first before part at.1 due rules end.0 (ended_within (chosen plan.all used) rules end) is
+  part_again used first before at _ (before_others {usable = usable} {rules = rules} {others = others} due end t n rest) (suc k) d part w is =
+      later_part (ended_round used rules) before others k part
+      (part_again usable None (before ++ events base rules) (next_round used usable first before at rules due end t n) others rest k d part
+      (omega (arith, w)) is)
+  part_again used first before at _ (begun_anew p s j rest) zero d part w is =
+      front_comes (chosen plan.all used) None before part at.1 tt p.trace s.0 s.1.within is
+  part_again used first before at _ (begun_anew {more = more} {rules = rules} {others = others} p s j rest) (suc k) d part w is =
+      later_part (stopped_round used p.trace rules) before others k part
+      (part_again more (Some p) (before ++ events base p.trace) (anew_round used more before at rules p s j) others rest k d part (omega (arith, w)) is)
+  part_again used first before at _ (once_more {passed = p} j rest) zero d part w is = record {
+    used = chosen plan.all used;
+    first = Some p;
+    before = before;
+    round = at.1;
+    part = inl (ap (λ (es : List Event). before ++ es) is ∙ append-nil before);
+  }
+  part_again used first before at _ (once_more {more = more} {passed = p} {rules = rules} {others = others} j rest) (suc k) d part w is =
+      later_part (short_round used rules) before others k part
+      (subst (λ (es : List Event). ComesTo limits plan (es ++ (events_of base (take k others) ++ part))) (sym (append-nil before))
+      (part_again more (Some p) before (short_after used more before p at rules j) others rest k d part (omega (arith, w)) is))
 
   module _ (rounds : List RoundView) (are : AreRounds limits plan rounds) (old new : Option (List Event)) where
-    begun : IsRound limits plan (chosen plan.all (replicate (length plan.all) false)) []
-    begun = subst (λ (used : List Item). IsRound limits plan used []) (sym (chosen_unset plan.all (length plan.all))) first
+    begun : IsAt (replicate (length plan.all) false) None []
+    begun = (
+      none_by_item plan.all (replicate (length plan.all) false) refl,
+      subst (λ (used : List Item). IsRound limits plan used None []) (sym (chosen_unset plan.all (length plan.all))) begin,
+    )
 
     pub told_again : GrewBy old new (events_of base rounds) → Answers limits plan old new (Ok (last_rules rounds))
     told_again grew = (
       events_of base rounds,
-      all_again (replicate (length plan.all) false) [] (length-replicate (length plan.all) false) begun rounds are,
+      all_again (replicate (length plan.all) false) None [] begun rounds are,
       grew,
     )
 
     pub lost_again : (k : ℕ) (d : RoundView) (mid : Option (List Event)) → k < length rounds → GrewBy old mid (events_of base (take k rounds))
-        → TellsFront base (get_or rounds k d).rules mid new → Answers limits plan old new (Err Memory)
+        → TellsRound base (get_or rounds k d) mid new → Answers limits plan old new (Err Memory)
     lost_again k d mid l grew (part, is, more) = (
       events_of base (take k rounds) ++ part,
-      part_again (replicate (length plan.all) false) [] (length-replicate (length plan.all) false) begun rounds are k d part l is,
+      part_again (replicate (length plan.all) false) None [] begun rounds are k d part l is,
       grew_on old mid new (events_of base (take k rounds)) part grew more,
     )

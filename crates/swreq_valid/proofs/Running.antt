@@ -1,6 +1,6 @@
 -- From what the code knows of a round to the answer of the rounds.
-use Rattle.std.proofs.Common.{◌≡◌, inl, inr, refl, sym, ap, subst, subst₂, ◌∙◌, suc, ◌-◌, ◌<◌, arith, get_or, Bool, List, [], ◌∷◌, ◌++◌, length, replicate, false, append_assoc, Contains, Option, Result, Ok, Err}
-use Rattle.std.proofs.lemmas.List.{append-nil, length-replicate}
+use Rattle.std.proofs.Common.{◌≡◌, inl, inr, refl, sym, ap, subst, subst₂, ◌∙◌, suc, ◌-◌, ◌<◌, arith, get_or, Bool, List, [], ◌∷◌, ◌++◌, length, replicate, false, append_assoc, Contains, Option, Some, None, Result, Ok, Err}
+use Rattle.std.proofs.lemmas.List.{append-nil}
 use Rattle.swreq_rule.specs.declared.rules.Rule.{Rule}
 use Rattle.swreq_watch.specs.declared.events.Event.{Event}
 use Rattle.swreq_watch.specs.Told.{GrewBy}
@@ -8,20 +8,25 @@ use Rattle.swreq_watch.proofs.Told.{grew_none, grew_on}
 use Rattle.swreq_complete.specs.declared.limit.Limits.{Limits}
 use Rattle.swreq_complete.specs.declared.limit.Failed.{Failed}
 use Rattle.swreq_complete.specs.declared.limit.Failed.TheVariants.{Limit, Memory}
+use Rattle.swreq_complete.specs.declared.limit.Which.{Which}
 use Rattle.swreq_complete.specs.Answers.{IsAnswer}
 use Rattle.swreq_complete.specs.Events.{events, TellsEvents}
 use Rattle.swreq_complete.specs.Limits.{IsWithin}
 use Rattle.swreq_correspondence.specs.Symbols.{Word}
 use Rattle.swreq_rounds.specs.Plan.{Item, Plan, given, AreShown}
-use Rattle.swreq_rounds.specs.Rounds.{Ends, LeavesUsable, IsRound}
-use Rattle.swreq_rounds.specs.Rounds.IsRound.{first, next}
+use Rattle.swreq_rounds.specs.Rounds.{Ends, IsRound, Stops}
+use Rattle.swreq_rounds.specs.Rounds.IsRound.{after, begin}
+use Rattle.swreq_rounds.specs.Rounds.Next.{ended}
 use Rattle.swreq_rounds.proofs.OneOutcome.{outcomes_are_one}
 use Rattle.swreq_rounds.proofs.Growing.{round_shows}
+use Rattle.swreq_rounds.proofs.Turning.{lasts}
 use Rattle.swreq_valid.specs.Answers.{Answers, IsOnlyOutcome}
-use Rattle.swreq_valid.specs.Flags.{chosen, Tells, unset}
+use Rattle.swreq_valid.specs.declared.underway.Turn.TheVariants.{Goes, Lasts}
+use Rattle.swreq_valid.specs.declared.underway.Underway.{Underway}
+use Rattle.swreq_valid.specs.Flags.{chosen, unset}
 use Rattle.swreq_valid.specs.Rounds.{AreRounds, AreRoundsFrom, RoundView, last_rules}
-use Rattle.swreq_valid.specs.Rounds.AreRoundsFrom.{before_others, the_last}
-use Rattle.swreq_valid.proofs.Flagged.{chosen_unset, tells_selects, tells_length, fewer_unset, others_chosen}
+use Rattle.swreq_valid.specs.Underway.{ComesTo, GoesTo, IsLastOf, IsPart, IsTaken, IsUnderway, first_of, used_by}
+use Rattle.swreq_valid.proofs.Flagged.{chosen_unset, none_by_item}
 
 pub same_answer : (limits : Limits) (base other : List Rule) (eqs more : List (Word × Word)) (r : Result (List Rule) Failed) → other ≡ base → eqs ≡ more
     → IsAnswer limits other eqs r → IsAnswer limits base more r
@@ -33,7 +38,7 @@ same_told limits base other eqs more old new r e f h = subst₂ (λ b g. TellsEv
 
 module _ (limits : Limits) (plan : Plan) where
   pub nothing_told : (old : Option (List Event)) → Answers limits plan old old (Err Memory)
-  nothing_told old = ([], record { used = []; before = []; round = first; part = inl refl }, grew_none old)
+  nothing_told old = ([], record { used = []; first = None; before = []; round = begin; part = inl refl }, grew_none old)
 
   -- an answer is the only one
   pub only : (old new : Option (List Event)) (a : Result (List Rule) Failed) → Answers limits plan old new a → IsOnlyOutcome limits plan a
@@ -42,55 +47,6 @@ module _ (limits : Limits) (plan : Plan) where
       elim (outcomes_are_one limits plan (Err (Limit which trace)) other h.0 told h.1 k) [ inl e ↦ inl e.0 | inr e ↦ inr e ]
   only old new (Err Memory) h other told k = inr (inl refl)
 
-  module _ (used : List Item) (before : List Event) (old mid new : Option (List Event)) (round : IsRound limits plan used before) (grew : GrewBy old mid before) where
-    -- the completion of a round fails
-    pub fails : (e : Failed) → IsAnswer limits plan.base (given plan used) (Err e) → TellsEvents limits plan.base (given plan used) mid new (Err e)
-        → Answers limits plan old new (Err e)
-    fails (Limit which trace) h t = (
-      before ++ events (length plan.base) trace,
-      record { used = used; before = before; round = round; stops = h; told_is = refl },
-      grew_on old mid new before (events (length plan.base) trace) grew t,
-    )
-    fails Memory h (inl t) = (
-      before,
-      record { used = used; before = before; round = round; part = inl refl },
-      subst (λ z. GrewBy old new z) (append-nil before) (grew_on old mid new before [] grew t),
-    )
-    fails Memory h (inr (trace, b, w, t)) = (
-      before ++ events (length plan.base) trace,
-      record { used = used; before = before; round = round; part = inr (trace, b, w, refl) },
-      grew_on old mid new before (events (length plan.base) trace) grew t,
-    )
-
-    -- it ends
-    module _ (rules : List Rule) (ends : Ends limits plan used rules) (told : GrewBy mid new (events (length plan.base) rules)) where
-      within : IsWithin limits (length plan.base) (given plan used) rules
-      within = record { reached = ends.1.ended.reached; kept = λ k rule b l e. ends.1.kept k rule b e }
-
-      all_told : GrewBy old new (before ++ events (length plan.base) rules)
-      all_told = grew_on old mid new before (events (length plan.base) rules) grew told
-
-      -- and then memory is wanting
-      pub memory_after : Answers limits plan old new (Err Memory)
-      memory_after = (
-        before ++ events (length plan.base) rules,
-        record { used = used; before = before; round = round; part = inr (rules, ends.0, within, refl) },
-        all_told,
-      )
-
-      -- and its usable requirements are those that it used
-      pub ends_last : LeavesUsable plan rules used → Answers limits plan old new (Ok rules)
-      ends_last r = (
-        before ++ events (length plan.base) rules,
-        (used, record { before = before; round = round; ends = ends; repeats = r; told_is = refl }),
-        all_told,
-      )
-
-      -- and there is a next round
-      pub goes_on : (usable : List Item) → LeavesUsable plan rules usable → (usable ≡ used → ⊥)
-          → (more : List Event) × IsRound limits plan usable more × GrewBy old new more
-      goes_on usable r n = (before ++ events (length plan.base) rules, next rules round ends r n refl, all_told)
-
 -- ---- the state between two rounds
 
 pub last_of_more : (rounds : List RoundView) (r : RoundView) → last_rules (rounds ++ r ∷ []) ≡ r.rules
@@ -98,71 +54,102 @@ last_of_more [] r = refl
 last_of_more (s ∷ []) r = refl
 last_of_more (s ∷ t ∷ rounds) r = last_of_more (t ∷ rounds) r
 
-pub last_is : (rounds : List RoundView) (d : RoundView) → 0 < length rounds → (get_or rounds (length rounds - 1) d).rules ≡ last_rules rounds
-last_is [] d l = absurd (omega (arith, l))
-last_is (r ∷ []) d l = refl
-last_is (r ∷ s ∷ rounds) d l =
-    let n : length (r ∷ s ∷ rounds) - 1 ≡ suc (length (s ∷ rounds) - 1) = omega arith in
-    ap (λ k. (get_or (r ∷ s ∷ rounds) k d).rules) n ∙ last_is (s ∷ rounds) d (omega arith)
-
--- The next round uses the requirements whose flags are set; the rounds so far and those from it on are all, and the watcher was told those
--- so far.
-pub record IsBefore (limits : Limits) (plan : Plan) (old : Option (List Event)) (used : List Bool) (rounds : List RoundView) (mid : Option (List Event)) : Type 0 where
-  pub flags : length used ≡ length plan.all
-  pub before : List Event
-  pub round : IsRound limits plan (chosen plan.all used) before
-  pub grew : GrewBy old mid before
-  pub lead : (others : List RoundView) → AreRoundsFrom limits plan used others → AreRounds limits plan (rounds ++ others)
+-- The rounds come to the one that is under way; those before it and those from it on are all, and the watcher was told what those before
+-- it told.
+pub record IsBefore (limits : Limits) (plan : Plan) (old : Option (List Event)) (u : Underway) (mid : Option (List Event)) : Type 0 where
+  pub told : List Event
+  pub underway : IsUnderway limits plan u told
+  pub grew : GrewBy old mid told
+  pub lead : (others : List RoundView) → AreRoundsFrom limits plan u.used.items (first_of u.first) others
+      → AreRounds limits plan (u.before.items ++ others)
 
 module _ (limits : Limits) (plan : Plan) (old : Option (List Event)) where
-  pub is_first : (used : List Bool) → used ≡ replicate (length plan.all) false → IsBefore limits plan old used [] old
-  is_first used e = record {
-    flags = ap length e ∙ length-replicate (length plan.all) false;
-    before = [];
-    round = subst (λ z. IsRound limits plan z []) (sym (ap (chosen plan.all) e ∙ chosen_unset plan.all (length plan.all))) first;
-    grew = grew_none old;
-    lead = λ others h. subst (λ z. AreRoundsFrom limits plan z others) e h;
-  }
+  pub is_first : (u : Underway) → u.used.items ≡ replicate (length plan.all) false → u.first ≡ None → u.before.items ≡ [] → IsBefore limits plan old u old
+  is_first u e f g =
+      let none = ap first_of f in record {
+        told = [];
+        underway = record {
+          flags = none_by_item plan.all u.used.items e;
+          round = subst₂ (λ z o. IsRound limits plan z o []) (sym (ap (chosen plan.all) e ∙ chosen_unset plan.all (length plan.all))) (sym none) begin;
+        };
+        grew = grew_none old;
+        lead = λ others h. subst (λ z. AreRounds limits plan (z ++ others)) (sym g)
+            (subst₂ (λ z o. AreRoundsFrom limits plan z o others) e none h);
+      }
 
-  module _ (used : List Bool) (rounds : List RoundView) (mid new : Option (List Event)) (is : IsBefore limits plan old used rounds mid) where
-    pub round_fails : (e : Failed) → IsAnswer limits plan.base (given plan (chosen plan.all used)) (Err e)
-        → TellsEvents limits plan.base (given plan (chosen plan.all used)) mid new (Err e) → Answers limits plan old new (Err e)
-    round_fails e h t = fails limits plan (chosen plan.all used) is.before old mid new is.round is.grew e h t
+  module _ (u : Underway) (mid new : Option (List Event)) (is : IsBefore limits plan old u mid) where
+    pub shows_used : (rules : List Rule) → Ends limits plan (used_by limits plan u) rules → (x : Item) → Contains (used_by limits plan u) x
+        → AreShown plan rules x
+    shows_used rules e x c = round_shows limits plan is.underway.round rules e x c
 
-    module _ (rules : List Rule) (ends : Ends limits plan (chosen plan.all used) rules) where
-      -- what the round uses it shows usable
-      pub shows_used : (x : Item) → Contains (chosen plan.all used) x → AreShown plan rules x
-      shows_used x c = round_shows limits plan is.round rules ends x c
+    limit_taken : (which : Which) (trace : List Rule) (now : List Event) → ComesTo limits plan u now (ended (Err (Limit which trace)))
+        → GrewBy mid new now → Answers limits plan old new (Err (Limit which trace))
+    limit_taken which trace now c g = (
+      is.told ++ now,
+      record {
+        used = used_by limits plan u;
+        first = first_of u.first;
+        before = is.told;
+        now = now;
+        round = is.underway.round;
+        turns = c;
+        told_is = refl;
+      },
+      grew_on old mid new is.told now is.grew g,
+    )
 
-      module _ (told : GrewBy mid new (events (length plan.base) rules)) where
-        pub wants_memory : Answers limits plan old new (Err Memory)
-        wants_memory = memory_after limits plan (chosen plan.all used) is.before old mid new is.round is.grew rules ends told
+    memory_taken : (part : List Event) → IsPart limits plan u part → GrewBy mid new part → Answers limits plan old new (Err Memory)
+    memory_taken part (inl e) g = (
+      is.told,
+      record { used = used_by limits plan u; first = first_of u.first; before = is.told; round = is.underway.round; part = inl refl },
+      subst (λ z. GrewBy old new z) (append-nil is.told) (grew_on old mid new is.told [] is.grew (subst (GrewBy mid new) e g)),
+    )
+    memory_taken part (inr (trace, due, b, w, e)) g = (
+      is.told ++ part,
+      record {
+        used = used_by limits plan u;
+        first = first_of u.first;
+        before = is.told;
+        round = is.underway.round;
+        part = inr (trace, due, b, w, ap (λ z. is.told ++ z) e);
+      },
+      grew_on old mid new is.told part is.grew g,
+    )
 
-        abbrev ended : RoundView
-        ended = record { used = used; rules = rules }
+    pub failed_taken : (e : Failed) → IsTaken limits plan u mid new (Err e) → Answers limits plan old new (Err e)
+    failed_taken (Limit which trace) (now, c, g) = limit_taken which trace now c g
+    failed_taken Memory (part, p, g) = memory_taken part p g
 
-        -- it is the last round
-        module _ (t : Tells (AreShown plan rules) plan.all used) where
-          pub is_last : Answers limits plan old new (Ok rules)
-          is_last = ends_last limits plan (chosen plan.all used) is.before old mid new is.round is.grew rules ends told (tells_selects plan.all used t)
+    pub last_taken : (rounds : List RoundView) → IsTaken limits plan u mid new (Ok (Lasts rounds)) → Answers limits plan old new (Ok (last_rules rounds))
+    last_taken rounds (now, l, g) =
+        let end = lasts l.turns in (
+          is.told ++ now,
+          (
+            used_by limits plan u,
+            record {
+              first = first_of u.first;
+              before = is.told;
+              round = is.underway.round;
+              due = end.due;
+              ends = end.ends;
+              repeats = end.repeats;
+              told_is = ap (λ z. is.told ++ z) end.told_is;
+            },
+          ),
+          grew_on old mid new is.told now is.grew g,
+        )
 
-          pub all_rounds : AreRounds limits plan (rounds ++ ended ∷ [])
-          all_rounds = is.lead (ended ∷ []) (the_last ends t)
+    pub all_rounds : (rounds : List RoundView) → IsTaken limits plan u mid new (Ok (Lasts rounds)) → AreRounds limits plan rounds
+    all_rounds rounds (now, l, g) = subst (AreRounds limits plan) (sym l.noted) (is.lead (l.round ∷ []) l.last)
 
-        -- another one follows
-        module _ (flags : List Bool) (t : Tells (AreShown plan rules) plan.all flags) (n : flags ≡ used → ⊥) where
-          pub is_next : IsBefore limits plan old flags (rounds ++ ended ∷ []) new
-          is_next =
-              let (later, r, g) = goes_on limits plan (chosen plan.all used) is.before old mid new is.round is.grew rules ends told
-              (chosen plan.all flags) (tells_selects plan.all flags t) (others_chosen plan.all used flags is.flags t shows_used n) in
-              record {
-                flags = tells_length (AreShown plan rules) plan.all flags t;
-                before = later;
-                round = r;
-                grew = g;
-                lead = λ others h. subst (AreRounds limits plan) (sym (append_assoc rounds (ended ∷ []) others))
-                    (is.lead (ended ∷ others) (before_others ends t n h));
-              }
+    pub is_next : (v : Underway) → IsTaken limits plan u mid new (Ok (Goes v)) → IsBefore limits plan old v new
+    is_next v (now, t, g) = record {
+      told = is.told ++ now;
+      underway = record { flags = t.flags; round = after is.underway.round t.turns refl };
+      grew = grew_on old mid new is.told now is.grew g;
+      lead = λ others h. subst (λ z. AreRounds limits plan (z ++ others)) (sym t.noted)
+          (subst (AreRounds limits plan) (sym (append_assoc u.before.items (t.round ∷ []) others)) (is.lead (t.round ∷ others) (t.lead others h)));
+    }
 
-          pub fewer_left : unset flags < unset used
-          fewer_left = fewer_unset plan.all used flags is.flags t shows_used n
+    pub fewer_left : (v : Underway) → IsTaken limits plan u mid new (Ok (Goes v)) → unset v.used.items < unset u.used.items
+    fewer_left v (now, t, g) = t.fewer

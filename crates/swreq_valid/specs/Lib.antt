@@ -12,3 +12,6 @@ pub mod Having
 pub mod Early
 pub mod Named
 pub mod Again
+pub mod ByReduction
+pub mod Courses
+pub mod Underway

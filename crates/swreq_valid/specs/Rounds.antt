@@ -5,7 +5,7 @@ use Rattle.swreq_rule.specs.declared.rules.Rule.{Rule}
 use Rattle.swreq_complete.specs.declared.limit.Limits.{Limits}
 use Rattle.swreq_complete.specs.declared.limit.Failed.{Failed}
 use Rattle.swreq_rounds.specs.Plan.{AreShown, AreShownByReduction, Plan}
-use Rattle.swreq_rounds.specs.Rounds.{Bears, Ends, IsDue, Passed, Stage, Stops}
+use Rattle.swreq_rounds.specs.Rounds.{Bears, Ends, IsDue, Passed, Stops}
 use Rattle.swreq_valid.specs.Flags.{Tells, TellsMore, chosen}
 
 -- A flag for each requirement, set where the round uses it; the rules that its completion told of, if it was completed; and the rules of the
@@ -27,9 +27,6 @@ stopped_round used trace rules = record { used = used; told = Some trace; rules 
 abbrev pub short_round : List Bool → List Rule → RoundView
 short_round used rules = record { used = used; told = None; rules = rules }
 
-abbrev pub stage_of : Plan → List Bool → Option Passed → Stage
-stage_of plan used first = record { used = chosen plan.all used; first = first }
-
 -- The short round that uses these requirements has these rules, and with those that others join by it these are used.
 pub record AreJoined (limits : Limits) (plan : Plan) (used : List Bool) (rules : List Rule) (more : List Bool) : Type 0 where
   pub bears : Bears limits plan (chosen plan.all used) rules
@@ -40,11 +37,11 @@ pub record AreJoined (limits : Limits) (plan : Plan) (used : List Bool) (rules :
 -- After a round that ended comes the one that uses what its rules show usable, where that is something else than it used; where it is the
 -- same, the round is the last. After a short round comes the one that uses what joins by it.
 pub data AreRoundsFrom (limits : Limits) (plan : Plan) : List Bool → Option Passed → List RoundView → Type 0 where
-  the_last : {used : List Bool} {first : Option Passed} {rules : List Rule} → IsDue limits plan (stage_of plan used first)
+  the_last : {used : List Bool} {first : Option Passed} {rules : List Rule} → IsDue limits plan (chosen plan.all used) first
       → Ends limits plan (chosen plan.all used) rules → Tells (AreShown plan rules) plan.all used
       → AreRoundsFrom limits plan used first (ended_round used rules ∷ [])
   before_others : {used usable : List Bool} {first : Option Passed} {rules : List Rule} {others : List RoundView}
-      → IsDue limits plan (stage_of plan used first) → Ends limits plan (chosen plan.all used) rules
+      → IsDue limits plan (chosen plan.all used) first → Ends limits plan (chosen plan.all used) rules
       → Tells (AreShown plan rules) plan.all usable → (usable ≡ used → ⊥) → AreRoundsFrom limits plan usable None others
       → AreRoundsFrom limits plan used first (ended_round used rules ∷ others)
   begun_anew : {used more : List Bool} {rules : List Rule} {others : List RoundView} (passed : Passed)

@@ -5,12 +5,15 @@ ghost use Rattle.swreq_complete.specs.declared.limit.Limits.{Limits};
 ghost use Rattle.swreq_complete.specs.Events.{events};
 ghost use Rattle.swreq_watch.specs.Told.{GrewBy};
 ghost use Rattle.swreq_watch.specs.declared.events.Event.TheVariants.{Born};
-ghost use Rattle.swreq_valid.specs.Again.{TellsFront, rules_again};
+ghost use Rattle.swreq_valid.specs.Again.{TellsFront, TellsRound, rules_again, round_events};
+ghost use Rattle.swreq_valid.specs.Courses.{told_by};
 ghost use Rattle.swreq_valid.specs.Answers.{Answers};
 ghost use Rattle.swreq_valid.specs.Rounds.{AreRounds, last_rules};
 
+use crate::course::Course;
 use crate::machine::Machine;
 use crate::protocols::Protocols;
+use crate::round::Round;
 use std::alloc::AllocError;
 use swreq_complete::CompleteRules;
 use swreq_rule::Rule;
@@ -43,6 +46,31 @@ fn tell_round<W: Watch>(
     Ok(())
 }
 
+/// Tells the events of a trace, over the first so many rules.
+fn tell_trace<W: Watch>(base: u32, trace: &[Rule], watch: &mut W) -> Result<(), AllocError>
+    ensures ok { OnOk result (GrewBy (W.told watch.old) (W.told watch.new) (events base trace.now)) }
+    ensures err { OnErr result (TellsFront base trace.now (W.told watch.old) (W.told watch.new)) }
+{
+    let start = Event::Start { base };
+    watch.tell(&start)?;
+    for k in base as usize..trace.len() {
+        tell_birth(&trace[k], watch)?;
+    }
+    Ok(())
+}
+
+/// Tells what the completion of a round told that another one came after.
+fn tell_course<W: Watch>(base: u32, round: &Round<'_>, watch: &mut W) -> Result<(), AllocError>
+    ensures ok { OnOk result (GrewBy (W.told watch.old) (W.told watch.new) (round_events base round.now)) }
+    ensures err { OnErr result (TellsRound base round.now (W.told watch.old) (W.told watch.new)) }
+{
+    match round.course() {
+        Course::Ended(rules) => tell_round(base, rules, watch),
+        Course::Stopped(trace, _) => tell_trace(base, trace.items(), watch),
+        Course::Short(_) => Ok(()),
+    }
+}
+
 /// How many rules the protocols have.
 fn count_of(protocols: &Protocols) -> u32
     ensures { result ≡ length (last_rules protocols.now.rounds) }
@@ -62,10 +90,10 @@ impl<'b> Machine<'b> {
             → Answers limits plan (W.told watch.old) (W.told watch.new) (rules_again self.now.rounds result) }
     {
         let base = count_of(protocols);
-        for k in 0..self.rounds().len() {
-            let round = &self.rounds()[k];
-            tell_round(base, round.rules(), watch)?;
+        let before = self.rounds().before();
+        for k in 0..before.len() {
+            tell_course(base, &before[k], watch)?;
         }
-        Ok(())
+        tell_round(base, self.rules(), watch)
     }
 }

@@ -9,7 +9,7 @@ ghost use Rattle.swreq_valid.specs.Plans.{AreKnown, in_signature, listed};
 ghost use Rattle.swreq_valid.specs.Rounds.{AreRounds, last_rules};
 
 use crate::protocols::Protocols;
-use crate::round::{Round, Rounds};
+use crate::round::Rounds;
 use crate::rounds::run;
 use crate::wanted::{RoundRequirement, RoundStart};
 use std::alloc::{AllocError, Global};
@@ -52,10 +52,10 @@ impl<'b> Machine<'b> {
     }
 
     /// The rounds that found its rules.
-    pub fn rounds(&self) -> &[Round<'b>]
+    pub fn rounds(&self) -> &Rounds<'b>
         ensures { result.now ≡ self.now.rounds }
     {
-        self.rounds.items()
+        &self.rounds
     }
 
     /// The rules of its last round.

@@ -13,7 +13,7 @@ ghost use Rattle.swreq_valid.specs.Machines.{AreRulesOf, protocols_of};
 ghost use Rattle.swreq_valid.specs.Rounds.{AreRounds, last_rules, rules_of};
 
 use crate::basic::{basic, requirements};
-use crate::round::{Round, Rounds};
+use crate::round::Rounds;
 use crate::rounds::run;
 use crate::stopping::limit_of_basic;
 use crate::wanted::RoundStart;
@@ -52,10 +52,10 @@ impl Protocols {
     }
 
     /// The rounds that found the rules.
-    pub fn rounds(&self) -> &[Round<'static>]
+    pub fn rounds(&self) -> &Rounds<'static>
         ensures { result.now ≡ self.now.rounds }
     {
-        self.rounds.items()
+        &self.rounds
     }
 
     /// Whether the requirement of the protocol with this number, from 1, is usable: whether its type parameters are derivable by the

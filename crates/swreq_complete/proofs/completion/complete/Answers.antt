@@ -1,9 +1,9 @@
-use Rattle.std.proofs.Common.{arith, ◌+◌, sym, ap, subst, length}
+use Rattle.std.proofs.Common.{arith, ◌+◌, sym, subst, length}
 use Rattle.std.proofs.lemmas.Result.{err_from_is_err_and}
 use Rattle.swreq_complete.specs.Progress.{UpTo, GivenBelow}
 use Rattle.swreq_complete.specs.Settling.{HasCome, HasStopped}
 use Rattle.swreq_complete.proofs.PairOrder.{all_done, equations_done}
-use Rattle.swreq_complete.proofs.Telling.{stops_later, goes_later, goes_along, kept_length}
+use Rattle.swreq_complete.proofs.Telling.{stopped_among, stops_later, goes_later, goes_along, kept_length}
 use Rattle.swreq_complete.proofs.completion.complete.Goals as goal
 
 pub greater-init : goal.greater-init
@@ -44,7 +44,9 @@ returns-in_err-settle_given g c =
     let a = c.args in let told = g.W.Watch.told in
     let p = err_from_is_err_and c.from_residual.result c.from_residual.ensures.1 in
     rw (p.1, p.2) (subst (λ n. HasStopped a.task.now.limits n a.task.now.given.now a.rules.now c.settle_given.new.rules (told a.watch.now)
-    (told c.settle_given.new.watch) c.in_err-settle_given.field-0.0) (sym c.requires.base_is) c.in_err-settle_given.ensures)
+    (told c.settle_given.new.watch) c.in_err-settle_given.field-0.0) (sym c.requires.base_is)
+    (stopped_among a.task.now.limits (length a.rules.now) a.task.now.given.now a.rules.now c.settle_given.new.rules (told a.watch.now)
+    (told c.settle_given.new.watch) c.in_err-settle_given.field-0.0 c.in_err-settle_given.ensures))
 
 pub returns-in_err-settle_greater : goal.returns-in_err-settle_greater
 returns-in_err-settle_greater g c =

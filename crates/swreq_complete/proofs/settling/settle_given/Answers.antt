@@ -5,8 +5,8 @@ use Rattle.swreq_rule.specs.declared.rules.Birth.TheVariants.{Given}
 use Rattle.swreq_complete.specs.Progress.{GivenBelow, Settles}
 use Rattle.swreq_complete.specs.Settling.{HasCome}
 use Rattle.swreq_complete.proofs.Closed.{below_closed}
-use Rattle.swreq_complete.proofs.Equations.{none_yet, given_more}
-use Rattle.swreq_complete.proofs.Telling.{kept_length, grown_none, settles_adds, goes_on, goes_later, stops, stops_later}
+use Rattle.swreq_complete.proofs.Equations.{below_given, none_yet, given_more}
+use Rattle.swreq_complete.proofs.Telling.{kept_length, grown_none, settles_adds, goes_on, goes_later, stops_among, stops_among_later}
 use Rattle.swreq_complete.proofs.settling.settle_given.Goals as goal
 
 pub loop-n-init : goal.loop-n-init
@@ -52,14 +52,15 @@ returns-in_err-settle_equation g c =
     let told = g.W.Watch.told in
     let p = err_from_is_err_and c.from_residual.result c.from_residual.ensures.1 in
     rw (p.1, p.2)
-    (stops_later c.args.task.now.limits base given c.args.rules.now old c.settle_equation.new.rules (told c.args.watch.now) (told c.loop-n.watch)
+    (stops_among_later c.args.task.now.limits base given c.args.rules.now old c.settle_equation.new.rules (told c.args.watch.now) (told c.loop-n.watch)
     (told c.settle_equation.new.watch) i.grown c.in_err-settle_equation.field-0.0
-    (stops c.args.task.now.limits base given (GivenBelow n) (GivenBelow (n + 1))
+    (stops_among c.args.task.now.limits base given (GivenBelow n) (GivenBelow (n + 1))
     (λ t. Settles old t (Given (n + 1)) x.0 x.1) old c.settle_equation.new.rules (told c.loop-n.watch)
     (told c.settle_equation.new.watch) i.progress i.kept
     (below_closed base given n old) (λ t s. below_closed base given (n + 1) t)
     (λ t s. settles_adds old t (Given (n + 1)) x.0 x.1 s)
     (λ t s. given_more base given old t n x.0 x.1 i.progress e s)
+    (below_given (n + 1))
     c.in_err-settle_equation.field-0.0 c.in_err-settle_equation.ensures))
 
 pub settle_equation-requires : goal.settle_equation-requires

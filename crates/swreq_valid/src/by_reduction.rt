@@ -1,0 +1,204 @@
+//! What reduction by rules shows of type parameters, where the rules need not be complete.
+ghost use Rattle.std.specs.Prelude.{◌≡◌, ◌↔◌, ◌<◌, length, IfOk, IsTrue};
+ghost use Rattle.swreq_param.specs.Tables.{term_at};
+ghost use Rattle.swreq_param.specs.declared.ids.AssocId.{AssocId};
+ghost use Rattle.swreq_param.specs.declared.ids.NameId.{NameId};
+ghost use Rattle.swreq_param.specs.declared.ids.Step.TheVariants.{Bound, Name};
+ghost use Rattle.swreq_derive.specs.Facts.{requirement_of};
+ghost use Rattle.swreq_rule.specs.Reduction.{Reduces};
+ghost use Rattle.swreq_complete.specs.Alike.{ReduceAlike};
+ghost use Rattle.swreq_symbols.specs.Known.{IsRequirementIn, IsTextOver, IsTypeIn};
+ghost use Rattle.swreq_world.specs.ByTable.{world_by};
+ghost use Rattle.swreq_world.specs.Closed.{IsStepOf};
+ghost use Rattle.swreq_valid.specs.ByReduction.{HasStepOf, IsGivenOf, ReducesConformance, ReducesUsable, ReducesValid};
+
+use std::alloc::{AllocError, Global};
+use swreq_complete::RewritingSystem;
+use swreq_derive::Requirement;
+use swreq_param::{AssocId, NameId, ParamTable, ProtoId, Step, TermId};
+use swreq_symbols::{Over, equation};
+use swreq_word::{Symbol, are_same};
+use swreq_world::World;
+
+/// Over what type parameters are read, and the rules by which their words are reduced.
+#[derive(Clone, Copy)]
+pub(crate) struct ByReduction<'a, 'b> {
+    pub world: &'a World,
+    pub table: &'a ParamTable,
+    pub rules: &'a RewritingSystem<'b>,
+    pub over: Over,
+}
+
+/// The word to which a word reduces.
+fn reduct(
+    alloc: Global,
+    rules: &RewritingSystem<'_>,
+    w: &[Symbol],
+) -> Result<Vec<Symbol>, AllocError>
+    ensures { IfOk result (λ v. Reduces rules.now w.now v.items) }
+{
+    let mut v = Vec::from_slice(alloc, w)?;
+    rules.reduce(&mut v);
+    Ok(v)
+}
+
+/// Whether two words reduce to one.
+fn reduce_alike(
+    alloc: Global,
+    rules: &RewritingSystem<'_>,
+    u: &[Symbol],
+    v: &[Symbol],
+) -> Result<bool, AllocError>
+    ensures { IfOk result (λ b. IsTrue b ↔ ReduceAlike rules.now u.now v.now) }
+{
+    let first = reduct(alloc, rules, u)?;
+    let last = reduct(alloc, rules, v)?;
+    Ok(are_same(&first, &last))
+}
+
+/// Whether reduction shows that a type parameter conforms to a protocol.
+fn conforms(
+    alloc: Global,
+    by: &ByReduction<'_, '_>,
+    t: TermId,
+    proto: ProtoId,
+) -> Result<bool, AllocError>
+    requires text { IsTextOver by.now.table.now by.now.world.now }
+    requires t { IsTypeIn by.now.table.now by.now.world.now.lexicon t }
+    requires proto { proto.rank < length by.now.world.now.lexicon.protocols }
+    ensures { IfOk result (λ b. IsTrue b ↔ ReducesConformance by.now.world.now.lexicon by.now.rules.now by.now.over
+        (term_at by.now.table.now t) proto) }
+{
+    let requirement = Requirement::Conf { subject: t, proto };
+    let owner = by.over.owner();
+    let (left, right) = equation(alloc, by.world, by.table, owner, &requirement)?;
+    reduce_alike(alloc, by.rules, left.symbols(), right.symbols())
+}
+
+/// Whether reduction shows that a type parameter conforms to the protocol of an associated type.
+fn has_assoc(
+    alloc: Global,
+    by: &ByReduction<'_, '_>,
+    t: TermId,
+    d: AssocId,
+) -> Result<bool, AllocError>
+    requires text { IsTextOver by.now.table.now by.now.world.now }
+    requires t { IsTypeIn by.now.table.now by.now.world.now.lexicon t }
+    requires d { d.rank < length by.now.world.now.lexicon.associated }
+    ensures { IfOk result (λ b. IsTrue b ↔ HasStepOf by.now.world.now.lexicon by.now.rules.now by.now.over
+        (term_at by.now.table.now t) (Bound d)) }
+{
+    let declared = by.world.assoc(d);
+    conforms(alloc, by, t, declared.proto)
+}
+
+/// Whether it is an associated type with this name, to whose protocol reduction shows that a type parameter conforms.
+fn is_given(
+    alloc: Global,
+    by: &ByReduction<'_, '_>,
+    t: TermId,
+    a: NameId,
+    d: AssocId,
+) -> Result<bool, AllocError>
+    requires text { IsTextOver by.now.table.now by.now.world.now }
+    requires t { IsTypeIn by.now.table.now by.now.world.now.lexicon t }
+    requires d { d.rank < length by.now.world.now.lexicon.associated }
+    ensures { IfOk result (λ b. IsTrue b ↔ IsGivenOf by.now.world.now.lexicon by.now.rules.now by.now.over
+        (term_at by.now.table.now t) a d) }
+{
+    let declared = by.world.assoc(d);
+    if declared.name.rank == a.rank {
+        conforms(alloc, by, t, declared.proto)
+    } else {
+        Ok(false)
+    }
+}
+
+/// The number of associated types.
+fn associated(world: &World) -> u32
+    ensures { result ≡ length world.now.lexicon.associated }
+{
+    world.lexicon().associated()
+}
+
+/// Whether some associated type has this name, to whose protocol reduction shows that a type parameter conforms.
+fn has_name(
+    alloc: Global,
+    by: &ByReduction<'_, '_>,
+    t: TermId,
+    a: NameId,
+) -> Result<bool, AllocError>
+    requires text { IsTextOver by.now.table.now by.now.world.now }
+    requires t { IsTypeIn by.now.table.now by.now.world.now.lexicon t }
+    ensures { IfOk result (λ b. IsTrue b ↔ HasStepOf by.now.world.now.lexicon by.now.rules.now by.now.over
+        (term_at by.now.table.now t) (Name a)) }
+{
+    for rank in 0..associated(by.world) {
+        if is_given(alloc, by, t, a, AssocId { rank })? {
+            return Ok(true);
+        }
+    }
+    Ok(false)
+}
+
+/// Whether the step can follow a type parameter.
+fn has_step(
+    alloc: Global,
+    by: &ByReduction<'_, '_>,
+    t: TermId,
+    step: Step,
+) -> Result<bool, AllocError>
+    requires text { IsTextOver by.now.table.now by.now.world.now }
+    requires t { IsTypeIn by.now.table.now by.now.world.now.lexicon t }
+    requires step { IsStepOf by.now.world.now.lexicon step }
+    ensures { IfOk result (λ b. IsTrue b ↔ HasStepOf by.now.world.now.lexicon by.now.rules.now by.now.over
+        (term_at by.now.table.now t) step) }
+{
+    match step {
+        Step::Bound(d) => has_assoc(alloc, by, t, d),
+        Step::Name(a) => has_name(alloc, by, t, a),
+    }
+}
+
+/// Whether reduction shows that a type parameter is valid.
+fn is_valid(alloc: Global, by: &ByReduction<'_, '_>, t: TermId) -> Result<bool, AllocError>
+    requires text { IsTextOver by.now.table.now by.now.world.now }
+    requires t { IsTypeIn by.now.table.now by.now.world.now.lexicon t }
+    ensures { IfOk result (λ b. IsTrue b ↔ ReducesValid (world_by by.now.table.now by.now.world.now) by.now.rules.now by.now.over
+        (term_at by.now.table.now t)) }
+{
+    match by.table.split(t) {
+        None => Ok(by.over.has(by.table.head(t))),
+        Some((base, step)) => {
+            if is_valid(alloc, by, base)? {
+                has_step(alloc, by, base, step)
+            } else {
+                Ok(false)
+            }
+        }
+    }
+}
+
+/// Whether reduction shows that the type parameters of a requirement are valid.
+pub(crate) fn is_usable(
+    alloc: Global,
+    by: &ByReduction<'_, '_>,
+    r: Requirement,
+) -> Result<bool, AllocError>
+    requires text { IsTextOver by.now.table.now by.now.world.now }
+    requires want { IsRequirementIn by.now.table.now by.now.world.now.lexicon r }
+    ensures { IfOk result (λ b. IsTrue b ↔ ReducesUsable (world_by by.now.table.now by.now.world.now) by.now.rules.now by.now.over
+        (requirement_of by.now.table.now r)) }
+{
+    match r {
+        Requirement::Conf { subject, .. } => is_valid(alloc, by, subject),
+        Requirement::Layout { subject } => is_valid(alloc, by, subject),
+        Requirement::Same { left, right } => {
+            if is_valid(alloc, by, left)? {
+                is_valid(alloc, by, right)
+            } else {
+                Ok(false)
+            }
+        }
+    }
+}
