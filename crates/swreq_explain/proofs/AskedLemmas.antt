@@ -15,7 +15,7 @@ use Rattle.swreq_correspondence.proofs.Chained.{chained_usable}
 use Rattle.swreq_correspondence.proofs.Shown.{shown_by_more}
 use Rattle.swreq_rounds.specs.Presents.{AreListRules}
 use Rattle.swreq_unfold.proofs.Ends.{alike_back}
-use Rattle.swreq_explain.proofs.Reducts.{linked_are_alike}
+use Rattle.swreq_complete.proofs.Alike.{linked_are_alike}
 
 module _ (m : Symbols) (f : TermFacts) (fit : AreSymbolsOf m f) (ranges : AreOfText m f) (rules : List Rule) (gs : List ParamId) (rs : List TermRequirement)
     (are : AreListRules m f gs rs rules) (complete : IsComplete rules) (n : IsInText m (Written gs rs)) where

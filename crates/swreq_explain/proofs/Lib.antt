@@ -1,7 +1,6 @@
 pub mod GroundLemmas
 pub mod ParentLemmas
 pub mod RoundLemmas
-pub mod Reducts
 pub mod UseLemmas
 pub mod NumberingLemmas
 pub mod BookLemmas

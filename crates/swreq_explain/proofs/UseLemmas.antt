@@ -15,7 +15,7 @@ use Rattle.swreq_valid.specs.Flags.{chosen}
 use Rattle.swreq_valid.specs.Rounds.{AreRounds, RoundView}
 use Rattle.swreq_explain.specs.declared.numbered.Numbered.{Numbered}
 use Rattle.swreq_explain.specs.Uses.{Course, Uses, UsesFirst}
-use Rattle.swreq_explain.proofs.Reducts.{linked_are_alike}
+use Rattle.swreq_complete.proofs.Alike.{linked_are_alike}
 use Rattle.swreq_explain.proofs.RoundLemmas.{ended_complete, left_at, more_holds, none_at_first, none_set, set_holds}
 
 -- The first round that uses it is not after one that does.

@@ -28,7 +28,8 @@ fn uses(makings: Makings<'_>, round: usize, place: usize) -> bool
     requires place { place < length makings.all.now }
     ensures { IsTrue result ↔ Uses makings.entry.rounds.now round place }
 {
-    makings.rounds.used(round)[place]
+    let used = makings.rounds.used(round);
+    used[place]
 }
 
 /// The first round that uses the requirement at this place, where one does.

@@ -39,7 +39,7 @@ pub returns : goal.returns
 returns c =
     let makings = c.args.makings in
     let m = symbols_of makings.world.now.lexicon in
-    let last : c.loop-k.k ≡ length makings.rounds.now = omega (arith, c.loop-k-test.false, c.loop-k.auto.k-end, c.count-k-end.ensures) in
+    let last : c.loop-k.k ≡ length makings.rounds.now = omega (arith, c.loop-k-test.false, c.loop-k.auto.k-end, c.count-k-end.ensures.count) in
     λ o begun. (let (own, split, h) = c.loop-k.invariant.made o begun in
     let all : c.loop-k.k ≡ length o.course.rounds = last ∙ ap (λ z. length z.rounds) begun.course_is in
     (own, split, subst (λ n. AreFirstSystems m makings.table.now o n own) all h))

@@ -31,5 +31,5 @@ pub returns : goal.returns
 returns c =
     let makings = c.args.makings in
     let w = makings.world.now in
-    let last : c.loop-k.k ≡ length makings.rounds.now = omega (arith, c.loop-k-test.false, c.loop-k.auto.k-end, c.count-k-end.ensures) in
+    let last : c.loop-k.k ≡ length makings.rounds.now = omega (arith, c.loop-k-test.false, c.loop-k.auto.k-end, c.count-k-end.ensures.count) in
     subst (λ n. AreFirstSystems (symbols_of w.lexicon) makings.table.now (protocols_origin w makings.rounds.now) n c.loop-k.systems.items) last c.loop-k.invariant
