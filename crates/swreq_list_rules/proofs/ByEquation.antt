@@ -14,7 +14,7 @@ use Rattle.swreq_correspondence.specs.Symbols.{IsInText, left_side, right_side}
 use Rattle.swreq_rounds.specs.Presents.{AreListRules}
 use Rattle.swreq_symbols.specs.Vanishing.{Links}
 use Rattle.swreq_valid.specs.Machines.{IsMachineOf, MachineView}
-use Rattle.swreq_valid.specs.Rounds.{last_rules}
+use Rattle.swreq_valid.specs.Rounds.{ended_round, last_rules}
 use Rattle.swreq_valid.proofs.Answering.{by_sides, derivable_shown, shown_derivable}
 use Rattle.swreq_list_rules.specs.declared.setting.Setting.{Setting}
 use Rattle.swreq_list_rules.specs.ListRules.{AreRulesOfList, AreShownBy}
@@ -23,7 +23,7 @@ use Rattle.swreq_list_rules.specs.Settings.{IsSetting, facts_in, source_in, symb
 module _ (s : Setting) (is : IsSetting s) (list : List TermRequirement) (rules : List Rule) (are : AreRulesOfList s list rules) where
   -- a machine with these rules
   abbrev machine : MachineView
-  machine = record { params = s.params; rounds = record { used = []; rules = rules } ∷ [] }
+  machine = record { params = s.params; rounds = ended_round [] rules ∷ [] }
 
   is_machine : IsMachineOf (text_in s) list machine
   is_machine = record { rules = are.rules; in_text = are.in_text }

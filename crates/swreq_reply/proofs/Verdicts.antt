@@ -39,7 +39,6 @@ use Rattle.swreq_verify.specs.Outputs as verified
 use Rattle.swreq_verify.specs.SecondParts.{IsFirstMisfit}
 use Rattle.swreq_reqsig.specs.declared.family.Family.{Family}
 use Rattle.swreq_reqsig.specs.Families.{IsGivenFamily, family_plan}
-use Rattle.swreq_reqsig.specs.GoingThrough.{without}
 use Rattle.swreq_reqsig.specs.Texts.{family_text}
 use Rattle.swreq_reqsig.specs.Told.{AnswersFamily, ComesSoFar}
 use Rattle.swreq_calls.specs.declared.decl.CallDecl.{CallDecl}
@@ -286,7 +285,17 @@ module _ {r : Request} (request : IsRequest r) where
               flags = s.flags;
               before = s.before;
               gone = s.gone;
-              part = inr (s.place, s.part, refl, stops_come (limits_in r) (family_plan w (without s.flags s.place)) which trace s.part s.stops, s.told_is);
+              part = inr (
+                s.place,
+                s.part,
+                refl,
+                record {
+                  asked = s.stops.asked;
+                  are = s.stops.are;
+                  comes = stops_come (limits_in r) (family_plan w s.stops.asked) which trace s.part s.stops.stops;
+                },
+                s.told_is,
+              );
             })) result h
             (λ o is first built. is_refused (past_a_limit_of_families which trace (checks Families asked (λ e. cc) told first built) asked s is))
 

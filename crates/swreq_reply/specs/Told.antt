@@ -96,8 +96,8 @@ module _ (limits : Limits) (w : TextWorld) where
     pub part : ComesSoFar limits w more
     pub told_is : told ≡ first ++ more
 
-  -- What is told behind the check of a text that is answered: parts of minimising; of requirement signatures what the families tell that one
-  -- meets, going through all requirements; of calls nothing.
+  -- What is told behind the check of a text that is answered: parts of minimising; of requirement signatures what the rounds tell that
+  -- are run for the requirements of the protocols, going through all of them; of calls nothing.
   abbrev pub TellsBehind : Content → List Rule → List Event → Type 0
   TellsBehind Families rules more = (flags : List Bool) × HasGone limits w 0 flags more
   TellsBehind Calls rules more = more ≡ []

@@ -151,7 +151,7 @@ module _ (line : CommandLine) (input : Text) where
     misfit : (w : TextWorld) (n : ℕ) → content_of line.command ≡ Judgements → (has : HasWorld w)
         → IsFirstMisfit w.lexicon (length w.queries) (lines has.parts.second) n → o ≡ refused_with (refusals.DerivationSyntax n) → told ≡ []
         → IsRefused o told
-    -- The rounds of a family pass a limit that one meets, going through the requirements of the protocols.
+    -- The rounds that are run for a requirement of a protocol pass a limit, going through the requirements of the protocols.
     past_a_limit_of_families : (which : Which) (trace : List Rule) (c : PassesCheck told) → content_of line.command ≡ Families
         → IsFamilyOutcome (limits_of line) c.world (Err (failed.Limit which trace)) c.more → o ≡ stopped_with line c.world.lexicon which trace
         → IsRefused o told

@@ -1,5 +1,6 @@
 -- Going through the requirements, one by one.
 use Rattle.std.proofs.Common.{◌≡◌, ◌∙◌, inl, inr, refl, sym, subst, ℕ, suc, Bool, true, List, [], ◌++◌, length, replicate, Option, Result, Ok, Err, ap}
+use Rattle.std.proofs.lemmas.List.{append-nil}
 use Rattle.swreq_param.specs.Terms.{Term}
 use Rattle.swreq_derive.specs.WellFormed.{AreProtocolsWellFormed}
 use Rattle.swreq_watch.specs.declared.events.Event.{Event}
@@ -10,14 +11,13 @@ use Rattle.swreq_complete.specs.declared.limit.Failed.{Failed}
 use Rattle.swreq_complete.specs.declared.limit.Failed.TheVariants.{Limit, Memory}
 use Rattle.swreq_symbols.specs.Known.{IsTextOver}
 use Rattle.swreq_symbols.specs.Meaning.{facts_of}
-use Rattle.swreq_valid.specs.Answers.{Answers}
 use Rattle.swreq_world.specs.ByTable.{world_by}
 use Rattle.swreq_world.specs.Worlds.{IdWorld, TextWorld}
 use Rattle.swreq_reqsig.specs.declared.family.Family.{Family}
-use Rattle.swreq_reqsig.specs.Families.{AreRequirementSignatures, IsGivenFamily, associated_types_of, family_plan, members, numbers, owned}
+use Rattle.swreq_reqsig.specs.Families.{AreRequirementSignatures, IsGivenFamily, associated_types_of, members, numbers, owned}
 use Rattle.swreq_reqsig.specs.GoingThrough.{AreLeft, without}
 use Rattle.swreq_reqsig.specs.Places.{all_places}
-use Rattle.swreq_reqsig.specs.Told.{AnswersFamily, HasGone, MeetsFamily, IsOnlyFamily}
+use Rattle.swreq_reqsig.specs.Told.{AnswersFamily, FailsAt, HasGone, MeetsFamily, IsOnlyFamily}
 use Rattle.swreq_reqsig.specs.Told.HasGone.{further, start}
 use Rattle.swreq_reqsig.proofs.InLists.{numbers_by}
 use Rattle.swreq_reqsig.proofs.OneFamily.{family_outcomes_are_one, gone_left}
@@ -50,21 +50,27 @@ module _ (w : IdWorld) (terms : List Term) (limits : Limits) where
     grew_on old mid new told part grew more,
   )
 
-  -- the rounds of the next family fail
+  -- the rounds for the next requirement fail
   pub fails_on : (k n : ℕ) (flags : List Bool) (old mid new : Option (List Event)) → k ≡ suc n → HasCome k flags old mid → (failed : Failed)
-      → Answers limits (family_plan W (without flags n)) mid new (Err failed) → AnswersFamily limits W old new (Err failed)
+      → (part : List Event) × FailsAt limits W n (without flags n) failed part × GrewBy mid new part → AnswersFamily limits W old new (Err failed)
   fails_on k n flags old mid new e (told, gone, grew) (Limit which trace) (part, stops, more) = (
     told ++ part,
     record { place = n; flags = flags; before = told; part = part; gone = subst (λ (z : ℕ). HasGone limits W z flags told) e gone; stops = stops; told_is = refl },
     grew_on old mid new told part grew more,
   )
-  fails_on k n flags old mid new e (told, gone, grew) Memory (part, comes, more) = (
+  fails_on k n flags old mid new e (told, gone, grew) Memory (part, fails, more) = (
     told ++ part,
-    record { place = k; flags = flags; before = told; gone = gone; part = inr (n, part, e, comes, refl) },
+    record {
+      place = k;
+      flags = flags;
+      before = told;
+      gone = gone;
+      part = elim fails [ inl none ↦ inl (ap (λ z. told ++ z) none ∙ append-nil told) | inr comes ↦ inr (n, part, e, comes, refl) ];
+    },
     grew_on old mid new told part grew more,
   )
 
-  -- memory is wanting between two families
+  -- memory is wanting between two requirements
   pub wants_memory : (n : ℕ) (flags : List Bool) (old new : Option (List Event)) → HasCome n flags old new
       → AnswersFamily limits W old new (Err Memory)
   wants_memory n flags old new (told, gone, grew) = (told, record { place = n; flags = flags; before = told; gone = gone; part = inl refl }, grew)

@@ -1,5 +1,8 @@
 pub mod Choosing
 pub mod Leaving
+pub mod ByReach
+pub mod Passing
+pub mod Asking
 pub mod OneFamily
 pub mod OfWorld
 pub mod Placing

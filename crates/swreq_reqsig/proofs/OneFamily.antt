@@ -1,6 +1,7 @@
 -- Going through the requirements comes out in one way.
 use Rattle.std.proofs.Common.{◌≡◌, ◌∙◌, ◌⊎◌, inl, inr, refl, sym, ap, ap₂, subst, ℕ, suc, ◌<◌, ◌≤◌, arith, Bool, List, ◌++◌, length, Result, Ok, Err}
 use Rattle.std.proofs.lemmas.Bool.{cases_eq, cases_lt}
+use Rattle.std.proofs.lemmas.Option.{same_Some}
 use Rattle.swreq_derive.specs.Derivation.{AssociatedType}
 use Rattle.swreq_derive.specs.Kept.{Owned}
 use Rattle.swreq_rule.specs.declared.rules.Rule.{Rule}
@@ -14,11 +15,14 @@ use Rattle.swreq_rounds.specs.Rounds.{IsOutcome}
 use Rattle.swreq_rounds.proofs.OneOutcome.{outcomes_are_one}
 use Rattle.swreq_world.specs.Worlds.{TextWorld}
 use Rattle.swreq_reqsig.specs.declared.family.Family.{Family}
-use Rattle.swreq_reqsig.specs.Families.{associated_types_of, family_plan, numbers, owned}
+use Rattle.swreq_reqsig.specs.Families.{associated_types_of, family_of, family_plan, numbers, owned}
 use Rattle.swreq_reqsig.specs.GoingThrough.{AreLeft, without}
 use Rattle.swreq_reqsig.specs.GoingThrough.AreLeft.{further as left_further, whole}
-use Rattle.swreq_reqsig.specs.Told.{HasGone, IsFamilyOutcome, IsForMemory, IsStopped}
+use Rattle.swreq_reqsig.specs.Reaching.{AreAsked, AreReachedFlags, IsBeyond, IsOutOfReach}
+use Rattle.swreq_reqsig.specs.Told.{HasGone, IsFamilyOutcome, IsForMemory, IsSettled, IsStopped, StopsAt}
 use Rattle.swreq_reqsig.specs.Told.HasGone.{further, start}
+use Rattle.swreq_reqsig.specs.Told.IsSettled.{by_rounds, out_of_reach}
+use Rattle.swreq_reqsig.proofs.ByReach.{reached_flags_one}
 use Rattle.swreq_reqsig.proofs.Leaving.{left_one, within}
 
 -- ---- outcomes of the rounds of one family
@@ -48,7 +52,43 @@ module _ (limits : Limits) (plan : Plan) where
         | inr (inr m) ↦ absurd cc
       ]
 
--- ---- outcomes of the families
+-- ---- outcomes for one requirement
+
+module _ (limits : Limits) (w : TextWorld) (n : ℕ) (others : List Bool) where
+  asked_one : (a b : List Bool) → AreAsked w n others a → AreAsked w n others b → a ≡ b
+  asked_one a b are also =
+      let same : are.requirement ≡ also.requirement = same_Some _ _ (sym are.stands ∙ also.stands) in
+      reached_flags_one (owned w) others also.requirement.proto a b
+      (subst (λ (o : Owned). AreReachedFlags (owned w) others o.proto a) same are.reached) also.reached
+
+  not_beyond : (asked : List Bool) → AreAsked w n others asked → IsBeyond w n others → ⊥
+  not_beyond asked are is =
+      let same : is.requirement ≡ are.requirement = same_Some _ _ (sym is.stands ∙ are.stands) in
+      let out : IsOutOfReach (family_of w others) are.requirement = subst (IsOutOfReach (family_of w others)) same is.unreached in
+      out.unreached (are.within out.subject out.proto out.says)
+
+  settled_one : (a b : List Event) → IsSettled limits w n others a → IsSettled limits w n others b → a ≡ b
+  settled_one a b (out_of_reach i e) (out_of_reach j h) = e ∙ sym h
+  settled_one a b (out_of_reach i e) (by_rounds {asked = s} are o) = absurd (not_beyond s are i)
+  settled_one a b (by_rounds {asked = s} are o) (out_of_reach i e) = absurd (not_beyond s are i)
+  settled_one a b (by_rounds {asked = s} {rules = r} are o) (by_rounds {asked = t} {rules = q} also u) =
+      rules_told_one limits (family_plan w s) r q a b o
+      (subst (λ (z : List Bool). IsOutcome limits (family_plan w z) (Ok q) b) (asked_one t s also are) u)
+
+  not_settled : (which : Which) (trace : List Rule) (a b : List Event) → IsSettled limits w n others a
+      → StopsAt limits w n others which trace b → ⊥
+  not_settled which trace a b (out_of_reach i e) s = not_beyond s.asked s.are i
+  not_settled which trace a b (by_rounds {asked = t} {rules = r} are o) s =
+      not_both limits (family_plan w t) r which trace a b o
+      (subst (λ (z : List Bool). IsOutcome limits (family_plan w z) (Err (Limit which trace)) b) (asked_one s.asked t s.are are) s.stops)
+
+  stops_told_one : (which kind : Which) (trace other : List Rule) (a b : List Event) → StopsAt limits w n others which trace a
+      → StopsAt limits w n others kind other b → (which ≡ kind) × (trace ≡ other) × (a ≡ b)
+  stops_told_one which kind trace other a b s u =
+      limit_told_one limits (family_plan w s.asked) which kind trace other a b s.stops
+      (subst (λ (z : List Bool). IsOutcome limits (family_plan w z) (Err (Limit kind other)) b) (asked_one u.asked s.asked u.are s.are) u.stops)
+
+-- ---- outcomes for all requirements
 
 module _ (limits : Limits) (w : TextWorld) where
   abbrev ds : List AssociatedType
@@ -70,26 +110,25 @@ module _ (limits : Limits) (w : TextWorld) where
   told_one (further g m u) (start e f t) = let l = gone_within g in absurd (omega (arith, l, e))
   told_one (further {n = n} {flags = flags} {before = before} {part = part} g m t) (further {flags = others} {before = prior} {part = piece} h k u) =
       let same = left_one ds all (gone_left g) (gone_left h) in
-      let ends = subst (λ (z : List Bool). IsOutcome limits (family_plan w (without z n)) (Ok k.rules) piece) (sym same) k.ends in
-      t ∙ ap₂ (λ x y. x ++ y) (told_one g h) (rules_told_one limits (family_plan w (without flags n)) m.rules k.rules part piece m.ends ends) ∙ sym u
+      let also = subst (λ (z : List Bool). IsSettled limits w n (without z n) piece) (sym same) k.settled in
+      t ∙ ap₂ (λ x y. x ++ y) (told_one g h) (settled_one limits w n (without flags n) part piece m.settled also) ∙ sym u
 
-  -- the family that was met at a place, whose rounds ended
+  -- the requirement at a place was met, and it was settled whether it follows
   record WasMet (m : ℕ) : Type 0 where
     pub flags : List Bool
     pub before : List Event
     pub part : List Event
-    pub rules : List Rule
     pub gone : HasGone limits w (suc m) flags before
-    pub ends : IsOutcome limits (family_plan w (without flags m)) (Ok rules) part
+    pub settled : IsSettled limits w m (without flags m) part
 
   was_met : {n : ℕ} {flags : List Bool} {told : List Event} → HasGone limits w n flags told → (m : ℕ) → n ≤ m → m < length all → WasMet m
   was_met (start e f t) m l h = absurd (omega (arith, l, h, e))
   was_met (further {n = n} {flags = flags} {before = before} {part = part} g k t) m l h = elim (cases_eq m n) [
-    | inl e ↦ subst WasMet (sym e) (record { flags = flags; before = before; part = part; rules = k.rules; gone = g; ends = k.ends })
+    | inl e ↦ subst WasMet (sym e) (record { flags = flags; before = before; part = part; gone = g; settled = k.settled })
     | inr d ↦ was_met g m (omega (arith, l, d)) h
   ]
 
-  -- where the rounds of a family pass a limit, one has not gone past it
+  -- where the rounds for a requirement pass a limit, one has not gone past it
   not_past : {n : ℕ} {flags : List Bool} {told : List Event} → HasGone limits w n flags told
       → (which : Which) (trace : List Rule) (also : List Event)
       → (s : IsStopped limits w which trace also) → n ≤ s.place → ⊥
@@ -97,8 +136,8 @@ module _ (limits : Limits) (w : TextWorld) where
       let h = gone_within s.gone in
       let k : WasMet s.place = was_met g s.place l (omega (arith, h)) in
       let same = left_one ds all (gone_left k.gone) (gone_left s.gone) in
-      not_both limits (family_plan w (without s.flags s.place)) k.rules which trace k.part s.part
-      (subst (λ (z : List Bool). IsOutcome limits (family_plan w (without z s.place)) (Ok k.rules) k.part) same k.ends) s.stops
+      not_settled limits w s.place (without s.flags s.place) which trace k.part s.part
+      (subst (λ (z : List Bool). IsSettled limits w s.place (without z s.place) k.part) same k.settled) s.stops
 
   stops_one : (which kind : Which) (trace other : List Rule) (told also : List Event) → IsStopped limits w which trace told
       → IsStopped limits w kind other also
@@ -106,9 +145,9 @@ module _ (limits : Limits) (w : TextWorld) where
   stops_one which kind trace other told also s u = elim (cases_eq s.place u.place) [
     | inl e ↦ (let gone = subst (λ (z : ℕ). HasGone limits w (suc z) u.flags u.before) (sym e) u.gone in
         let same = left_one ds all (gone_left s.gone) (gone_left gone) in
-        let stops = subst (λ (z : List Bool). IsOutcome limits (family_plan w (without z s.place)) (Err (Limit kind other)) u.part) (sym same)
-        (subst (λ (z : ℕ). IsOutcome limits (family_plan w (without u.flags z)) (Err (Limit kind other)) u.part) (sym e) u.stops) in
-        let one = limit_told_one limits (family_plan w (without s.flags s.place)) which kind trace other s.part u.part s.stops stops in
+        let stops = subst (λ (z : List Bool). StopsAt limits w s.place (without z s.place) kind other u.part) (sym same)
+        (subst (λ (z : ℕ). StopsAt limits w z (without u.flags z) kind other u.part) (sym e) u.stops) in
+        let one = stops_told_one limits w s.place (without s.flags s.place) which kind trace other s.part u.part s.stops stops in
         (one.0, one.1, s.told_is ∙ ap₂ (λ x y. x ++ y) (told_one s.gone gone) one.2 ∙ sym u.told_is))
     | inr d ↦ elim (cases_lt s.place u.place) [
       | inl l ↦ absurd (not_past s.gone kind other also u (omega (arith, l)))

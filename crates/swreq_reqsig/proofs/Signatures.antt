@@ -1,12 +1,12 @@
 -- What going through the requirements leaves is a family of requirement signatures.
-use Rattle.std.proofs.Common.{◌≡◌, ◌∙◌, ◌↔◌, inl, inr, refl, sym, ap, subst, ℕ, zero, suc, List, [], ◌∷◌, ◌++◌, length, map, slice_get, slice_set, Some, Contains, Bool, true, false, IsTrue, arith, ◌<◌, Option, Ok}
+use Rattle.std.proofs.Common.{◌≡◌, ◌∙◌, ◌↔◌, inl, inr, refl, sym, ap, subst, ℕ, zero, suc, List, [], ◌∷◌, ◌++◌, length, map, slice_get, slice_set, Some, Contains, Bool, true, false, IsTrue, arith, ◌<◌, Option}
 use Rattle.std.specs.Prelude.{not}
 use Rattle.std.specs.List.{All}
 use Rattle.std.proofs.lemmas.Bool.{cases_lt}
 use Rattle.std.proofs.lemmas.List.{get_or_past}
 use Rattle.std.proofs.lemmas.List.Elements.{All-contains, All-get_or}
 use Rattle.std.proofs.lemmas.Option.{slice_get_within}
-use Rattle.swreq_orders.proofs.Elements.{get_contains}
+use Rattle.swreq_orders.proofs.Elements.{get_contains, there_is}
 use Rattle.swreq_orders.proofs.Members.{contains_of_map, no_member}
 use Rattle.swreq_param.specs.declared.ids.ProtoId.{ProtoId}
 use Rattle.swreq_param.specs.Terms.{Term}
@@ -16,24 +16,21 @@ use Rattle.swreq_derive.specs.Facts.{requirement_of}
 use Rattle.swreq_derive.specs.Kept.{Keeps, Owned}
 use Rattle.swreq_derive.specs.WellFormed.{AreProtocolsWellFormed}
 use Rattle.swreq_derive.proofs.LeftOut.{can_go}
-use Rattle.swreq_rule.specs.declared.rules.Rule.{Rule}
 use Rattle.swreq_watch.specs.declared.events.Event.{Event}
 use Rattle.swreq_watch.specs.Told.{GrewBy}
 use Rattle.swreq_complete.specs.declared.limit.Limits.{Limits}
 use Rattle.swreq_lowering.specs.Heads.{IsOverSelf}
 use Rattle.swreq_lowering.specs.Requirements.{PlacedRequirement}
-use Rattle.swreq_rounds.specs.Rounds.{IsOutcome}
 use Rattle.swreq_symbols.specs.Known.{IsTextOver}
 use Rattle.swreq_symbols.specs.Meaning.{facts_of}
-use Rattle.swreq_valid.specs.Answers.{Answers}
 use Rattle.swreq_world.specs.ByTable.{world_by}
 use Rattle.swreq_world.specs.Closed.{IsClosed, IsOfProtocol}
 use Rattle.swreq_world.specs.Worlds.{IdWorld, TextWorld, requirements_of}
 use Rattle.swreq_reqsig.specs.declared.places.Place.{Place}
-use Rattle.swreq_reqsig.specs.Families.{AreRequirementSignatures, DerivesWith, IsGivenFamily, associated_types_of, family_of, family_plan, members, numbers, owned}
+use Rattle.swreq_reqsig.specs.Families.{AreRequirementSignatures, DerivesWith, IsGivenFamily, associated_types_of, family_of, members, numbers, owned}
 use Rattle.swreq_reqsig.specs.GoingThrough.{AreAlike, AreGiven, AreLeft, IsDecided, without}
 use Rattle.swreq_reqsig.specs.Places.{all_places, owned_at}
-use Rattle.swreq_reqsig.specs.Told.{MeetsFamily}
+use Rattle.swreq_reqsig.specs.Told.{IsSettled, MeetsFamily}
 use Rattle.swreq_reqsig.proofs.Choosing.{chosen_in}
 use Rattle.swreq_reqsig.proofs.InLists.{members_by_numbers}
 use Rattle.swreq_reqsig.proofs.Leaving.{alike_where_derivable, given_keeps, given_needed, left_before, left_length, left_one, left_same}
@@ -123,6 +120,11 @@ module _ (ds : List AssociatedType) (all : List Owned) (n : ℕ) (flags : List B
   decided_by true d = inl (d.0 refl, set_twice flags n)
   decided_by false d = inr ((λ a. let z = d.1 a in cc), set_back flags n there)
 
+-- what stands at a place
+pub place_there : (w : IdWorld) (places : List Place) (n : ℕ) → places ≡ all_places w → n < length places
+    → (x : Place) × (slice_get places n ≡ Some x) × (slice_get (all_places w) n ≡ Some x)
+place_there w places n e l = let (x, at) = there_is places n l in (x, at, ap (λ (z : List Place). slice_get z n) (sym e) ∙ at)
+
 -- one requirement, as the code decides on it
 module _ (w : IdWorld) (terms : List Term) (text : IsTextOver terms w) (limits : Limits) (n : ℕ) (flags : List Bool) (x : Place)
     (at : slice_get (all_places w) n ≡ Some x) (left : AreLeft (associated_types_of (world_by terms w)) (owned (world_by terms w)) (suc n) flags) where
@@ -138,15 +140,14 @@ module _ (w : IdWorld) (terms : List Term) (text : IsTextOver terms w) (limits :
 
   pub met_by : AreProtocolsWellFormed (facts_of W) → (others : List Bool) (b : Bool) → others ≡ without flags n
       → IsTrue b ↔ DerivesWith W (family_of W others) x.proto (Requires (requirement_of terms x.requirement))
-      → (old new : Option (List Event)) → (rules : List Rule) × Answers limits (family_plan W others) old new (Ok rules)
+      → (old new : Option (List Event)) → (part : List Event) × IsSettled limits W n others part × GrewBy old new part
       → (part : List Event) × MeetsFamily limits W n flags (slice_set (slice_set flags n false) n (not b)) part × GrewBy old new part
-  met_by well others b e d old new (rules, (part, ends, grew)) =
+  met_by well others b e d old new (part, settled, grew) =
       let law = alike_if W text.closed well n flags (owned_at terms x) left (owned_there w terms n x at) in
       let here = subst (λ (z : List Bool). IsTrue b ↔ DerivesWith W (family_of W z) x.proto (Requires (requirement_of terms x.requirement))) e d in (
         part,
         record {
-          rules = rules;
-          ends = subst (λ (z : List Bool). IsOutcome limits (family_plan W z) (Ok rules) part) e ends;
+          settled = subst (λ (z : List Bool). IsSettled limits W n z part) e settled;
           decided = decided_by (associated_types_of W) (owned W) n flags (left_before (associated_types_of W) (owned W) left n (omega arith)) b
               ((λ t. law.1 (here.0 t)), λ a. here.1 (law.0 a));
         },

@@ -1,4 +1,4 @@
--- What the rounds come to of the families that one meets, going through the requirements of the protocols.
+-- What the rounds come to that are run for the requirements of the protocols, going through them.
 use Rattle.std.specs.Prelude.{◌≡◌, ◌⊎◌, ℕ, suc, Bool, List, [], ◌++◌, length, Option, Result, Ok, Err}
 use Rattle.swreq_rule.specs.declared.rules.Rule.{Rule}
 use Rattle.swreq_watch.specs.declared.events.Event.{Event}
@@ -12,48 +12,75 @@ use Rattle.swreq_world.specs.Worlds.{TextWorld}
 use Rattle.swreq_reqsig.specs.declared.family.Family.{Family}
 use Rattle.swreq_reqsig.specs.Families.{associated_types_of, family_plan, numbers, owned}
 use Rattle.swreq_reqsig.specs.GoingThrough.{IsDecided, all_kept, without}
+use Rattle.swreq_reqsig.specs.Reaching.{AreAsked, IsBeyond}
 
 module _ (limits : Limits) (w : TextWorld) where
-  -- The rounds of the family without the requirement at the place end, they tell this, and it is decided whether that requirement stays.
+  -- ---- one requirement, with the others whose flags are set
+
+  -- Where the requirement at the place is out of reach nothing is completed and nothing told. Else the rounds end that are run of the others
+  -- that its protocol reaches, and they tell this.
+  pub data IsSettled (n : ℕ) (others : List Bool) (told : List Event) : Type 0 where
+    out_of_reach : IsBeyond w n others → told ≡ [] → IsSettled n others told
+    by_rounds : {asked : List Bool} {rules : List Rule} → AreAsked w n others asked → IsOutcome limits (family_plan w asked) (Ok rules) told
+        → IsSettled n others told
+
+  -- The rounds that are run of the others that its protocol reaches pass the limit, with this trace.
+  pub record StopsAt (n : ℕ) (others : List Bool) (which : Which) (trace : List Rule) (told : List Event) : Type 0 where
+    pub asked : List Bool
+    pub are : AreAsked w n others asked
+    pub stops : IsOutcome limits (family_plan w asked) (Err (Limit which trace)) told
+
+  -- So far as this the rounds tell that are run of the others that its protocol reaches.
+  pub record ComesAt (n : ℕ) (others : List Bool) (told : List Event) : Type 0 where
+    pub asked : List Bool
+    pub are : AreAsked w n others asked
+    pub comes : ComesTo limits (family_plan w asked) told
+
+  -- The rounds for the requirement at the place fail so: by a limit, or for want of memory, before the first of them or so far as they come.
+  abbrev pub FailsAt : ℕ → List Bool → Failed → List Event → Type 0
+  FailsAt n others (Limit which trace) told = StopsAt n others which trace told
+  FailsAt n others Memory told = (told ≡ []) ⊎ ComesAt n others told
+
+  -- ---- all requirements
+
+  -- It is settled whether the requirement at the place follows from the others that are kept, this is told, and it is decided whether it stays.
   pub record MeetsFamily (n : ℕ) (flags left : List Bool) (part : List Event) : Type 0 where
-    pub rules : List Rule
-    pub ends : IsOutcome limits (family_plan w (without flags n)) (Ok rules) part
+    pub settled : IsSettled n (without flags n) part
     pub decided : IsDecided (associated_types_of w) (owned w) n flags left
 
-  -- One has gone through the requirements from the last to the one at this place; these are kept, and the rounds of the families that one
-  -- met told this, one after the other.
+  -- One has gone through the requirements from the last to the one at this place; these are kept, and the rounds that were run for them told
+  -- this, one after the other.
   pub data HasGone : ℕ → List Bool → List Event → Type 0 where
     start : {n : ℕ} {flags : List Bool} {told : List Event}
         → n ≡ length (owned w) → flags ≡ all_kept (owned w) → told ≡ [] → HasGone n flags told
     further : {n : ℕ} {flags left : List Bool} {before part told : List Event}
         → HasGone (suc n) flags before → MeetsFamily n flags left part → told ≡ before ++ part → HasGone n left told
 
-  -- The rounds of the next family pass the limit, with this trace.
+  -- The rounds for the next requirement pass the limit, with this trace.
   pub record IsStopped (which : Which) (trace : List Rule) (told : List Event) : Type 0 where
     pub place : ℕ
     pub flags : List Bool
     pub before : List Event
     pub part : List Event
     pub gone : HasGone (suc place) flags before
-    pub stops : IsOutcome limits (family_plan w (without flags place)) (Err (Limit which trace)) part
+    pub stops : StopsAt place (without flags place) which trace part
     pub told_is : told ≡ before ++ part
 
-  -- One has gone through all requirements, and this family is left, with its numbers; or the rounds of a family pass a limit, with that
+  -- One has gone through all requirements, and this family is left, with its numbers; or the rounds for a requirement pass a limit, with that
   -- trace.
   abbrev pub IsFamilyOutcome : Result Family Failed → List Event → Type 0
   IsFamilyOutcome (Ok family) told = (flags : List Bool) × HasGone 0 flags told × (family.kept ≡ numbers w flags)
   IsFamilyOutcome (Err (Limit which trace)) told = IsStopped which trace told
   IsFamilyOutcome (Err Memory) told = Unit {0}
 
-  -- So far as this the families tell before one stops or all are met.
+  -- So far as this is told before the rounds for a requirement stop or all requirements are met.
   pub record ComesSoFar (told : List Event) : Type 0 where
     pub place : ℕ
     pub flags : List Bool
     pub before : List Event
     pub gone : HasGone place flags before
     pub part : (told ≡ before)
-        ⊎ ((n : ℕ) × (some : List Event) × (place ≡ suc n) × ComesTo limits (family_plan w (without flags n)) some
-        × (told ≡ before ++ some))
+        ⊎ ((n : ℕ) × (some : List Event) × (place ≡ suc n) × ComesAt n (without flags n) some × (told ≡ before ++ some))
 
   -- It comes out so, and the watcher was told what is told: in all, or for want of memory so far as one came.
   abbrev pub AnswersFamily : Option (List Event) → Option (List Event) → Result Family Failed → Type 0

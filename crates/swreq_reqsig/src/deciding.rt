@@ -1,5 +1,5 @@
 //! Whether one requirement stays.
-ghost use Rattle.std.specs.Prelude.{◌≡◌, ◌↔◌, suc, Err, IfErr, IfOk, IsTrue, List, Ok, OnOk, Some, length, slice_get};
+ghost use Rattle.std.specs.Prelude.{◌≡◌, ◌↔◌, ◌<◌, suc, Err, IfErr, IfOk, IsTrue, List, Ok, OnOk, Some, length, slice_get};
 ghost use Rattle.swreq_derive.specs.Derivation.{Derivable};
 ghost use Rattle.swreq_derive.specs.Derivation.Source.{SelfOf};
 ghost use Rattle.swreq_derive.specs.Derivation.TermStatement.{Requires};
@@ -9,15 +9,16 @@ ghost use Rattle.swreq_rule.specs.declared.rules.Rule.{Rule};
 ghost use Rattle.swreq_watch.specs.declared.events.Event.{Event};
 ghost use Rattle.swreq_watch.specs.Told.{GrewBy};
 ghost use Rattle.swreq_valid.specs.Answers.{Answers};
-ghost use Rattle.swreq_reqsig.specs.Families.{associated_types_of, family_of, family_plan, owned};
+ghost use Rattle.swreq_reqsig.specs.Families.{DerivesWith, associated_types_of, family_of, family_plan, owned};
 ghost use Rattle.swreq_reqsig.specs.GoingThrough.{AreLeft, without};
 ghost use Rattle.swreq_reqsig.specs.Places.{IsPlaceIn, all_places};
 ghost use Rattle.swreq_reqsig.specs.Settings.{IsSetting, text_in};
-ghost use Rattle.swreq_reqsig.specs.Told.{MeetsFamily};
+ghost use Rattle.swreq_reqsig.specs.Told.{FailsAt, IsSettled, MeetsFamily};
 
 use crate::derived::is_derivable;
 use crate::flags::kept_by;
 use crate::places::Place;
+use crate::reaching::asked;
 use crate::setting::Setting;
 use std::alloc::Global;
 use swreq_complete::Failed;
@@ -63,26 +64,60 @@ fn follows<W: Watch>(
     }
 }
 
+/// Whether the requirement at a place is derivable with those alone whose flags are set. It is asked of those that its protocol reaches by
+/// them: the watcher is told the events of their rounds, and nothing where the requirement is out of reach.
+fn follows_by_reach<W: Watch>(
+    alloc: Global,
+    setting: &Setting<'_>,
+    places: &[Place],
+    flags: &[bool],
+    at: usize,
+    watch: &mut W,
+) -> Result<bool, Failed>
+    requires setting { IsSetting setting.now }
+    requires places { places.now ≡ all_places setting.now.world.now }
+    requires flags { length flags.now ≡ length places.now }
+    requires at { at < length places.now }
+    ensures answer { IfOk result (λ b. (x : Place) → slice_get places.now at ≡ Some x → IsTrue b
+        ↔ DerivesWith (text_in setting.now) (family_of (text_in setting.now) flags.now)
+        x.proto (Requires (requirement_of setting.now.table.now x.requirement))) }
+    ensures settled { OnOk result ((part : List Event) × IsSettled setting.now.limits (text_in setting.now) at flags.now part
+        × GrewBy (W.told watch.old) (W.told watch.new) part) }
+    ensures failed { IfErr result (λ failed. (part : List Event) × FailsAt setting.now.limits (text_in setting.now) at flags.now failed part
+        × GrewBy (W.told watch.old) (W.told watch.new) part) }
+{
+    match asked(alloc, setting, places, flags, at) {
+        Err(_) => Err(Failed::Memory),
+        Ok(None) => Ok(false),
+        Ok(Some(asked)) => {
+            let place = &places[at];
+            follows(alloc, setting, &asked, place, watch)
+        }
+    }
+}
+
 /// Leaves out the requirement at a place, where the same is derivable without it: where it is derivable itself without it.
 pub(crate) fn decide<W: Watch>(
     alloc: Global,
     setting: &Setting<'_>,
+    places: &[Place],
     flags: &mut Vec<bool>,
     at: usize,
-    place: &Place,
     watch: &mut W,
 ) -> Result<(), Failed>
     requires setting { IsSetting setting.now }
-    requires place { slice_get (all_places setting.now.world.now) at ≡ Some place.now }
+    requires places { places.now ≡ all_places setting.now.world.now }
+    requires at { at < length places.now }
     requires left { AreLeft (associated_types_of (text_in setting.now)) (owned (text_in setting.now)) (suc at) flags.old.items }
     ensures met { OnOk result ((part : List Event)
         × MeetsFamily setting.now.limits (text_in setting.now) at flags.old.items flags.new.items part
         × GrewBy (W.told watch.old) (W.told watch.new) part) }
-    ensures failed { IfErr result (λ failed. Answers setting.now.limits (family_plan (text_in setting.now) (without flags.old.items at))
-        (W.told watch.old) (W.told watch.new) (Err failed)) }
+    ensures failed { IfErr result (λ failed. (part : List Event)
+        × FailsAt setting.now.limits (text_in setting.now) at (without flags.old.items at) failed part
+        × GrewBy (W.told watch.old) (W.told watch.new) part) }
 {
     flags[at] = false;
-    match follows(alloc, setting, flags, place, watch) {
+    match follows_by_reach(alloc, setting, places, flags, at, watch) {
         Err(failed) => Err(failed),
         Ok(derivable) => {
             flags[at] = !derivable;

@@ -22,7 +22,7 @@ fn all_set(alloc: Global, count: usize) -> Result<Vec<bool>, AllocError>
 }
 
 /// Goes through the requirements from the last to the first, and leaves out each without which the same is derivable. The watcher is told
-/// the events of the rounds of the families that are met, one after the other.
+/// the events of the rounds that are run for them, one after the other.
 pub(crate) fn go_through<W: Watch>(
     alloc: Global,
     setting: &Setting<'_>,
@@ -43,8 +43,7 @@ pub(crate) fn go_through<W: Watch>(
     let mut left = places.len();
     while left > 0 {
         left -= 1;
-        let place = places[left];
-        match decide(alloc, setting, &mut flags, left, &place, watch) {
+        match decide(alloc, setting, places, &mut flags, left, watch) {
             Ok(()) => {}
             Err(failed) => return Err(failed),
         }

@@ -24,9 +24,13 @@ use swreq_world::World;
 /// Going through the protocols from the last to the first in written order, and through the requirements of each from the last to the
 /// first, each requirement is left out without which the same is derivable from `[τ_0_0 : P]` for every protocol P.
 ///
-/// A family that is met on the way is that of the requirements that are left, without the one in question. It is `Failed::Limit` exactly
-/// where the rounds of such a family pass a limit, with the limit and the trace of the first. The watcher is told the events of the rounds
-/// of these families, one after the other.
+/// Whether a requirement of P follows is asked by reach: of the requirements that are left, without the one in question, of those protocols
+/// that P reaches. P reaches itself, and with a protocol each to which something conforms by such a requirement of that protocol. No other
+/// requirement bears on what is derivable from `[τ_0_0 : P]`. A conformance to a protocol that P does not reach does not follow, and for it
+/// nothing is completed; for each other requirement the rounds of the reached part are run.
+///
+/// It is `Failed::Limit` exactly where the rounds of such a part pass a limit, with the limit and the trace of the first. The watcher is
+/// told the events of these rounds, one after the other.
 pub fn kept_family<W: Watch>(
     alloc: Global,
     world: &World,

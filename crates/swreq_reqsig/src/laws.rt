@@ -7,6 +7,7 @@ ghost use Rattle.swreq_world.specs.Closed.{IsClosed};
 ghost use Rattle.swreq_world.specs.Worlds.{TextWorld};
 ghost use Rattle.swreq_valid.specs.Sides.{HoldsOfEach, IsValidSide, protocol_sides};
 ghost use Rattle.swreq_reqsig.specs.Families.{IsGivenFamily, associated_types_of, members, owned};
+ghost use Rattle.swreq_reqsig.specs.Reaching.{ConformsByReach, DerivesByReach, FlagsGivePart};
 
 /// What is left of the requirements, going through them by flags, is what is kept of their list.
 pub fn given_family_is_kept()
@@ -22,4 +23,19 @@ pub fn given_family_is_one()
 pub fn valid_sides_are_well_formed()
     ensures { (w : TextWorld) → IsClosed w → HoldsOfEach (IsValidSide (facts_of w)) (protocol_sides w)
         → AreProtocolsWellFormed (facts_of w) }
+{}
+
+/// From `[τ_0_0 : P]` just the same statements are derivable with a family and with its part that P reaches.
+pub fn reached_part_derives_the_same()
+    ensures { DerivesByReach }
+{}
+
+/// No conformance is derivable from `[τ_0_0 : P]` to a protocol that P does not reach.
+pub fn conformances_are_to_reached_protocols()
+    ensures { ConformsByReach }
+{}
+
+/// The flags of the part that a protocol reaches give that part.
+pub fn reached_flags_give_the_part()
+    ensures { FlagsGivePart }
 {}

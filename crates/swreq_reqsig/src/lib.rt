@@ -10,6 +10,7 @@ mod going;
 mod kept;
 pub mod laws;
 mod places;
+mod reaching;
 mod setting;
 mod texts;
 

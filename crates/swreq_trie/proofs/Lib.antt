@@ -1,4 +1,4 @@
-pub mod Keys
+pub mod Linked
 pub mod Marks
 pub mod Paths
 pub mod Ways

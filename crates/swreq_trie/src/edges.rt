@@ -3,13 +3,13 @@
 ghost use Rattle.std.specs.Prelude.{◌≡◌, [], ◌++◌, MatchOption, IfOk};
 ghost use Rattle.swreq_trie.specs.Paths.{IsChild, IsForked, IsGrown, NoChild};
 
-use indexmap::IndexSet;
+use crate::chains::{Link, find_child, make_child};
 use std::alloc::{AllocError, Global};
 use std::marker::Model;
 use swreq_word::Symbol;
 
 /// The node that the edge leaves, and its symbol.
-#[derive(Clone, Copy, Debug, PartialEq, Eq, Hash)]
+#[derive(Clone, Copy, Debug, PartialEq, Eq)]
 pub(crate) struct Edge {
     pub from: usize,
     pub symbol: Symbol,
@@ -18,16 +18,21 @@ pub(crate) struct Edge {
 /// Edges, each once. The root is node 0, and the edge at place k leads to node k + 1.
 #[derive(Drop)]
 pub(crate) struct Edges {
-    set: IndexSet<Edge>,
+    links: Vec<Link>,
+    // The place of the last edge of each chain.
+    heads: Vec<Option<u32>>,
 }
 
 impl Model for Edges {
     ghost use Rattle.std.specs.Prelude.{List};
     ghost use Rattle.swreq_trie.specs.declared.edges.Edge.{Edge};
+    ghost use Rattle.swreq_trie.specs.Chains.{AreChained, edges_of};
 
     ghost Value = { List Edge };
 
-    ghost view = { λ e. e.set.keys };
+    ghost view = { λ e. edges_of e.links.items };
+
+    ghost invariant = { λ e. AreChained e.links.items e.heads.items };
 }
 
 impl Edges {
@@ -36,16 +41,18 @@ impl Edges {
         ensures { result ≡ [] }
     {
         Edges {
-            set: IndexSet::new(alloc),
+            links: Vec::new(alloc),
+            heads: Vec::new(alloc),
         }
     }
 
     /// The same edges once more.
-    pub fn copy(&self) -> Result<Edges, AllocError>
+    pub fn copy(&self, alloc: Global) -> Result<Edges, AllocError>
         ensures { IfOk result (λ copy. copy ≡ self.now) }
     {
-        let set = self.set.clone()?;
-        Ok(Edges { set })
+        let links = Vec::from_slice(alloc, &self.links)?;
+        let heads = Vec::from_slice(alloc, &self.heads)?;
+        Ok(Edges { links, heads })
     }
 
     /// The node to which an edge leads from this node by the symbol, or None where there is none.
@@ -53,12 +60,7 @@ impl Edges {
         ensures found { MatchOption result (NoChild self.now node symbol) (λ child. IsChild self.now node symbol child) }
         ensures forked { IsForked self.now }
     {
-        let _count = self.set.len();
-        let edge = Edge { from: node, symbol };
-        match self.set.get_index_of(&edge) {
-            Some(place) => Some(place + 1),
-            None => None,
-        }
+        find_child(&self.links, &self.heads, Edge { from: node, symbol })
     }
 
     /// The node to which an edge leads from this node by the symbol, which is made where there is none.
@@ -67,9 +69,10 @@ impl Edges {
         ensures grown { IsGrown self.old self.new }
         ensures forked { IsForked self.new }
     {
-        let _count = self.set.len();
-        let (place, _) = self.set.insert_full(Edge { from: node, symbol })?;
-        let _new_count = self.set.len();
-        Ok(place + 1)
+        make_child(
+            &mut self.links,
+            &mut self.heads,
+            Edge { from: node, symbol },
+        )
     }
 }

@@ -1,4 +1,4 @@
-//! Which stored side ends at each node, by its number.
+//! Which stored side ends at each node, by its number. Which edge ends each chain is kept so too, by its place.
 
 ghost use Rattle.std.specs.Prelude.{ℕ, ◌<◌, length, MatchOption, OnOk};
 ghost use Rattle.swreq_trie.specs.Marks.{EndsAt, Marked, SameEnds};

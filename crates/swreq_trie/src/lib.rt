@@ -1,6 +1,7 @@
 //! Left sides of rules by their symbols: the shortest one that begins at a place, and the places of two that overlap.
 #![tactic(auto)]
 
+mod chains;
 mod edges;
 mod ends;
 mod found;

@@ -103,7 +103,7 @@ impl Trie {
         ensures { IfOk result (λ copy. copy ≡ self.now) }
     {
         let entries = copy_entries(alloc, &self.entries)?;
-        let edges = self.edges.copy()?;
+        let edges = self.edges.copy(alloc)?;
         let ends = Vec::from_slice(alloc, &self.ends)?;
         let passing = copy_lists(alloc, &self.passing)?;
         let inside = copy_lists(alloc, &self.inside)?;

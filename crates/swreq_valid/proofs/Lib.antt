@@ -2,6 +2,7 @@ pub mod Flagged
 pub mod Planning
 pub mod Running
 pub mod Turned
+pub mod Taken
 pub mod ByReduction
 pub mod FirstSide
 pub mod Deriving

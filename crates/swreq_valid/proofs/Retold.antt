@@ -1,6 +1,8 @@
 -- What is told once more of rounds is what they told.
-use Rattle.std.proofs.Common.{◌≡◌, ◌⊎◌, ◌∙◌, inl, inr, refl, sym, ap, subst, ℕ, zero, suc, ◌+◌, ◌<◌, ◌≤◌, arith, Bool, List, [], ◌∷◌, ◌++◌, append_assoc, append-nil, length, map, take, drop, get_or, slice_get, Some, None, Contains, Option, Ok, Err, false, replicate}
+use Rattle.std.proofs.Common.{◌≡◌, ◌⊎◌, ◌∙◌, inl, inr, refl, sym, ap, subst, ℕ, zero, suc, ◌+◌, ◌<◌, ◌≤◌, arith, Bool, List, [], ◌∷◌, ◌++◌, append_assoc, append-nil, length, length-append, map, take, drop, get_or, slice_get, Some, None, Contains, Option, Result, Ok, Err, OnOk, OnErr, false, replicate}
 use Rattle.std.proofs.lemmas.Bool.{cases_lt}
+use Rattle.std.proofs.Math.Seq.{take-length}
+use Rattle.std.specs.declared.alloc.AllocError.{AllocError}
 use Rattle.std.proofs.lemmas.List.{drop_all, drop-append-le, length-replicate, length-take, map-append, take-take, take_more}
 use Rattle.std.proofs.lemmas.Option.{get_or_from_slice_get, slice_get_within}
 use Rattle.swreq_orders.proofs.Elements.{in_front, in_whole}
@@ -27,7 +29,7 @@ use Rattle.swreq_rounds.specs.Rounds.{ComesTo, Ends, IsDue, IsOutcome, IsRound, 
 use Rattle.swreq_rounds.specs.Rounds.IsRound.{after, begin}
 use Rattle.swreq_rounds.specs.Rounds.Turns.{ends, joins, stops}
 use Rattle.swreq_rounds.proofs.Growing.{round_shows}
-use Rattle.swreq_valid.specs.Again.{IsFront, IsFrontOf, TellsRound, events_of, round_events}
+use Rattle.swreq_valid.specs.Again.{IsFront, IsFrontOf, TellsFront, TellsRound, events_of, round_events, rules_again}
 use Rattle.swreq_valid.specs.Answers.{Answers}
 use Rattle.swreq_valid.specs.Flags.{Tells, chosen}
 use Rattle.swreq_valid.specs.Rounds.{AreJoined, AreRounds, AreRoundsFrom, RoundView, ended_round, last_rules, short_round, stopped_round}
@@ -155,6 +157,23 @@ one_more_round base rounds k r old mid new l is grew more =
     take_more rounds k r l ∙ ap (λ (x : RoundView). take k rounds ++ x ∷ []) is in
     subst (λ (es : List Event). GrewBy old new es) (sym (ap (events_of base) longer ∙ one_round base (take k rounds) r))
     (grew_on old mid new (events_of base (take k rounds)) (round_events base r) grew more)
+
+-- ---- a front of a list
+
+module _ {A : Type 0} where
+  take_front : (xs ys : List A) (k : ℕ) → k ≤ length xs → take k (xs ++ ys) ≡ take k xs
+  take_front xs ys zero l = refl
+  take_front [] ys (suc k) l = absurd (omega (arith, l))
+  take_front (x ∷ xs) ys (suc k) l = ap (λ z. x ∷ z) (take_front xs ys k (omega (arith, l)))
+
+  get_in_front : (xs ys : List A) (k : ℕ) (d : A) → k < length xs → get_or (xs ++ ys) k d ≡ get_or xs k d
+  get_in_front [] ys k d l = absurd (omega (arith, l))
+  get_in_front (x ∷ xs) ys zero d l = refl
+  get_in_front (x ∷ xs) ys (suc k) d l = get_in_front xs ys k d (omega (arith, l))
+
+  get_at_end : (xs : List A) (x : A) → get_or (xs ++ x ∷ []) (length xs) x ≡ x
+  get_at_end [] x = refl
+  get_at_end (y ∷ xs) x = get_at_end xs x
 
 -- ---- what rounds that came to their end tell once more
 
@@ -322,3 +341,32 @@ module _ (limits : Limits) (plan : Plan) where
       part_again (replicate (length plan.all) false) None [] begun rounds are k d part l is,
       grew_on old mid new (events_of base (take k rounds)) part grew more,
     )
+
+    -- the last of them, and those before it
+    module _ (front : List RoundView) (used : List Bool) (split : rounds ≡ front ++ ended_round used (last_rules rounds) ∷ []) where
+      abbrev last : RoundView
+      last = ended_round used (last_rules rounds)
+
+      pub front_lost : (k : ℕ) (d : RoundView) (mid : Option (List Event)) → k < length front → GrewBy old mid (events_of base (take k front))
+          → TellsRound base (get_or front k d) mid new → Answers limits plan old new (Err Memory)
+      front_lost k d mid l grew part =
+          let long = ap length split ∙ length-append front (last ∷ []) in
+          lost_again k d mid (omega (arith, l, long))
+          (subst (λ (rs : List RoundView). GrewBy old mid (events_of base rs))
+          (sym (ap (take k) split ∙ take_front front (last ∷ []) k (omega (arith, l)))) grew)
+          (subst (λ (r : RoundView). TellsRound base r mid new)
+          (sym (ap (λ (rs : List RoundView). get_or rs k d) split ∙ get_in_front front (last ∷ []) k d l)) part)
+
+      pub all_told : (mid : Option (List Event)) → GrewBy old mid (events_of base front) → (r : Result (Unit {0}) AllocError)
+          → OnOk r (GrewBy mid new (events base (last_rules rounds))) → OnErr r (TellsFront base (last_rules rounds) mid new)
+          → Answers limits plan old new (rules_again rounds r)
+      all_told mid grew (Ok done) ok err =
+          told_again (subst (λ (es : List Event). GrewBy old new es) (sym (ap (events_of base) split ∙ one_round base front last))
+          (grew_on old mid new (events_of base front) (events base (last_rules rounds)) grew ok))
+      all_told mid grew (Err e) ok err =
+          let long = ap length split ∙ length-append front (last ∷ []) in
+          lost_again (length front) last mid (omega (arith, long))
+          (subst (λ (rs : List RoundView). GrewBy old mid (events_of base rs))
+          (sym (ap (take (length front)) split ∙ take_front front (last ∷ []) (length front) (omega arith) ∙ take-length front)) grew)
+          (subst (λ (r : RoundView). TellsRound base r mid new)
+          (sym (ap (λ (rs : List RoundView). get_or rs (length front) last) split ∙ get_at_end front last)) err)

@@ -1,21 +1,30 @@
 -- From what the code does after a round to what the round comes to.
-use Rattle.std.proofs.Common.{◌≡◌, ◌⊎◌, inl, inr, refl, sym, ap, subst, subst₂, ◌∙◌, ◌<◌, Bool, List, [], ◌∷◌, ◌++◌, length, Contains, Option, Some, None, MatchOption, Ok, Err}
+use Rattle.std.proofs.Common.{◌≡◌, ◌⊎◌, inl, inr, refl, sym, ap, subst, subst₂, ◌∙◌, ◌<◌, Bool, List, [], ◌∷◌, ◌++◌, length, Contains, Option, Some, None, MatchOption, IfOk, Result, Ok, Err}
 use Rattle.swreq_rule.specs.declared.rules.Rule.{Rule}
 use Rattle.swreq_watch.specs.declared.events.Event.{Event}
 use Rattle.swreq_complete.specs.declared.limit.Failed.{Failed}
 use Rattle.swreq_complete.specs.declared.limit.Failed.TheVariants.{Limit}
 use Rattle.swreq_complete.specs.declared.limit.Limits.{Limits}
 use Rattle.swreq_complete.specs.Events.{events}
+use Rattle.swreq_complete.specs.Short.{IsBorneBy}
+use Rattle.swreq_correspondence.specs.Symbols.{Word}
+use Rattle.swreq_param.specs.Terms.{Term}
+use Rattle.std.specs.declared.alloc.AllocError.{AllocError}
 use Rattle.swreq_rounds.specs.Plan.{AreShown, AreShownByReduction, Item, Plan}
-use Rattle.swreq_rounds.specs.Rounds.{Ends, IsBegunAnew, IsClosed, IsDue, Joins, Passed, Stops, Turns}
+use Rattle.swreq_rounds.specs.Rounds.{Bears, Ends, IsBegunAnew, IsClosed, IsDue, Joins, Passed, Stops, Turns}
 use Rattle.swreq_rounds.specs.Rounds.Next.{ended, going}
 use Rattle.swreq_rounds.specs.Rounds.Turns.{ends, joins, stops}
+use Rattle.swreq_valid.specs.declared.underway.Joined.{Joined}
 use Rattle.swreq_valid.specs.declared.underway.Passed as stored
 use Rattle.swreq_valid.specs.declared.underway.Underway.{Underway}
+use Rattle.swreq_valid.specs.declared.wanted.RoundRequirement.{RoundRequirement}
 use Rattle.swreq_valid.specs.Flags.{Tells, TellsMore, chosen, unset}
+use Rattle.swreq_valid.specs.Plans.{items_of}
 use Rattle.swreq_valid.specs.Rounds.{AreJoined, AreRoundsFrom, RoundView, ended_round, last_rules, short_round, stopped_round}
 use Rattle.swreq_valid.specs.Rounds.AreRoundsFrom.{before_others, begun_anew, once_more, the_last}
 use Rattle.swreq_valid.specs.Underway.{AreByItem, FailsWith, GoesTo, IsDueNow, IsLastOf, first_of, used_by}
+use Rattle.swreq_rounds.proofs.OneOutcome.{closed_by}
+use Rattle.swreq_valid.proofs.Planning.{items_length}
 use Rattle.swreq_valid.proofs.Flagged.{by_item, fewer_unset, more_told, others_chosen, tells_length, tells_selects}
 use Rattle.swreq_valid.proofs.Running.{last_of_more}
 
@@ -48,6 +57,31 @@ module _ (limits : Limits) (plan : Plan) (used : List Bool) (flags : AreByItem p
       others = others_chosen plan.all used more long told (λ x c. inl c) j.others;
       next_is = refl;
     }
+
+pub flags_long : (terms : List Term) (xs : List RoundRequirement) (used : List Bool) → AreByItem (items_of terms xs) used → length used ≡ length xs
+flags_long terms xs used flags =
+    tells_length (Contains (chosen (items_of terms xs) used)) (items_of terms xs) used flags ∙ items_length terms xs
+
+pub same_borne : (limits : Limits) (base other : List Rule) (eqs more : List (Word × Word)) (r : Result (List Rule) Failed) → other ≡ base → eqs ≡ more
+    → IsBorneBy limits other eqs r → IsBorneBy limits base more r
+same_borne limits base other eqs more r e f h = subst₂ (λ b g. IsBorneBy limits b g r) e f h
+
+module _ (limits : Limits) (plan : Plan) (used : List Bool) (flags : AreByItem plan.all used) (rules : List Rule)
+    (bears : Bears limits plan (chosen plan.all used) rules) where
+  -- what the code finds to join by the short round
+  abbrev Finds : Joined → Type 0
+  Finds j = (j.rules ≡ rules) × (j.more.items ≡ used → ⊥) × TellsMore (AreShownByReduction plan rules) plan.all used j.more.items
+
+  pub joined_result : (r : Result (Option Joined) AllocError)
+      → IfOk r (λ o. MatchOption o (TellsMore (AreShownByReduction plan rules) plan.all used used) Finds)
+      → IfOk r (λ o. MatchOption o (IsClosed limits plan (chosen plan.all used)) (λ j. AreJoined limits plan used j.rules j.more.items))
+  joined_result (Ok None) t = closed_by limits plan (chosen plan.all used) rules bears (joins_of limits plan used flags rules used t)
+  joined_result (Ok (Some j)) h = record {
+    bears = subst (Bears limits plan (chosen plan.all used)) (sym h.0) bears;
+    joins = subst (λ z. TellsMore (AreShownByReduction plan z) plan.all used j.more.items) (sym h.0) h.2;
+    others = h.1;
+  }
+  joined_result (Err e) h = tt
 
 -- ---- what a round comes to
 

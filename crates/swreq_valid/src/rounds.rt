@@ -419,7 +419,8 @@ fn after_first_limit<'b>(
 fn first_limit(state: Underway<'_>) -> Failed
     ensures { MatchOption state.entry.first (Unit {0}) (λ f. result ≡ Limit f.which f.trace) }
 {
-    match state.first {
+    let first = state.first;
+    match first {
         Some(first) => Failed::Limit {
             which: first.which,
             trace: first.trace,

@@ -1,8 +1,8 @@
-use Rattle.std.proofs.Common.{◌≡◌, ◌∙◌, [], Err, Ok, inl, inr, refl}
+use Rattle.std.proofs.Common.{◌≡◌, ◌∙◌, [], Err, None, Ok, inl, inr, refl}
 use Rattle.swreq_derive.specs.Derivation.Source.{Written as WrittenList}
 use Rattle.swreq_derive.specs.Facts.{generic_params}
 use Rattle.swreq_reqsig.proofs.WellFormed.{list_formed}
-use Rattle.swreq_rounds.specs.Rounds.{first}
+use Rattle.swreq_rounds.specs.Rounds.{begin}
 use Rattle.swreq_symbols.specs.Meaning.{facts_of}
 use Rattle.swreq_valid.specs.Machines.{IsMachineOf, list_of}
 use Rattle.swreq_valid.specs.Rounds.{AreRounds, last_rules}
@@ -44,7 +44,7 @@ build-requires-clause-written g c =
 pub returns-in_err-list-clause-check : goal.returns-in_err-list-clause-check
 returns-in_err-list-clause-check g c =
     rw (err_is c.from_residual.result _ c.from_residual.ensures.1)
-    ([], inl (record { used = []; before = []; round = first; part = inl refl }), grew_none _)
+    ([], inl (record { used = []; first = None; before = []; round = begin; part = inl refl }), grew_none _)
 
 pub returns-in_err-machine-clause-check : goal.returns-in_err-machine-clause-check
 returns-in_err-machine-clause-check g c =

@@ -1,5 +1,4 @@
-use Rattle.std.proofs.Common.{◌-◌, ap, arith, length, refl, replicate, slice_get, sym, true, ◌∙◌}
-use Rattle.std.proofs.lemmas.Option.{slice_get-get_or}
+use Rattle.std.proofs.Common.{◌-◌, ap, arith, length, refl, replicate, true}
 use Rattle.swreq_reqsig.specs.Places.{all_places}
 use Rattle.swreq_reqsig.proofs.Coming.{comes_first, comes_on, fails_on, left_at, wants_memory}
 use Rattle.swreq_reqsig.proofs.going.go_through.Goals as goal
@@ -20,13 +19,12 @@ loop-left-init g c =
           (ap length c.requires.places) c.in-Ok.ensures;
     }
 
-pub decide-requires-clause-place : goal.decide-requires-clause-place
-decide-requires-clause-place g c =
-    let k = c.loop-left.left - 1 in
+pub decide-requires-clause-at : goal.decide-requires-clause-at
+decide-requires-clause-at g c =
     let t = c.loop-left-test.true in
     let w = c.loop-left.invariant.within in
     let e = ap length c.requires.places in
-    ap (λ z. slice_get z k) (sym c.requires.places) ∙ slice_get-get_or c.args.places.now k _ (omega (arith, t, w, e))
+    omega (arith, t, w, e)
 
 pub decide-requires-clause-left : goal.decide-requires-clause-left
 decide-requires-clause-left g c =

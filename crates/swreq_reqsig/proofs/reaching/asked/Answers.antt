@@ -1,0 +1,34 @@
+use Rattle.std.proofs.Common.{◌∙◌, ap, Bool, List, subst, sym}
+use Rattle.std.proofs.lemmas.Option.{slice_get-get_or}
+use Rattle.swreq_reqsig.specs.Marks.{IsMarked, marked}
+use Rattle.swreq_reqsig.proofs.Asking.{are_asked, is_beyond, ranks_below}
+use Rattle.swreq_reqsig.proofs.reaching.asked.Goals as goal
+
+pub reached-requires-clause-ranks : goal.reached-requires-clause-ranks
+reached-requires-clause-ranks c =
+    let s = c.args.setting.now in
+    ranks_below s.world.now s.table.now c.requires.setting.text c.args.places.now c.requires.places c.protocols-protocols.result
+    c.protocols-protocols.ensures
+
+pub reached-requires-clause-proto : goal.reached-requires-clause-proto
+reached-requires-clause-proto c =
+    let s = c.args.setting.now in
+    (ranks_below s.world.now s.table.now c.requires.setting.text c.args.places.now c.requires.places c.protocols-protocols.result
+    c.protocols-protocols.ensures c.args.at _ (slice_get-get_or c.args.places.now c.args.at _ c.requires.at)).own
+
+pub returns-then-is_beyond : goal.returns-then-is_beyond
+returns-then-is_beyond c =
+    let s = c.args.setting.now in
+    let (t, q, says, unmarked) = c.is_beyond.ensures.beyond c.if-is_beyond.true in
+    is_beyond s.world.now s.table.now c.requires.setting.text c.args.places.now c.args.flags.now c.args.at _ c.requires.places
+    (slice_get-get_or c.args.places.now c.args.at _ c.requires.at) c.in_ok-marks.marks.items (c.in_ok-marks.ensures s.table.now)
+    (t, q, says, λ m. unmarked (subst (λ (z : List Bool). IsMarked z q) (sym c.deref.ensures.value) m))
+
+pub returns : goal.returns
+returns c =
+    let s = c.args.setting.now in
+    are_asked s.world.now s.table.now c.requires.setting.text c.args.places.now c.args.flags.now c.args.at _ c.requires.places
+    (slice_get-get_or c.args.places.now c.args.at _ c.requires.at) c.in_ok-marks.marks.items c.in_ok-asked.asked.items
+    (c.in_ok-marks.ensures s.table.now) c.requires.flags
+    (λ t q says. subst (λ (z : List Bool). IsMarked z q) c.deref.ensures.value (c.is_beyond.ensures.within c.if-is_beyond.false t q says))
+    (c.in_ok-asked.ensures ∙ ap (marked c.args.places.now c.args.flags.now) c.deref-2.ensures.value)

@@ -1,0 +1,72 @@
+-- Which protocols a protocol reaches, and the part of a family that is of these.
+use Rattle.std.specs.Prelude.{◌≡◌, ◌↔◌, ℕ, Bool, true, List, Contains, Some, length, slice_get}
+use Rattle.swreq_param.specs.declared.ids.ProtoId.{ProtoId}
+use Rattle.swreq_param.specs.Terms.{Term}
+use Rattle.swreq_derive.specs.Derivation.{AssociatedType, Derivable, TermStatement}
+use Rattle.swreq_derive.specs.Derivation.Source.{SelfOf}
+use Rattle.swreq_derive.specs.Derivation.TermRequirement.{Conforms}
+use Rattle.swreq_derive.specs.Derivation.TermStatement.{Requires}
+use Rattle.swreq_derive.specs.Kept.{Owned, owned_facts}
+use Rattle.swreq_world.specs.Worlds.{TextWorld}
+use Rattle.swreq_valid.specs.Flags.{chosen}
+use Rattle.swreq_reqsig.specs.Families.{family_of, own, owned}
+
+-- By the requirements of a family P reaches itself, and with a protocol each to which something conforms by a requirement of that protocol.
+pub data Reaches (family : List Owned) (p : ProtoId) : ProtoId → Type 0 where
+  itself : {q : ProtoId} → q ≡ p → Reaches family p q
+  by_conformance : {q r : ProtoId} {u : Term} → Reaches family p q → Contains family (own q (Conforms u r)) → Reaches family p r
+
+-- These are the members of the family whose protocol P reaches.
+abbrev pub IsReachedPart : List Owned → ProtoId → List Owned → Type 0
+IsReachedPart family p part = (o : Owned) → Contains part o ↔ (Contains family o × Reaches family p o.proto)
+
+-- These are the flags of the part that P reaches of the family of the requirements whose flags are set.
+pub record AreReachedFlags (all : List Owned) (flags : List Bool) (p : ProtoId) (part : List Bool) : Type 0 where
+  pub count : length part ≡ length all
+  pub each : (n : ℕ) (o : Owned) → slice_get all n ≡ Some o
+      → (slice_get part n ≡ Some true) ↔ ((slice_get flags n ≡ Some true) × Reaches (chosen all flags) p o.proto)
+
+-- ---- what is asked of a requirement
+
+-- It says that something conforms to a protocol that its own does not reach by the family.
+pub record IsOutOfReach (family : List Owned) (o : Owned) : Type 0 where
+  pub subject : Term
+  pub proto : ProtoId
+  pub says : o.requirement ≡ Conforms subject proto
+  pub unreached : Reaches family o.proto proto → ⊥
+
+-- If it says that something conforms to a protocol, its own reaches that by the family.
+abbrev pub IsWithinReach : List Owned → Owned → Type 0
+IsWithinReach family o = (t : Term) (q : ProtoId) → o.requirement ≡ Conforms t q → Reaches family o.proto q
+
+module _ (w : TextWorld) where
+  -- The requirement at the place is out of reach by the others, whose flags are set: it does not follow from them.
+  pub record IsBeyond (n : ℕ) (others : List Bool) : Type 0 where
+    pub requirement : Owned
+    pub stands : slice_get (owned w) n ≡ Some requirement
+    pub unreached : IsOutOfReach (family_of w others) requirement
+
+  -- The requirement at the place is within reach by the others, and these flags are of those of the others that its protocol reaches: whether
+  -- it follows is asked of them.
+  pub record AreAsked (n : ℕ) (others asked : List Bool) : Type 0 where
+    pub requirement : Owned
+    pub stands : slice_get (owned w) n ≡ Some requirement
+    pub within : IsWithinReach (family_of w others) requirement
+    pub reached : AreReachedFlags (owned w) others requirement.proto asked
+
+-- ---- laws
+
+-- From [τ_0_0 : P] just the same statements are derivable with a family and with its part that P reaches.
+abbrev pub DerivesByReach : Type 0
+DerivesByReach = (ds : List AssociatedType) (family part : List Owned) (p : ProtoId) → IsReachedPart family p part → (st : TermStatement)
+    → Derivable (owned_facts ds family) (SelfOf p) st ↔ Derivable (owned_facts ds part) (SelfOf p) st
+
+-- No conformance is derivable from [τ_0_0 : P] to a protocol that P does not reach.
+abbrev pub ConformsByReach : Type 0
+ConformsByReach = (ds : List AssociatedType) (family : List Owned) (p q : ProtoId) (t : Term)
+    → Derivable (owned_facts ds family) (SelfOf p) (Requires (Conforms t q)) → Reaches family p q
+
+-- The flags of the part give the part.
+abbrev pub FlagsGivePart : Type 0
+FlagsGivePart = (all : List Owned) (flags part : List Bool) (p : ProtoId) → AreReachedFlags all flags p part
+    → IsReachedPart (chosen all flags) p (chosen all part)

@@ -1,0 +1,169 @@
+//! Which protocols a protocol reaches by the requirements that are kept, and which requirements are of these.
+ghost use Rattle.std.specs.Prelude.{◌≡◌, ◌<◌, ◌&&◌, ℕ, false, true, IfOk, List, MatchOption, length, slice_get, slice_index_or, slice_set, Some, replicate};
+ghost use Rattle.swreq_param.specs.Terms.{Term};
+ghost use Rattle.swreq_param.specs.declared.ids.TermId.{TermId};
+ghost use Rattle.swreq_derive.specs.declared.requirements.Requirement.TheVariants.{Conf};
+ghost use Rattle.swreq_reqsig.specs.Marks.{HasPassed, HasRanksBelow, HaveRanksBelow, IsClosedAt, IsMarked, IsMarkedBy, TellReached, kept_at, marked};
+ghost use Rattle.swreq_reqsig.specs.Places.{all_places};
+ghost use Rattle.swreq_reqsig.specs.Reaching.{AreAsked, IsBeyond};
+ghost use Rattle.swreq_reqsig.specs.Settings.{IsSetting, text_in};
+
+use crate::places::Place;
+use crate::setting::Setting;
+use std::alloc::{AllocError, Global};
+use swreq_derive::Requirement;
+use swreq_param::ProtoId;
+
+/// Whether a protocol is marked.
+fn is_marked(marks: &[bool], p: ProtoId) -> bool
+    ensures { result ≡ slice_index_or marks.now p.rank false }
+{
+    match marks.get(p.rank as usize) {
+        Some(mark) => *mark,
+        None => false,
+    }
+}
+
+/// Marks a protocol. Whether it was not marked.
+fn add(marks: &mut Vec<bool>, p: ProtoId) -> bool
+    requires { p.rank < length marks.old.items }
+    ensures stays { result ≡ false → IsMarked marks.old.items p × (marks.new.items ≡ marks.old.items) }
+    ensures added { result ≡ true → (slice_get marks.old.items p.rank ≡ Some false) × (marks.new.items ≡ slice_set marks.old.items p.rank true) }
+{
+    if is_marked(marks, p) {
+        return false;
+    }
+    marks[p.rank as usize] = true;
+    true
+}
+
+/// Whether the requirement at a place is kept, and its protocol is marked.
+fn is_of_marked(place: &Place, kept: bool, marks: &[bool]) -> bool
+    ensures { result ≡ (kept && slice_index_or marks.now place.now.proto.rank false) }
+{
+    kept && is_marked(marks, place.proto)
+}
+
+/// Marks the protocol to which something conforms by the requirement at a place, where it is kept and its own protocol is marked. Whether
+/// that was not marked.
+fn go_on(place: &Place, kept: bool, marks: &mut Vec<bool>) -> bool
+    requires { HasRanksBelow (length marks.old.items) place.now }
+    ensures stays { result ≡ false → IsClosedAt place.now kept marks.old.items × (marks.new.items ≡ marks.old.items) }
+    ensures added { result ≡ true → IsMarkedBy place.now kept marks.old.items marks.new.items }
+{
+    if !is_of_marked(place, kept, marks) {
+        return false;
+    }
+    match place.requirement {
+        Requirement::Conf { proto, .. } => add(marks, proto),
+        Requirement::Layout { .. } => false,
+        Requirement::Same { .. } => false,
+    }
+}
+
+/// Goes through the places from the last to the first, and from each marked protocol on. Whether more are marked.
+///
+/// Most protocols inherit from those before them, so that their parents are marked in the same pass.
+fn pass(places: &[Place], flags: &[bool], marks: &mut Vec<bool>) -> bool
+    requires flags { length flags.now ≡ length places.now }
+    requires ranks { HaveRanksBelow (length marks.old.items) places.now }
+    ensures { HasPassed places.now flags.now 0 result marks.old.items marks.new.items }
+{
+    let mut grew = false;
+    let mut left = places.len();
+    while left > 0 {
+        left -= 1;
+        let place = &places[left];
+        let added = go_on(place, flags[left], marks);
+        grew = grew || added;
+    }
+    grew
+}
+
+/// Marks for all protocols, of which there are so many, with one protocol marked.
+fn first_mark(alloc: Global, protocols: usize, p: ProtoId) -> Result<Vec<bool>, AllocError>
+    requires { p.rank < protocols }
+    ensures { IfOk result (λ marks. marks.items ≡ slice_set (replicate protocols false) p.rank true) }
+{
+    let mut marks = vec![in alloc; false; protocols]?;
+    marks[p.rank as usize] = true;
+    Ok(marks)
+}
+
+/// Marks for all protocols, set for those that a protocol reaches by the requirements whose flags are set.
+fn reached(
+    alloc: Global,
+    protocols: usize,
+    places: &[Place],
+    flags: &[bool],
+    p: ProtoId,
+) -> Result<Vec<bool>, AllocError>
+    requires flags { length flags.now ≡ length places.now }
+    requires ranks { HaveRanksBelow protocols places.now }
+    requires proto { p.rank < protocols }
+    ensures { IfOk result (λ marks. (terms : List Term) → TellReached (kept_at terms places.now flags.now) p marks.items) }
+{
+    let mut marks = first_mark(alloc, protocols, p)?;
+    let mut grows = true;
+    while grows {
+        grows = pass(places, flags, &mut marks);
+    }
+    Ok(marks)
+}
+
+/// The flags of those that are kept and whose protocols are marked.
+fn marked(
+    alloc: Global,
+    places: &[Place],
+    flags: &[bool],
+    marks: &[bool],
+) -> Result<Vec<bool>, AllocError>
+    requires { length flags.now ≡ length places.now }
+    ensures { IfOk result (λ v. v.items ≡ marked places.now flags.now marks.now) }
+{
+    let mut v = Vec::new(alloc);
+    for k in 0..places.len() {
+        let place = &places[k];
+        v.push(is_of_marked(place, flags[k], marks))?;
+    }
+    Ok(v)
+}
+
+/// Whether a requirement says that something conforms to a protocol that is not marked.
+fn is_beyond(marks: &[bool], requirement: &Requirement) -> bool
+    ensures beyond { result ≡ true → (t : TermId) × (q : ProtoId) × (requirement.now ≡ Conf t q) × (IsMarked marks.now q → ⊥) }
+    ensures within { result ≡ false → (t : TermId) (q : ProtoId) → requirement.now ≡ Conf t q → IsMarked marks.now q }
+{
+    match requirement {
+        Requirement::Conf { proto, .. } => !is_marked(marks, *proto),
+        Requirement::Layout { .. } => false,
+        Requirement::Same { .. } => false,
+    }
+}
+
+/// The flags of those of which it is asked whether the requirement at a place follows: of those whose flags are set and whose protocols
+/// its own protocol reaches by them. It is None where the requirement is out of reach.
+pub(crate) fn asked(
+    alloc: Global,
+    setting: &Setting<'_>,
+    places: &[Place],
+    flags: &[bool],
+    at: usize,
+) -> Result<Option<Vec<bool>>, AllocError>
+    requires setting { IsSetting setting.now }
+    requires places { places.now ≡ all_places setting.now.world.now }
+    requires flags { length flags.now ≡ length places.now }
+    requires at { at < length places.now }
+    ensures { IfOk result (λ found. MatchOption found
+        (IsBeyond (text_in setting.now) at flags.now)
+        (λ asked. AreAsked (text_in setting.now) at flags.now asked.items)) }
+{
+    let place = &places[at];
+    let protocols = setting.world.protocols() as usize;
+    let marks = reached(alloc, protocols, places, flags, place.proto)?;
+    if is_beyond(&marks, &place.requirement) {
+        return Ok(None);
+    }
+    let asked = marked(alloc, places, flags, &marks)?;
+    Ok(Some(asked))
+}
