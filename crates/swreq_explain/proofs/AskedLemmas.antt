@@ -1,9 +1,8 @@
--- What is derivable from the list of a signature, the rules of its book show.
+-- What is derivable from the list of a signature, reduction by the rules of its book shows.
 use Rattle.std.proofs.Common.{List, []}
-use Rattle.swreq_word.specs.Relations.{Linked}
-use Rattle.swreq_word.proofs.Chains.{linked_back}
 use Rattle.swreq_rule.specs.declared.rules.Rule.{Rule}
-use Rattle.swreq_rule.specs.Steps.{Step}
+use Rattle.swreq_complete.specs.Alike.{ReduceAlike}
+use Rattle.swreq_complete.specs.Complete.{IsComplete}
 use Rattle.swreq_param.specs.declared.ids.ParamId.{ParamId}
 use Rattle.swreq_derive.specs.Derivation.{Derivable, Source, TermFacts, TermRequirement}
 use Rattle.swreq_derive.specs.Derivation.Source.{Written}
@@ -15,33 +14,35 @@ use Rattle.swreq_correspondence.specs.Symbols.{AreOfText, AreSymbolsOf, IsInText
 use Rattle.swreq_correspondence.proofs.Chained.{chained_usable}
 use Rattle.swreq_correspondence.proofs.Shown.{shown_by_more}
 use Rattle.swreq_rounds.specs.Presents.{AreListRules}
+use Rattle.swreq_unfold.proofs.Ends.{alike_back}
+use Rattle.swreq_complete.proofs.Alike.{linked_are_alike}
 
 module _ (m : Symbols) (f : TermFacts) (fit : AreSymbolsOf m f) (ranges : AreOfText m f) (rules : List Rule) (gs : List ParamId) (rs : List TermRequirement)
-    (are : AreListRules m f gs rs rules) (n : IsInText m (Written gs rs)) where
+    (are : AreListRules m f gs rs rules) (complete : IsComplete rules) (n : IsInText m (Written gs rs)) where
   abbrev L : Source
   L = Written gs rs
 
-  abbrev Links : Word → Word → Type 0
-  Links = Linked (Step rules)
+  alike : (u v : Word) → Linking (UsableEquation m f L) u v → ReduceAlike rules u v
+  alike u v h = linked_are_alike rules complete u v ((are u v).1 h)
 
   shows : (r : TermRequirement) → Derivable f L (Requires r) → Shows m f L (Linking (UsableEquation m f L)) (Requires r)
   shows r e = chained_usable m fit ranges n e
 
-  back : (u v : Word) → Linking (UsableEquation m f L) u v → Links v u
-  back u v h = linked_back ((are u v).1 h)
+  back : (u v : Word) → Linking (UsableEquation m f L) u v → ReduceAlike rules v u
+  back u v h = alike_back rules u v (alike u v h)
 
-  pub asked_shown : (r : TermRequirement) → Derivable f L (Requires r) → ShowsUsable m f L Links r × Links (right_side m L r) (left_side m L r)
+  pub asked_shown : (r : TermRequirement) → Derivable f L (Requires r) → ShowsUsable m f L (ReduceAlike rules) r × ReduceAlike rules (right_side m L r) (left_side m L r)
   asked_shown (Conforms t p) e =
       let h = shows (Conforms t p) e in
-      (shown_by_more m f L (Linking (UsableEquation m f L)) Links (λ u v l. (are u v).1 l) t h.1, back _ _ (h.2 []))
+      (shown_by_more m f L (Linking (UsableEquation m f L)) (ReduceAlike rules) alike t h.1, back _ _ (h.2 []))
   asked_shown (IsAnyObject t) e =
       let h = shows (IsAnyObject t) e in
-      (shown_by_more m f L (Linking (UsableEquation m f L)) Links (λ u v l. (are u v).1 l) t h.0, back _ _ (h.1 []))
+      (shown_by_more m f L (Linking (UsableEquation m f L)) (ReduceAlike rules) alike t h.0, back _ _ (h.1 []))
   asked_shown (Equals t u) e =
       let h = shows (Equals t u) e in (
         (
-          shown_by_more m f L (Linking (UsableEquation m f L)) Links (λ u v l. (are u v).1 l) t h.0,
-          shown_by_more m f L (Linking (UsableEquation m f L)) Links (λ u v l. (are u v).1 l) u h.1,
+          shown_by_more m f L (Linking (UsableEquation m f L)) (ReduceAlike rules) alike t h.0,
+          shown_by_more m f L (Linking (UsableEquation m f L)) (ReduceAlike rules) alike u h.1,
         ),
         back _ _ (h.2 []),
       )

@@ -1,29 +1,27 @@
 -- The book of a machine is one, and fits the facts of its signature.
-use Rattle.std.proofs.Common.{◌≡◌, ◌∙◌, inl, inr, ℕ, zero, suc, ◌+◌, ◌-◌, ◌<◌, ◌≤◌, List, [], ◌∷◌, ◌++◌, Option, Some, None, ap, ap₂, arith, false, length, length-append, map, refl, replicate, slice_get, subst, sym}
+use Rattle.std.proofs.Common.{◌≡◌, ◌∙◌, inl, inr, ℕ, suc, ◌+◌, ◌-◌, ◌<◌, ◌≤◌, ◌^◌, List, [], ◌∷◌, ◌++◌, Option, Some, None, ap, ap₂, arith, length, length-append, map, refl, slice_get, subst, sym}
 use Rattle.std.proofs.lemmas.List.{map-append}
-use Rattle.std.proofs.lemmas.Option.{get_or_from_slice_get, slice_get-get_or, slice_get_within}
-use Rattle.swreq_orders.proofs.Elements.{get_after, get_either, get_left, get_map, in_front, there_is}
+use Rattle.std.proofs.lemmas.Option.{get_or_from_slice_get, same_Some, slice_get-get_or, slice_get_within}
+use Rattle.swreq_orders.proofs.Elements.{get_after, get_cases, get_either, get_left, get_map, in_front, there_is}
 use Rattle.swreq_param.specs.declared.ids.ParamId.{ParamId}
 use Rattle.swreq_param.specs.declared.ids.ProtoId.{ProtoId}
 use Rattle.swreq_param.specs.Owned.{as_term}
 use Rattle.swreq_param.specs.Terms.{Term}
-use Rattle.swreq_word.specs.Relations.{Linked}
 use Rattle.swreq_word.specs.declared.symbols.Symbol.TheVariants as symbols
 use Rattle.swreq_rule.specs.declared.rules.Rule.{Rule}
-use Rattle.swreq_rule.specs.Steps.{Step}
 use Rattle.swreq_derive.specs.Derivation.{TermFacts, TermRequirement}
 use Rattle.swreq_derive.specs.Derivation.Source.{Written as WrittenList}
 use Rattle.swreq_derive.specs.Facts.{generic_params, requirement_of}
 use Rattle.swreq_derive.specs.Instances.{HasNumber}
+use Rattle.swreq_complete.specs.Alike.{ReduceAlike}
+use Rattle.swreq_complete.specs.Complete.{IsComplete}
 use Rattle.swreq_complete.specs.Reached.{IsBorn}
-use Rattle.swreq_complete.specs.declared.limit.Limits.{Limits}
 use Rattle.swreq_correspondence.specs.Shown.{ShowsUsable, ShowsValid}
 use Rattle.swreq_correspondence.specs.Symbols.{IsInText, Symbols, Word, left_side, right_side, word_of}
 use Rattle.swreq_lowering.specs.declared.ids.FuncId.{FuncId}
 use Rattle.swreq_rounds.specs.Given.{of_list}
 use Rattle.swreq_rounds.specs.Presents.{AreListRules}
-use Rattle.swreq_rounds.specs.Plan.{AreShown, Plan, equation_of, given}
-use Rattle.swreq_rounds.specs.Rounds.{Ends}
+use Rattle.swreq_rounds.specs.Plan.{AreShownByReduction, Item, Plan, equation_of, given}
 use Rattle.swreq_sheet.specs.Sheets.{Basis}
 use Rattle.swreq_read.specs.declared.ground.Ground.{Ground}
 use Rattle.swreq_read.specs.declared.ground.Named.{Named}
@@ -41,7 +39,7 @@ use Rattle.swreq_valid.specs.Flags.{chosen}
 use Rattle.swreq_valid.specs.Machines.{MachineView, ProtocolsView, machine_plan, protocols_of}
 use Rattle.swreq_valid.specs.Plans.{bare, listed}
 use Rattle.swreq_valid.specs.Rounds.{RoundView, last_rules}
-use Rattle.swreq_valid.proofs.Flagged.{chosen_map, chosen_unset}
+use Rattle.swreq_valid.proofs.Flagged.{chosen_map}
 use Rattle.swreq_lowering.specs.Requirements.{PlacedRequirement}
 use Rattle.swreq_symbols.proofs.OfText.{requirements_placed, signature_is}
 use Rattle.swreq_world.specs.ByTable.{signature_by, world_by}
@@ -52,45 +50,55 @@ use Rattle.swreq_explain.specs.declared.numbered.Numbered.{Numbered}
 use Rattle.swreq_explain.specs.Asked.{AreRoundsFor}
 use Rattle.swreq_explain.specs.Books.{IsBookFor, IsBookOf, basis_of, list_origin, protocols_origin}
 use Rattle.swreq_explain.specs.Numbering.{IsBasicBy, item_by, sides_of, source_in}
-use Rattle.swreq_explain.specs.Rounds.{AreSystemsOf, IsSystemOf, Origin}
+use Rattle.swreq_explain.specs.Rounds.{AreFirstSystems, AreSystemsOf, IsSystemOf, Origin}
+use Rattle.swreq_explain.specs.Uses.{IsShownBy}
 use Rattle.swreq_explain.proofs.GroundLemmas.{are_symbols, fits_basis, is_inherited}
 use Rattle.swreq_explain.proofs.NumberingLemmas.{equations_at, equations_sides, left_by, numbered_is, numbered_items, protocol_number, protocols_items, right_by, spell_append, written_of}
-use Rattle.swreq_explain.proofs.RoundLemmas.{chosen_holds, chosen_of, ends_at, last_is, none_at_first, some_round, told_at}
+use Rattle.swreq_explain.proofs.RoundLemmas.{IsReachedRound, chosen_of, ended_complete, last_ends, last_is, none_complete, reached_at, some_round}
+use Rattle.swreq_explain.proofs.UseLemmas.{shown_before}
 
 -- ---- systems by their places
 
 module _ (m : Symbols) (terms : List Term) (o : Origin) where
-  pub system_of : (rounds : List RoundView) (vs : List System) → AreSystemsOf m terms o rounds vs → (k : ℕ) (v : System) → slice_get vs k ≡ Some v
-      → (round : RoundView) × (slice_get rounds k ≡ Some round) × IsSystemOf m terms o round v
-  system_of [] [] h k v e = cc
-  system_of [] (u ∷ vs) h k v e = absurd h
-  system_of (r ∷ rounds) [] h k v e = absurd h
-  system_of (r ∷ rounds) (u ∷ vs) h zero v e = (r, refl, (let same : u ≡ v = cc in subst (IsSystemOf m terms o r) same h.0))
-  system_of (r ∷ rounds) (u ∷ vs) h (suc k) v e = system_of rounds vs h.1 k v e
+  pub no_systems : AreFirstSystems m terms o 0 []
+  no_systems = record { count_is = refl; each = λ k v e. cc }
 
-  pub systems_length : (rounds : List RoundView) (vs : List System) → AreSystemsOf m terms o rounds vs → length vs ≡ length rounds
-  systems_length [] [] h = refl
-  systems_length [] (u ∷ vs) h = absurd h
-  systems_length (r ∷ rounds) [] h = absurd h
-  systems_length (r ∷ rounds) (u ∷ vs) h = ap suc (systems_length rounds vs h.1)
+  pub systems_more : (n : ℕ) (vs : List System) (v : System) → AreFirstSystems m terms o n vs → IsSystemOf m terms o n v
+      → AreFirstSystems m terms o (n + 1) (vs ++ v ∷ [])
+  systems_more n vs v h is = record {
+    count_is = (let c = h.count_is in let l = length-append vs (v ∷ []) in omega (arith, c, l));
+    each = λ k u e. elim (get_cases vs v k u e) [
+      | inl i ↦ h.each k u i
+      | inr i ↦ subst (λ n. IsSystemOf m terms o n u) (sym (i.0 ∙ h.count_is)) (subst (IsSystemOf m terms o n) (sym i.1) is)
+    ];
+  }
 
-  pub systems_more : (rounds : List RoundView) (vs : List System) (round : RoundView) (v : System) → AreSystemsOf m terms o rounds vs
-      → IsSystemOf m terms o round v → AreSystemsOf m terms o (rounds ++ round ∷ []) (vs ++ v ∷ [])
-  systems_more [] [] round v h i = (i, tt)
-  systems_more [] (u ∷ vs) round v h i = absurd h
-  systems_more (r ∷ rounds) [] round v h i = absurd h
-  systems_more (r ∷ rounds) (u ∷ vs) round v h i = (h.0, systems_more rounds vs round v h.1 i)
+  -- the system of a round
+  pub system_in : (vs : List System) → AreSystemsOf m terms o vs → (k : ℕ) (round : RoundView) → slice_get o.course.rounds k ≡ Some round
+      → (v : System) × (slice_get vs k ≡ Some v) × (v.rules ≡ round.rules) × (length v.rules < 2 ^ 32 - 1)
+  system_in vs h k round e =
+      let within = slice_get_within o.course.rounds k round e in
+      let (v, at) = there_is vs k (subst (λ n. k < n) (sym h.count_is) within) in
+      let made = h.each k v at in
+      let same : made.round ≡ round = same_Some _ _ (sym made.there ∙ e) in
+      (v, at, made.rules ∙ ap (λ (z : RoundView). z.rules) same, made.few)
+
+  -- so its rules are few
+  pub few_rules : (vs : List System) → AreSystemsOf m terms o vs → (k : ℕ) (round : RoundView) → slice_get o.course.rounds k ≡ Some round
+      → length round.rules < 2 ^ 32 - 1
+  few_rules vs h k round e =
+      let (v, at, rules, few) = system_in vs h k round e in subst (λ (z : List Rule). length z < 2 ^ 32 - 1) rules few
 
 -- ---- the sides of a requirement that rules show
 
 module _ (g : Ground) (m : Symbols) (f : TermFacts) (are : AreSymbols g m f) (rules : List Rule) (list : List TermRequirement) (owner : Option ProtoId) where
-  shown_word : (t : Term) (w : Word) → ShowsValid m f (source_of g list owner) (Linked (Step rules)) t → w ≡ word_of m (source_of g list owner) t
+  shown_word : (t : Term) (w : Word) → ShowsValid m f (source_of g list owner) (ReduceAlike rules) t → w ≡ word_of m (source_of g list owner) t
       → IsShown g owner rules t w
   shown_word t w h e = record { symbols = m; facts = f; list = list; are = are; shown = h; word = e }
 
   shown_sides : (q : Owned) (left right : Word) → left ≡ left_side m (source_of g list owner) (requirement_by q)
       → right ≡ right_side m (source_of g list owner) (requirement_by q)
-      → ShowsUsable m f (source_of g list owner) (Linked (Step rules)) (requirement_by q) → HasShownSides g owner rules q left right
+      → ShowsUsable m f (source_of g list owner) (ReduceAlike rules) (requirement_by q) → HasShownSides g owner rules q left right
   shown_sides (Conf t p) left right l r h = (
     shown_word (as_term t) right h r,
     l ∙ spell_append m (source_of g list owner) (as_term t) (symbols.Proto p.rank ∷ []) ∙ ap (λ z. z ++ symbols.Proto p.rank ∷ []) (sym r),
@@ -108,7 +116,7 @@ module _ (g : Ground) (m : Symbols) (f : TermFacts) (are : AreSymbols g m f) (ru
       → requirement_by q ≡ requirement_of terms x.requirement
       → left ≡ left_side m (source_by x.owner) (requirement_of terms x.requirement)
       → right ≡ right_side m (source_by x.owner) (requirement_of terms x.requirement)
-      → ShowsUsable m f (source_in (generic_params g.params) list x.owner) (Linked (Step rules)) (requirement_of terms x.requirement)
+      → ShowsUsable m f (source_in (generic_params g.params) list x.owner) (ReduceAlike rules) (requirement_of terms x.requirement)
       → HasShownSides g owner rules q left right
   sides_are_shown terms x q left right own stands l r h =
       let params = generic_params g.params in
@@ -117,72 +125,75 @@ module _ (g : Ground) (m : Symbols) (f : TermFacts) (are : AreSymbols g m f) (ru
       shown_sides q left right
       (l ∙ left_by m params list x.owner r_x ∙ ap₂ (λ s z. left_side m s z) source (sym stands))
       (r ∙ right_by m params list x.owner r_x ∙ ap₂ (λ s z. right_side m s z) source (sym stands))
-      (subst (λ s. ShowsUsable m f s (Linked (Step rules)) (requirement_by q)) source
-      (subst (ShowsUsable m f (source_in params list x.owner) (Linked (Step rules))) (sym stands) h))
+      (subst (λ s. ShowsUsable m f s (ReduceAlike rules) (requirement_by q)) source
+      (subst (ShowsUsable m f (source_in params list x.owner) (ReduceAlike rules)) (sym stands) h))
 
 -- ---- one system
 
 module _ (terms : List Term) (o : Origin) (plan : Plan) (b : Book) (list : List TermRequirement) (base : length plan.base ≡ o.base)
-    (basic : plan.basic ≡ o.basic) (all : plan.all ≡ map (item_by terms (generic_params b.ground.params) list) o.all) (members : o.members ≡ b.ground.members)
-    (are : AreSymbols b.ground plan.symbols plan.facts) where
-  module _ (round : RoundView) (v : System) (is : IsSystemOf plan.symbols terms o round v) where
-    given_is : given_of v ≡ given plan (chosen plan.all round.used)
+    (basic : plan.basic ≡ o.basic) (all : plan.all ≡ map (item_by terms (generic_params b.ground.params) list) o.course.all)
+    (members : o.members ≡ b.ground.members) (are : AreSymbols b.ground plan.symbols plan.facts) where
+  module _ (k : ℕ) (v : System) (is : IsSystemOf plan.symbols terms o k v) where
+    given_is : given_of v ≡ given plan (chosen plan.all is.round.used)
     given_is =
         let h = is.given in
-        let xs = chosen o.all round.used in
+        let xs = chosen o.course.all is.round.used in
         let item = item_by terms (generic_params b.ground.params) list in
         ap (map sides_of) h.given_are ∙ map-append sides_of h.basic h.more
         ∙ ap₂ (λ u w. u ++ w) (h.sides ∙ sym basic)
-        (equations_sides plan.symbols terms (generic_params b.ground.params) list xs h.more h.are_of
-        ∙ ap (map (equation_of plan.symbols)) (sym (chosen_map item o.all round.used) ∙ ap (λ z. chosen z round.used) (sym all)))
+        (equations_sides plan.symbols terms o.course k (generic_params b.ground.params) list xs h.more h.are_of
+        ∙ ap (map (equation_of plan.symbols)) (sym (chosen_map item o.course.all is.round.used) ∙ ap (λ z. chosen z is.round.used) (sym all)))
 
-    born_is : {limits : Limits} → Ends limits plan (chosen plan.all round.used) round.rules
-        → (k : ℕ) (rule : Rule) → v.base ≤ k → slice_get v.rules k ≡ Some rule → IsBorn v.base (given_of v) v.rules k rule.birth
-    born_is ends k rule above at =
+    born_is : IsReachedRound plan is.round
+        → (j : ℕ) (rule : Rule) → v.base ≤ j → slice_get v.rules j ≡ Some rule → IsBorn v.base (given_of v) v.rules j rule.birth
+    born_is reached j rule above at =
         let from : v.base ≡ length plan.base = is.base ∙ sym base in
-        let at_round : slice_get round.rules k ≡ Some rule = ap (λ (z : List Rule). slice_get z k) (sym is.rules) ∙ at in
-        let h = ends.1.ended.reached.born k rule (subst (λ n. n ≤ k) from above) at_round in
-        subst (λ n. IsBorn n (given_of v) v.rules k rule.birth) (sym from)
-        (subst (λ z. IsBorn (length plan.base) z v.rules k rule.birth) (sym given_is)
-        (subst (λ z. IsBorn (length plan.base) (given plan (chosen plan.all round.used)) z k rule.birth) (sym is.rules) h))
+        let at_round : slice_get is.round.rules j ≡ Some rule = ap (λ (z : List Rule). slice_get z j) (sym is.rules) ∙ at in
+        let h = reached.1.born j rule (subst (λ n. n ≤ j) from above) at_round in
+        subst (λ n. IsBorn n (given_of v) v.rules j rule.birth) (sym from)
+        (subst (λ z. IsBorn (length plan.base) z v.rules j rule.birth) (sym given_is)
+        (subst (λ z. IsBorn (length plan.base) (given plan (chosen plan.all is.round.used)) z j rule.birth) (sym is.rules) h))
 
-    -- an equation of a used requirement is of one that the rules of the round before show usable
-    module _ (r : ℕ) (shown : (j : ℕ) (x : Numbered) → slice_get (chosen o.all round.used) j ≡ Some x
-        → (0 < r) × AreShown plan (rules_at b (r - 1)) (item_by terms (generic_params b.ground.params) list x)) where
+    -- an equation of a used requirement is of one that the rules of an earlier system show usable
+    module _ (r : ℕ) (shown : (x : Numbered) (s : ℕ) → IsShownBy o.course k x s
+        → (s < r) × AreShownByReduction plan (rules_at b s) (item_by terms (generic_params b.ground.params) list x)) where
       basic_given : (why : Reason) (left right : Word) → IsBasicBy o.members why left right → IsGivenBy b r why left right
       basic_given (Doubled p) left right h = h
       basic_given (NamedBy k) left right (n, at, l, w) = (n, ap (λ (z : List Named). slice_get z k) (sym members) ∙ at, l, w)
-      basic_given (Required owner n q) left right h = absurd h
+      basic_given (Required owner n q s) left right h = absurd h
 
-      given_by : (k : ℕ) (e : Equation) → slice_get v.given k ≡ Some e → IsGivenBy b r e.reason e.left e.right
-      given_by k e at =
+      given_by : (j : ℕ) (e : Equation) → slice_get v.given j ≡ Some e → IsGivenBy b r e.reason e.left e.right
+      given_by j e at =
           let h = is.given in
-          elim (get_either h.basic h.more k e (sym (ap (λ (z : List Equation). slice_get z k) h.given_are) ∙ at)) [
-            | inl i ↦ basic_given e.reason e.left e.right (h.are_basic k e i)
-            | inr i ↦ (let (x, at_x, eq) = equations_at plan.symbols terms (chosen o.all round.used) h.more h.are_of i.0 e i.2 in
-                let (above, usable) = shown i.0 x at_x in
+          elim (get_either h.basic h.more j e (sym (ap (λ (z : List Equation). slice_get z j) h.given_are) ∙ at)) [
+            | inl i ↦ basic_given e.reason e.left e.right (h.are_basic j e i)
+            | inr i ↦ (let xs = chosen o.course.all is.round.used in
+                let (x, at_x, s, by, eq) = equations_at plan.symbols terms o.course k xs h.more h.are_of i.0 e i.2 in
+                let (earlier, usable) = shown x s by in
                 subst (λ why. IsGivenBy b r why e.left e.right) (sym eq.reason.is) (
-                  above,
-                  sides_are_shown b.ground plan.symbols plan.facts are (rules_at b (r - 1)) list x.owner terms x eq.reason.requirement e.left e.right refl
+                  earlier,
+                  sides_are_shown b.ground plan.symbols plan.facts are (rules_at b s) list x.owner terms x eq.reason.requirement e.left e.right refl
                       eq.reason.stands eq.left eq.right usable,
                 ))
           ]
 
-    written_by : (basis : Basis) → ((j : ℕ) (x : Numbered) (q : Owned) → slice_get o.all j ≡ Some x → requirement_by q ≡ requirement_of terms x.requirement
-        → IsWritten basis (Required x.owner x.number q)) → (k : ℕ) (e : Equation) → slice_get v.given k ≡ Some e → IsWritten basis e.reason
-    written_by basis from k e at =
+    written_by : (basis : Basis) → ((i : ℕ) (x : Numbered) (q : Owned) (s : ℕ) → slice_get o.course.all i ≡ Some x
+        → requirement_by q ≡ requirement_of terms x.requirement → IsWritten basis (Required x.owner x.number q s))
+        → (j : ℕ) (e : Equation) → slice_get v.given j ≡ Some e → IsWritten basis e.reason
+    written_by basis from j e at =
         let h = is.given in
-        elim (get_either h.basic h.more k e (sym (ap (λ (z : List Equation). slice_get z k) h.given_are) ∙ at)) [
-          | inl i ↦ basic_written e.reason e.left e.right (h.are_basic k e i)
-          | inr i ↦ (let (x, at_x, eq) = equations_at plan.symbols terms (chosen o.all round.used) h.more h.are_of i.0 e i.2 in
-              let (j, there) = chosen_of o.all round.used i.0 x at_x in
-              subst (IsWritten basis) (sym eq.reason.is) (from j x eq.reason.requirement there eq.reason.stands))
+        elim (get_either h.basic h.more j e (sym (ap (λ (z : List Equation). slice_get z j) h.given_are) ∙ at)) [
+          | inl i ↦ basic_written e.reason e.left e.right (h.are_basic j e i)
+          | inr i ↦ (let xs = chosen o.course.all is.round.used in
+              let (x, at_x, s, by, eq) = equations_at plan.symbols terms o.course k xs h.more h.are_of i.0 e i.2 in
+              let (place, there) = chosen_of o.course.all is.round.used i.0 x at_x in
+              subst (IsWritten basis) (sym eq.reason.is) (from place x eq.reason.requirement s there eq.reason.stands))
         ]
       where
         basic_written : (why : Reason) (left right : Word) → IsBasicBy o.members why left right → IsWritten basis why
         basic_written (Doubled p) left right h = tt
         basic_written (NamedBy k) left right h = tt
-        basic_written (Required owner n q) left right h = absurd h
+        basic_written (Required owner n q s) left right h = absurd h
 
 -- ---- the book
 
@@ -210,16 +221,28 @@ module _ (terms : List Term) (w : IdWorld) (fn : FuncId) (p : ProtocolsView) (m 
   abbrev own_plan : Plan
   own_plan = machine_plan terms w (last_rules p.rounds) m.params (bare (signature_at w fn).requirements)
 
-  below_all : below_plan.all ≡ map (item_by terms params own_list) (protocols_origin w).all
+  abbrev below_origin : Origin
+  below_origin = protocols_origin w p.rounds
+
+  abbrev own_origin : Origin
+  own_origin = list_origin w fn p m
+
+  abbrev item : Numbered → Item
+  item = item_by terms params own_list
+
+  below_all : below_plan.all ≡ map item below_origin.course.all
   below_all = protocols_items terms w params own_list w.lexicon.written_order
 
-  own_all : own_plan.all ≡ map (item_by terms params own_list) (list_origin w fn p).all
+  own_all : own_plan.all ≡ map item own_origin.course.all
   own_all =
       ap (λ gs. map (of_list gs own_list) own_list) same_params
       ∙ sym (numbered_items terms params own_list None 1 (bare (signature_at w fn).requirements))
 
   below_length : length is.below ≡ length p.rounds
-  below_length = systems_length (symbols_of w.lexicon) terms (protocols_origin w) p.rounds is.below is.of_protocols
+  below_length = is.of_protocols.count_is
+
+  own_length : length is.own ≡ length m.rounds
+  own_length = is.of_list.count_is
 
   -- ---- the rules of a system
 
@@ -228,111 +251,108 @@ module _ (terms : List Term) (w : IdWorld) (fn : FuncId) (p : ProtocolsView) (m 
 
   below_rules : (k : ℕ) (round : RoundView) → slice_get p.rounds k ≡ Some round → rules_at b k ≡ round.rules
   below_rules k round e =
-      let within = slice_get_within p.rounds k round e in
-      let (v, at) = there_is is.below k (subst (λ n. k < n) (sym below_length) within) in
-      let (other, at_round, made) = system_of (symbols_of w.lexicon) terms (protocols_origin w) p.rounds is.below is.of_protocols k v at in
-      let same : other ≡ round = cc in
+      let (v, at, rules, few) = system_in (symbols_of w.lexicon) terms below_origin is.below is.of_protocols k round e in
       let in_book : slice_get b.systems k ≡ Some v = ap (λ (z : List System). slice_get z k) is.systems ∙ get_left is.below is.own k v at in
-      ap (λ (z : System). z.rules) (system_is k v in_book) ∙ made.rules ∙ ap (λ (z : RoundView). z.rules) same
+      ap (λ (z : System). z.rules) (system_is k v in_book) ∙ rules
 
   own_rules : (k : ℕ) (round : RoundView) → slice_get m.rounds k ≡ Some round → rules_at b (length is.below + k) ≡ round.rules
   own_rules k round e =
-      let within = slice_get_within m.rounds k round e in
-      let count = systems_length (symbols_of w.lexicon) terms (list_origin w fn p) m.rounds is.own is.of_list in
-      let (v, at) = there_is is.own k (subst (λ n. k < n) (sym count) within) in
-      let (other, at_round, made) = system_of (symbols_of w.lexicon) terms (list_origin w fn p) m.rounds is.own is.of_list k v at in
-      let same : other ≡ round = cc in
+      let (v, at, rules, few) = system_in (symbols_of w.lexicon) terms own_origin is.own is.of_list k round e in
       let in_book : slice_get b.systems (length is.below + k) ≡ Some v
       = ap (λ (z : List System). slice_get z (length is.below + k)) is.systems ∙ get_after is.below is.own k ∙ at in
-      ap (λ (z : System). z.rules) (system_is (length is.below + k) v in_book) ∙ made.rules ∙ ap (λ (z : RoundView). z.rules) same
+      ap (λ (z : System). z.rules) (system_is (length is.below + k) v in_book) ∙ rules
+
+  -- ---- complete rules
+
+  below_few : (k : ℕ) (round : RoundView) → slice_get p.rounds k ≡ Some round → length round.rules < 2 ^ 32 - 1
+  below_few = few_rules (symbols_of w.lexicon) terms below_origin is.below is.of_protocols
+
+  own_few : (k : ℕ) (round : RoundView) → slice_get m.rounds k ≡ Some round → length round.rules < 2 ^ 32 - 1
+  own_few = few_rules (symbols_of w.lexicon) terms own_origin is.own is.of_list
+
+  -- the rules of the protocols, over which the rounds of the list begin
+  base_complete : IsComplete own_plan.base
+  base_complete =
+      let (used, ends) = last_ends rounds.protocols.1 in
+      let (last, at, rules) = last_is p.rounds (some_round rounds.protocols.1) in
+      let few = subst (λ (z : List Rule). length z < 2 ^ 32 - 1) rules (below_few (length p.rounds - 1) last at) in
+      ended_complete rounds.protocols.0 below_plan used (last_rules p.rounds) none_complete ends few
+
+  last_complete : IsComplete (last_rules m.rounds)
+  last_complete =
+      let (used, ends) = last_ends rounds.list.1 in
+      let (last, at, rules) = last_is m.rounds (some_round rounds.list.1) in
+      let few = subst (λ (z : List Rule). length z < 2 ^ 32 - 1) rules (own_few (length m.rounds - 1) last at) in
+      ended_complete rounds.list.0 own_plan used (last_rules m.rounds) base_complete ends few
 
   -- ---- the systems of the protocols
 
-  below_shown : (k : ℕ) (round : RoundView) → slice_get p.rounds k ≡ Some round
-      → (j : ℕ) (x : Numbered) → slice_get (chosen (protocols_origin w).all round.used) j ≡ Some x
-      → (0 < k) × AreShown below_plan (rules_at b (k - 1)) (item_by terms params own_list x)
-  below_shown zero round e j x at =
-      let none : round.used ≡ replicate (length below_plan.all) false = none_at_first rounds.protocols.1 round e in
-      let empty : chosen (protocols_origin w).all round.used ≡ []
-      = ap (chosen (protocols_origin w).all) none ∙ chosen_unset (protocols_origin w).all (length below_plan.all) in
-      let bad : slice_get [] j ≡ Some x = ap (λ (z : List Numbered). slice_get z j) (sym empty) ∙ at in
-      cc
-  below_shown (suc k) round e j x at =
-      let (earlier, at_earlier) = there_is p.rounds k (let l = slice_get_within p.rounds (suc k) round e in omega (arith, l)) in
-      let told = told_at rounds.protocols.1 k earlier round at_earlier e in
-      let item = item_by terms params own_list in
-      let chosen_there : slice_get (chosen below_plan.all round.used) j ≡ Some (item x)
-      = ap (λ z. slice_get (chosen z round.used) j) below_all ∙ ap (λ z. slice_get z j) (chosen_map item (protocols_origin w).all round.used)
-      ∙ get_map item (chosen (protocols_origin w).all round.used) j x at in
-      let h = chosen_holds (AreShown below_plan earlier.rules) below_plan.all round.used told j (item x) chosen_there in
-      let place : suc k - 1 ≡ k = omega arith in
-      (omega arith, subst (λ rules. AreShown below_plan rules (item x)) (sym (ap (rules_at b) place ∙ below_rules k earlier at_earlier)) h)
+  below_shown : (k : ℕ) (x : Numbered) (s : ℕ) → IsShownBy below_origin.course k x s
+      → (s < k) × AreShownByReduction below_plan (rules_at b s) (item x)
+  below_shown k x s h =
+      let e = shown_before below_plan below_origin.course item below_all rounds.protocols.1 none_complete below_few h.round h.place x h.there
+      h.first_use in
+      let place : s ≡ 0 + h.round - 1 = h.system_is in
+      let next : h.round ≡ suc e.before = e.next in
+      let within : h.round ≤ k = h.within in
+      let same : s ≡ e.before = omega (arith, place, next) in
+      let rules : rules_at b s ≡ e.earlier.rules = ap (rules_at b) same ∙ below_rules e.before e.earlier e.there in
+      (omega (arith, same, next, within), subst (λ z. AreShownByReduction below_plan z (item x)) (sym rules) e.shows)
 
   below_system : (r : ℕ) (v : System) → slice_get is.below r ≡ Some v → IsSystem b r v
   below_system r v e =
-      let (round, at, made) = system_of (symbols_of w.lexicon) terms (protocols_origin w) p.rounds is.below is.of_protocols r v e in
-      let ends = ends_at rounds.protocols.1 r round at in
+      let made = is.of_protocols.each r v e in
       record {
-        complete = made.complete;
-        born = born_is terms (protocols_origin w) below_plan b own_list refl refl below_all (sym is.ground.members) book_symbols round v made ends;
-        lower = λ k rule l h. absurd (let z = made.base in omega (arith, l, z));
-        given = given_by terms (protocols_origin w) below_plan b own_list refl refl below_all (sym is.ground.members) book_symbols round v made r
-            (below_shown r round at);
+        few = made.few;
+        born = born_is terms below_origin below_plan b own_list refl refl below_all (sym is.ground.members) book_symbols r v made
+            (reached_at rounds.protocols.1 r made.round made.there);
+        lower = λ k rule l h. absurd (let z : v.base ≡ 0 = made.base in omega (arith, l, z));
+        given = given_by terms below_origin below_plan b own_list refl refl below_all (sym is.ground.members) book_symbols r v made r
+            (below_shown r);
       }
 
   -- ---- the systems of the list
 
-  own_shown : (k : ℕ) (round : RoundView) → slice_get m.rounds k ≡ Some round
-      → (j : ℕ) (x : Numbered) → slice_get (chosen (list_origin w fn p).all round.used) j ≡ Some x
-      → (0 < length is.below + k) × AreShown own_plan (rules_at b (length is.below + k - 1)) (item_by terms params own_list x)
-  own_shown zero round e j x at =
-      let none : round.used ≡ replicate (length own_plan.all) false = none_at_first rounds.list.1 round e in
-      let empty : chosen (list_origin w fn p).all round.used ≡ []
-      = ap (chosen (list_origin w fn p).all) none ∙ chosen_unset (list_origin w fn p).all (length own_plan.all) in
-      let bad : slice_get [] j ≡ Some x = ap (λ (z : List Numbered). slice_get z j) (sym empty) ∙ at in
-      cc
-  own_shown (suc k) round e j x at =
-      let (earlier, at_earlier) = there_is m.rounds k (let l = slice_get_within m.rounds (suc k) round e in omega (arith, l)) in
-      let told = told_at rounds.list.1 k earlier round at_earlier e in
-      let item = item_by terms params own_list in
-      let chosen_there : slice_get (chosen own_plan.all round.used) j ≡ Some (item x)
-      = ap (λ z. slice_get (chosen z round.used) j) own_all ∙ ap (λ z. slice_get z j) (chosen_map item (list_origin w fn p).all round.used)
-      ∙ get_map item (chosen (list_origin w fn p).all round.used) j x at in
-      let h = chosen_holds (AreShown own_plan earlier.rules) own_plan.all round.used told j (item x) chosen_there in
-      let place : length is.below + suc k - 1 ≡ length is.below + k = omega arith in
-      (omega arith, subst (λ rules. AreShown own_plan rules (item x)) (sym (ap (rules_at b) place ∙ own_rules k earlier at_earlier)) h)
+  own_shown : (k : ℕ) (x : Numbered) (s : ℕ) → IsShownBy own_origin.course k x s
+      → (s < length is.below + k) × AreShownByReduction own_plan (rules_at b s) (item x)
+  own_shown k x s h =
+      let e = shown_before own_plan own_origin.course item own_all rounds.list.1 base_complete own_few h.round h.place x h.there h.first_use in
+      let place : s ≡ length p.rounds + h.round - 1 = h.system_is in
+      let next : h.round ≡ suc e.before = e.next in
+      let within : h.round ≤ k = h.within in
+      let count = below_length in
+      let same : s ≡ length is.below + e.before = omega (arith, place, next, count) in
+      let rules : rules_at b s ≡ e.earlier.rules = ap (rules_at b) same ∙ own_rules e.before e.earlier e.there in
+      (omega (arith, same, next, within), subst (λ z. AreShownByReduction own_plan z (item x)) (sym rules) e.shows)
 
   -- the rules of the base are those of the last round of the protocols
-  own_lower : (r : ℕ) (round : RoundView) (v : System) → length is.below ≤ r → IsSystemOf (symbols_of w.lexicon) terms (list_origin w fn p) round v
-      → {limits : Limits} → Ends limits own_plan (chosen own_plan.all round.used) round.rules
-      → (k : ℕ) (rule : Rule) → k < v.base → slice_get v.rules k ≡ Some rule → (v.below < r) × (slice_get (rules_at b v.below) k ≡ Some rule)
-  own_lower r round v above made ends k rule l e =
-      let last_count : k < length (last_rules p.rounds) = subst (λ n. k < n) made.base l in
-      let some : 0 < length p.rounds = some_round p.rounds last_count in
+  own_lower : (r k : ℕ) (v : System) → length is.below ≤ r → (made : IsSystemOf (symbols_of w.lexicon) terms own_origin k v)
+      → IsReachedRound own_plan made.round
+      → (j : ℕ) (rule : Rule) → j < v.base → slice_get v.rules j ≡ Some rule → (v.below < r) × (slice_get (rules_at b v.below) j ≡ Some rule)
+  own_lower r k v above made reached j rule l e =
+      let last_count : j < length (last_rules p.rounds) = subst (λ n. j < n) made.base l in
+      let some = some_round rounds.protocols.1 in
       let (last, at_last, rules_last) = last_is p.rounds some in
-      let e_below = made.below in
+      let e_below : v.below ≡ length p.rounds - 1 = made.below in
       let count = below_length in
-      let at_round : slice_get round.rules k ≡ Some rule = ap (λ (z : List Rule). slice_get z k) (sym made.rules) ∙ e in
-      let in_base : slice_get (last_rules p.rounds) k ≡ Some rule
-      = ap (λ (z : List Rule). slice_get z k) (sym ends.0) ∙ in_front round.rules (length (last_rules p.rounds)) k rule last_count at_round in
+      let at_round : slice_get made.round.rules j ≡ Some rule = ap (λ (z : List Rule). slice_get z j) (sym made.rules) ∙ e in
+      let in_base : slice_get (last_rules p.rounds) j ≡ Some rule
+      = ap (λ (z : List Rule). slice_get z j) (sym reached.0)
+      ∙ in_front made.round.rules (length (last_rules p.rounds)) j rule last_count at_round in
       let below_is : rules_at b v.below ≡ last_rules p.rounds
       = ap (rules_at b) made.below ∙ below_rules (length p.rounds - 1) last at_last ∙ rules_last in
-      (omega (arith, e_below, count, some, above), ap (λ (z : List Rule). slice_get z k) below_is ∙ in_base)
-    where
-      some_round : (rs : List RoundView) → k < length (last_rules rs) → 0 < length rs
-      some_round [] h = absurd (omega (arith, h))
-      some_round (r ∷ rs) h = omega arith
+      (omega (arith, e_below, count, some, above), ap (λ (z : List Rule). slice_get z j) below_is ∙ in_base)
 
   own_system : (j : ℕ) (v : System) → slice_get is.own j ≡ Some v → IsSystem b (length is.below + j) v
   own_system j v e =
-      let (round, at, made) = system_of (symbols_of w.lexicon) terms (list_origin w fn p) m.rounds is.own is.of_list j v e in
-      let ends = ends_at rounds.list.1 j round at in
+      let made = is.of_list.each j v e in
+      let reached = reached_at rounds.list.1 j made.round made.there in
       record {
-        complete = made.complete;
-        born = born_is terms (list_origin w fn p) own_plan b own_list refl refl own_all (sym is.ground.members) book_symbols round v made ends;
-        lower = own_lower (length is.below + j) round v (omega arith) made ends;
-        given = given_by terms (list_origin w fn p) own_plan b own_list refl refl own_all (sym is.ground.members) book_symbols round v made
-            (length is.below + j) (own_shown j round at);
+        few = made.few;
+        born = born_is terms own_origin own_plan b own_list refl refl own_all (sym is.ground.members) book_symbols j v made reached;
+        lower = own_lower (length is.below + j) j v (omega arith) made reached;
+        given = given_by terms own_origin own_plan b own_list refl refl own_all (sym is.ground.members) book_symbols j v made
+            (length is.below + j) (own_shown j);
       }
 
   each_system : (r : ℕ) (v : System) → slice_get b.systems r ≡ Some v → IsSystem b r v
@@ -353,32 +373,32 @@ module _ (terms : List Term) (w : IdWorld) (fn : FuncId) (p : ProtocolsView) (m 
   -- ---- facts
 
   module _ (basis : Basis) (facts : basis.facts ≡ f) (params_are : basis.params ≡ generic_params m.params) (written : basis.written ≡ own_list) where
-    below_written : (j : ℕ) (x : Numbered) (q : Owned) → slice_get (protocols_origin w).all j ≡ Some x → requirement_by q ≡ requirement_of terms x.requirement
-        → IsWritten basis (Required x.owner x.number q)
-    below_written j x q e stands =
+    below_written : (j : ℕ) (x : Numbered) (q : Owned) (s : ℕ) → slice_get below_origin.course.all j ≡ Some x
+        → requirement_by q ≡ requirement_of terms x.requirement → IsWritten basis (Required x.owner x.number q s)
+    below_written j x q s e stands =
         let (o, own, number) = protocol_number terms w w.lexicon.written_order j x e in
         let n = written_of terms w o x.number x.requirement number in
-        subst (λ (z : Option ProtoId). IsWritten basis (Required z x.number q)) (sym own)
+        subst (λ (z : Option ProtoId). IsWritten basis (Required z x.number q s)) (sym own)
         (subst (λ (z : TermFacts). HasNumber x.number (z.of_protocol o) (requirement_by q)) (sym facts)
         (subst (HasNumber x.number (f.of_protocol o)) (sym stands) n))
 
-    own_written : (j : ℕ) (x : Numbered) (q : Owned) → slice_get (list_origin w fn p).all j ≡ Some x → requirement_by q ≡ requirement_of terms x.requirement
-        → IsWritten basis (Required x.owner x.number q)
-    own_written j x q e stands =
+    own_written : (j : ℕ) (x : Numbered) (q : Owned) (s : ℕ) → slice_get own_origin.course.all j ≡ Some x
+        → requirement_by q ≡ requirement_of terms x.requirement → IsWritten basis (Required x.owner x.number q s)
+    own_written j x q s e stands =
         let list = bare (signature_at w fn).requirements in
         let (own, n, at) = numbered_is None 1 list j x e in
         let same : x.number - 1 ≡ j = omega (arith, n) in
         let there : slice_get own_list (x.number - 1) ≡ Some (requirement_of terms x.requirement)
         = ap (slice_get own_list) same ∙ get_map (requirement_of terms) list j x.requirement at in
-        subst (λ (z : Option ProtoId). IsWritten basis (Required z x.number q)) (sym own)
+        subst (λ (z : Option ProtoId). IsWritten basis (Required z x.number q s)) (sym own)
         (omega (arith, n), ap (λ (z : List TermRequirement). slice_get z (x.number - 1)) written ∙ there ∙ ap Some (sym stands))
 
     each_written : (r k : ℕ) (v : System) (e : Equation) → slice_get b.systems r ≡ Some v → slice_get v.given k ≡ Some e → IsWritten basis e.reason
     each_written r k v e at in_v = elim (get_either is.below is.own r v (ap (λ (z : List System). slice_get z r) (sym is.systems) ∙ at)) [
-      | inl h ↦ (let (round, at_round, made) = system_of (symbols_of w.lexicon) terms (protocols_origin w) p.rounds is.below is.of_protocols r v h in
-          written_by terms (protocols_origin w) below_plan b own_list refl refl below_all (sym is.ground.members) book_symbols round v made basis below_written k e in_v)
-      | inr h ↦ (let (round, at_round, made) = system_of (symbols_of w.lexicon) terms (list_origin w fn p) m.rounds is.own is.of_list h.0 v h.2 in
-          written_by terms (list_origin w fn p) own_plan b own_list refl refl own_all (sym is.ground.members) book_symbols round v made basis own_written k e in_v)
+      | inl h ↦ written_by terms below_origin below_plan b own_list refl refl below_all (sym is.ground.members) book_symbols r v
+          (is.of_protocols.each r v h) basis below_written k e in_v
+      | inr h ↦ written_by terms own_origin own_plan b own_list refl refl own_all (sym is.ground.members) book_symbols h.0 v
+          (is.of_list.each h.0 v h.2) basis own_written k e in_v
     ]
 
     pub fits_book : FitsBook b basis
@@ -403,7 +423,7 @@ module _ (terms : List Term) (w : IdWorld) (fn : FuncId) (p : ProtocolsView) (m 
       let some = some_round rounds.list.1 in
       let (last, at, rules) = last_is m.rounds some in
       let count = ap length is.systems ∙ length-append is.below is.own in
-      let own = systems_length (symbols_of w.lexicon) terms (list_origin w fn p) m.rounds is.own is.of_list in
+      let own = own_length in
       let place : length b.systems - 1 ≡ length is.below + (length m.rounds - 1) = omega (arith, some, count, own) in
       ap (rules_at b) place ∙ own_rules (length m.rounds - 1) last at ∙ rules
 
@@ -415,10 +435,11 @@ module _ (terms : List Term) (w : IdWorld) (fn : FuncId) (p : ProtocolsView) (m 
     params = is.ground.params_are ∙ rounds.params ∙ sym (ap (λ (g : SignatureOver PlacedRequirement). g.params) signature_now);
     some = (let some = some_round rounds.list.1 in
         let count = ap length is.systems ∙ length-append is.below is.own in
-        let own = systems_length (symbols_of w.lexicon) terms (list_origin w fn p) m.rounds is.own is.of_list in
+        let own = own_length in
         omega (arith, some, count, own));
     rules = subst (λ gs. AreListRules (symbols_of w.lexicon) f gs (written_list (signature_at (world_by terms w) fn)) (rules_at b (length b.systems - 1))) (sym params_now)
         (subst (λ rs. AreListRules (symbols_of w.lexicon) f (generic_params m.params) rs (rules_at b (length b.systems - 1))) (sym list_now)
         (subst (AreListRules (symbols_of w.lexicon) f (generic_params m.params) own_list) (sym last_rules_are) rounds.machine.rules));
+    complete = subst IsComplete (sym last_rules_are) last_complete;
     in_text = subst (IsInText (symbols_of w.lexicon)) (λ i. WrittenList (sym params_now i) (sym list_now i)) rounds.machine.in_text;
   }

@@ -1,6 +1,7 @@
 pub mod GroundLemmas
 pub mod ParentLemmas
 pub mod RoundLemmas
+pub mod UseLemmas
 pub mod NumberingLemmas
 pub mod BookLemmas
 pub mod SideLemmas

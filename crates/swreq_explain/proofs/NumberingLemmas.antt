@@ -27,7 +27,8 @@ use Rattle.swreq_world.specs.ByTable.{world_by}
 use Rattle.swreq_world.specs.FactsAt.{facts_of}
 use Rattle.swreq_world.specs.Worlds.{IdWorld, requirements_of, signature_at}
 use Rattle.swreq_explain.specs.declared.numbered.Numbered.{Numbered}
-use Rattle.swreq_explain.specs.Numbering.{AreBasic, AreEquationsOf, AreNumberedIn, IsBasicBy, IsEquationOf, item_by, numbered_from, numbered_in, sides_of, source_in}
+use Rattle.swreq_explain.specs.Numbering.{AreBasic, AreEquationsOf, AreNumberedIn, IsBasicBy, IsEquationIn, item_by, numbered_from, numbered_in, sides_of, source_in}
+use Rattle.swreq_explain.specs.Uses.{Course}
 
 -- ---- words
 
@@ -57,32 +58,33 @@ right_by m params list (Some p) r = refl
 
 -- ---- equations
 
-module _ (m : Symbols) (terms : List Term) where
-  pub equations_at : (xs : List Numbered) (es : List Equation) → AreEquationsOf m terms xs es → (k : ℕ) (e : Equation) → slice_get es k ≡ Some e
-      → (x : Numbered) × (slice_get xs k ≡ Some x) × IsEquationOf m terms x e
+module _ (m : Symbols) (terms : List Term) (c : Course) (n : ℕ) where
+  pub equations_at : (xs : List Numbered) (es : List Equation) → AreEquationsOf m terms c n xs es → (k : ℕ) (e : Equation)
+      → slice_get es k ≡ Some e → (x : Numbered) × (slice_get xs k ≡ Some x) × IsEquationIn m terms c n x e
   equations_at [] [] h k e is = cc
   equations_at [] (f ∷ es) h k e is = absurd h
   equations_at (x ∷ xs) [] h k e is = absurd h
-  equations_at (x ∷ xs) (f ∷ es) h zero e is = (x, refl, (let same : f ≡ e = cc in subst (IsEquationOf m terms x) same h.0))
+  equations_at (x ∷ xs) (f ∷ es) h zero e is = (x, refl, (let same : f ≡ e = cc in subst (IsEquationIn m terms c n x) same h.0))
   equations_at (x ∷ xs) (f ∷ es) h (suc k) e is = equations_at xs es h.1 k e is
 
-  pub equations_more : (xs : List Numbered) (es : List Equation) (x : Numbered) (e : Equation) → AreEquationsOf m terms xs es
-      → IsEquationOf m terms x e → AreEquationsOf m terms (xs ++ x ∷ []) (es ++ e ∷ [])
+  pub equations_more : (xs : List Numbered) (es : List Equation) (x : Numbered) (e : Equation) → AreEquationsOf m terms c n xs es
+      → IsEquationIn m terms c n x e → AreEquationsOf m terms c n (xs ++ x ∷ []) (es ++ e ∷ [])
   equations_more [] [] x e h i = (i, tt)
   equations_more [] (f ∷ es) x e h i = absurd h
   equations_more (y ∷ xs) [] x e h i = absurd h
   equations_more (y ∷ xs) (f ∷ es) x e h i = (h.0, equations_more xs es x e h.1 i)
 
   module _ (params : List ParamId) (list : List TermRequirement) where
-    pub equations_sides : (xs : List Numbered) (es : List Equation) → AreEquationsOf m terms xs es
+    pub equations_sides : (xs : List Numbered) (es : List Equation) → AreEquationsOf m terms c n xs es
         → map sides_of es ≡ map (equation_of m) (map (item_by terms params list) xs)
     equations_sides [] [] h = refl
     equations_sides [] (f ∷ es) h = absurd h
     equations_sides (x ∷ xs) [] h = absurd h
     equations_sides (x ∷ xs) (e ∷ es) h =
         let r = requirement_of terms x.requirement in
-        let left : e.left ≡ left_side m (source_in params list x.owner) r = h.0.left ∙ left_by m params list x.owner r in
-        let right : e.right ≡ right_side m (source_in params list x.owner) r = h.0.right ∙ right_by m params list x.owner r in
+        let (shown, by, eq) = h.0 in
+        let left : e.left ≡ left_side m (source_in params list x.owner) r = eq.left ∙ left_by m params list x.owner r in
+        let right : e.right ≡ right_side m (source_in params list x.owner) r = eq.right ∙ right_by m params list x.owner r in
         let rest = equations_sides xs es h.1 in
         λ i. (left i, right i) ∷ rest i
 

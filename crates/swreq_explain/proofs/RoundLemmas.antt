@@ -1,18 +1,30 @@
 -- The rounds of a plan, by their places.
-use Rattle.std.proofs.Common.{◌≡◌, ◌∙◌, ℕ, zero, suc, ◌-◌, ◌<◌, Bool, true, false, List, [], ◌∷◌, Some, ap, arith, length, refl, replicate, slice_get, subst, sym}
+use Rattle.std.proofs.Common.{◌≡◌, ◌∙◌, ◌⊎◌, inl, inr, ℕ, zero, suc, ◌-◌, ◌<◌, ◌^◌, Bool, true, false, List, [], ◌∷◌, Option, Some, ap, arith, length, refl, replicate, slice_get, subst, sym}
 use Rattle.std.proofs.lemmas.List.{length-replicate}
 use Rattle.std.proofs.lemmas.Option.{slice_get_within}
 use Rattle.swreq_orders.proofs.Elements.{there_is}
+use Rattle.swreq_rule.specs.declared.rules.Rule.{Rule}
+use Rattle.swreq_pair.specs.CriticalPairs.{PairsMeet}
+use Rattle.swreq_complete.specs.Complete.{IsComplete, IsFresh}
+use Rattle.swreq_complete.specs.Reached.{BeginsWith, IsReached}
 use Rattle.swreq_complete.specs.declared.limit.Limits.{Limits}
-use Rattle.swreq_rounds.specs.Plan.{AreShown, Plan}
-use Rattle.swreq_rounds.specs.Rounds.{Ends}
-use Rattle.swreq_valid.specs.Flags.{Tells, chosen}
-use Rattle.swreq_valid.specs.Rounds.{AreRounds, AreRoundsFrom, RoundView, last_rules}
-use Rattle.swreq_valid.specs.Rounds.AreRoundsFrom.{before_others, the_last}
+use Rattle.swreq_complete.proofs.Ended.{pairs_meet}
+use Rattle.swreq_complete.proofs.Outcome.{fresh_of_reached}
+use Rattle.swreq_rounds.specs.Plan.{AreShown, AreShownByReduction, Item, Plan, given}
+use Rattle.swreq_rounds.specs.Rounds.{Ends, Passed}
+use Rattle.swreq_valid.specs.Flags.{Tells, TellsMore, chosen}
+use Rattle.swreq_valid.specs.Rounds.{AreRounds, AreRoundsFrom, RoundView, ended_round, last_rules, short_round, stopped_round}
+use Rattle.swreq_valid.specs.Rounds.AreRoundsFrom.{before_others, begun_anew, once_more, the_last}
 use Rattle.swreq_valid.proofs.Flagged.{tells_length}
-use Rattle.swreq_explain.specs.Rounds.{HaveFlags}
+use Rattle.swreq_explain.specs.Uses.{HaveFlags}
 
 -- ---- flags
+
+-- flags of which none is set
+pub none_set : (n k : ℕ) → slice_get (replicate n false) k ≡ Some true → ⊥
+none_set zero k e = cc
+none_set (suc n) zero e = cc
+none_set (suc n) (suc k) e = none_set n k e
 
 module _ {A : Type 0} where
   -- what is chosen is of the list
@@ -23,54 +35,119 @@ module _ {A : Type 0} where
   chosen_of (y ∷ xs) (true ∷ bs) (suc k) x e = let h = chosen_of xs bs k x e in (suc h.0, h.1)
   chosen_of (y ∷ xs) (false ∷ bs) k x e = let h = chosen_of xs bs k x e in (suc h.0, h.1)
 
-  -- what the flags tell holds of what is chosen
-  pub chosen_holds : (P : A → Type 0) (xs : List A) (bs : List Bool) → Tells P xs bs → (k : ℕ) (x : A) → slice_get (chosen xs bs) k ≡ Some x → P x
-  chosen_holds P [] [] t k x e = cc
-  chosen_holds P [] (b ∷ bs) t k x e = absurd t
-  chosen_holds P (y ∷ xs) [] t k x e = absurd t
-  chosen_holds P (y ∷ xs) (true ∷ bs) t zero x e = let same : y ≡ x = cc in subst P same (t.0.0 refl)
-  chosen_holds P (y ∷ xs) (true ∷ bs) t (suc k) x e = chosen_holds P xs bs t.1 k x e
-  chosen_holds P (y ∷ xs) (false ∷ bs) t k x e = chosen_holds P xs bs t.1 k x e
+  -- what the flags tell holds where the flag is set
+  pub set_holds : (P : A → Type 0) (xs : List A) (bs : List Bool) → Tells P xs bs → (k : ℕ) (x : A) → slice_get xs k ≡ Some x
+      → slice_get bs k ≡ Some true → P x
+  set_holds P [] [] t k x e f = cc
+  set_holds P [] (b ∷ bs) t k x e f = absurd t
+  set_holds P (y ∷ xs) [] t k x e f = absurd t
+  set_holds P (y ∷ xs) (b ∷ bs) t zero x e f = let same : y ≡ x = cc in let set : b ≡ true = cc in subst P same (t.0.0 set)
+  set_holds P (y ∷ xs) (b ∷ bs) t (suc k) x e f = set_holds P xs bs t.1 k x e f
+
+  -- and where flags are set and more flags, it holds where only the second is
+  pub more_holds : (P : A → Type 0) (xs : List A) (bs cs : List Bool) → TellsMore P xs bs cs → (k : ℕ) (x : A) → slice_get xs k ≡ Some x
+      → slice_get cs k ≡ Some true → (slice_get bs k ≡ Some true → ⊥) → P x
+  more_holds P [] [] [] t k x e f no_flag = cc
+  more_holds P [] [] (c ∷ cs) t k x e f no_flag = absurd t
+  more_holds P [] (b ∷ bs) [] t k x e f no_flag = absurd t
+  more_holds P [] (b ∷ bs) (c ∷ cs) t k x e f no_flag = absurd t
+  more_holds P (y ∷ xs) [] [] t k x e f no_flag = absurd t
+  more_holds P (y ∷ xs) [] (c ∷ cs) t k x e f no_flag = absurd t
+  more_holds P (y ∷ xs) (b ∷ bs) [] t k x e f no_flag = absurd t
+  more_holds P (y ∷ xs) (b ∷ bs) (c ∷ cs) t zero x e f no_flag =
+      let same : y ≡ x = cc in
+      let set : c ≡ true = cc in
+      elim (t.0.0 set) [ inl h ↦ absurd (no_flag (ap Some h)) | inr h ↦ subst P same h ]
+  more_holds P (y ∷ xs) (b ∷ bs) (c ∷ cs) t (suc k) x e f no_flag = more_holds P xs bs cs t.1 k x e f no_flag
+
+  pub more_length : (P : A → Type 0) (xs : List A) (bs cs : List Bool) → TellsMore P xs bs cs → length cs ≡ length xs
+  more_length P [] [] [] t = refl
+  more_length P [] [] (c ∷ cs) t = absurd t
+  more_length P [] (b ∷ bs) [] t = absurd t
+  more_length P [] (b ∷ bs) (c ∷ cs) t = absurd t
+  more_length P (y ∷ xs) [] [] t = absurd t
+  more_length P (y ∷ xs) [] (c ∷ cs) t = absurd t
+  more_length P (y ∷ xs) (b ∷ bs) [] t = absurd t
+  more_length P (y ∷ xs) (b ∷ bs) (c ∷ cs) t = ap suc (more_length P xs bs cs t.1)
 
 -- ---- rounds
 
+-- The equations of what it uses bear its rules, from the base on.
+abbrev pub IsReachedRound : Plan → RoundView → Type 0
+IsReachedRound plan round =
+    BeginsWith plan.base round.rules × IsReached (length plan.base) (given plan (chosen plan.all round.used)) round.rules
+
+-- After the round these flags are set: those of what its rules show where it ended, and else those that it had and those of what reduction
+-- by its rules shows.
+abbrev pub LeavesFlags : Limits → Plan → RoundView → List Bool → Type 0
+LeavesFlags limits plan round flags =
+    (Ends limits plan (chosen plan.all round.used) round.rules × Tells (AreShown plan round.rules) plan.all flags)
+    ⊎ TellsMore (AreShownByReduction plan round.rules) plan.all round.used flags
+
+last_of : (r : RoundView) (rounds : List RoundView) → 0 < length rounds → last_rules (r ∷ rounds) ≡ last_rules rounds
+last_of r [] l = absurd (omega (arith, l))
+last_of r (s ∷ rounds) l = refl
+
 module _ {limits : Limits} {plan : Plan} where
-  pub ends_at : {used : List Bool} {rounds : List RoundView} → AreRoundsFrom limits plan used rounds → (k : ℕ) (round : RoundView)
-      → slice_get rounds k ≡ Some round → Ends limits plan (chosen plan.all round.used) round.rules
-  ends_at {used} (the_last {rules = rules} e t) zero round is =
-      let same : record { used = used; rules = rules } ≡ round = cc in
-      subst (λ (r : RoundView). Ends limits plan (chosen plan.all r.used) r.rules) same e
-  ends_at (the_last e t) (suc k) round is = cc
-  ends_at {used} (before_others {rules = rules} e t d o) zero round is =
-      let same : record { used = used; rules = rules } ≡ round = cc in
-      subst (λ (r : RoundView). Ends limits plan (chosen plan.all r.used) r.rules) same e
-  ends_at (before_others e t d o) (suc k) round is = ends_at o k round is
+  pub reached_at : {used : List Bool} {first : Option Passed} {rounds : List RoundView} → AreRoundsFrom limits plan used first rounds
+      → (k : ℕ) (round : RoundView) → slice_get rounds k ≡ Some round → IsReachedRound plan round
+  reached_at {used} (the_last {rules = rules} due e t) zero round is =
+      let same : ended_round used rules ≡ round = cc in subst (IsReachedRound plan) same (e.0, e.1.ended.reached)
+  reached_at (the_last due e t) (suc k) round is = cc
+  reached_at {used} (before_others {rules = rules} due e t d o) zero round is =
+      let same : ended_round used rules ≡ round = cc in subst (IsReachedRound plan) same (e.0, e.1.ended.reached)
+  reached_at (before_others due e t d o) (suc k) round is = reached_at o k round is
+  reached_at {used} (begun_anew {rules = rules} passed s j o) zero round is =
+      let same : stopped_round used passed.trace rules ≡ round = cc in
+      subst (IsReachedRound plan) same (j.bears.0, j.bears.1.reached)
+  reached_at (begun_anew passed s j o) (suc k) round is = reached_at o k round is
+  reached_at {used} (once_more {rules = rules} j o) zero round is =
+      let same : short_round used rules ≡ round = cc in subst (IsReachedRound plan) same (j.bears.0, j.bears.1.reached)
+  reached_at (once_more j o) (suc k) round is = reached_at o k round is
 
-  first_used : {used : List Bool} {rounds : List RoundView} → AreRoundsFrom limits plan used rounds → (round : RoundView)
-      → slice_get rounds 0 ≡ Some round → round.used ≡ used
-  first_used {used} (the_last {rules = rules} e t) round is =
-      let same : record { used = used; rules = rules } ≡ round = cc in sym (ap (λ (r : RoundView). r.used) same)
-  first_used {used} (before_others {rules = rules} e t d o) round is =
-      let same : record { used = used; rules = rules } ≡ round = cc in sym (ap (λ (r : RoundView). r.used) same)
+  first_used : {used : List Bool} {first : Option Passed} {rounds : List RoundView} → AreRoundsFrom limits plan used first rounds
+      → (round : RoundView) → slice_get rounds 0 ≡ Some round → round.used ≡ used
+  first_used {used} (the_last {rules = rules} due e t) round is =
+      let same : ended_round used rules ≡ round = cc in sym (ap (λ (r : RoundView). r.used) same)
+  first_used {used} (before_others {rules = rules} due e t d o) round is =
+      let same : ended_round used rules ≡ round = cc in sym (ap (λ (r : RoundView). r.used) same)
+  first_used {used} (begun_anew {rules = rules} passed s j o) round is =
+      let same : stopped_round used passed.trace rules ≡ round = cc in sym (ap (λ (r : RoundView). r.used) same)
+  first_used {used} (once_more {rules = rules} j o) round is =
+      let same : short_round used rules ≡ round = cc in sym (ap (λ (r : RoundView). r.used) same)
 
-  -- What a round uses, the rules of the one before it show usable.
-  pub told_at : {used : List Bool} {rounds : List RoundView} → AreRoundsFrom limits plan used rounds → (k : ℕ) (earlier round : RoundView)
-      → slice_get rounds k ≡ Some earlier → slice_get rounds (suc k) ≡ Some round → Tells (AreShown plan earlier.rules) plan.all round.used
-  told_at (the_last e t) zero earlier round is next = cc
-  told_at (the_last e t) (suc k) earlier round is next = cc
-  told_at {used} (before_others {rules = rules} e t d o) zero earlier round is next =
-      let same : record { used = used; rules = rules } ≡ earlier = cc in
-      subst (λ (r : RoundView). Tells (AreShown plan r.rules) plan.all round.used) same
-      (subst (Tells (AreShown plan rules) plan.all) (sym (first_used o round next)) t)
-  told_at (before_others e t d o) (suc k) earlier round is next = told_at o k earlier round is next
+  -- What a round uses, the one before it left.
+  pub left_at : {used : List Bool} {first : Option Passed} {rounds : List RoundView} → AreRoundsFrom limits plan used first rounds
+      → (k : ℕ) (earlier round : RoundView) → slice_get rounds k ≡ Some earlier → slice_get rounds (suc k) ≡ Some round
+      → LeavesFlags limits plan earlier round.used
+  left_at (the_last due e t) zero earlier round is next = cc
+  left_at (the_last due e t) (suc k) earlier round is next = cc
+  left_at {used} (before_others {rules = rules} due e t d o) zero earlier round is next =
+      let same : ended_round used rules ≡ earlier = cc in
+      subst (λ z. LeavesFlags limits plan z round.used) same
+      (subst (LeavesFlags limits plan (ended_round used rules)) (sym (first_used o round next)) (inl (e, t)))
+  left_at (before_others due e t d o) (suc k) earlier round is next = left_at o k earlier round is next
+  left_at {used} (begun_anew {rules = rules} passed s j o) zero earlier round is next =
+      let same : stopped_round used passed.trace rules ≡ earlier = cc in
+      subst (λ z. LeavesFlags limits plan z round.used) same
+      (subst (LeavesFlags limits plan (stopped_round used passed.trace rules)) (sym (first_used o round next)) (inr j.joins))
+  left_at (begun_anew passed s j o) (suc k) earlier round is next = left_at o k earlier round is next
+  left_at {used} (once_more {rules = rules} j o) zero earlier round is next =
+      let same : short_round used rules ≡ earlier = cc in
+      subst (λ z. LeavesFlags limits plan z round.used) same
+      (subst (LeavesFlags limits plan (short_round used rules)) (sym (first_used o round next)) (inr j.joins))
+  left_at (once_more j o) (suc k) earlier round is next = left_at o k earlier round is next
 
   pub none_at_first : {rounds : List RoundView} → AreRounds limits plan rounds → (round : RoundView) → slice_get rounds 0 ≡ Some round
       → round.used ≡ replicate (length plan.all) false
   none_at_first h round is = first_used h round is
 
-  pub some_round : {used : List Bool} {rounds : List RoundView} → AreRoundsFrom limits plan used rounds → 0 < length rounds
-  some_round (the_last e t) = omega arith
-  some_round (before_others e t d o) = omega arith
+  pub some_round : {used : List Bool} {first : Option Passed} {rounds : List RoundView} → AreRoundsFrom limits plan used first rounds
+      → 0 < length rounds
+  some_round (the_last due e t) = omega arith
+  some_round (before_others due e t d o) = omega arith
+  some_round (begun_anew passed s j o) = omega arith
+  some_round (once_more j o) = omega arith
 
   -- each round has a flag for each requirement
   pub flags_of : {rounds : List RoundView} → AreRounds limits plan rounds → HaveFlags (length plan.all) rounds
@@ -78,7 +155,45 @@ module _ {limits : Limits} {plan : Plan} where
   flags_of {rounds} h (suc k) round is =
       let within = slice_get_within rounds (suc k) round is in
       let (earlier, at) = there_is rounds k (omega (arith, within)) in
-      tells_length (AreShown plan earlier.rules) plan.all round.used (told_at h k earlier round at is)
+      elim (left_at h k earlier round at is) [
+        | inl l ↦ tells_length (AreShown plan earlier.rules) plan.all round.used l.1
+        | inr l ↦ more_length (AreShownByReduction plan earlier.rules) plan.all earlier.used round.used l
+      ]
+
+  -- ---- the last round
+
+  -- the last round ends
+  pub last_ends : {used : List Bool} {first : Option Passed} {rounds : List RoundView} → AreRoundsFrom limits plan used first rounds
+      → (last : List Item) × Ends limits plan last (last_rules rounds)
+  last_ends {used} (the_last due e t) = (chosen plan.all used, e)
+  last_ends {used} (before_others {rules = rules} {others = others} due e t d o) =
+      let h = last_ends o in
+      (h.0, subst (Ends limits plan h.0) (sym (last_of (ended_round used rules) others (some_round o))) h.1)
+  last_ends {used} (begun_anew {rules = rules} {others = others} passed s j o) =
+      let h = last_ends o in
+      (h.0, subst (Ends limits plan h.0) (sym (last_of (stopped_round used passed.trace rules) others (some_round o))) h.1)
+  last_ends {used} (once_more {rules = rules} {others = others} j o) =
+      let h = last_ends o in
+      (h.0, subst (Ends limits plan h.0) (sym (last_of (short_round used rules) others (some_round o))) h.1)
+
+-- the rules of a round that ended are complete where those of the base are
+pub ended_complete : (limits : Limits) (plan : Plan) (used : List Item) (rules : List Rule) → IsComplete plan.base
+    → Ends limits plan used rules → length rules < 2 ^ 32 - 1 → IsComplete rules
+ended_complete limits plan used rules c e few = record {
+  meet = pairs_meet (length plan.base) (given plan used) rules (subst PairsMeet (sym e.0) c.meet) e.1.ended;
+  fresh = fresh_of_reached (length plan.base) (given plan used) rules e.1.ended.reached (subst IsFresh (sym e.0) c.fresh);
+  few = few;
+}
+
+pub none_complete : IsComplete []
+none_complete = record {
+  meet = λ place left right p. absurd (no_rule p.first_at.0 p.first p.first_at.2);
+  fresh = λ k rule e. absurd (no_rule k rule e);
+  few = omega arith;
+}
+  where
+    no_rule : (k : ℕ) (rule : Rule) → slice_get [] k ≡ Some rule → ⊥
+    no_rule k rule e = cc
 
 -- There is a last round where there is one.
 pub last_is : (rounds : List RoundView) → 0 < length rounds

@@ -7,10 +7,8 @@ use Rattle.swreq_param.specs.declared.ids.Step.{Step}
 use Rattle.swreq_param.specs.declared.ids.Step.TheVariants.{Bound, Name}
 use Rattle.swreq_param.specs.Terms.Term.{Generic, Member}
 use Rattle.swreq_word.specs.declared.symbols.Symbol.TheVariants.{Proto}
-use Rattle.swreq_word.specs.Relations.{Linked}
-use Rattle.swreq_word.proofs.Chains.{linked_back}
 use Rattle.swreq_rule.specs.declared.rules.Rule.{Rule}
-use Rattle.swreq_rule.specs.Steps.{Step as RuleStep}
+use Rattle.swreq_complete.specs.Alike.{ReduceAlike}
 use Rattle.swreq_derive.specs.Derivation.{Source}
 use Rattle.swreq_derive.specs.Facts.{generic_params}
 use Rattle.swreq_correspondence.specs.Shown.{ShowsConformance, ShowsValid}
@@ -18,6 +16,7 @@ use Rattle.swreq_correspondence.specs.Symbols.{symbol, word_of}
 use Rattle.swreq_read.specs.declared.ground.Ground.{Ground}
 use Rattle.swreq_unfold.specs.Systems.{IsShown, source_of}
 use Rattle.swreq_unfold.specs.Types.{IsStepShown}
+use Rattle.swreq_unfold.proofs.Ends.{alike_back}
 use Rattle.swreq_explain.proofs.NumberingLemmas.{spell_append}
 use Rattle.swreq_param.specs.Tables.{term_at}
 use Rattle.swreq_param.specs.Terms.{Term}
@@ -76,28 +75,28 @@ module _ (g : Ground) (owner : Option ProtoId) (rules : List Rule) (t b : Term) 
       = h.word ∙ ap (word_of h.symbols s) is ∙ spell_append h.symbols s b (symbol h.symbols x ∷ []) in
       ap (λ (z : List Symbol). take (length z - 1) z) e ∙ front_of (word_of h.symbols s b) (symbol h.symbols x)
 
-  member_shown : ShowsValid h.symbols h.facts s (Linked (RuleStep rules)) (Member b x)
-  member_shown = subst (ShowsValid h.symbols h.facts s (Linked (RuleStep rules))) is h.shown
+  member_shown : ShowsValid h.symbols h.facts s (ReduceAlike rules) (Member b x)
+  member_shown = subst (ShowsValid h.symbols h.facts s (ReduceAlike rules)) is h.shown
 
   pub base_shown : IsShown g owner rules b (take (length w - 1) w)
   base_shown = record { symbols = h.symbols; facts = h.facts; list = h.list; are = h.are; shown = of x member_shown; word = front_is }
     where
-      of : (y : Step) → ShowsValid h.symbols h.facts s (Linked (RuleStep rules)) (Member b y) → ShowsValid h.symbols h.facts s (Linked (RuleStep rules)) b
+      of : (y : Step) → ShowsValid h.symbols h.facts s (ReduceAlike rules) (Member b y) → ShowsValid h.symbols h.facts s (ReduceAlike rules) b
       of (Name a) v = v.0
       of (Bound d) v = v.0
 
   pub step_shown : IsStepShown g rules (take (length w - 1) w) x
   step_shown = subst (λ z. IsStepShown g rules z x) (sym front_is) (of x member_shown)
     where
-      on : (p : ProtoId) → ShowsConformance h.symbols s (Linked (RuleStep rules)) b p
-          → Linked (RuleStep rules) (word_of h.symbols s b) (word_of h.symbols s b ++ Proto p.rank ∷ [])
-      on p c = subst (Linked (RuleStep rules) (word_of h.symbols s b)) (spell_append h.symbols s b (Proto p.rank ∷ [])) (linked_back c)
+      on : (p : ProtoId) → ShowsConformance h.symbols s (ReduceAlike rules) b p
+          → ReduceAlike rules (word_of h.symbols s b) (word_of h.symbols s b ++ Proto p.rank ∷ [])
+      on p c = subst (ReduceAlike rules (word_of h.symbols s b)) (spell_append h.symbols s b (Proto p.rank ∷ [])) (alike_back rules _ _ c)
 
-      of : (y : Step) → ShowsValid h.symbols h.facts s (Linked (RuleStep rules)) (Member b y) → IsStepShown g rules (word_of h.symbols s b) y
+      of : (y : Step) → ShowsValid h.symbols h.facts s (ReduceAlike rules) (Member b y) → IsStepShown g rules (word_of h.symbols s b) y
       of (Name a) v = (let (p, d, c, k) = v.1 in (d.rank, record { proto = p; name = a }, (h.are.associated p a d c, refl, on p k)))
       of (Bound d) v = (let (p, a, c, k) = v.1 in (d.rank, record { proto = p; name = a }, (h.are.associated p a d c, refl, on p k)))
 
 -- a generic parameter that is shown is one of the list
 pub shown_generic : (g : Ground) (rules : List Rule) (t : Term) (p : ParamId) (w : List Symbol) → t ≡ Generic p → IsShown g None rules t w
     → Contains (generic_params g.params) p
-shown_generic g rules t p w is h = subst (ShowsValid h.symbols h.facts (source_of g h.list None) (Linked (RuleStep rules))) is h.shown
+shown_generic g rules t p w is h = subst (ShowsValid h.symbols h.facts (source_of g h.list None) (ReduceAlike rules)) is h.shown

@@ -3,6 +3,7 @@ use Rattle.std.specs.Prelude.{◌≡◌, ◌<◌, ◌-◌, ◌++◌, [], List, N
 use Rattle.swreq_param.specs.Terms.{Term}
 use Rattle.swreq_derive.specs.Facts.{generic_params}
 use Rattle.swreq_correspondence.specs.Symbols.{IsInText}
+use Rattle.swreq_complete.specs.Complete.{IsComplete}
 use Rattle.swreq_lowering.specs.declared.ids.FuncId.{FuncId}
 use Rattle.swreq_read.specs.declared.ground.Named.{Named}
 use Rattle.swreq_rounds.specs.Given.{basic_equations}
@@ -14,7 +15,7 @@ use Rattle.swreq_unfold.specs.declared.book.System.{System}
 use Rattle.swreq_unfold.specs.Systems.{AreSymbols, FitsBook, IsBook, rules_at}
 use Rattle.swreq_valid.specs.Machines.{MachineView, ProtocolsView}
 use Rattle.swreq_valid.specs.Plans.{bare}
-use Rattle.swreq_valid.specs.Rounds.{last_rules}
+use Rattle.swreq_valid.specs.Rounds.{RoundView, last_rules}
 use Rattle.swreq_world.specs.FactsAt.{facts_of, source_of, written_list}
 use Rattle.swreq_world.specs.Worlds.{IdWorld, TextWorld, signature_at}
 use Rattle.swreq_explain.specs.Grounded.{IsGroundOf, named_by}
@@ -25,23 +26,27 @@ abbrev pub members_in : IdWorld → List Named
 members_in w = map named_by w.lexicon.symbols
 
 -- The rounds of the protocols begin with no rules, and use the requirements of all protocols.
-abbrev pub protocols_origin : IdWorld → Origin
-protocols_origin w = record {
+abbrev pub protocols_origin : IdWorld → List RoundView → Origin
+protocols_origin w rounds = record {
   base = 0;
   below = 0;
   members = members_in w;
   basic = basic_equations (symbols_of w.lexicon);
-  all = numbered_in w w.lexicon.written_order;
+  course = record { all = numbered_in w w.lexicon.written_order; rounds = rounds; first = 0 };
 }
 
 -- Those of a list begin with the rules of the last round of the protocols.
-abbrev pub list_origin : IdWorld → FuncId → ProtocolsView → Origin
-list_origin w f p = record {
+abbrev pub list_origin : IdWorld → FuncId → ProtocolsView → MachineView → Origin
+list_origin w f p m = record {
   base = length (last_rules p.rounds);
   below = length p.rounds - 1;
   members = members_in w;
   basic = [];
-  all = numbered_from None 1 (bare (signature_at w f).requirements);
+  course = record {
+    all = numbered_from None 1 (bare (signature_at w f).requirements);
+    rounds = m.rounds;
+    first = length p.rounds;
+  };
 }
 
 -- The ground is that of the world, and the systems are those of the rounds of the protocols and of the machine.
@@ -50,8 +55,8 @@ pub record IsBookOf (terms : List Term) (w : IdWorld) (f : FuncId) (p : Protocol
   pub below : List System
   pub own : List System
   pub systems : b.systems ≡ below ++ own
-  pub of_protocols : AreSystemsOf (symbols_of w.lexicon) terms (protocols_origin w) p.rounds below
-  pub of_list : AreSystemsOf (symbols_of w.lexicon) terms (list_origin w f p) m.rounds own
+  pub of_protocols : AreSystemsOf (symbols_of w.lexicon) terms (protocols_origin w p.rounds) below
+  pub of_list : AreSystemsOf (symbols_of w.lexicon) terms (list_origin w f p m) own
 
 -- ---- a book that answers for a signature
 
@@ -63,7 +68,7 @@ basis_of w f = record {
   written = written_list (signature_at w f);
 }
 
--- It is a book, and its equations are of what is written. Its last system has the rules of the list of the signature.
+-- It is a book, and its equations are of what is written. Its last system has the rules of the list of the signature, which are complete.
 pub record IsBookFor (w : TextWorld) (f : FuncId) (b : Book) : Type 0 where
   pub book : IsBook b
   pub fits : FitsBook b (basis_of w f)
@@ -72,4 +77,5 @@ pub record IsBookFor (w : TextWorld) (f : FuncId) (b : Book) : Type 0 where
   pub some : 0 < length b.systems
   pub rules : AreListRules (symbols_of w.lexicon) (facts_of w) (generic_params (signature_at w f).params) (written_list (signature_at w f))
       (rules_at b (length b.systems - 1))
+  pub complete : IsComplete (rules_at b (length b.systems - 1))
   pub in_text : IsInText (symbols_of w.lexicon) (source_of (signature_at w f))

@@ -1,5 +1,6 @@
 pub mod Asked
 pub mod Grounded
+pub mod Uses
 pub mod Numbering
 pub mod Rounds
 pub mod Books

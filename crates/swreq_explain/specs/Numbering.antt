@@ -22,6 +22,7 @@ use Rattle.swreq_unfold.specs.Systems.{requirement_by}
 use Rattle.swreq_valid.specs.Plans.{bare}
 use Rattle.swreq_world.specs.Worlds.{IdWorld, requirements_of}
 use Rattle.swreq_explain.specs.declared.numbered.Numbered.{Numbered}
+use Rattle.swreq_explain.specs.Uses.{Course, IsShownBy}
 
 -- ---- numbers
 
@@ -58,27 +59,31 @@ abbrev pub IsBasicBy : List Named → Reason → Word → Word → Type 0
 IsBasicBy members (Doubled p) left right = (left ≡ Proto p.rank ∷ Proto p.rank ∷ []) × (right ≡ Proto p.rank ∷ [])
 IsBasicBy members (NamedBy k) left right =
     (n : Named) × (slice_get members k ≡ Some n) × (left ≡ Proto n.proto.rank ∷ Name n.name.rank ∷ []) × (right ≡ Member k ∷ [])
-IsBasicBy members (Required owner n q) left right = ⊥
+IsBasicBy members (Required owner n q shown) left right = ⊥
 
 -- Each equation is a basic one.
 abbrev pub AreBasic : List Named → List Equation → Type 0
 AreBasic members given = (k : ℕ) (e : Equation) → slice_get given k ≡ Some e → IsBasicBy members e.reason e.left e.right
 
--- The reason is that the requirement is written, with this number.
-pub record IsReasonOf (terms : List Term) (x : Numbered) (why : Reason) : Type 0 where
+-- The reason is that the requirement is written, with this number, and that the rules of the system show its type parameters.
+pub record IsReasonOf (terms : List Term) (x : Numbered) (shown : ℕ) (why : Reason) : Type 0 where
   pub requirement : Owned
   pub stands : requirement_by requirement ≡ requirement_of terms x.requirement
-  pub is : why ≡ Required x.owner x.number requirement
+  pub is : why ≡ Required x.owner x.number requirement shown
 
--- It is the equation of the requirement.
-pub record IsEquationOf (m : Symbols) (terms : List Term) (x : Numbered) (e : Equation) : Type 0 where
+-- It is the equation of the requirement, which the rules of this system show.
+pub record IsEquationOf (m : Symbols) (terms : List Term) (x : Numbered) (shown : ℕ) (e : Equation) : Type 0 where
   pub left : e.left ≡ left_side m (source_by x.owner) (requirement_of terms x.requirement)
   pub right : e.right ≡ right_side m (source_by x.owner) (requirement_of terms x.requirement)
-  pub reason : IsReasonOf terms x e.reason
+  pub reason : IsReasonOf terms x shown e.reason
 
--- They are the equations of these requirements, in order.
-abbrev pub AreEquationsOf : Symbols → List Term → List Numbered → List Equation → Type 0
-AreEquationsOf m terms [] [] = Unit {0}
-AreEquationsOf m terms [] (e ∷ es) = ⊥
-AreEquationsOf m terms (x ∷ xs) [] = ⊥
-AreEquationsOf m terms (x ∷ xs) (e ∷ es) = IsEquationOf m terms x e × AreEquationsOf m terms xs es
+-- It is the equation of the requirement in the round k.
+abbrev pub IsEquationIn : Symbols → List Term → Course → ℕ → Numbered → Equation → Type 0
+IsEquationIn m terms c k x e = (shown : ℕ) × IsShownBy c k x shown × IsEquationOf m terms x shown e
+
+-- They are the equations of these requirements in the round k, in order.
+abbrev pub AreEquationsOf : Symbols → List Term → Course → ℕ → List Numbered → List Equation → Type 0
+AreEquationsOf m terms c k [] [] = Unit {0}
+AreEquationsOf m terms c k [] (e ∷ es) = ⊥
+AreEquationsOf m terms c k (x ∷ xs) [] = ⊥
+AreEquationsOf m terms c k (x ∷ xs) (e ∷ es) = IsEquationIn m terms c k x e × AreEquationsOf m terms c k xs es

@@ -4,9 +4,8 @@ use Rattle.swreq_param.specs.Owned.{as_term}
 use Rattle.swreq_param.specs.Tables.{IsOf, term_at}
 use Rattle.swreq_param.specs.Terms.{Term}
 use Rattle.swreq_word.specs.declared.symbols.Symbol.{Symbol}
-use Rattle.swreq_word.specs.Relations.{Linked}
 use Rattle.swreq_rule.specs.declared.rules.Rule.{Rule}
-use Rattle.swreq_rule.specs.Steps.{Step}
+use Rattle.swreq_complete.specs.Alike.{ReduceAlike}
 use Rattle.swreq_read.specs.declared.ground.Ground.{Ground}
 use Rattle.swreq_read.specs.Readable.{SaysWord, read}
 use Rattle.swreq_sheet.specs.declared.sheet.Sheet.{Sheet}
@@ -33,9 +32,9 @@ pub record IsReady (d : Desk) (s : Sheet) : Type 0 where
 abbrev pub IsSide : Desk → Side → Type 0
 IsSide d x = IsShown (ground_at d) None (rules_of d) (as_term x.param.now) x.word.now
 
--- The rules link the word of the type parameter to that word with the symbol behind it.
+-- By the rules the word of the type parameter, and that word with the symbol behind it, reduce to one.
 abbrev pub Vanishes : Desk → Side → Symbol → List Symbol → Type 0
-Vanishes d x y longer = (longer ≡ x.word.now ++ y ∷ []) × Linked (Step (rules_of d)) x.word.now longer
+Vanishes d x y longer = (longer ≡ x.word.now ++ y ∷ []) × ReduceAlike (rules_of d) x.word.now longer
 
 -- A line states that the type parameter equals that as which its word is read behind T, and these are their ids.
 pub record IsReadAt (d : Desk) (x : Side) (t : Term) (s : Sheet) (r : ReadAs) : Type 0 where

@@ -1,5 +1,5 @@
 //! The equations of rounds, with their reasons.
-ghost use Rattle.std.specs.Prelude.{◌≡◌, ◌<◌, ◌++◌, ◌∷◌, [], IfOk, List, OnOk, Some, length, map, slice_get};
+ghost use Rattle.std.specs.Prelude.{◌≡◌, ◌+◌, ◌<◌, ◌^◌, ◌++◌, ◌∷◌, [], IfOk, List, OnOk, Some, length, map, slice_get};
 ghost use Rattle.std.specs.Bool.{if◌then◌else◌, nat_eq};
 ghost use Rattle.swreq_derive.specs.Facts.{requirement_of};
 ghost use Rattle.swreq_rounds.specs.Given as basics;
@@ -11,10 +11,13 @@ ghost use Rattle.swreq_unfold.specs.declared.book.Equation.{Equation as Equation
 ghost use Rattle.swreq_unfold.specs.declared.book.Reason.TheVariants as reasons;
 ghost use Rattle.swreq_unfold.specs.Systems.{requirement_by};
 ghost use Rattle.swreq_valid.specs.Flags.{chosen};
+ghost use Rattle.swreq_valid.specs.Rounds.{RoundView};
 ghost use Rattle.swreq_world.specs.Closed.{AreIds};
 ghost use Rattle.swreq_explain.specs.Books.{members_in};
 ghost use Rattle.swreq_explain.specs.Numbering.{AreBasic, AreEquationsOf, AreNumberedIn, IsEquationOf, sides_of};
+ghost use Rattle.swreq_explain.specs.Uses.{HaveFlags, course_of};
 
+use crate::first_use::{Makings, shown_by};
 use crate::numbered::Numbered;
 use std::alloc::{AllocError, Global};
 use swreq_derive::Requirement;
@@ -141,16 +144,17 @@ pub(crate) fn owned(alloc: Global, table: &ParamTable, r: Requirement) -> Result
     }
 }
 
-/// The equation of a requirement.
+/// The equation of a requirement, whose type parameters the rules of the system show.
 fn equation_of(
     alloc: Global,
     world: &World,
     table: &ParamTable,
     x: Numbered,
+    shown: usize,
 ) -> Result<Equation, AllocError>
     requires text { IsTextOver table.now world.now }
     requires x { IsRequirementIn table.now world.now.lexicon x.requirement }
-    ensures { IfOk result (IsEquationOf (symbols_of world.now.lexicon) table.now x) }
+    ensures { IfOk result (IsEquationOf (symbols_of world.now.lexicon) table.now x shown) }
 {
     let (left, right) = equation(alloc, world, table, x.owner, &x.requirement)?;
     let requirement = owned(alloc, table, x.requirement)?;
@@ -161,28 +165,33 @@ fn equation_of(
             owner: x.owner,
             number: x.number,
             requirement,
+            shown,
         },
     })
 }
 
-/// Puts the equations of the requirements last whose flags are set.
+/// Puts the equations of the requirements last that the round uses.
 pub(crate) fn add_used(
-    alloc: Global,
-    world: &World,
-    table: &ParamTable,
-    all: &[Numbered],
-    used: &[bool],
+    makings: Makings<'_>,
+    round: usize,
     given: &mut Vec<Equation>,
 ) -> Result<(), AllocError>
-    requires text { IsTextOver table.now world.now }
-    requires all { AreNumberedIn table.now world.now.lexicon all.now }
-    requires flags { length used.now ≡ length all.now }
-    ensures { OnOk result ((more : List EquationView) × (given.new.items ≡ given.old.items ++ more)
-        × AreEquationsOf (symbols_of world.now.lexicon) table.now (chosen all.now used.now) more) }
+    requires text { IsTextOver makings.table.now makings.world.now }
+    requires all { AreNumberedIn makings.table.now makings.world.now.lexicon makings.all.now }
+    requires flags { HaveFlags (length makings.all.now) makings.rounds.now }
+    requires round { round < length makings.rounds.now }
+    requires room { makings.first + round < 2 ^ 64 }
+    ensures { OnOk result ((r : RoundView) → slice_get makings.entry.rounds.now round ≡ Some r → (more : List EquationView)
+        × (given.new.items ≡ given.old.items ++ more)
+        × AreEquationsOf (symbols_of makings.entry.world.now.lexicon) makings.entry.table.now (course_of makings.entry) round
+        (chosen makings.entry.all.now r.used) more) }
 {
-    for k in 0..all.len() {
+    let used = makings.rounds.used(round);
+    for k in 0..makings.all.len() {
         if used[k] {
-            let e = equation_of(alloc, world, table, all[k])?;
+            let shown = shown_by(makings, round, k);
+            let x = makings.all[k];
+            let e = equation_of(makings.alloc, makings.world, makings.table, x, shown)?;
             given.push(e)?;
         }
     }

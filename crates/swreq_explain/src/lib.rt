@@ -4,6 +4,7 @@
 
 mod equations;
 mod explaining;
+mod first_use;
 mod grounds;
 mod numbered;
 mod sides;

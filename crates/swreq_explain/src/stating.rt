@@ -5,8 +5,7 @@ ghost use Rattle.swreq_param.specs.Tables.{IsOf, term_at};
 ghost use Rattle.swreq_derive.specs.Derivation.TermRequirement.{Conforms, Equals, IsAnyObject};
 ghost use Rattle.swreq_derive.specs.Derivation.TermStatement.{Requires};
 ghost use Rattle.swreq_word.specs.declared.symbols.Symbol.TheVariants.{Layout, Proto};
-ghost use Rattle.swreq_word.specs.Relations.{Linked};
-ghost use Rattle.swreq_rule.specs.Steps.{Step};
+ghost use Rattle.swreq_complete.specs.Alike.{ReduceAlike};
 ghost use Rattle.swreq_sheet.specs.Sheets.{AreSaidEqual, Basis, Grows, Keeps, Says};
 ghost use Rattle.swreq_unfold.specs.Systems.{FitsBook, HasShownSides, requirement_by};
 ghost use Rattle.swreq_explain.specs.Stating.{IsReady, IsSide, Vanishes, ground_at, rules_of};
@@ -60,7 +59,7 @@ pub(crate) fn be_object(
     Ok(())
 }
 
-/// States that two type parameters, whose words the rules link, are equal, if they are not one. Answers their ids.
+/// States that two type parameters, whose words reduce to one by the rules, are equal, if they are not one. Answers their ids.
 pub(crate) fn equate(
     desk: Desk<'_>,
     sheet: &mut Sheet,
@@ -70,7 +69,7 @@ pub(crate) fn equate(
     requires ready { IsReady desk sheet.old }
     requires left { IsSide desk left }
     requires right { IsSide desk right }
-    requires linked { Linked (Step (rules_of desk)) right.word.now left.word.now }
+    requires alike { ReduceAlike (rules_of desk) right.word.now left.word.now }
     ensures ids { IfOk result (λ r. IsOf sheet.new.table r.0 × IsOf sheet.new.table r.1) }
     ensures first { IfOk result (λ r. term_at sheet.new.table r.0 ≡ as_term left.entry.param.now) }
     ensures last { IfOk result (λ r. term_at sheet.new.table r.1 ≡ as_term right.entry.param.now) }
@@ -87,7 +86,7 @@ pub(crate) fn equate(
     Ok((first.itself, last.itself))
 }
 
-/// States that two type parameters, whose words the rules link, are equal.
+/// States that two type parameters, whose words reduce to one by the rules, are equal.
 fn be_equal(
     desk: Desk<'_>,
     sheet: &mut Sheet,
@@ -97,7 +96,7 @@ fn be_equal(
     requires ready { IsReady desk sheet.old }
     requires left { IsSide desk left }
     requires right { IsSide desk right }
-    requires linked { Linked (Step (rules_of desk)) right.word.now left.word.now }
+    requires alike { ReduceAlike (rules_of desk) right.word.now left.word.now }
     ensures says { OnOk result (Says sheet.new (Requires (Equals (as_term left.entry.param.now) (as_term right.entry.param.now)))) }
     ensures grows { OnOk result (Grows sheet.old sheet.new) }
     ensures derives { OnOk result ((b : Basis) → FitsBook desk.entry.book.now b → Keeps b sheet.old sheet.new) }
@@ -109,7 +108,7 @@ fn be_equal(
     Ok(())
 }
 
-/// States a requirement with these two sides, which the rules link.
+/// States a requirement with these two sides, which reduce to one by the rules.
 pub(crate) fn state(
     desk: Desk<'_>,
     sheet: &mut Sheet,
@@ -119,7 +118,7 @@ pub(crate) fn state(
 ) -> Result<(), AllocError>
     requires ready { IsReady desk sheet.old }
     requires sides { HasShownSides (ground_at desk) None (rules_of desk) r.now left.now right.now }
-    requires linked { Linked (Step (rules_of desk)) right.now left.now }
+    requires alike { ReduceAlike (rules_of desk) right.now left.now }
     ensures says { OnOk result (Says sheet.new (Requires (requirement_by r.now))) }
     ensures grows { OnOk result (Grows sheet.old sheet.new) }
     ensures derives { OnOk result ((b : Basis) → FitsBook desk.entry.book.now b → Keeps b sheet.old sheet.new) }

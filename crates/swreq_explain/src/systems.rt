@@ -1,5 +1,5 @@
 //! The systems of rounds, and the book of a machine.
-ghost use Rattle.std.specs.Prelude.{◌≡◌, ◌<◌, ◌++◌, [], IfOk, List, OnOk, length};
+ghost use Rattle.std.specs.Prelude.{◌≡◌, ◌+◌, ◌<◌, ◌^◌, ◌++◌, [], IfOk, List, OnOk, length};
 ghost use Rattle.swreq_symbols.specs.Known.{IsTextOver};
 ghost use Rattle.swreq_symbols.specs.Meaning.{symbols_of};
 ghost use Rattle.swreq_unfold.specs.declared.book.System.{System as SystemView};
@@ -7,28 +7,21 @@ ghost use Rattle.swreq_world.specs.ByTable.{world_by};
 ghost use Rattle.swreq_world.specs.Short.{IsShort};
 ghost use Rattle.swreq_explain.specs.Asked.{AreRoundsFor};
 ghost use Rattle.swreq_explain.specs.Books.{IsBookFor, IsBookOf, list_origin, protocols_origin};
-ghost use Rattle.swreq_explain.specs.Numbering.{AreNumberedIn};
-ghost use Rattle.swreq_explain.specs.Rounds.{AreSystemsOf, HaveFlags, IsBegun, IsSystemOf, Origin};
+ghost use Rattle.swreq_explain.specs.Numbering.{AreNumberedIn, numbered_in};
+ghost use Rattle.swreq_explain.specs.Rounds.{AreSystemsOf, IsBegun, IsSystemOf, Origin};
+ghost use Rattle.swreq_explain.specs.Uses.{HaveFlags, course_of};
 
 use crate::equations::{add_used, basic};
+use crate::first_use::Makings;
 use crate::grounds::ground_of;
-use crate::numbered::{Numbered, add_numbered, protocols_numbered};
+use crate::numbered::{add_numbered, protocols_numbered};
 use std::alloc::{AllocError, Global};
 use swreq_lowering::FuncId;
 use swreq_param::ParamTable;
 use swreq_text::Seq;
 use swreq_unfold::{Book, Equation, System};
-use swreq_valid::{Machine, Protocols, Round};
+use swreq_valid::{Machine, Protocols};
 use swreq_world::World;
-
-/// Over what systems are made, and the written requirements that rounds may use.
-#[derive(Clone, Copy)]
-struct Makings<'a> {
-    alloc: Global,
-    world: &'a World,
-    table: &'a ParamTable,
-    all: &'a [Numbered],
-}
 
 /// The system of a round that begins with so many rules, which are those of the system at `below`, and whose basic equations are given.
 fn system_of(
@@ -36,25 +29,19 @@ fn system_of(
     basic: Vec<Equation>,
     base: usize,
     below: usize,
-    round: &Round<'_>,
+    round: usize,
 ) -> Result<System, AllocError>
     requires text { IsTextOver makings.table.now makings.world.now }
     requires all { AreNumberedIn makings.table.now makings.world.now.lexicon makings.all.now }
-    requires flags { length round.now.used ≡ length makings.all.now }
-    ensures { IfOk result (λ v. (o : Origin) → IsBegun o base below makings.entry.all.now basic.items
-        → IsSystemOf (symbols_of makings.entry.world.now.lexicon) makings.entry.table.now o round.now v) }
+    requires flags { HaveFlags (length makings.all.now) makings.rounds.now }
+    requires round { round < length makings.rounds.now }
+    requires room { makings.first + round < 2 ^ 64 }
+    ensures { IfOk result (λ v. (o : Origin) → IsBegun o base below (course_of makings.entry) basic.items
+        → IsSystemOf (symbols_of makings.entry.world.now.lexicon) makings.entry.table.now o round v) }
 {
     let mut given = basic;
-    add_used(
-        makings.alloc,
-        makings.world,
-        makings.table,
-        makings.all,
-        round.used(),
-        &mut given,
-    )?;
-    let _complete = round.rules().count();
-    let rules = round.rules().written_out(makings.alloc)?;
+    add_used(makings, round, &mut given)?;
+    let rules = makings.rounds.written_out(makings.alloc, round)?;
     Ok(System {
         base,
         below,
@@ -64,18 +51,19 @@ fn system_of(
 }
 
 /// The systems of the rounds of the protocols.
-fn protocols_systems(makings: Makings<'_>, rounds: &[Round<'_>]) -> Result<Vec<System>, AllocError>
+fn protocols_systems(makings: Makings<'_>) -> Result<Vec<System>, AllocError>
     requires text { IsTextOver makings.table.now makings.world.now }
-    requires all { makings.all.now ≡ (protocols_origin makings.world.now).all }
+    requires all { makings.all.now ≡ numbered_in makings.world.now makings.world.now.lexicon.written_order }
     requires in_text { AreNumberedIn makings.table.now makings.world.now.lexicon makings.all.now }
-    requires flags { HaveFlags (length makings.all.now) rounds.now }
+    requires flags { HaveFlags (length makings.all.now) makings.rounds.now }
+    requires first { makings.first ≡ 0 }
     ensures { IfOk result (λ v. AreSystemsOf (symbols_of makings.entry.world.now.lexicon) makings.entry.table.now
-        (protocols_origin makings.entry.world.now) rounds.now v.items) }
+        (protocols_origin makings.entry.world.now makings.entry.rounds.now) v.items) }
 {
     let mut systems = Vec::new(makings.alloc);
-    for k in 0..rounds.len() {
+    for k in 0..makings.rounds.count() {
         let given = basic(makings.alloc, makings.world)?;
-        let system = system_of(makings, given, 0, 0, &rounds[k])?;
+        let system = system_of(makings, given, 0, 0, k)?;
         systems.push(system)?;
     }
     Ok(systems)
@@ -86,19 +74,21 @@ fn add_list_systems(
     makings: Makings<'_>,
     base: usize,
     below: usize,
-    rounds: &[Round<'_>],
     systems: &mut Vec<System>,
 ) -> Result<(), AllocError>
     requires text { IsTextOver makings.table.now makings.world.now }
     requires in_text { AreNumberedIn makings.table.now makings.world.now.lexicon makings.all.now }
-    requires flags { HaveFlags (length makings.all.now) rounds.now }
-    ensures { OnOk result ((o : Origin) → IsBegun o base below makings.entry.all.now [] → (own : List SystemView)
+    requires flags { HaveFlags (length makings.all.now) makings.rounds.now }
+    requires first { makings.first ≡ length systems.old.items }
+    ensures { OnOk result ((o : Origin) → IsBegun o base below (course_of makings.entry) [] → (own : List SystemView)
         × (systems.new.items ≡ systems.old.items ++ own)
-        × AreSystemsOf (symbols_of makings.entry.world.now.lexicon) makings.entry.table.now o rounds.now own) }
+        × AreSystemsOf (symbols_of makings.entry.world.now.lexicon) makings.entry.table.now o own) }
 {
-    for k in 0..rounds.len() {
+    for k in 0..makings.rounds.count() {
+        // The place of the system that comes next is a number of 64 bits.
+        let _place = systems.len();
         let given = Vec::new(makings.alloc);
-        let system = system_of(makings, given, base, below, &rounds[k])?;
+        let system = system_of(makings, given, base, below, k)?;
         systems.push(system)?;
     }
     Ok(())
@@ -113,9 +103,9 @@ fn world_systems(
 ) -> Result<Vec<System>, AllocError>
     requires text { IsTextOver table.now world.now }
     requires short { IsShort world.now }
-    requires flags { HaveFlags (length (protocols_origin world.now).all) protocols.now.rounds }
-    ensures { IfOk result (λ v. AreSystemsOf (symbols_of world.now.lexicon) table.now (protocols_origin world.now)
-        protocols.now.rounds v.items) }
+    requires flags { HaveFlags (length (protocols_origin world.now protocols.now.rounds).course.all) protocols.now.rounds }
+    ensures { IfOk result (λ v. AreSystemsOf (symbols_of world.now.lexicon) table.now
+        (protocols_origin world.now protocols.now.rounds) v.items) }
 {
     let all = protocols_numbered(alloc, world)?;
     let makings = Makings {
@@ -123,8 +113,10 @@ fn world_systems(
         world,
         table,
         all: &all,
+        rounds: protocols.rounds(),
+        first: 0,
     };
-    protocols_systems(makings, protocols.rounds())
+    protocols_systems(makings)
 }
 
 /// A signature with its machine.
@@ -146,10 +138,11 @@ fn add_machine(
     requires text { IsTextOver table.now world.now }
     requires short { IsShort world.now }
     requires signature { own.f.place < length world.now.signatures }
-    requires flags { HaveFlags (length (list_origin world.now own.f protocols.now).all) own.machine.now.rounds }
+    requires flags { HaveFlags (length (list_origin world.now own.f protocols.now own.machine.now).course.all) own.machine.now.rounds }
+    requires first { length systems.old.items ≡ length protocols.now.rounds }
     ensures { OnOk result ((more : List SystemView) × (systems.new.items ≡ systems.old.items ++ more)
-        × AreSystemsOf (symbols_of world.now.lexicon) table.now (list_origin world.now own.entry.f protocols.now)
-        own.entry.machine.now.rounds more) }
+        × AreSystemsOf (symbols_of world.now.lexicon) table.now
+        (list_origin world.now own.entry.f protocols.now own.entry.machine.now) more) }
 {
     let list = world.bare_signature(alloc, own.f)?;
     let mut all = Vec::new(alloc);
@@ -159,10 +152,12 @@ fn add_machine(
         world,
         table,
         all: &all,
+        rounds: own.machine.rounds(),
+        first: systems.len(),
     };
     let base = protocols.rules().count();
-    let below = protocols.rounds().len().saturating_sub(1);
-    add_list_systems(makings, base, below, own.machine.rounds(), systems)?;
+    let below = systems.len().saturating_sub(1);
+    add_list_systems(makings, base, below, systems)?;
     Ok(())
 }
 

@@ -4,8 +4,7 @@ ghost use Rattle.swreq_derive.specs.declared.requirements.Statement.TheVariants.
 ghost use Rattle.swreq_derive.specs.Derivation.TermStatement.{Requires};
 ghost use Rattle.swreq_derive.specs.Facts.{IdFacts, requirement_of};
 ghost use Rattle.swreq_derive.specs.Lines.{AreDerived};
-ghost use Rattle.swreq_word.specs.Relations.{Linked};
-ghost use Rattle.swreq_rule.specs.Steps.{Step};
+ghost use Rattle.swreq_complete.specs.Alike.{ReduceAlike};
 ghost use Rattle.swreq_sheet.specs.Sheets.{AreIdsIn, Basis, Grows, IsSheet, Keeps, Says};
 ghost use Rattle.swreq_needed.specs.Needed.{AreSomeOf, EndIn};
 ghost use Rattle.swreq_unfold.specs.Systems.{FitsBook, HasShownSides, IsBook, requirement_by, rules_at};
@@ -22,7 +21,7 @@ use swreq_sheet::{Sheet, number_of, param};
 use swreq_unfold::{Book, Owned};
 use swreq_word::Symbol;
 
-/// States a requirement of a list with these two sides, which the rules of the last system link.
+/// States a requirement of a list with these two sides, which reduce to one by the rules of the last system.
 fn write(
     alloc: Global,
     book: &Book,
@@ -34,7 +33,7 @@ fn write(
     requires book { IsBook book.now × (0 < length book.now.systems) }
     requires sheet { IsSheet sheet.old }
     requires sides { HasShownSides book.now.ground None (rules_at book.now (length book.now.systems - 1)) r.now left.now right.now }
-    requires linked { Linked (Step (rules_at book.now (length book.now.systems - 1))) right.now left.now }
+    requires alike { ReduceAlike (rules_at book.now (length book.now.systems - 1)) right.now left.now }
     ensures says { OnOk result (Says sheet.new (Requires (requirement_by r.now))) }
     ensures grows { OnOk result (Grows sheet.old sheet.new) }
     ensures derives { OnOk result ((b : Basis) → FitsBook book.now b → Keeps b sheet.old sheet.new) }
@@ -72,7 +71,8 @@ fn finish(alloc: Global, sheet: &Sheet, r: Requirement) -> Result<Vec<Line>, All
     }
 }
 
-/// Lines that state a requirement, which this is by itself, with its sides, which the rules of the last system link.
+/// Lines that state a requirement, which this is by itself, with its sides, which reduce to one by the rules of
+/// the last system.
 fn lines_on(
     alloc: Global,
     book: &Book,
@@ -86,7 +86,7 @@ fn lines_on(
     requires by_itself { requirement_by by_itself.now ≡ requirement_of sheet.old.table r }
     requires sides { HasShownSides book.now.ground None (rules_at book.now (length book.now.systems - 1)) by_itself.now
         sides.0.now sides.1.now }
-    requires linked { Linked (Step (rules_at book.now (length book.now.systems - 1))) sides.1.now sides.0.now }
+    requires alike { ReduceAlike (rules_at book.now (length book.now.systems - 1)) sides.1.now sides.0.now }
     ensures derived { IfOk result (λ v. (m : IdFacts) → AreDerived sheet.new.table m sheet.new.lines.items
         → AreDerived sheet.new.table m v.items) }
     ensures last { IfOk result (λ v. EndIn v.items (Holds r)) }
@@ -113,7 +113,7 @@ pub(crate) fn lines_over(
     requires by_itself { requirement_by by_itself.now ≡ requirement_of table.old r }
     requires sides { HasShownSides book.now.ground None (rules_at book.now (length book.now.systems - 1)) by_itself.now
         sides.0.now sides.1.now }
-    requires linked { Linked (Step (rules_at book.now (length book.now.systems - 1))) sides.1.now sides.0.now }
+    requires alike { ReduceAlike (rules_at book.now (length book.now.systems - 1)) sides.1.now sides.0.now }
     ensures written { IfOk result (λ v. AreWritten table.old table.new book.now v.items) }
     ensures last { IfOk result (λ v. EndIn v.items (Holds r)) }
 {

@@ -61,7 +61,7 @@ given_headed b r (Doubled p) left right h = headed_by b.ground left right (Some 
 given_headed b r (Named k) left right h =
     headed_by b.ground left right (Some h.0.proto) (ap (head_of b.ground) h.2)
     (ap (head_of b.ground) h.3 ∙ ap (λ n. Some (Some n.proto)) (get_or_from_slice_get b.ground.members k h.0 _ h.1))
-given_headed b r (Required owner n q) left right h = sides_headed b.ground owner _ q left right h.1
+given_headed b r (Required owner n q shown) left right h = sides_headed b.ground owner _ q left right h.1
 
 -- ---- pairs
 
@@ -286,7 +286,7 @@ all_at b at r rules w e f = subst (λ z. AreAll b z r) (sym e)
       same = refl;
       within = omega arith;
       taken = take_all (length (rules_at b r)) (rules_at b r) (omega arith);
-      few = (w.book.systems r w.within).complete.few;
+      few = (w.book.systems r w.within).few;
     }))
 
 -- the system has all its rules

@@ -12,10 +12,8 @@ use Rattle.swreq_param.specs.Terms.Term.{Generic, Member}
 use Rattle.swreq_orders.proofs.Elements.{get_map}
 use Rattle.swreq_word.specs.declared.symbols.Symbol.{Symbol}
 use Rattle.swreq_word.specs.declared.symbols.Symbol.TheVariants.{Proto, Member as MemberSymbol, Name as NameSymbol}
-use Rattle.swreq_word.specs.Relations.{Linked}
-use Rattle.swreq_word.proofs.Chains.{linked_back}
 use Rattle.swreq_rule.specs.declared.rules.Rule.{Rule}
-use Rattle.swreq_rule.specs.Steps.{Step as RuleStep}
+use Rattle.swreq_complete.specs.Alike.{ReduceAlike}
 use Rattle.swreq_derive.specs.Derivation.{Source, TermFacts, TermRequirement}
 use Rattle.swreq_derive.specs.Derivation.TermRequirement.{Conforms}
 use Rattle.swreq_derive.specs.Derivation.TermStatement.{Requires}
@@ -32,6 +30,7 @@ use Rattle.swreq_read.proofs.ReadLemmas.{equal_as, named_given, read_more, says_
 use Rattle.swreq_unfold.specs.Heads.{Allows}
 use Rattle.swreq_unfold.specs.Systems.{AreSymbols, IsShown, source_of}
 use Rattle.swreq_unfold.specs.Types.{IsStepShown, placed}
+use Rattle.swreq_unfold.proofs.Ends.{alike_back}
 
 -- ---- steps of a term
 
@@ -76,12 +75,12 @@ Spells g (Bound d) y = (j : ℕ) × (n : Named) × (y ≡ MemberSymbol j) × (sl
     (slice_get g.associated d.rank ≡ Some n)
 
 module _ (g : Ground) (m : Symbols) (f : TermFacts) (s : Source) (rules : List Rule) (are : AreSymbols g m f) where
-  spelled : (t : Term) (x : Step) → ShowsValid m f s (Linked (RuleStep rules)) (Member t x) → Spells g x (symbol m x)
+  spelled : (t : Term) (x : Step) → ShowsValid m f s (ReduceAlike rules) (Member t x) → Spells g x (symbol m x)
   spelled t (Name a) h = refl
   spelled t (Bound d) h =
       let w = h.1 in (m.rank_of d, record { proto = w.0; name = w.1 }, refl, are.members w.0 w.1 d w.2, are.associated w.0 w.1 d w.2)
 
-  step_shown : (t : Term) (x : Step) → ShowsValid m f s (Linked (RuleStep rules)) (Member t x) → IsStepShown g rules (word_of m s t) x
+  step_shown : (t : Term) (x : Step) → ShowsValid m f s (ReduceAlike rules) (Member t x) → IsStepShown g rules (word_of m s t) x
   step_shown t (Name a) h =
       let w = h.1 in (
         w.1.rank,
@@ -89,7 +88,7 @@ module _ (g : Ground) (m : Symbols) (f : TermFacts) (s : Source) (rules : List R
         (
           are.associated w.0 a w.1 w.2,
           refl,
-          linked_back (subst (λ z. Linked (RuleStep rules) z (word_of m s t))
+          alike_back rules _ _ (subst (λ z. ReduceAlike rules z (word_of m s t))
               (sym (spell-append m s t [] (Proto w.0.rank ∷ []))) w.3),
         ),
       )
@@ -100,7 +99,7 @@ module _ (g : Ground) (m : Symbols) (f : TermFacts) (s : Source) (rules : List R
         (
           are.associated w.0 w.1 d w.2,
           refl,
-          linked_back (subst (λ z. Linked (RuleStep rules) z (word_of m s t))
+          alike_back rules _ _ (subst (λ z. ReduceAlike rules z (word_of m s t))
               (sym (spell-append m s t [] (Proto w.0.rank ∷ []))) w.3),
         ),
       )
@@ -135,7 +134,7 @@ module _ (g : Ground) (owner : Option ProtoId) (rules : List Rule) (hd : ParamId
   pub step_at : (k : ℕ) (x : Step) → slice_get xs k ≡ Some x → StepAt g rules w k x
   step_at k x e =
       let n : k + 1 ≡ suc k = omega arith in
-      let valid = valid_at h.symbols h.facts source (Linked (RuleStep rules)) (Generic hd) xs k x e h.shown in record {
+      let valid = valid_at h.symbols h.facts source (ReduceAlike rules) (Generic hd) xs k x e h.shown in record {
         written = symbol h.symbols x;
         there = ap (λ z. slice_get z (k + 1)) shown_word ∙ ap (slice_get (start source hd ∷ map (symbol h.symbols) xs)) n
             ∙ get_map (symbol h.symbols) xs k x e;
@@ -163,8 +162,8 @@ pub begins_said : (g : Ground) (s : Sheet) (t : Term) (owner : Option ProtoId) (
     → IsShown g owner rules (with_steps (Generic hd) xs) w → Allows s t owner → SaysWord g s t (take 1 w)
 begins_said g s t owner rules hd xs w h a =
     subst (SaysWord g s t) (sym (shown_start g owner rules hd xs w h)) (
-      start_allowed g s t h.symbols h.facts h.list owner (Linked (RuleStep rules)) hd a
-          (valid_front h.symbols h.facts (source_of g h.list owner) (Linked (RuleStep rules)) (Generic hd) xs h.shown),
+      start_allowed g s t h.symbols h.facts h.list owner (ReduceAlike rules) hd a
+          (valid_front h.symbols h.facts (source_of g h.list owner) (ReduceAlike rules) (Generic hd) xs h.shown),
       tt,
     )
 

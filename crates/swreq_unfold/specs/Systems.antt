@@ -1,5 +1,5 @@
 -- The systems of rules of all rounds, those of the protocols first.
-use Rattle.std.specs.Prelude.{◌≡◌, ℕ, ◌<◌, ◌≤◌, ◌-◌, List, [], ◌∷◌, ◌++◌, Option, Some, None, length, map, get_or, slice_get, take}
+use Rattle.std.specs.Prelude.{◌≡◌, ℕ, ◌<◌, ◌≤◌, ◌-◌, ◌^◌, List, [], ◌∷◌, ◌++◌, Option, Some, None, length, map, get_or, slice_get, take}
 use Rattle.swreq_param.specs.Owned.{as_term}
 use Rattle.swreq_param.specs.Terms.{Term}
 use Rattle.swreq_param.specs.declared.ids.AssocId.{AssocId}
@@ -7,13 +7,11 @@ use Rattle.swreq_param.specs.declared.ids.NameId.{NameId}
 use Rattle.swreq_param.specs.declared.ids.ProtoId.{ProtoId}
 use Rattle.swreq_word.specs.declared.symbols.Symbol.{Symbol}
 use Rattle.swreq_word.specs.declared.symbols.Symbol.TheVariants.{Layout as LayoutSymbol, Member, Name, Proto}
-use Rattle.swreq_word.specs.Relations.{Linked}
 use Rattle.swreq_rule.specs.declared.rules.Birth.{Birth}
 use Rattle.swreq_rule.specs.declared.rules.Rule.{Rule}
 use Rattle.swreq_rule.specs.Oriented.{IsOriented}
 use Rattle.swreq_rule.specs.Reduction.{Reduces}
-use Rattle.swreq_rule.specs.Steps.{Step}
-use Rattle.swreq_complete.specs.Complete.{IsComplete}
+use Rattle.swreq_complete.specs.Alike.{ReduceAlike}
 use Rattle.swreq_complete.specs.Reached.{IsBorn}
 use Rattle.swreq_derive.specs.Derivation.{Declares, Source, TermFacts, TermRequirement}
 use Rattle.swreq_derive.specs.Derivation.Source.{SelfOf, Written}
@@ -56,18 +54,18 @@ pub record AreSymbols (g : Ground) (m : Symbols) (f : TermFacts) : Type 0 where
   pub members : (p : ProtoId) (a : NameId) (d : AssocId) → Declares f p a d
       → slice_get g.members (m.rank_of d) ≡ Some (record { proto = p; name = a })
 
--- The rules show that T is valid, and this is the word of T.
+-- Reduction by the rules shows that T is valid, and this is the word of T.
 pub record IsShown (g : Ground) (owner : Option ProtoId) (rules : List Rule) (t : Term) (w : List Symbol) : Type 0 where
   pub symbols : Symbols
   pub facts : TermFacts
   pub list : List TermRequirement
   pub are : AreSymbols g symbols facts
-  pub shown : ShowsValid symbols facts (source_of g list owner) (Linked (Step rules)) t
+  pub shown : ShowsValid symbols facts (source_of g list owner) (ReduceAlike rules) t
   pub word : w ≡ word_of symbols (source_of g list owner) t
 
 -- ---- equations
 
--- The two sides of a requirement, whose type parameters the rules show.
+-- The two sides of a requirement, whose type parameters reduction by the rules shows.
 abbrev pub HasShownSides : Ground → Option ProtoId → List Rule → Owned → List Symbol → List Symbol → Type 0
 HasShownSides g owner rules (Conf t p) left right = IsShown g owner rules (as_term t) right × (left ≡ right ++ Proto p.rank ∷ [])
 HasShownSides g owner rules (Layout t) left right = IsShown g owner rules (as_term t) right × (left ≡ right ++ LayoutSymbol ∷ [])
@@ -83,19 +81,19 @@ system_at b r = get_or b.systems r (record { base = 0; below = 0; rules = []; gi
 abbrev pub rules_at : Book → ℕ → List Rule
 rules_at b r = (system_at b r).rules
 
--- The equation of a reason, in the round r: that of a requirement is one since the rules of the round before it show its type parameters.
+-- The equation of a reason, in the round r: that of a requirement is one since the rules of an earlier round show its type parameters.
 abbrev pub IsGivenBy : Book → ℕ → Reason → List Symbol → List Symbol → Type 0
 IsGivenBy b r (Doubled p) left right = (left ≡ Proto p.rank ∷ Proto p.rank ∷ []) × (right ≡ Proto p.rank ∷ [])
 IsGivenBy b r (NamedBy k) left right =
     (n : Named) × (slice_get b.ground.members k ≡ Some n) × (left ≡ Proto n.proto.rank ∷ Name n.name.rank ∷ []) × (right ≡ Member k ∷ [])
-IsGivenBy b r (Required owner n q) left right = (0 < r) × HasShownSides b.ground owner (rules_at b (r - 1)) q left right
+IsGivenBy b r (Required owner n q shown) left right = (shown < r) × HasShownSides b.ground owner (rules_at b shown) q left right
 
 -- ---- systems
 
--- The rules are complete. Each rule past the base is born of a settled moment, and each rule of the base is the same rule of an earlier
--- system. Each equation has its reason.
+-- The rules are so few that each has a number of 32 bits, complete or not. Each rule past the base is born of a settled moment, and each
+-- rule of the base is the same rule of an earlier system. Each equation has its reason.
 pub record IsSystem (b : Book) (r : ℕ) (v : System) : Type 0 where
-  pub complete : IsComplete v.rules
+  pub few : length v.rules < 2 ^ 32 - 1
   pub born : (k : ℕ) (rule : Rule) → v.base ≤ k → slice_get v.rules k ≡ Some rule → IsBorn v.base (given_of v) v.rules k rule.birth
   pub lower : (k : ℕ) (rule : Rule) → k < v.base → slice_get v.rules k ≡ Some rule
       → (v.below < r) × (slice_get (rules_at b v.below) k ≡ Some rule)
@@ -133,7 +131,7 @@ pub record HasEquation (b : Book) (r : ℕ) (e : Equation) : Type 0 where
 
 -- The requirement of the reason is written.
 abbrev pub IsWritten : Basis → Reason → Type 0
-IsWritten b (Required owner n q) = HasNumber n (written_by b owner) (requirement_by q)
+IsWritten b (Required owner n q shown) = HasNumber n (written_by b owner) (requirement_by q)
 IsWritten b _ = Unit {0}
 
 -- The names and the reasons are those of the facts and of the list.

@@ -6,10 +6,9 @@ use Rattle.swreq_param.specs.Terms.{Term}
 use Rattle.swreq_derive.specs.Derivation.{for_self, TermRequirement}
 use Rattle.swreq_word.specs.declared.symbols.Symbol.{Symbol}
 use Rattle.swreq_word.specs.declared.symbols.Symbol.TheVariants.{Proto}
-use Rattle.swreq_word.specs.Relations.{Linked}
 use Rattle.swreq_rule.specs.declared.rules.Rule.{Rule}
-use Rattle.swreq_rule.specs.Steps.{Step as RuleStep}
 use Rattle.swreq_path.specs.Paths.{HasTarget}
+use Rattle.swreq_complete.specs.Alike.{ReduceAlike}
 use Rattle.swreq_sheet.specs.Sheets.{Basis}
 use Rattle.swreq_read.specs.declared.ground.Ground.{Ground}
 use Rattle.swreq_read.specs.declared.ground.Named.{Named}
@@ -28,10 +27,11 @@ written_by b None = b.written
 
 -- ---- steps that rules show
 
--- The associated type with this rank is one that the step names, and the rules link the word to the word with its protocol behind it.
+-- The associated type with this rank is one that the step names, and by the rules the word, and the word with its protocol behind it,
+-- reduce to one.
 abbrev pub IsShownAt : Ground → List Rule → List Symbol → Step → ℕ → Named → Type 0
 IsShownAt g rules w x k n =
-    (slice_get g.associated k ≡ Some n) × IsOfStep x k n × Linked (RuleStep rules) w (w ++ Proto n.proto.rank ∷ [])
+    (slice_get g.associated k ≡ Some n) × IsOfStep x k n × ReduceAlike rules w (w ++ Proto n.proto.rank ∷ [])
 
 abbrev pub IsStepShown : Ground → List Rule → List Symbol → Step → Type 0
 IsStepShown g rules w x = (k : ℕ) × (n : Named) × IsShownAt g rules w x k n

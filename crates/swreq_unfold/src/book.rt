@@ -27,11 +27,13 @@ pub enum Reason {
     Named {
         rank: u64,
     },
-    /// The requirement with this number, counted from 1, of a protocol, or of the list where there is no owner.
+    /// The requirement with this number, counted from 1, of a protocol, or of the list where there is no owner. The rules of the system
+    /// `shown`, which is an earlier one, show its type parameters.
     Required {
         owner: Option<ProtoId>,
         number: u32,
         requirement: Owned,
+        shown: usize,
     },
 }
 

@@ -1,8 +1,7 @@
-//! Words that rules link.
+//! Words that reduce to one.
 ghost use Rattle.std.specs.Prelude.{OnOk};
 ghost use Rattle.swreq_param.specs.Tables.{IsOf, term_at};
-ghost use Rattle.swreq_word.specs.Relations.{Linked};
-ghost use Rattle.swreq_rule.specs.Steps.{Step as RuleStep};
+ghost use Rattle.swreq_complete.specs.Alike.{ReduceAlike};
 ghost use Rattle.swreq_sheet.specs.Sheets.{Basis, Grows, IsSheet, Keeps};
 ghost use Rattle.swreq_read.specs.Readable.{SaysBoth, SaysWord};
 ghost use Rattle.swreq_unfold.specs.Systems.{FitsBook, HasSystem, rules_at};
@@ -15,7 +14,7 @@ use swreq_param::TermId;
 use swreq_sheet::Sheet;
 use swreq_word::Symbol;
 
-/// Where steps by the rules of a system link two words, and lines allow the first behind T, lines allow the second there too, and state
+/// Where two words reduce to one by the rules of a system, and lines allow the first behind T, lines allow the second there too, and state
 /// that the two are read as equal type parameters.
 pub fn link(
     book: &Book,
@@ -29,7 +28,7 @@ pub fn link(
     requires sheet { IsSheet sheet.old }
     requires t { IsOf sheet.old.table t }
     requires word { SaysWord book.now.ground sheet.old (term_at sheet.old.table t) u.now }
-    requires linked { Linked (RuleStep (rules_at book.now system)) u.now v.now }
+    requires alike { ReduceAlike (rules_at book.now system) u.now v.now }
     ensures both { OnOk result (SaysBoth book.now.ground sheet.new (term_at sheet.old.table t) u.now v.now) }
     ensures grows { OnOk result (Grows sheet.old sheet.new) }
     ensures derives { OnOk result ((b : Basis) → FitsBook book.now b → Keeps b sheet.old sheet.new) }

@@ -1,12 +1,10 @@
 //! The steps of type parameters, where rules show them.
-ghost use Rattle.std.specs.Prelude.{◌≡◌, ◌++◌, ◌<◌, [], ◌∷◌, IfOk, IfSome, MatchOption, OnOk, Some, length, slice_get};
+ghost use Rattle.std.specs.Prelude.{◌≡◌, ◌++◌, ◌<◌, ◌-◌, ◌^◌, [], ◌∷◌, IfOk, IfSome, MatchOption, OnOk, Some, length, slice_get};
 ghost use Rattle.swreq_param.specs.Tables.{IsOf, term_at};
 ghost use Rattle.swreq_param.specs.Terms.Term.{Generic};
-ghost use Rattle.swreq_word.specs.Relations.{Linked};
 ghost use Rattle.swreq_word.specs.declared.symbols.Symbol.TheVariants.{Proto};
-ghost use Rattle.swreq_rule.specs.Steps.{Step as RuleStep};
 ghost use Rattle.swreq_path.specs.Paths.{HasTarget};
-ghost use Rattle.swreq_complete.specs.Complete.{IsComplete};
+ghost use Rattle.swreq_complete.specs.Alike.{ReduceAlike};
 ghost use Rattle.swreq_sheet.specs.Sheets.{Basis, Grows, IsSheet, Keeps};
 ghost use Rattle.swreq_read.specs.declared.ground.Named.{Named as NamedView};
 ghost use Rattle.swreq_unfold.specs.Types.{HasPath, IsShownAt, IsStepShown, placed};
@@ -61,16 +59,17 @@ pub(crate) fn start(sheet: &mut Sheet, scope: Scope, head: ParamId) -> Result<Te
     }
 }
 
-/// The path from the first word to the second one by way of the word to which both reduce, or None where they reduce to two.
+/// The path from the first word to the second one by way of the word to which both reduce, or None if and only if they reduce to two.
 pub(crate) fn path_between(
     alloc: Global,
     rules: &[Rule],
     u: &[Symbol],
     v: &[Symbol],
 ) -> Result<Option<Path>, AllocError>
-    requires { IsComplete rules.now }
+    requires { length rules.now < 2 ^ 32 - 1 }
     ensures start { IfOk result (λ o. IfSome o (λ p. p.start ≡ u.now)) }
-    ensures target { IfOk result (λ o. MatchOption o (Linked (RuleStep rules.now) u.now v.now → ⊥) (λ p. HasTarget rules.now p v.now)) }
+    ensures target { IfOk result (λ o. MatchOption o (ReduceAlike rules.now u.now v.now → ⊥) (λ p. HasTarget rules.now p v.now)) }
+    ensures alike { IfOk result (λ o. IfSome o (λ p. ReduceAlike rules.now u.now v.now)) }
 {
     let forth = path_of(alloc, rules, u)?;
     let back = path_of(alloc, rules, v)?;
@@ -100,10 +99,10 @@ fn shown_behind(
     word: &[Symbol],
     named: Named,
 ) -> Result<Option<Path>, AllocError>
-    requires { IsComplete rules.now }
+    requires { length rules.now < 2 ^ 32 - 1 }
     ensures start { IfOk result (λ o. IfSome o (λ p. p.start ≡ word.now)) }
     ensures target { IfOk result (λ o. MatchOption o
-        (Linked (RuleStep rules.now) word.now (word.now ++ Proto named.proto.rank ∷ []) → ⊥)
+        (ReduceAlike rules.now word.now (word.now ++ Proto named.proto.rank ∷ []) → ⊥)
         (λ p. HasTarget rules.now p (word.now ++ Proto named.proto.rank ∷ []))) }
 {
     let longer = with_proto(alloc, word, named.proto)?;
@@ -119,7 +118,7 @@ fn shown_at(
     step: Step,
     k: usize,
 ) -> Result<Option<Shown>, AllocError>
-    requires complete { IsComplete rules.now }
+    requires few { length rules.now < 2 ^ 32 - 1 }
     requires k { k < length ground.now.associated }
     ensures { IfOk result (λ o. MatchOption o
         ((n : NamedView) → IsShownAt ground.now rules.now word.now step k n → ⊥)
@@ -143,7 +142,7 @@ pub(crate) fn shown_step(
     word: &[Symbol],
     step: Step,
 ) -> Result<Shown, AllocError>
-    requires complete { IsComplete rules.now }
+    requires few { length rules.now < 2 ^ 32 - 1 }
     requires shown { IsStepShown ground.now rules.now word.now step }
     ensures { IfOk result (HasPath ground.now rules.now word.now step) }
 {

@@ -255,9 +255,10 @@ fn give(
             owner,
             number,
             requirement,
+            shown,
         } => {
             let scope = Scope {
-                system: system - 1,
+                system: *shown,
                 owner: *owner,
                 t,
             };
@@ -271,7 +272,7 @@ fn give(
     }
 }
 
-/// The equation of a requirement with this number, whose type parameters the rules of the system show.
+/// The equation of a requirement with this number, whose type parameters the rules of the system in `scope` show.
 #[cycle(unfold)]
 fn give_required(
     book: &Book,

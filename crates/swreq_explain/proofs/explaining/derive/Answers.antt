@@ -1,12 +1,11 @@
 use Rattle.std.proofs.Common.{◌∙◌, ◌-◌, List, None, length, refl, subst, sym}
 use Rattle.swreq_param.specs.declared.ids.ParamId.{ParamId}
-use Rattle.swreq_word.specs.Relations.{Linked}
-use Rattle.swreq_rule.specs.Steps.{Step}
 use Rattle.swreq_derive.specs.declared.requirements.Requirement.{Requirement}
 use Rattle.swreq_derive.specs.declared.requirements.Requirement.TheVariants.{Conf, Layout, Same}
 use Rattle.swreq_derive.specs.declared.requirements.Statement.TheVariants.{Holds}
 use Rattle.swreq_derive.specs.Derivation.Source.{Written}
 use Rattle.swreq_derive.specs.Facts.{generic_params, requirement_of}
+use Rattle.swreq_complete.specs.Alike.{ReduceAlike}
 use Rattle.swreq_correspondence.specs.Symbols.{left_side}
 use Rattle.swreq_correspondence.specs.Shown.{ShowsUsable}
 use Rattle.swreq_lowering.specs.ByTable.{HasIdsOf}
@@ -42,11 +41,11 @@ lines_over-requires c =
     let rs = written_list (signature_at w f) in
     let rules = rules_at b (length b.systems - 1) in
     let r = requirement_of terms c.args.r in
-    let shown = asked_shown m (facts_of w) (symbols_law w closed) (text_law w closed) rules gs rs is.rules is.in_text r derivable in
+    let shown = asked_shown m (facts_of w) (symbols_law w closed) (text_law w closed) rules gs rs is.rules is.complete is.in_text r derivable in
     let n : Numbered = record { owner = None; number = 0; requirement = c.args.r } in
     let left = c.symbols.ensures ∙ c.in_ok-left.ensures.left in
     let right = c.symbols-2.ensures ∙ c.in_ok-left.ensures.right in
-    let usable = subst (λ (z : List ParamId). ShowsUsable m (facts_of w) (Written z rs) (Linked (Step rules)) r) (λ i. generic_params (sym is.params i)) shown.0 in
+    let usable = subst (λ (z : List ParamId). ShowsUsable m (facts_of w) (Written z rs) (ReduceAlike rules) r) (λ i. generic_params (sym is.params i)) shown.0 in
     let left_is = left ∙ left_by m gs rs None r in
     let right_is = right ∙ right_by m gs rs None r in
     record {
@@ -55,5 +54,5 @@ lines_over-requires c =
       by_itself = c.in_ok-by_itself.ensures;
       sides = sides_are_shown b.ground m (facts_of w) is.symbols rules rs None terms n c.in_ok-by_itself.by_itself c.symbols.result.now c.symbols-2.result.now refl
           c.in_ok-by_itself.ensures left right usable;
-      linked = subst (λ z. Linked (Step rules) c.symbols-2.result.now z) (sym left_is) (subst (λ z. Linked (Step rules) z (left_side m (Written gs rs) r)) (sym right_is) shown.1);
+      alike = subst (λ z. ReduceAlike rules c.symbols-2.result.now z) (sym left_is) (subst (λ z. ReduceAlike rules z (left_side m (Written gs rs) r)) (sym right_is) shown.1);
     }

@@ -1,11 +1,8 @@
-use Rattle.std.proofs.Common.{◌≡◌, List, None, ap, length, subst, sym, ◌∙◌, ◌++◌, ◌-◌, refl}
-use Rattle.swreq_symbols.specs.Meaning.{symbols_of}
+use Rattle.std.proofs.Common.{◌≡◌, None, ap, length, subst, sym, ◌∙◌, ◌++◌, ◌-◌, refl}
 use Rattle.swreq_valid.specs.Plans.{bare}
-use Rattle.swreq_valid.specs.Rounds.{RoundView}
 use Rattle.swreq_world.specs.Worlds.{signature_at}
 use Rattle.swreq_explain.specs.Books.{list_origin, members_in}
 use Rattle.swreq_explain.specs.Numbering.{AreNumberedIn, numbered_from}
-use Rattle.swreq_explain.specs.Rounds.{AreSystemsOf}
 use Rattle.swreq_explain.proofs.NumberingLemmas.{basic_none, list_in_text}
 use Rattle.swreq_explain.proofs.systems.add_machine.Goals as goal
 
@@ -14,23 +11,24 @@ add_list_systems-requires-clause-in_text c =
     let w = c.args.world.now in
     let h = list_in_text c.args.table.now w c.requires.text c.args.own.f c.requires.signature in
     let all : c.deref-2.result.now ≡ numbered_from None 1 (bare (signature_at w c.args.own.f).requirements)
-    = c.deref-2.ensures.value ∙ c.in_ok-add_numbered.ensures ∙ ap (λ z. z ++ numbered_from None 1 c.deref.result.now) c.new-all.ensures.items
+    = c.deref-2.ensures.value ∙ c.in_ok-add_numbered.ensures
+    ∙ ap (λ z. z ++ numbered_from None 1 c.deref.result.now) c.new-all.ensures.items
     ∙ ap (numbered_from None 1) (c.deref.ensures.value ∙ c.in_ok-list.ensures) in
     subst (AreNumberedIn c.args.table.now w.lexicon) (sym all) h
 
 pub returns : goal.returns
 returns c =
     let w = c.args.world.now in
-    let o = list_origin w c.args.own.f c.args.protocols.now in
+    let o = list_origin w c.args.own.f c.args.protocols.now c.args.own.machine.now in
     let all : c.deref-2.result.now ≡ numbered_from None 1 (bare (signature_at w c.args.own.f).requirements)
-    = c.deref-2.ensures.value ∙ c.in_ok-add_numbered.ensures ∙ ap (λ z. z ++ numbered_from None 1 c.deref.result.now) c.new-all.ensures.items
+    = c.deref-2.ensures.value ∙ c.in_ok-add_numbered.ensures
+    ∙ ap (λ z. z ++ numbered_from None 1 c.deref.result.now) c.new-all.ensures.items
     ∙ ap (numbered_from None 1) (c.deref.ensures.value ∙ c.in_ok-list.ensures) in
-    let (own, split, made) = c.in_ok-add_list_systems.ensures o
-    (record {
+    let first = c.len.ensures ∙ c.requires.first in
+    c.in_ok-add_list_systems.ensures o (record {
       base_is = c.count-base.ensures.count ∙ ap length c.rules.ensures;
-      below_is = c.saturating_sub-below.ensures ∙ ap (λ (z : List RoundView). length z - 1) c.rounds.ensures;
-      all_is = all;
+      below_is = c.saturating_sub-below.ensures ∙ ap (λ n. n - 1) (c.len-2.ensures ∙ c.requires.first);
+      course_is = λ i. record { all = all i; rounds = c.rounds.ensures i; first = first i };
       sides = refl;
       are_basic = basic_none (members_in w);
-    }) in
-    (own, split, subst (λ (rounds : List RoundView). AreSystemsOf (symbols_of w.lexicon) c.args.table.now o rounds own) c.rounds-2.ensures made)
+    })

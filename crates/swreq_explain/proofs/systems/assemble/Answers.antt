@@ -5,7 +5,7 @@ use Rattle.swreq_valid.specs.Plans.{bare, listed}
 use Rattle.swreq_world.specs.Worlds.{signature_at}
 use Rattle.swreq_explain.specs.Grounded.{IsGroundOf}
 use Rattle.swreq_explain.specs.Numbering.{item_by, numbered_from, numbered_in}
-use Rattle.swreq_explain.specs.Rounds.{HaveFlags}
+use Rattle.swreq_explain.specs.Uses.{HaveFlags}
 use Rattle.swreq_explain.proofs.NumberingLemmas.{numbered_items, protocols_items}
 use Rattle.swreq_explain.proofs.RoundLemmas.{flags_of}
 use Rattle.swreq_explain.proofs.systems.assemble.Goals as goal

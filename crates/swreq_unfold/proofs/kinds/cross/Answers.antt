@@ -1,4 +1,4 @@
-use Rattle.std.proofs.Common.{take, ap, subst, sym, ◌∙◌, refl}
+use Rattle.std.proofs.Common.{take, ap, subst, sym, ◌∙◌}
 use Rattle.swreq_param.specs.Tables.{term_at}
 use Rattle.swreq_read.specs.Readable.{SaysWord, read}
 use Rattle.swreq_unfold.proofs.Alike.{both_as, front_read}

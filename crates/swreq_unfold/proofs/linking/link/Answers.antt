@@ -1,11 +1,10 @@
 use Rattle.std.proofs.Common.{◌≡◌, ◌∙◌, sym, subst, refl}
 use Rattle.std.specs.Option.{IfSome}
 use Rattle.std.proofs.lemmas.Option.{MatchOption-at_some}
-use Rattle.swreq_word.specs.Relations.{Linked}
-use Rattle.swreq_rule.specs.Steps.{Step}
 use Rattle.swreq_path.specs.declared.paths.Path.{Path}
 use Rattle.swreq_path.specs.Paths.{HasTarget}
 use Rattle.swreq_path.proofs.Leading.{one_end}
+use Rattle.swreq_complete.specs.Alike.{ReduceAlike}
 use Rattle.swreq_unfold.specs.Systems.{rules_at}
 use Rattle.swreq_unfold.proofs.Headed.{all_at, all_there}
 use Rattle.swreq_unfold.proofs.Alike.{both_as}
@@ -21,7 +20,7 @@ pub walk_along-requires-clause-path : goal.walk_along-requires-clause-path
 walk_along-requires-clause-path c =
     let all = all_at c.args.book.now c.all_of.result c.args.system c.all_rules-rules.result.now c.requires.system c.all_of.ensures
     c.all_rules-rules.ensures in
-    let target = MatchOption-at_some (Linked (Step c.all_rules-rules.result.now) c.args.u.now c.args.v.now → ⊥)
+    let target = MatchOption-at_some (ReduceAlike c.all_rules-rules.result.now c.args.u.now c.args.v.now → ⊥)
     (λ (p : Path). HasTarget c.all_rules-rules.result.now p c.args.v.now)
     c.in-Some.path c.in-Some.is c.in_ok-path_between.ensures.target in
     (c.args.v.now, subst (λ z. HasTarget z c.in-Some.path c.args.v.now) (c.all_rules-rules.ensures ∙ sym all.taken) target)
@@ -33,7 +32,7 @@ returns-clause-both c =
     let all = all_at c.args.book.now c.all_of.result c.args.system c.all_rules-rules.result.now c.requires.system c.all_of.ensures
     c.all_rules-rules.ensures in
     let walked = c.in_ok-walk_along-in-Some.ensures in
-    let target = MatchOption-at_some (Linked (Step c.all_rules-rules.result.now) c.args.u.now c.args.v.now → ⊥)
+    let target = MatchOption-at_some (ReduceAlike c.all_rules-rules.result.now c.args.u.now c.args.v.now → ⊥)
     (λ (p : Path). HasTarget c.all_rules-rules.result.now p c.args.v.now)
     path c.in-Some.is c.in_ok-path_between.ensures.target in
     let start : path.start ≡ c.args.u.now = subst (λ o. IfSome o

@@ -19,7 +19,6 @@ use Rattle.swreq_pair.specs.Pairs.{IsPair}
 use Rattle.swreq_pair.proofs.OnePair.{one_pair}
 use Rattle.swreq_path.specs.Paths.{HasTarget, put_side, replaced_side, StepsLead}
 use Rattle.swreq_path.proofs.Leading.{one_end}
-use Rattle.swreq_complete.specs.Complete.{IsComplete}
 use Rattle.swreq_sheet.specs.Sheets.{Says}
 use Rattle.swreq_sheet.proofs.SheetLemmas.{grows_then}
 use Rattle.swreq_read.specs.Readable.{IsGiven, SaysWord, read}
@@ -499,30 +498,23 @@ give-returns-in_ok-give_member-in-Named-clause-both t c =
     member_both c.args.book.now.ground c.give_member.new.sheet (term_at c.args.sheet.now.table c.args.t) e.left e.right c.in-Named.rank w.0
     w.1 w.2 w.3 c.in_ok-give_member-in-Named.ensures.both
 
-pub give-overflow_sub-scope : goal.give-overflow_sub-scope
-give-overflow_sub-scope t c =
-    let x = c.in-Required in
-    let w = given_as c.requires.equation (Required x.owner x.number x.requirement) x.is in
-    let above : 0 < c.args.system = w.0 in
-    omega (arith, above)
-
 pub give-give_required-requires : goal.give-give_required-requires
 give-give_required-requires t c =
     let s = c.args.sheet.now in
     let e = c.args.equation.now in
     let x = c.in-Required in
     let g = c.args.book.now.ground in
-    let w = given_as c.requires.equation (Required x.owner x.number x.requirement) x.is in
-    let rules = rules_at c.args.book.now (c.args.system - 1) in
-    let above : 0 < c.args.system = w.0 in
+    let w = given_as c.requires.equation (Required x.owner x.number x.requirement x.shown) x.is in
+    let rules = rules_at c.args.book.now x.shown in
+    let earlier : x.shown < c.args.system = w.0 in
     let within : c.args.system < length c.args.book.now.systems = c.requires.equation.system.within in
     let asked = asked_of g s (term_at s.table c.args.t) e.left x.owner c.requires.allows
     (sides_asked g x.owner rules x.requirement e.left e.right w.1) in
     let shown = subst (λ z. HasShownSides g x.owner rules x.requirement z c.symbols-in-Required.result.now) (sym c.symbols.ensures)
     (subst (HasShownSides g x.owner rules x.requirement e.left) (sym c.symbols-in-Required.ensures) w.1) in
     let book = c.requires.equation.system.book in (
-      omega (arith, c.decreases, above),
-      (record { book = book; within = omega (arith, within, above) }, (c.requires.sheet, (c.requires.t, (asked, shown)))),
+      omega (arith, c.decreases, earlier),
+      (record { book = book; within = omega (arith, within, earlier) }, (c.requires.sheet, (c.requires.t, (asked, shown)))),
     )
 
 pub give-returns-in_ok-give_required-in-Required-clause-both : goal.give-returns-in_ok-give_required-in-Required-clause-both
@@ -797,8 +789,8 @@ read_type-returns t c =
 
 pub declare-shown_step-requires : goal.declare-shown_step-requires
 declare-shown_step-requires t c = record {
-  complete = subst IsComplete (sym c.all_rules-rules.ensures)
-      (c.requires.system.book.systems c.args.scope.system c.requires.system.within).complete;
+  few = subst (λ z. length z < 4294967295) (sym c.all_rules-rules.ensures)
+      (c.requires.system.book.systems c.args.scope.system c.requires.system.within).few;
   shown = subst (λ z. IsStepShown c.args.book.now.ground z c.args.word.now c.args.step) (sym c.all_rules-rules.ensures) c.requires.shown;
 }
 

@@ -1,0 +1,67 @@
+-- The rules that show a requirement which a round uses.
+use Rattle.std.proofs.Common.{◌≡◌, ◌∙◌, inl, inr, ℕ, zero, suc, ◌-◌, ◌<◌, ◌≤◌, ◌^◌, true, List, Some, ap, arith, length, map, slice_get, subst, sym}
+use Rattle.std.proofs.lemmas.Bool.{cases_lt}
+use Rattle.std.proofs.lemmas.Option.{slice_get_within}
+use Rattle.swreq_orders.proofs.Elements.{get_map, there_is}
+use Rattle.swreq_word.specs.Relations.{Linked}
+use Rattle.swreq_rule.specs.declared.rules.Rule.{Rule}
+use Rattle.swreq_rule.specs.Steps.{Step}
+use Rattle.swreq_complete.specs.Alike.{ReduceAlike}
+use Rattle.swreq_complete.specs.Complete.{IsComplete}
+use Rattle.swreq_complete.specs.declared.limit.Limits.{Limits}
+use Rattle.swreq_correspondence.proofs.Shown.{usable_by_more}
+use Rattle.swreq_rounds.specs.Plan.{AreShown, AreShownByReduction, Item, Plan}
+use Rattle.swreq_valid.specs.Flags.{chosen}
+use Rattle.swreq_valid.specs.Rounds.{AreRounds, RoundView}
+use Rattle.swreq_explain.specs.declared.numbered.Numbered.{Numbered}
+use Rattle.swreq_explain.specs.Uses.{Course, Uses, UsesFirst}
+use Rattle.swreq_complete.proofs.Alike.{linked_are_alike}
+use Rattle.swreq_explain.proofs.RoundLemmas.{ended_complete, left_at, more_holds, none_at_first, none_set, set_holds}
+
+-- The first round that uses it is not after one that does.
+pub first_within : (rounds : List RoundView) (first k place : ℕ) → UsesFirst rounds first place → Uses rounds k place → first ≤ k
+first_within rounds first k place h u = elim (cases_lt k first) [
+  | inl l ↦ absurd (h.none_before k l u)
+  | inr l ↦ omega (arith, l)
+]
+
+-- what complete rules show, reduction by them shows
+shown_by_complete : (plan : Plan) (rules : List Rule) (x : Item) → IsComplete rules → AreShown plan rules x
+    → AreShownByReduction plan rules x
+shown_by_complete plan rules x c =
+    usable_by_more plan.symbols plan.facts x.source (Linked (Step rules)) (ReduceAlike rules) (linked_are_alike rules c) x.requirement
+
+-- There is a round before, by whose rules reduction shows it.
+pub record ShownBefore (plan : Plan) (rounds : List RoundView) (round : ℕ) (x : Item) : Type 0 where
+  pub before : ℕ
+  pub next : round ≡ suc before
+  pub earlier : RoundView
+  pub there : slice_get rounds before ≡ Some earlier
+  pub shows : AreShownByReduction plan earlier.rules x
+
+module _ {limits : Limits} (plan : Plan) (c : Course) (item : Numbered → Item) (all : plan.all ≡ map item c.all)
+    (rounds : AreRounds limits plan c.rounds) (complete : IsComplete plan.base)
+    (few : (k : ℕ) (r : RoundView) → slice_get c.rounds k ≡ Some r → length r.rules < 2 ^ 32 - 1) where
+  pub shown_before : (round place : ℕ) (x : Numbered) → slice_get c.all place ≡ Some x → UsesFirst c.rounds round place
+      → ShownBefore plan c.rounds round (item x)
+  shown_before zero place x is h =
+      let (r, at, set) = h.uses in
+      absurd (none_set (length plan.all) place (ap (λ z. slice_get z place) (sym (none_at_first rounds r at)) ∙ set))
+  shown_before (suc k) place x is h =
+      let (r, at, set) = h.uses in
+      let within = slice_get_within c.rounds (suc k) r at in
+      let (earlier, there) = there_is c.rounds k (omega (arith, within)) in
+      let is_item : slice_get plan.all place ≡ Some (item x) = ap (λ z. slice_get z place) all ∙ get_map item c.all place x is in
+      record {
+        before = k;
+        next = omega arith;
+        earlier = earlier;
+        there = there;
+        shows = elim (left_at rounds k earlier r there at) [
+          | inl l ↦ shown_by_complete plan earlier.rules (item x)
+              (ended_complete limits plan (chosen plan.all earlier.used) earlier.rules complete l.0 (few k earlier there))
+              (set_holds (AreShown plan earlier.rules) plan.all r.used l.1 place (item x) is_item set)
+          | inr l ↦ more_holds (AreShownByReduction plan earlier.rules) plan.all earlier.used r.used l place (item x) is_item set
+              (λ e. h.none_before k (omega arith) (earlier, there, e))
+        ];
+      }
