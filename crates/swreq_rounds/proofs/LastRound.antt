@@ -125,9 +125,9 @@ module _ (m : Symbols) (f : TermFacts) (fit : AreSymbolsOf m f) (ranges : AreOfT
     | shown rules e l d ↦ (let s = selected l (of_self p q) h in
         usable_by used (round_usable r) (Linked (Step rules)) (λ u v k. (round_presents used (round_within r) rules e u v).0 k) p q (of_all p q s.0) s.1)
     | joined rules b j d ↦ (let s = selected j (of_self p q) h in elim s.1 [
-        | inl k ↦ round_usable r p q k
-        | inr k ↦ usable_by used (round_usable r) (ReduceAlike rules) (short_linking used (round_within r) rules b) p q (of_all p q s.0) k
-      ])
+      | inl k ↦ round_usable r p q k
+      | inr k ↦ usable_by used (round_usable r) (ReduceAlike rules) (short_linking used (round_within r) rules b) p q (of_all p q s.0) k
+    ])
   ]
 
   pub last_usable : (used : List Item) (rules : List Rule) (told : List Event) → IsLastRound limits plan used rules told → (p : ProtoId) (r : TermRequirement)
@@ -221,9 +221,9 @@ module _ (m : Symbols) (f : TermFacts) (fit : AreSymbolsOf m f) (ranges : AreOfT
     | shown rules e l d ↦ (let s = selected l (of_list gs rs q) h in
         listed_by used (list_usable r) (Linked (Step rules)) (λ u v k. (list_presents used (round_within r) rules e u v).0 k) q (of_listed q s.0) s.1)
     | joined rules b j d ↦ (let s = selected j (of_list gs rs q) h in elim s.1 [
-        | inl k ↦ list_usable r q k
-        | inr k ↦ listed_by used (list_usable r) (ReduceAlike rules) (short_list_linking used (round_within r) rules b) q (of_listed q s.0) k
-      ])
+      | inl k ↦ list_usable r q k
+      | inr k ↦ listed_by used (list_usable r) (ReduceAlike rules) (short_list_linking used (round_within r) rules b) q (of_listed q s.0) k
+    ])
   ]
 
   pub last_listed : (used : List Item) (rules : List Rule) (told : List Event) → IsLastRound limits listed used rules told → (r : TermRequirement)

@@ -140,9 +140,10 @@ module _ (limits : Limits) (plan : Plan) (used : List Item) where
   one_turn first t u n m (stops p due h i a) (joins q f c j) = due_not_begun first q m f due c
   one_turn first t u n m (stops p due h i a) (ends s more k j c) = not_both s p.which p.trace k h
   one_turn first t u n m (stops p due h i a) (stops q more k j c) =
-      let same = one_stop p q h k in
-      (i ∙ ap (λ (z : Passed). events (length plan.base) z.trace) same ∙ sym j,
-      limit_one first q n m (subst (λ z. ComesAfterLimit limits plan used first z n) same a) c)
+      let same = one_stop p q h k in (
+        i ∙ ap (λ (z : Passed). events (length plan.base) z.trace) same ∙ sym j,
+        limit_one first q n m (subst (λ z. ComesAfterLimit limits plan used first z n) same a) c,
+      )
 
 -- ---- the rounds from one on
 

@@ -9,7 +9,7 @@ use Rattle.swreq_complete.specs.declared.limit.Limits.{Limits}
 use Rattle.swreq_complete.specs.declared.limit.Which.{Which}
 use Rattle.swreq_complete.specs.Events.{events}
 use Rattle.swreq_rounds.specs.Plan.{Item, Plan}
-use Rattle.swreq_rounds.specs.Rounds.{Bears, ComesTo, Ends, IsBegunAnew, IsDue, IsRound, IsStoppedRound, Joins, LeavesUsable, Next, Passed, Stops, Turns}
+use Rattle.swreq_rounds.specs.Rounds.{Bears, ComesTo, Ends, IsBegunAnew, IsDue, IsRound, IsStoppedRound, Joins, LeavesUsable, Passed, Stops, Turns}
 use Rattle.swreq_rounds.specs.Rounds.IsRound.{after, begin}
 use Rattle.swreq_rounds.specs.Rounds.Next.{ended, going}
 use Rattle.swreq_rounds.specs.Rounds.Turns.{ends, joins, stops}

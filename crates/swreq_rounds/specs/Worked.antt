@@ -1,6 +1,5 @@
 -- A worked text: its equations and requirements, in order.
 use Rattle.std.specs.Prelude.{List, [], ◌∷◌}
-use Rattle.swreq_param.specs.declared.ids.AssocId.{AssocId}
 use Rattle.swreq_param.specs.declared.ids.NameId.{NameId}
 use Rattle.swreq_param.specs.declared.ids.ParamId.{ParamId}
 use Rattle.swreq_param.specs.declared.ids.ProtoId.{ProtoId}

@@ -10,7 +10,7 @@ use Rattle.swreq_param.specs.declared.ids.ProtoId.{ProtoId}
 use Rattle.swreq_param.specs.declared.ids.Step.{Step}
 use Rattle.swreq_param.specs.declared.ids.Step.TheVariants.{Bound, Name}
 use Rattle.swreq_param.specs.Terms.{Term}
-use Rattle.swreq_param.specs.Terms.Term.{Generic, Member}
+use Rattle.swreq_param.specs.Terms.Term.{Member}
 use Rattle.swreq_word.specs.declared.symbols.Symbol.{Symbol}
 use Rattle.swreq_rule.specs.declared.rules.Rule.{Rule}
 use Rattle.swreq_rule.specs.Reduction.{Reduces}
@@ -70,9 +70,10 @@ module _ (x : LexiconView) (rules : List Rule) (over : Over) (t : Term) where
   pub assoc_answer : (d : AssocId) (e : ProtocolName) (r : Bool) → slice_get x.associated d.rank ≡ Some e
       → IsTrue r ↔ ReducesConformance x rules over t e.proto → IsTrue r ↔ HasStepOf x rules over t (Bound d)
   assoc_answer d e r at k =
-      let one = given_answer e.name d e r at refl k in
-      ((λ h. (e.name, one.0 h)),
-      λ h. k.1 (subst (λ (z : ProtocolName). ReducesConformance x rules over t z.proto) (declared_as h.0 d e at h.1.0 h.1.1) h.1.2))
+      let one = given_answer e.name d e r at refl k in (
+        (λ h. (e.name, one.0 h)),
+        λ h. k.1 (subst (λ (z : ProtocolName). ReducesConformance x rules over t z.proto) (declared_as h.0 d e at h.1.0 h.1.1) h.1.2),
+      )
 
 -- ---- results
 

@@ -1,9 +1,9 @@
 -- The rounds of a plan are one list.
-use Rattle.std.proofs.Common.{◌≡◌, ◌⊎◌, ◌∙◌, sym, ap, ap₂, refl, subst, Bool, List, [], ◌∷◌, Contains, Option, Some, None}
+use Rattle.std.proofs.Common.{◌≡◌, ◌⊎◌, sym, ap, ap₂, subst, Bool, List, [], ◌∷◌, Contains, Option, Some, None}
 use Rattle.swreq_rule.specs.declared.rules.Rule.{Rule}
 use Rattle.swreq_complete.specs.declared.limit.Limits.{Limits}
 use Rattle.swreq_rounds.specs.Plan.{AreShown, AreShownByReduction, Plan}
-use Rattle.swreq_rounds.specs.Rounds.{Ends, IsDue, Passed, Stops}
+use Rattle.swreq_rounds.specs.Rounds.{Ends, IsDue, Passed}
 use Rattle.swreq_rounds.proofs.OneOutcome.{closed_not_begun, not_both, one_end, one_short, one_stop}
 use Rattle.swreq_valid.specs.Flags.{Tells, chosen}
 use Rattle.swreq_valid.specs.Rounds.{AreJoined, AreRoundsFrom, RoundView, ended_round, short_round, stopped_round}

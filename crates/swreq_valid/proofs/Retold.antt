@@ -1,9 +1,9 @@
 -- What is told once more of rounds is what they told.
-use Rattle.std.proofs.Common.{◌≡◌, ◌⊎◌, ◌∙◌, inl, inr, refl, sym, ap, subst, ℕ, zero, suc, ◌+◌, ◌<◌, ◌≤◌, arith, Bool, List, [], ◌∷◌, ◌++◌, append_assoc, append-nil, length, length-append, map, take, drop, get_or, slice_get, Some, None, Contains, Option, Result, Ok, Err, OnOk, OnErr, false, replicate}
+use Rattle.std.proofs.Common.{◌≡◌, ◌∙◌, inl, inr, refl, sym, ap, subst, ℕ, zero, suc, ◌+◌, ◌<◌, ◌≤◌, arith, Bool, List, [], ◌∷◌, ◌++◌, append_assoc, append-nil, length, length-append, map, take, drop, get_or, slice_get, Some, None, Contains, Option, Result, Ok, Err, OnOk, OnErr, false, replicate}
 use Rattle.std.proofs.lemmas.Bool.{cases_lt}
 use Rattle.std.proofs.Math.Seq.{take-length}
 use Rattle.std.specs.declared.alloc.AllocError.{AllocError}
-use Rattle.std.proofs.lemmas.List.{drop_all, drop-append-le, length-replicate, length-take, map-append, take-take, take_more}
+use Rattle.std.proofs.lemmas.List.{drop_all, drop-append-le, length-take, map-append, take-take, take_more}
 use Rattle.std.proofs.lemmas.Option.{get_or_from_slice_get, slice_get_within}
 use Rattle.swreq_orders.proofs.Elements.{in_front, in_whole}
 use Rattle.swreq_word.specs.declared.symbols.Symbol.{Symbol}
@@ -14,15 +14,15 @@ use Rattle.swreq_rule.specs.Reduction.{Reduces}
 use Rattle.swreq_watch.specs.declared.events.Event.{Event}
 use Rattle.swreq_watch.specs.declared.events.Event.TheVariants.{Born, Start}
 use Rattle.swreq_watch.specs.Told.{GrewBy}
-use Rattle.swreq_watch.proofs.Told.{grew_none, grew_on}
+use Rattle.swreq_watch.proofs.Told.{grew_on}
 use Rattle.swreq_complete.specs.declared.limit.Limits.{Limits}
 use Rattle.swreq_complete.specs.declared.limit.Failed.TheVariants.{Memory}
 use Rattle.swreq_complete.specs.Events.{events}
 use Rattle.swreq_complete.specs.Limits.{IsWithin}
 use Rattle.swreq_complete.specs.Moments.{Before, HasSides, greater_number}
-use Rattle.swreq_complete.specs.Reached.{BeginsWith, IsBorn, IsReached}
+use Rattle.swreq_complete.specs.Reached.{BeginsWith, IsReached}
 use Rattle.swreq_complete.specs.RulesAt.{RulesAt}
-use Rattle.swreq_complete.specs.Settled.{Bears, BearsNone, SettledBy}
+use Rattle.swreq_complete.specs.Settled.{SettledBy}
 use Rattle.swreq_complete.proofs.Moments.{not_both}
 use Rattle.swreq_rounds.specs.Plan.{AreShown, Item, Plan, given}
 use Rattle.swreq_rounds.specs.Rounds.{ComesTo, Ends, IsDue, IsOutcome, IsRound, Passed, Stops}
@@ -198,11 +198,15 @@ module _ (limits : Limits) (plan : Plan) where
       → Tells (AreShown plan rules) plan.all usable → (usable ≡ used → ⊥) → IsAt usable None (before ++ events base rules)
   next_round used usable first before at rules due end t n = (
     by_item (AreShown plan rules) plan.all usable t,
-    after at.1 (ends rules due end refl (chosen plan.all usable, tells_selects plan.all usable t, inr (
-      others_chosen plan.all used usable (tells_length (Contains (chosen plan.all used)) plan.all used at.0) t
-          (λ x c. round_shows limits plan at.1 rules end x c) n,
-      refl,
-    ))) refl,
+    after at.1 (ends rules due end refl (
+      chosen plan.all usable,
+      tells_selects plan.all usable t,
+      inr (
+        others_chosen plan.all used usable (tells_length (Contains (chosen plan.all used)) plan.all used at.0) t
+            (λ x c. round_shows limits plan at.1 rules end x c) n,
+        refl,
+      ),
+    )) refl,
   )
 
   -- the one after a round that is begun anew

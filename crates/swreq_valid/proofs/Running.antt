@@ -1,5 +1,5 @@
 -- From what the code knows of a round to the answer of the rounds.
-use Rattle.std.proofs.Common.{◌≡◌, inl, inr, refl, sym, ap, subst, subst₂, ◌∙◌, suc, ◌-◌, ◌<◌, arith, get_or, Bool, List, [], ◌∷◌, ◌++◌, length, replicate, false, append_assoc, Contains, Option, Some, None, Result, Ok, Err}
+use Rattle.std.proofs.Common.{◌≡◌, inl, inr, refl, sym, ap, subst, subst₂, ◌∙◌, ◌<◌, List, [], ◌∷◌, ◌++◌, length, replicate, false, append_assoc, Contains, Option, None, Result, Ok, Err}
 use Rattle.std.proofs.lemmas.List.{append-nil}
 use Rattle.swreq_rule.specs.declared.rules.Rule.{Rule}
 use Rattle.swreq_watch.specs.declared.events.Event.{Event}
@@ -10,11 +10,10 @@ use Rattle.swreq_complete.specs.declared.limit.Failed.{Failed}
 use Rattle.swreq_complete.specs.declared.limit.Failed.TheVariants.{Limit, Memory}
 use Rattle.swreq_complete.specs.declared.limit.Which.{Which}
 use Rattle.swreq_complete.specs.Answers.{IsAnswer}
-use Rattle.swreq_complete.specs.Events.{events, TellsEvents}
-use Rattle.swreq_complete.specs.Limits.{IsWithin}
+use Rattle.swreq_complete.specs.Events.{TellsEvents}
 use Rattle.swreq_correspondence.specs.Symbols.{Word}
-use Rattle.swreq_rounds.specs.Plan.{Item, Plan, given, AreShown}
-use Rattle.swreq_rounds.specs.Rounds.{Ends, IsRound, Stops}
+use Rattle.swreq_rounds.specs.Plan.{Item, Plan, AreShown}
+use Rattle.swreq_rounds.specs.Rounds.{Ends, IsRound}
 use Rattle.swreq_rounds.specs.Rounds.IsRound.{after, begin}
 use Rattle.swreq_rounds.specs.Rounds.Next.{ended}
 use Rattle.swreq_rounds.proofs.OneOutcome.{outcomes_are_one}
@@ -25,7 +24,7 @@ use Rattle.swreq_valid.specs.declared.underway.Turn.TheVariants.{Goes, Lasts}
 use Rattle.swreq_valid.specs.declared.underway.Underway.{Underway}
 use Rattle.swreq_valid.specs.Flags.{chosen, unset}
 use Rattle.swreq_valid.specs.Rounds.{AreRounds, AreRoundsFrom, RoundView, last_rules}
-use Rattle.swreq_valid.specs.Underway.{ComesTo, GoesTo, IsLastOf, IsPart, IsTaken, IsUnderway, first_of, used_by}
+use Rattle.swreq_valid.specs.Underway.{ComesTo, IsPart, IsTaken, IsUnderway, first_of, used_by}
 use Rattle.swreq_valid.proofs.Flagged.{chosen_unset, none_by_item}
 
 pub same_answer : (limits : Limits) (base other : List Rule) (eqs more : List (Word × Word)) (r : Result (List Rule) Failed) → other ≡ base → eqs ≡ more

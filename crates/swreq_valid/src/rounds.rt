@@ -284,10 +284,7 @@ fn joined<'b>(
 }
 
 /// Puts a round last of those before.
-fn noted<'b>(
-    before: Vec<Round<'b>>,
-    round: Round<'b>,
-) -> Result<Vec<Round<'b>>, AllocError>
+fn noted<'b>(before: Vec<Round<'b>>, round: Round<'b>) -> Result<Vec<Round<'b>>, AllocError>
     ensures { IfOk result (λ v. v.items ≡ before.entry.items ++ round.entry ∷ []) }
 {
     let mut before = before;
@@ -355,10 +352,7 @@ fn anew<'b>(
         → IfOk result (TurnsTo limits plan state.entry (events (length plan.base) passed.trace)) }
 {
     let trace = copied(alloc, passed.trace.items())?;
-    let before = noted(
-        state.before,
-        Round::stopped(state.used, trace, found.rules),
-    )?;
+    let before = noted(state.before, Round::stopped(state.used, trace, found.rules))?;
     Ok(Turn::Goes(Underway {
         used: found.more,
         first: Some(passed),

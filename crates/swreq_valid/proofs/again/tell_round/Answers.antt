@@ -1,4 +1,4 @@
-use Rattle.std.proofs.Common.{◌≡◌, ◌≤◌, inl, inr, refl, sym, subst, arith, [], List, take, Some, slice_get}
+use Rattle.std.proofs.Common.{inl, inr, refl, sym, subst, arith, [], List, take}
 use Rattle.std.proofs.lemmas.List.{take_all}
 use Rattle.std.proofs.lemmas.Result.{err_from_is_err_and}
 use Rattle.swreq_rule.specs.declared.rules.Rule.{Rule}

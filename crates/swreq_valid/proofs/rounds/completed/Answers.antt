@@ -1,4 +1,4 @@
-use Rattle.std.proofs.Common.{◌∙◌, ap, arith, subst, length, Bool, List, Ok, Err}
+use Rattle.std.proofs.Common.{ap, arith, subst, length, Bool, List, Ok, Err}
 use Rattle.std.proofs.lemmas.Result.{err_from_is_err_and}
 use Rattle.swreq_complete.specs.declared.limit.Failed.TheVariants.{Limit, Memory}
 use Rattle.swreq_complete.specs.Answers.{IsAnswer}

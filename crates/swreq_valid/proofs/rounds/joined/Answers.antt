@@ -1,10 +1,9 @@
 use Rattle.std.proofs.Common.{◌∙◌, arith, Ok, Err}
-use Rattle.swreq_complete.specs.declared.limit.Failed.{Failed}
 use Rattle.swreq_complete.specs.declared.limit.Failed.TheVariants.{Limit}
 use Rattle.swreq_rounds.specs.Plan.{given}
 use Rattle.swreq_rounds.proofs.OneOutcome.{closed_among}
 use Rattle.swreq_valid.specs.Flags.{chosen}
-use Rattle.swreq_valid.specs.Plans.{items_of, plan_of}
+use Rattle.swreq_valid.specs.Plans.{plan_of}
 use Rattle.swreq_valid.specs.Rounds.{first_rules}
 use Rattle.swreq_valid.proofs.Turned.{flags_long, joined_result, same_borne}
 use Rattle.swreq_valid.proofs.rounds.joined.Goals as goal
