@@ -14,16 +14,16 @@ use Rattle.swreq_explain.proofs.equations.add_used.Goals.{then-used-k+in_ok-e+in
 pub bounds-used-k : goal.bounds-used-k
 bounds-used-k c =
     let (r, at) = there_is c.args.makings.rounds.now c.args.round c.requires.round in
-    let same : length c.used.result.now ≡ length c.args.makings.all.now = ap length (c.used.ensures r at) ∙ c.requires.flags c.args.round r at in
+    let same : length c.used-used.result.now ≡ length c.args.makings.all.now = ap length (c.used-used.ensures r at) ∙ c.requires.flags c.args.round r at in
     let test = c.loop-k-test.true in
     omega (arith, same, test)
 
 pub shown_by-requires-clause-used : goal.shown_by-requires-clause-used
 shown_by-requires-clause-used c =
     let (r, at) = there_is c.args.makings.rounds.now c.args.round c.requires.round in
-    let used = c.used.result.now in
+    let used = c.used-used.result.now in
     let k = c.loop-k.k in
-    let is : used ≡ r.used = c.used.ensures r at in
+    let is : used ≡ r.used = c.used-used.ensures r at in
     let same : length used ≡ length c.args.makings.all.now = ap length is ∙ c.requires.flags c.args.round r at in
     let test = c.loop-k-test.true in
     let there : slice_get used k ≡ Some (get_or used k false) = slice_get-get_or used k false (omega (arith, same, test)) in
@@ -41,14 +41,14 @@ pub loop-k-preserved : goal.loop-k-preserved
 loop-k-preserved c =
     let makings = c.args.makings in
     let all = makings.all.now in
-    let used = c.used.result.now in
+    let used = c.used-used.result.now in
     let k = c.loop-k.k in
     let m = symbols_of makings.world.now.lexicon in
     let terms = makings.table.now in
     let x : Numbered = get_or all k (record { owner = None; number = 0; requirement = Conf (record { place = 0 }) (record { rank = 0 }) }) in
     let test = c.loop-k-test.true in
     let (r, at) = there_is makings.rounds.now c.args.round c.requires.round in
-    let same : length used ≡ length all = ap length (c.used.ensures r at) ∙ c.requires.flags c.args.round r at in
+    let same : length used ≡ length all = ap length (c.used-used.ensures r at) ∙ c.requires.flags c.args.round r at in
     let (more, split, h) = c.loop-k.invariant in
     let there : slice_get used k ≡ Some (get_or used k false) = slice_get-get_or used k false (omega (arith, test, same)) in
     let is : slice_get all k ≡ Some x = slice_get-get_or all k _ test in
@@ -69,8 +69,8 @@ pub returns : goal.returns
 returns c = λ r at.
     let makings = c.args.makings in
     let all = makings.all.now in
-    let used = c.used.result.now in
-    let is : used ≡ r.used = c.used.ensures r at in
+    let used = c.used-used.result.now in
+    let is : used ≡ r.used = c.used-used.ensures r at in
     let same : length used ≡ length all = ap length is ∙ c.requires.flags c.args.round r at in
     let (more, split, h) = c.loop-k.invariant in
     let m = symbols_of makings.world.now.lexicon in
