@@ -1,5 +1,5 @@
 -- Whether a requirement follows from the others, asked by reach.
-use Rattle.std.proofs.Common.{◌≡◌, ◌∙◌, ◌↔◌, ap, inl, inr, refl, sym, subst, ℕ, Bool, false, IfOk, IsTrue, List, [], length, map, slice_get, OnOk, Option, Result, Some, Ok, Err, true}
+use Rattle.std.proofs.Common.{◌≡◌, ◌∙◌, ◌↔◌, ap, sym, subst, ℕ, Bool, false, IfOk, IsTrue, List, length, map, slice_get, OnOk, Option, Result, Some, Ok, true}
 use Rattle.std.proofs.lemmas.Option.{same_Some}
 use Rattle.std.proofs.lemmas.Result.{IfOk-weaker}
 use Rattle.swreq_param.specs.declared.ids.ProtoId.{ProtoId}
@@ -16,10 +16,8 @@ use Rattle.swreq_derive.specs.Kept.{Owned, owned_facts}
 use Rattle.swreq_rule.specs.declared.rules.Rule.{Rule}
 use Rattle.swreq_watch.specs.declared.events.Event.{Event}
 use Rattle.swreq_watch.specs.Told.{GrewBy}
-use Rattle.swreq_watch.proofs.Told.{grew_none}
 use Rattle.swreq_complete.specs.declared.limit.Limits.{Limits}
 use Rattle.swreq_complete.specs.declared.limit.Failed.{Failed}
-use Rattle.swreq_complete.specs.declared.limit.Failed.TheVariants.{Limit, Memory}
 use Rattle.swreq_lexicon.specs.Views.{IsProtocol}
 use Rattle.swreq_symbols.specs.Known.{IsRequirementIn, IsTextOver}
 use Rattle.swreq_valid.specs.Answers.{Answers}
@@ -31,8 +29,8 @@ use Rattle.swreq_reqsig.specs.Families.{DerivesWith, associated_types_of, family
 use Rattle.swreq_reqsig.specs.Marks.{HasRanksBelow, HaveRanksBelow, IsMarked, TellReached, kept_at, marked}
 use Rattle.swreq_reqsig.specs.Places.{all_places, owned_at}
 use Rattle.swreq_reqsig.specs.Reaching.{AreAsked, AreReachedFlags, IsBeyond, IsOutOfReach, IsReachedPart}
-use Rattle.swreq_reqsig.specs.Told.{FailsAt, IsSettled}
-use Rattle.swreq_reqsig.specs.Told.IsSettled.{by_rounds, out_of_reach}
+use Rattle.swreq_reqsig.specs.Told.{IsSettled}
+use Rattle.swreq_reqsig.specs.Told.IsSettled.{by_rounds}
 use Rattle.swreq_reqsig.proofs.ByReach.{conforms_by_reach, derives_by_reach, flags_give_part}
 use Rattle.swreq_reqsig.proofs.Passing.{conf_of, marked_reached}
 use Rattle.swreq_reqsig.proofs.Placing.{owned_there, place_is, place_known, places_count, places_owned}
@@ -148,23 +146,10 @@ module _ (w : IdWorld) (terms : List Term) (text : IsTextOver terms w) where
 -- ---- what is told
 
 module _ (limits : Limits) (w : TextWorld) (at : ℕ) (flags : List Bool) where
-  pub settles_beyond : (old : Option (List Event)) → IsBeyond w at flags
-      → (part : List Event) × IsSettled limits w at flags part × GrewBy old old part
-  settles_beyond old is = ([], out_of_reach is refl, grew_none old)
-
-  -- memory is wanting before the first round
-  pub fails_before : (old : Option (List Event)) → (part : List Event) × FailsAt limits w at flags Memory part × GrewBy old old part
-  fails_before old = ([], inl refl, grew_none old)
-
   module _ (asked : List Bool) (are : AreAsked w at flags asked) (old new : Option (List Event)) where
-    pub settles_asked : (rules : List Rule) × Answers limits (family_plan w asked) old new (Ok rules)
+    settles_asked : (rules : List Rule) × Answers limits (family_plan w asked) old new (Ok rules)
         → (part : List Event) × IsSettled limits w at flags part × GrewBy old new part
     settles_asked (rules, (told, ends, grew)) = (told, by_rounds {asked = asked} {rules = rules} are ends, grew)
-
-    pub fails_asked : (failed : Failed) → Answers limits (family_plan w asked) old new (Err failed)
-        → (part : List Event) × FailsAt limits w at flags failed part × GrewBy old new part
-    fails_asked (Limit which trace) (told, stops, grew) = (told, record { asked = asked; are = are; stops = stops }, grew)
-    fails_asked Memory (told, comes, grew) = (told, inr (record { asked = asked; are = are; comes = comes }), grew)
 
     pub asks_settle : (here : List Bool) → here ≡ asked → (r : Result Bool Failed)
         → IfOk r (λ b. (rules : List Rule) × Answers limits (family_plan w here) old new (Ok rules))
