@@ -1,4 +1,4 @@
-use Rattle.std.proofs.Common.{◌≡◌, None, ap, length, subst, sym, vec_len, ◌∙◌, ◌++◌, ◌-◌, refl}
+use Rattle.std.proofs.Common.{◌≡◌, None, ap, length, subst, sym, ◌∙◌, ◌++◌, ◌-◌, refl}
 use Rattle.swreq_valid.specs.Plans.{bare}
 use Rattle.swreq_world.specs.Worlds.{signature_at}
 use Rattle.swreq_explain.specs.Books.{list_origin, members_in}
@@ -24,7 +24,7 @@ returns c =
     = c.deref-2.ensures.value ∙ c.in_ok-add_numbered.ensures
     ∙ ap (λ z. z ++ numbered_from None 1 c.deref.result.now) c.new-all.ensures.items
     ∙ ap (numbered_from None 1) (c.deref.ensures.value ∙ c.in_ok-list.ensures) in
-    let before : vec_len c.args.systems.now ≡ length c.args.protocols.now.rounds = c.requires.first in
+    let before = c.args.systems.now.ok.0 ∙ c.requires.first in
     let first = c.len.ensures ∙ before in
     c.in_ok-add_list_systems.ensures o (record {
       base_is = c.count-base.ensures.count ∙ ap length c.rules.ensures;
