@@ -4,8 +4,7 @@ use Rattle.std.proofs.lemmas.List.{length-replicate}
 use Rattle.std.proofs.lemmas.Option.{slice_get_within}
 use Rattle.swreq_orders.proofs.Elements.{there_is}
 use Rattle.swreq_rule.specs.declared.rules.Rule.{Rule}
-use Rattle.swreq_pair.specs.CriticalPairs.{PairsMeet}
-use Rattle.swreq_complete.specs.Complete.{IsComplete, IsFresh}
+use Rattle.swreq_complete.specs.Complete.{IsComplete}
 use Rattle.swreq_complete.specs.Reached.{BeginsWith, IsReached}
 use Rattle.swreq_complete.specs.declared.limit.Limits.{Limits}
 use Rattle.swreq_complete.proofs.Ended.{pairs_meet}
@@ -179,11 +178,12 @@ module _ {limits : Limits} {plan : Plan} where
 -- the rules of a round that ended are complete where those of the base are
 pub ended_complete : (limits : Limits) (plan : Plan) (used : List Item) (rules : List Rule) → IsComplete plan.base
     → Ends limits plan used rules → length rules < 2 ^ 32 - 1 → IsComplete rules
-ended_complete limits plan used rules c e few = record {
-  meet = pairs_meet (length plan.base) (given plan used) rules (subst PairsMeet (sym e.0) c.meet) e.1.ended;
-  fresh = fresh_of_reached (length plan.base) (given plan used) rules e.1.ended.reached (subst IsFresh (sym e.0) c.fresh);
-  few = few;
-}
+ended_complete limits plan used rules c e few =
+    let base = subst IsComplete (sym e.0) c in record {
+      meet = pairs_meet (length plan.base) (given plan used) rules base.meet e.1.ended;
+      fresh = fresh_of_reached (length plan.base) (given plan used) rules e.1.ended.reached base.fresh;
+      few = few;
+    }
 
 pub none_complete : IsComplete []
 none_complete = record {

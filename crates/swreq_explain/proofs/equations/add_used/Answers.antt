@@ -18,8 +18,8 @@ bounds-used-k c =
     let test = c.loop-k-test.true in
     omega (arith, same, test)
 
-pub shown_by-requires-clause-used : goal.shown_by-requires-clause-used
-shown_by-requires-clause-used c =
+pub shown_by-shown-requires-clause-used : goal.shown_by-shown-requires-clause-used
+shown_by-shown-requires-clause-used c =
     let (r, at) = there_is c.args.makings.rounds.now c.args.round c.requires.round in
     let used = c.used-used.result.now in
     let k = c.loop-k.k in

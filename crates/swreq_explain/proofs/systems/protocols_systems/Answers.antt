@@ -1,4 +1,4 @@
-use Rattle.std.proofs.Common.{[], ◌∷◌, ◌++◌, arith, length, refl, subst, sym, ◌≡◌}
+use Rattle.std.proofs.Common.{[], ◌∷◌, ◌+◌, ◌++◌, arith, length, refl, subst, sym, ◌≡◌}
 use Rattle.swreq_symbols.specs.Meaning.{symbols_of}
 use Rattle.swreq_explain.specs.Books.{protocols_origin}
 use Rattle.swreq_explain.specs.Rounds.{AreFirstSystems}

@@ -1,5 +1,6 @@
-use Rattle.std.proofs.Common.{◌∙◌, ap, slice_get, subst, sym}
+use Rattle.std.proofs.Common.{◌∙◌, ◌<◌, List, ap, length, slice_get, subst, sym}
 use Rattle.swreq_orders.proofs.Elements.{there_is}
+use Rattle.swreq_rule.specs.declared.rules.Rule.{Rule}
 use Rattle.swreq_symbols.specs.Meaning.{symbols_of}
 use Rattle.swreq_valid.specs.Flags.{chosen}
 use Rattle.swreq_explain.specs.Numbering.{AreEquationsOf}
@@ -19,12 +20,12 @@ returns c = λ o begun.
       there = ap (λ (z : Course). slice_get z.rounds k) (sym begun.course_is) ∙ at;
       base = begun.base_is;
       below = begun.below_is;
-      rules = c.in_ok-rules.ensures.items;
-      few = c.in_ok-rules.ensures.few;
+      rules = c.new.ensures ∙ c.in_ok-rules.ensures.items r at;
+      few = subst (λ (z : List Rule). length z < 4294967295) (sym c.new.ensures) c.in_ok-rules.ensures.few;
       given = record {
         basic = c.args.basic.items;
         more = more;
-        given_are = split;
+        given_are = c.new-2.ensures ∙ split;
         sides = begun.sides;
         are_basic = begun.are_basic;
         are_of = subst (λ (z : Course). AreEquationsOf m terms z k (chosen z.all r.used) more) begun.course_is are;
