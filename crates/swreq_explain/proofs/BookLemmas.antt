@@ -168,8 +168,8 @@ module _ (terms : List Term) (o : Origin) (plan : Plan) (b : Book) (list : List 
           elim (get_either h.basic h.more j e (sym (ap (λ (z : List Equation). slice_get z j) h.given_are) ∙ at)) [
             | inl i ↦ basic_given e.reason e.left e.right (h.are_basic j e i)
             | inr i ↦ (let xs = chosen o.course.all is.round.used in
-                let (x, at_x, is_equation) = equations_at plan.symbols terms o.course k xs h.more h.are_of i.0 e i.2 in
-                let (s, by, eq) = is_equation in
+                let (x, at_x, is_in) = equations_at plan.symbols terms o.course k xs h.more h.are_of i.0 e i.2 in
+                let (s, by, eq) = is_in in
                 let (earlier, usable) = shown x s by in
                 subst (λ why. IsGivenBy b r why e.left e.right) (sym eq.reason.is) (
                   earlier,
@@ -186,8 +186,8 @@ module _ (terms : List Term) (o : Origin) (plan : Plan) (b : Book) (list : List 
         elim (get_either h.basic h.more j e (sym (ap (λ (z : List Equation). slice_get z j) h.given_are) ∙ at)) [
           | inl i ↦ basic_written e.reason e.left e.right (h.are_basic j e i)
           | inr i ↦ (let xs = chosen o.course.all is.round.used in
-              let (x, at_x, is_equation) = equations_at plan.symbols terms o.course k xs h.more h.are_of i.0 e i.2 in
-              let (s, by, eq) = is_equation in
+              let (x, at_x, is_in) = equations_at plan.symbols terms o.course k xs h.more h.are_of i.0 e i.2 in
+              let (s, by, eq) = is_in in
               let (place, there) = chosen_of o.course.all is.round.used i.0 x at_x in
               subst (IsWritten basis) (sym eq.reason.is) (from place x eq.reason.requirement s there eq.reason.stands))
         ]

@@ -1,4 +1,4 @@
-use Rattle.std.proofs.Common.{◌≡◌, ◌<◌, ◌≤◌, ◌+◌, arith, length, true}
+use Rattle.std.proofs.Common.{arith, true}
 use Rattle.std.proofs.lemmas.Option.{slice_get_within}
 use Rattle.swreq_explain.proofs.UseLemmas.{first_within}
 use Rattle.swreq_explain.proofs.first_use.shown_by.Goals as goal

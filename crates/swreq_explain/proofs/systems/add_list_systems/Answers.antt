@@ -1,4 +1,4 @@
-use Rattle.std.proofs.Common.{[], ◌∷◌, ◌++◌, append_assoc, ap, arith, length, length-append, refl, subst, sym, ◌∙◌, ◌≡◌}
+use Rattle.std.proofs.Common.{[], ◌∷◌, ◌++◌, append_assoc, ap, arith, length, length-append, subst, sym, ◌∙◌, ◌≡◌}
 use Rattle.std.proofs.lemmas.List.{append-nil}
 use Rattle.swreq_symbols.specs.Meaning.{symbols_of}
 use Rattle.swreq_explain.specs.Rounds.{AreFirstSystems, IsBegun}

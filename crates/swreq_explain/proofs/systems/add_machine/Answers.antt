@@ -24,11 +24,11 @@ returns c =
     = c.deref-2.ensures.value ∙ c.in_ok-add_numbered.ensures
     ∙ ap (λ z. z ++ numbered_from None 1 c.deref.result.now) c.new-all.ensures.items
     ∙ ap (numbered_from None 1) (c.deref.ensures.value ∙ c.in_ok-list.ensures) in
-    let before = c.args.systems.now.ok.0 ∙ c.requires.first in
-    let first = c.len.ensures ∙ before in
+    let count = c.args.systems.now.ok.0 ∙ c.requires.first in
+    let first = c.len.ensures ∙ count in
     c.in_ok-add_list_systems.ensures o (record {
       base_is = c.count-base.ensures.count ∙ ap length c.rules.ensures;
-      below_is = c.saturating_sub-below.ensures ∙ ap (λ n. n - 1) (c.len-2.ensures ∙ before);
+      below_is = c.saturating_sub-below.ensures ∙ ap (λ n. n - 1) (c.len-2.ensures ∙ count);
       course_is = λ i. record { all = all i; rounds = c.rounds.ensures i; first = first i };
       sides = refl;
       are_basic = basic_none (members_in w);

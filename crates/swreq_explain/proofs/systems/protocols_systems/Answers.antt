@@ -1,8 +1,8 @@
-use Rattle.std.proofs.Common.{[], ◌∷◌, ◌++◌, ◌+◌, arith, length, refl, subst, sym, ◌≡◌}
+use Rattle.std.proofs.Common.{◌+◌, arith, length, refl, subst, sym, ◌≡◌}
 use Rattle.swreq_symbols.specs.Meaning.{symbols_of}
 use Rattle.swreq_explain.specs.Books.{protocols_origin}
 use Rattle.swreq_explain.specs.Rounds.{AreFirstSystems}
-use Rattle.swreq_explain.specs.Uses.{Course, course_of}
+use Rattle.swreq_explain.specs.Uses.{course_of}
 use Rattle.swreq_explain.proofs.BookLemmas.{no_systems, systems_more}
 use Rattle.swreq_explain.proofs.systems.protocols_systems.Goals as goal
 

@@ -1,4 +1,4 @@
-use Rattle.std.proofs.Common.{◌∙◌, ◌<◌, ◌^◌, ◌-◌, ◌≡◌, ◌++◌, List, ap, length, slice_get, subst, sym}
+use Rattle.std.proofs.Common.{◌∙◌, ◌<◌, List, ap, length, slice_get, subst, sym}
 use Rattle.swreq_orders.proofs.Elements.{there_is}
 use Rattle.swreq_rule.specs.declared.rules.Rule.{Rule}
 use Rattle.swreq_symbols.specs.Meaning.{symbols_of}
@@ -21,7 +21,7 @@ returns c = λ o begun.
       base = begun.base_is;
       below = begun.below_is;
       rules = c.new.ensures ∙ c.in_ok-rules.ensures.items r at;
-      few = subst (λ (z : List Rule). length z < 2 ^ 32 - 1) (sym c.new.ensures) c.in_ok-rules.ensures.few;
+      few = subst (λ (z : List Rule). length z < 4294967295) (sym c.new.ensures) c.in_ok-rules.ensures.few;
       given = record {
         basic = c.args.basic.items;
         more = more;
