@@ -4,7 +4,7 @@ use crate::running::status_of;
 use std::test::Fail;
 use swreq_samples::{counts, tally_at};
 use swreq_text::{CountSink, MemSink, SureSource};
-use swreq_watch::Quiet;
+use swreq_watch::{Event, Quiet, Recorder};
 
 const TEXT: &[u8] = b"protocol N { associatedtype Next: N }\nfunc f<T: N>()\nquery f(T : N)\n";
 
@@ -26,5 +26,63 @@ fn a_watcher_without_memory_ends_the_run(rt: HostRuntime) -> Result<(), Fail> {
     let status = status_of(rt.alloc(), "answer", &mut src, &mut out, &mut tally)?;
     assert_eq!(rt; status.as_str(), "6");
     assert_eq!(rt; out.bytes(), b"error: out of memory\n".as_slice());
+    Ok(())
+}
+
+/// A text with a call.
+const CALLED: &[u8] = b"protocol P { }\nfunc f<T: P>()\nfunc g<U: P>()\n%%\nf: g(T)\n";
+
+/// The same with a second part that stands for no calls.
+const MISCALLED: &[u8] = b"protocol P { }\nfunc f<T: P>()\nfunc g<U: P>()\n%%\nf: g(\n";
+
+/// A list whose rules are too long without both `T : M` and `T : N`, of which either says that `T.A` is `T`: else `T.A == T.A.B` follows from
+/// `T == T.B`, and so do `T.A.A == T.A.A.B` and all longer ones.
+const EITHER: &[u8] = b"\
+protocol M { associatedtype A where A == Self }
+protocol N { associatedtype A where A == Self }
+protocol P { associatedtype A: P associatedtype B: P where A.B == B.A }
+func f<T: M & N & P>() where T.B == T, T: AnyObject
+";
+
+/// For the words of a run its text, the status, how many completions a watcher is told to start, and how many rules to be born.
+///
+/// - The protocol N has a round without its requirement, with 3 rules, and one with it, with 5. Its family has a round without it.
+/// - The protocol P has a round, with 1 rule. Each function has one without its requirement, with none, and one with it, with 1.
+/// - The protocols of `EITHER` have rounds with 11, 17 and 18 rules, and the function with none, 7 and 8. Minimising grows the rules of
+///   `T == T.B` by those of `T : P` and `T : AnyObject`, and passes the limit. So for each of `T : M` and `T : N` the machine of the others
+///   is built, by rounds with none, 6 and 7.
+const TOLD: &[(&str, &[u8], &str, u32, u32)] = &[
+    ("answer", TEXT, "0", 4, 10),
+    ("requirements", b"protocol N { associatedtype Next: N }\n", "0", 3, 11),
+    ("calls", CALLED, "0", 5, 3),
+    ("calls", MISCALLED, "1", 5, 3),
+    ("verify", b"func f<T>()\nquery f(T == T)\n%%\nno\n", "0", 0, 0),
+    ("signatures --max-length 2", EITHER, "0", 12, 87),
+];
+
+/// How many completions start by these events, and how many rules are born.
+fn counted(events: &[Event]) -> (u32, u32) {
+    let mut starts = 0u32;
+    let mut born = 0u32;
+    for event in events {
+        match event {
+            Event::Start { .. } => starts = starts.saturating_add(1),
+            Event::Born { .. } => born = born.saturating_add(1),
+        }
+    }
+    (starts, born)
+}
+
+#[test]
+fn a_watcher_is_told_of_each_completion(rt: HostRuntime) -> Result<(), Fail> {
+    for (words, text, status, starts, born) in TOLD {
+        let mut recorder = Recorder::new(rt.alloc());
+        let mut src = SureSource::new(text.to_vec(rt.alloc())?);
+        let came = status_of(rt.alloc(), words, &mut src, &mut CountSink::new(), &mut recorder)?;
+        let told = counted(recorder.events());
+        assert_eq!(&rt; came.as_str(), *status, "after {words}");
+        assert_eq!(&rt; told.0, *starts, "after {words}");
+        assert_eq!(&rt; told.1, *born, "after {words}");
+    }
     Ok(())
 }
