@@ -32,7 +32,7 @@ fn carry_member(
     requires second { IsIdAfter ground.now sheet.old u (symbols.Member rank) members.1 }
     ensures symbol { OnOk result (SaysSymbol ground.now sheet.new (term_at sheet.old.table u) (symbols.Member rank)) }
     ensures equal { OnOk result (AreSaidEqual sheet.new (term_at sheet.old.table members.0) (term_at sheet.old.table members.1)) }
-    ensures grows { OnOk result (Grows sheet.old sheet.new) }
+    ensures grows { Grows sheet.old sheet.new }
     ensures derives { OnOk result ((b : Basis) → FitsBasis ground.now b → Keeps b sheet.old sheet.new) }
 {
     let named = member_at(ground, rank);
@@ -57,7 +57,7 @@ fn carry_symbol(
     requires second { IsIdAfter ground.now sheet.old u x members.1 }
     ensures symbol { OnOk result (SaysSymbol ground.now sheet.new (term_at sheet.old.table u) x) }
     ensures equal { OnOk result (AreSaidEqual sheet.new (term_at sheet.old.table members.0) (term_at sheet.old.table members.1)) }
-    ensures grows { OnOk result (Grows sheet.old sheet.new) }
+    ensures grows { Grows sheet.old sheet.new }
     ensures derives { OnOk result ((b : Basis) → FitsBasis ground.now b → Keeps b sheet.old sheet.new) }
 {
     match x {
@@ -101,7 +101,7 @@ fn carry(
     ensures symbol { OnOk result (SaysSymbol ground.now sheet.new (term_at sheet.old.table u) x) }
     ensures equal { OnOk result (AreSaidEqual sheet.new (after ground.now (term_at sheet.old.table t) x)
         (after ground.now (term_at sheet.old.table u) x)) }
-    ensures grows { OnOk result (Grows sheet.old sheet.new) }
+    ensures grows { Grows sheet.old sheet.new }
     ensures derives { OnOk result ((b : Basis) → FitsBasis ground.now b → Keeps b sheet.old sheet.new) }
 {
     let first = after(ground, sheet, t, x)?;
@@ -130,7 +130,7 @@ pub fn carry_all(
     ensures word { OnOk result (SaysWord ground.now sheet.new (term_at sheet.old.table u) word.now) }
     ensures equal { OnOk result (AreSaidEqual sheet.new (read ground.now (term_at sheet.old.table t) word.now)
         (read ground.now (term_at sheet.old.table u) word.now)) }
-    ensures grows { OnOk result (Grows sheet.old sheet.new) }
+    ensures grows { Grows sheet.old sheet.new }
     ensures derives { OnOk result ((b : Basis) → FitsBasis ground.now b → Keeps b sheet.old sheet.new) }
 {
     let mut first = t;

@@ -23,7 +23,7 @@ pub fn carry_conf(sheet: &mut Sheet, t: TermId, u: TermId, p: ProtoId) -> Result
     requires conforms { Says sheet.old (Requires (Conforms (term_at sheet.old.table t) p)) }
     requires equal { AreSaidEqual sheet.old (term_at sheet.old.table t) (term_at sheet.old.table u) }
     ensures conforms { OnOk result (Says sheet.new (Requires (Conforms (term_at sheet.old.table u) p))) }
-    ensures grows { OnOk result (Grows sheet.old sheet.new) }
+    ensures grows { Grows sheet.old sheet.new }
     ensures derives { OnOk result ((b : Basis) → Keeps b sheet.old sheet.new) }
 {
     symm(sheet, t, u)?;
@@ -39,7 +39,7 @@ pub fn carry_layout(sheet: &mut Sheet, t: TermId, u: TermId) -> Result<(), Alloc
     requires object { Says sheet.old (Requires (IsAnyObject (term_at sheet.old.table t))) }
     requires equal { AreSaidEqual sheet.old (term_at sheet.old.table t) (term_at sheet.old.table u) }
     ensures object { OnOk result (Says sheet.new (Requires (IsAnyObject (term_at sheet.old.table u)))) }
-    ensures grows { OnOk result (Grows sheet.old sheet.new) }
+    ensures grows { Grows sheet.old sheet.new }
     ensures derives { OnOk result ((b : Basis) → Keeps b sheet.old sheet.new) }
 {
     symm(sheet, t, u)?;
@@ -63,7 +63,7 @@ pub fn carry_name(
     requires second { IsIdOfMember sheet.old u (Name a) members.1 }
     ensures name { OnOk result (SaysName ground.now sheet.new (term_at sheet.old.table u) a) }
     ensures equal { OnOk result (AreSaidEqual sheet.new (term_at sheet.old.table members.0) (term_at sheet.old.table members.1)) }
-    ensures grows { OnOk result (Grows sheet.old sheet.new) }
+    ensures grows { Grows sheet.old sheet.new }
     ensures derives { OnOk result ((b : Basis) → FitsBasis ground.now b → Keeps b sheet.old sheet.new) }
 {
     let p = declarer(ground, sheet, t, a);

@@ -63,12 +63,12 @@ fn step_up(
     requires sheet { IsSheet sheet.old }
     requires t { IsOf sheet.old.table t }
     requires conforms { Says sheet.old (Requires (Conforms (term_at sheet.old.table t) p)) }
-    ensures table { OnOk result (sheet.new.table ≡ sheet.old.table) }
+    ensures table { sheet.new.table ≡ sheet.old.table }
     ensures parent { IfOk result (Contains ground.now.parents) }
     ensures heir { IfOk result (λ e. e.heir ≡ p) }
     ensures member { IfOk result (λ e. IsMember ground.now e.proto a) }
     ensures conforms { IfOk result (λ e. Says sheet.new (Requires (Conforms (term_at sheet.old.table t) e.proto))) }
-    ensures grows { OnOk result (Grows sheet.old sheet.new) }
+    ensures grows { Grows sheet.old sheet.new }
     ensures derives { OnOk result ((b : Basis) → FitsBasis ground.now b → Keeps b sheet.old sheet.new) }
 {
     let parent = parent_for(ground, p, a);
@@ -91,7 +91,7 @@ pub fn inherit(
     requires t { IsOf sheet.old.table t }
     requires conforms { Says sheet.old (Requires (Conforms (term_at sheet.old.table t) p)) }
     ensures name { OnOk result (SaysName ground.now sheet.new (term_at sheet.old.table t) a) }
-    ensures grows { OnOk result (Grows sheet.old sheet.new) }
+    ensures grows { Grows sheet.old sheet.new }
     ensures derives { OnOk result ((b : Basis) → FitsBasis ground.now b → Keeps b sheet.old sheet.new) }
 {
     let mut at = p;

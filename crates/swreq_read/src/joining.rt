@@ -23,7 +23,7 @@ pub fn turn(
     requires t { IsOf sheet.old.table t }
     requires both { SaysBoth ground.now sheet.old (term_at sheet.old.table t) u.now v.now }
     ensures both { OnOk result (SaysBoth ground.now sheet.new (term_at sheet.old.table t) v.now u.now) }
-    ensures grows { OnOk result (Grows sheet.old sheet.new) }
+    ensures grows { Grows sheet.old sheet.new }
     ensures derives { OnOk result ((b : Basis) → Keeps b sheet.old sheet.new) }
 {
     let first = read(ground, sheet, t, u)?;
@@ -46,7 +46,7 @@ pub fn join(
     requires first { SaysBoth ground.now sheet.old (term_at sheet.old.table t) u.now v.now }
     requires second { SaysBoth ground.now sheet.old (term_at sheet.old.table t) v.now w.now }
     ensures both { OnOk result (SaysBoth ground.now sheet.new (term_at sheet.old.table t) u.now w.now) }
-    ensures grows { OnOk result (Grows sheet.old sheet.new) }
+    ensures grows { Grows sheet.old sheet.new }
     ensures derives { OnOk result ((b : Basis) → Keeps b sheet.old sheet.new) }
 {
     let first = read(ground, sheet, t, u)?;

@@ -34,9 +34,9 @@ fn bind(
     requires equal { AreEqualIds sheet.old sides.0 sides.1 }
     requires given { IsGiven ground.now sheet.old (term_at sheet.old.table sides.1) (Bound assoc) named }
     requires members { AreMembers sheet.old sides.0 assoc named.name members }
-    ensures table { OnOk result (sheet.new.table ≡ sheet.old.table) }
+    ensures table { sheet.new.table ≡ sheet.old.table }
     ensures equal { OnOk result (AreSaidEqual sheet.new (term_at sheet.old.table members.bound) (term_at sheet.old.table members.last)) }
-    ensures grows { OnOk result (Grows sheet.old sheet.new) }
+    ensures grows { Grows sheet.old sheet.new }
     ensures derives { OnOk result ((b : Basis) → FitsBasis ground.now b → Keeps b sheet.old sheet.new) }
 {
     let (t, u) = sides;
@@ -70,7 +70,7 @@ pub fn equal_member(
     ensures stands { IfOk result (λ v. term_at sheet.new.table v ≡ Member (term_at sheet.old.table t) step) }
     ensures equal { OnOk result (AreSaidEqual sheet.new (Member (term_at sheet.old.table t) step)
         (Member (term_at sheet.old.table u) (Name named.name))) }
-    ensures grows { OnOk result (Grows sheet.old sheet.new) }
+    ensures grows { Grows sheet.old sheet.new }
     ensures derives { OnOk result ((b : Basis) → FitsBasis ground.now b → Keeps b sheet.old sheet.new) }
 {
     let plain = member(sheet, t, Step::Name(named.name))?;

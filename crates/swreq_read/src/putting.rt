@@ -36,7 +36,7 @@ pub fn put_side(
     requires both { SaysBoth ground.now sheet.old (term_at sheet.old.table v) from.now to.now }
     requires word { SaysWord ground.now sheet.old (term_at sheet.old.table v) (from.now ++ after.now) }
     ensures both { OnOk result (SaysBoth ground.now sheet.new (term_at sheet.old.table v) (from.now ++ after.now) (to.now ++ after.now)) }
-    ensures grows { OnOk result (Grows sheet.old sheet.new) }
+    ensures grows { Grows sheet.old sheet.new }
     ensures derives { OnOk result ((b : Basis) → FitsBasis ground.now b → Keeps b sheet.old sheet.new) }
 {
     let first = read(ground, sheet, v, from)?;
@@ -61,7 +61,7 @@ pub fn replace(
     requires word { SaysWord ground.now sheet.old (term_at sheet.old.table t) (before.now ++ (sides.from.now ++ after.now)) }
     ensures both { OnOk result (SaysBoth ground.now sheet.new (term_at sheet.old.table t)
         (before.now ++ (sides.entry.from.now ++ after.now)) (before.now ++ (sides.entry.to.now ++ after.now))) }
-    ensures grows { OnOk result (Grows sheet.old sheet.new) }
+    ensures grows { Grows sheet.old sheet.new }
     ensures derives { OnOk result ((b : Basis) → FitsBasis ground.now b → Keeps b sheet.old sheet.new) }
 {
     let v = read(ground, sheet, t, before)?;
@@ -84,7 +84,7 @@ pub fn replace_back(
     requires word { SaysWord ground.now sheet.old (term_at sheet.old.table t) (before.now ++ (sides.from.now ++ after.now)) }
     ensures both { OnOk result (SaysBoth ground.now sheet.new (term_at sheet.old.table t)
         (before.now ++ (sides.entry.from.now ++ after.now)) (before.now ++ (sides.entry.to.now ++ after.now))) }
-    ensures grows { OnOk result (Grows sheet.old sheet.new) }
+    ensures grows { Grows sheet.old sheet.new }
     ensures derives { OnOk result ((b : Basis) → FitsBasis ground.now b → Keeps b sheet.old sheet.new) }
 {
     let v = read(ground, sheet, t, before)?;

@@ -16,7 +16,7 @@ pub fn after(ground: &Ground, sheet: &mut Sheet, t: TermId, x: Symbol) -> Result
     requires t { IsOf sheet.old.table t }
     ensures is_of { IfOk result (IsOf sheet.new.table) }
     ensures stands { IfOk result (λ u. term_at sheet.new.table u ≡ after ground.now (term_at sheet.old.table t) x) }
-    ensures grows { OnOk result (Grows sheet.old sheet.new) }
+    ensures grows { Grows sheet.old sheet.new }
     ensures derives { OnOk result ((b : Basis) → Keeps b sheet.old sheet.new) }
 {
     match x {
@@ -42,7 +42,7 @@ pub fn read(
     requires t { IsOf sheet.old.table t }
     ensures is_of { IfOk result (IsOf sheet.new.table) }
     ensures stands { IfOk result (λ u. term_at sheet.new.table u ≡ read ground.now (term_at sheet.old.table t) word.now) }
-    ensures grows { OnOk result (Grows sheet.old sheet.new) }
+    ensures grows { Grows sheet.old sheet.new }
     ensures derives { OnOk result ((b : Basis) → Keeps b sheet.old sheet.new) }
 {
     let mut at = t;

@@ -69,7 +69,7 @@ fn said_word(
     ensures told { IfOk result (λ o. MatchOption o
         (SaysWord ground.now sheet.new (term_at sheet.old.table t) word.now → ⊥)
         (IsReadAs ground.now sheet.new (term_at sheet.old.table t) word.now)) }
-    ensures grows { OnOk result (Grows sheet.old sheet.new) }
+    ensures grows { Grows sheet.old sheet.new }
     ensures derives { OnOk result ((b : Basis) → Keeps b sheet.old sheet.new) }
 {
     let mut at = t;
@@ -106,7 +106,7 @@ pub fn says_both(
     requires sheet { IsSheet sheet.old }
     requires t { IsOf sheet.old.table t }
     ensures told { IfOk result (λ yes. Decides yes (SaysBoth ground.now sheet.new (term_at sheet.old.table t) u.now v.now)) }
-    ensures grows { OnOk result (Grows sheet.old sheet.new) }
+    ensures grows { Grows sheet.old sheet.new }
     ensures derives { OnOk result ((b : Basis) → Keeps b sheet.old sheet.new) }
 {
     let first = said_word(ground, sheet, t, u)?;

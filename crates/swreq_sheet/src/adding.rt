@@ -10,7 +10,7 @@ use std::alloc::AllocError;
 use swreq_derive::{DerivRule, Line, Statement};
 use swreq_text::Seq;
 
-/// Puts a line last, whose statement none makes.
+/// Puts a line last, whose statement none makes. For want of memory the lines stay as they were.
 fn add(
     sheet: &mut Sheet,
     rule: DerivRule,
@@ -20,19 +20,24 @@ fn add(
     requires sheet { IsSheet sheet.old }
     requires ids { AreIdsIn sheet.old.table statement }
     requires unsaid { Says sheet.old (statement_of sheet.old.table statement) → ⊥ }
-    ensures table { OnOk result (sheet.new.table ≡ sheet.old.table) }
-    ensures stated { OnOk result (sheet.new.stated ≡ sheet.old.stated ++ statement ∷ []) }
+    ensures table { sheet.new.table ≡ sheet.old.table }
     ensures lines { OnOk result (sheet.new.lines.items ≡ sheet.old.lines.items
         ++ record { rule = rule; premises = premises.items; statement = statement } ∷ []) }
+    ensures grows { Grows sheet.old sheet.new }
 {
     let premises = Seq::new(premises);
-    sheet.stated.push(statement)?;
     sheet.lines.push(Line {
         rule,
         premises,
         statement,
     })?;
-    Ok(())
+    match sheet.stated.push(statement) {
+        Ok(()) => Ok(()),
+        Err(_) => {
+            let _line = sheet.lines.pop();
+            Err(AllocError)
+        }
+    }
 }
 
 /// The number of the line that states this.
@@ -67,9 +72,9 @@ pub(crate) fn from_none(
 ) -> Result<(), AllocError>
     requires sheet { IsSheet sheet.old }
     requires gives { AreIdsIn sheet.old.table gives }
-    ensures table { OnOk result (sheet.new.table ≡ sheet.old.table) }
+    ensures table { sheet.new.table ≡ sheet.old.table }
     ensures says { OnOk result (Says sheet.new (statement_of sheet.old.table gives)) }
-    ensures grows { OnOk result (Grows sheet.old sheet.new) }
+    ensures grows { Grows sheet.old sheet.new }
     ensures derives { OnOk result ((b : Basis) → IsInstance b.facts b.params b.written rule [] (statement_of sheet.old.table gives)
         → Keeps b sheet.old sheet.new) }
 {
@@ -91,9 +96,9 @@ pub(crate) fn from_one(
     requires sheet { IsSheet sheet.old }
     requires from { IsPremise sheet.old from }
     requires gives { AreIdsIn sheet.old.table gives }
-    ensures table { OnOk result (sheet.new.table ≡ sheet.old.table) }
+    ensures table { sheet.new.table ≡ sheet.old.table }
     ensures says { OnOk result (Says sheet.new (statement_of sheet.old.table gives)) }
-    ensures grows { OnOk result (Grows sheet.old sheet.new) }
+    ensures grows { Grows sheet.old sheet.new }
     ensures derives { OnOk result ((b : Basis) → IsInstance b.facts b.params b.written rule
         (statement_of sheet.old.table from ∷ []) (statement_of sheet.old.table gives) → Keeps b sheet.old sheet.new) }
 {
@@ -117,9 +122,9 @@ pub(crate) fn from_two(
     requires first { IsPremise sheet.old from.0 }
     requires second { IsPremise sheet.old from.1 }
     requires gives { AreIdsIn sheet.old.table gives }
-    ensures table { OnOk result (sheet.new.table ≡ sheet.old.table) }
+    ensures table { sheet.new.table ≡ sheet.old.table }
     ensures says { OnOk result (Says sheet.new (statement_of sheet.old.table gives)) }
-    ensures grows { OnOk result (Grows sheet.old sheet.new) }
+    ensures grows { Grows sheet.old sheet.new }
     ensures derives { OnOk result ((b : Basis) → IsInstance b.facts b.params b.written rule
         (statement_of sheet.old.table from.0 ∷ statement_of sheet.old.table from.1 ∷ [])
         (statement_of sheet.old.table gives) → Keeps b sheet.old sheet.new) }

@@ -1,6 +1,6 @@
 //! Sheets on which a derivation is written: what lines state, and lines more by the rules of derivation.
 //!
-//! A call fails for want of memory alone, and then nothing is said of the sheet.
+//! A call fails for want of memory alone. On every answer what was stated still is, and the table begins with the old one.
 #![tactic(auto, using(crate::proofs::SheetLemmas::grown_by_none))]
 
 mod adding;

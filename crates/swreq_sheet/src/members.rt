@@ -15,7 +15,7 @@ pub fn member(sheet: &mut Sheet, t: TermId, step: Step) -> Result<TermId, AllocE
     ensures is_of { IfOk result (IsOf sheet.new.table) }
     ensures stands { IfOk result (λ u. term_at sheet.new.table u ≡ Member (term_at sheet.old.table t) step) }
     ensures said { OnOk result (said sheet.new ≡ said sheet.old) }
-    ensures grows { OnOk result (Grows sheet.old sheet.new) }
+    ensures grows { Grows sheet.old sheet.new }
     ensures derives { OnOk result ((b : Basis) → Keeps b sheet.old sheet.new) }
 {
     let id = sheet.table.member(t, step)?;
@@ -28,7 +28,7 @@ pub fn param(sheet: &mut Sheet, g: ParamId) -> Result<TermId, AllocError>
     ensures is_of { IfOk result (IsOf sheet.new.table) }
     ensures stands { IfOk result (λ u. term_at sheet.new.table u ≡ Generic g) }
     ensures said { OnOk result (said sheet.new ≡ said sheet.old) }
-    ensures grows { OnOk result (Grows sheet.old sheet.new) }
+    ensures grows { Grows sheet.old sheet.new }
     ensures derives { OnOk result ((b : Basis) → Keeps b sheet.old sheet.new) }
 {
     let id = sheet.table.param(g)?;

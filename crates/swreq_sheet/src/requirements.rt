@@ -27,9 +27,9 @@ pub fn assoc_conf(
     requires t { IsOf sheet.old.table t }
     requires v { IsOf sheet.old.table v }
     requires conforms { Says sheet.old (Requires (Conforms (term_at sheet.old.table t) of.0)) }
-    ensures table { OnOk result (sheet.new.table ≡ sheet.old.table) }
+    ensures table { sheet.new.table ≡ sheet.old.table }
     ensures conforms { OnOk result (Says sheet.new (Requires (Conforms (term_at sheet.old.table v) q))) }
-    ensures grows { OnOk result (Grows sheet.old sheet.new) }
+    ensures grows { Grows sheet.old sheet.new }
     ensures derives { OnOk result ((b : Basis) (u : Term) → HasNumber of.1 (b.facts.of_protocol of.0) (Conforms u q)
         → term_at sheet.old.table v ≡ for_self (term_at sheet.old.table t) u → Keeps b sheet.old sheet.new) }
 {
@@ -49,9 +49,9 @@ pub fn assoc_layout(
     requires t { IsOf sheet.old.table t }
     requires v { IsOf sheet.old.table v }
     requires conforms { Says sheet.old (Requires (Conforms (term_at sheet.old.table t) of.0)) }
-    ensures table { OnOk result (sheet.new.table ≡ sheet.old.table) }
+    ensures table { sheet.new.table ≡ sheet.old.table }
     ensures object { OnOk result (Says sheet.new (Requires (IsAnyObject (term_at sheet.old.table v)))) }
-    ensures grows { OnOk result (Grows sheet.old sheet.new) }
+    ensures grows { Grows sheet.old sheet.new }
     ensures derives { OnOk result ((b : Basis) (u : Term) → HasNumber of.1 (b.facts.of_protocol of.0) (IsAnyObject u)
         → term_at sheet.old.table v ≡ for_self (term_at sheet.old.table t) u → Keeps b sheet.old sheet.new) }
 {
@@ -77,9 +77,9 @@ pub fn assoc_same(
     requires left { IsOf sheet.old.table sides.0 }
     requires right { IsOf sheet.old.table sides.1 }
     requires conforms { Says sheet.old (Requires (Conforms (term_at sheet.old.table t) of.0)) }
-    ensures table { OnOk result (sheet.new.table ≡ sheet.old.table) }
+    ensures table { sheet.new.table ≡ sheet.old.table }
     ensures equal { OnOk result (AreSaidEqual sheet.new (term_at sheet.old.table sides.0) (term_at sheet.old.table sides.1)) }
-    ensures grows { OnOk result (Grows sheet.old sheet.new) }
+    ensures grows { Grows sheet.old sheet.new }
     ensures derives { OnOk result ((b : Basis) (u v : Term) → HasNumber of.1 (b.facts.of_protocol of.0) (Equals u v)
         → term_at sheet.old.table sides.0 ≡ for_self (term_at sheet.old.table t) u
         → term_at sheet.old.table sides.1 ≡ for_self (term_at sheet.old.table t) v → Keeps b sheet.old sheet.new) }
@@ -98,9 +98,9 @@ pub fn assoc_same(
 pub fn written_conf(sheet: &mut Sheet, n: u32, t: TermId, p: ProtoId) -> Result<(), AllocError>
     requires sheet { IsSheet sheet.old }
     requires t { IsOf sheet.old.table t }
-    ensures table { OnOk result (sheet.new.table ≡ sheet.old.table) }
+    ensures table { sheet.new.table ≡ sheet.old.table }
     ensures conforms { OnOk result (Says sheet.new (Requires (Conforms (term_at sheet.old.table t) p))) }
-    ensures grows { OnOk result (Grows sheet.old sheet.new) }
+    ensures grows { Grows sheet.old sheet.new }
     ensures derives { OnOk result ((b : Basis) → HasNumber n b.written (Conforms (term_at sheet.old.table t) p)
         → Keeps b sheet.old sheet.new) }
 {
@@ -112,9 +112,9 @@ pub fn written_conf(sheet: &mut Sheet, n: u32, t: TermId, p: ProtoId) -> Result<
 pub fn written_layout(sheet: &mut Sheet, n: u32, t: TermId) -> Result<(), AllocError>
     requires sheet { IsSheet sheet.old }
     requires t { IsOf sheet.old.table t }
-    ensures table { OnOk result (sheet.new.table ≡ sheet.old.table) }
+    ensures table { sheet.new.table ≡ sheet.old.table }
     ensures object { OnOk result (Says sheet.new (Requires (IsAnyObject (term_at sheet.old.table t)))) }
-    ensures grows { OnOk result (Grows sheet.old sheet.new) }
+    ensures grows { Grows sheet.old sheet.new }
     ensures derives { OnOk result ((b : Basis) → HasNumber n b.written (IsAnyObject (term_at sheet.old.table t))
         → Keeps b sheet.old sheet.new) }
 {
@@ -127,9 +127,9 @@ pub fn written_same(sheet: &mut Sheet, n: u32, t: TermId, u: TermId) -> Result<(
     requires sheet { IsSheet sheet.old }
     requires t { IsOf sheet.old.table t }
     requires u { IsOf sheet.old.table u }
-    ensures table { OnOk result (sheet.new.table ≡ sheet.old.table) }
+    ensures table { sheet.new.table ≡ sheet.old.table }
     ensures equal { OnOk result (AreSaidEqual sheet.new (term_at sheet.old.table t) (term_at sheet.old.table u)) }
-    ensures grows { OnOk result (Grows sheet.old sheet.new) }
+    ensures grows { Grows sheet.old sheet.new }
     ensures derives { OnOk result ((b : Basis) → HasNumber n b.written (Equals (term_at sheet.old.table t) (term_at sheet.old.table u))
         → Keeps b sheet.old sheet.new) }
 {

@@ -1,5 +1,5 @@
 //! The statements of lines, found without a scan.
-ghost use Rattle.std.specs.Prelude.{◌≡◌, ◌++◌, ℕ, [], ◌∷◌, Some, MatchOption, OnOk, slice_get};
+ghost use Rattle.std.specs.Prelude.{◌≡◌, ◌++◌, ℕ, [], ◌∷◌, Some, MatchOption, OnErr, OnOk, slice_get};
 ghost use Rattle.swreq_derive.specs.Instances.{HasNumber};
 ghost use Rattle.swreq_sheet.specs.Keys.{statement_by};
 
@@ -72,10 +72,11 @@ impl Stated {
         }
     }
 
-    /// Puts a statement last, which is not there.
+    /// Puts a statement last, which is not there. For want of memory all is as before.
     pub fn push(&mut self, statement: Statement) -> Result<(), AllocError>
         requires { (k : ℕ) → slice_get self.old k ≡ Some statement → ⊥ }
-        ensures { OnOk result (self.new ≡ self.old ++ statement ∷ []) }
+        ensures ok { OnOk result (self.new ≡ self.old ++ statement ∷ []) }
+        ensures err { OnErr result (self.new ≡ self.old) }
     {
         let key = key_of(statement);
         self.keys.insert(key)?;

@@ -36,3 +36,10 @@ returns-clause-grows c =
 pub returns-clause-derives : goal.returns-clause-derives
 returns-clause-derives c b f d = c.in_ok-carry_symbol.ensures.derives b f
     (c.in_ok-second.ensures.derives b (c.in_ok-first.ensures.derives b d))
+
+pub returns-in_err-second-clause-grows : goal.returns-in_err-second-clause-grows
+returns-in_err-second-clause-grows c = grows_then _ _ _ c.in_ok-first.ensures.grows c.in_err-second.ensures.grows
+
+pub returns-in_err-carry_symbol-clause-grows : goal.returns-in_err-carry_symbol-clause-grows
+returns-in_err-carry_symbol-clause-grows c =
+    grows_then _ _ _ (grows_then _ _ _ c.in_ok-first.ensures.grows c.in_ok-second.ensures.grows) c.in_err-carry_symbol.ensures.grows

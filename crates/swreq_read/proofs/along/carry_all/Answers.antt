@@ -23,3 +23,6 @@ returns-clause-equal c =
     let i = c.loop-k.invariant in
     (all_carried c.args.ground.now c.loop-k.sheet (term_at s.table c.args.t)
     (term_at s.table c.args.u) c.args.word.now c.loop-k.k _ _ i.grows.sheet i.carrying c.loop-k-test.false).equal
+
+pub returns-in_err-next-clause-grows : goal.returns-in_err-next-clause-grows
+returns-in_err-next-clause-grows c = grows_then _ _ _ c.loop-k.invariant.grows c.in_err-next.ensures.grows

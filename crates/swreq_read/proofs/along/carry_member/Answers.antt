@@ -3,6 +3,7 @@ use Rattle.swreq_param.specs.Tables.{term_at}
 use Rattle.swreq_derive.specs.Derivation.TermRequirement.{Conforms}
 use Rattle.swreq_derive.specs.Derivation.TermStatement.{Requires}
 use Rattle.swreq_sheet.specs.Sheets.{Says}
+use Rattle.swreq_sheet.proofs.SheetLemmas.{grows_then}
 use Rattle.swreq_read.specs.declared.ground.Named.{Named}
 use Rattle.swreq_read.proofs.ReadLemmas.{conforms_still, equals_still, equal_still}
 use Rattle.swreq_read.proofs.along.carry_member.Goals as goal
@@ -22,3 +23,6 @@ pub returns-clause-equal : goal.returns-clause-equal
 returns-clause-equal c =
     equal_still c.args.ground.now c.carry_name.new.sheet c.carry_conf.new.sheet c.in_ok-carry_conf.ensures.grows _ _
     c.in_ok-carry_name.ensures.equal
+
+pub returns-in_err-carry_conf-clause-grows : goal.returns-in_err-carry_conf-clause-grows
+returns-in_err-carry_conf-clause-grows c = grows_then _ _ _ c.in_ok-carry_name.ensures.grows c.in_err-carry_conf.ensures.grows

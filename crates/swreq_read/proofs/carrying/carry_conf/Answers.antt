@@ -14,3 +14,6 @@ same_conf-requires-clause-equal c =
 pub returns-clause-grows : goal.returns-clause-grows
 returns-clause-grows c =
     grows_then c.args.sheet.now c.symm.new.sheet c.same_conf.new.sheet c.in_ok-symm.ensures.grows c.in_ok-same_conf.ensures.grows
+
+pub returns-in_err-same_conf-clause-grows : goal.returns-in_err-same_conf-clause-grows
+returns-in_err-same_conf-clause-grows c = grows_then _ _ _ c.in_ok-symm.ensures.grows c.in_err-same_conf.ensures.grows

@@ -32,3 +32,6 @@ pub returns-clause-derives : goal.returns-clause-derives
 returns-clause-derives c b f d =
     let w = c.declarer-p.ensures.declares in
     c.in_ok-same_name.ensures.derives b _ (f.associated w.0 _ w.1) (c.in_ok-carry_conf.ensures.derives b d)
+
+pub returns-in_err-same_name-clause-grows : goal.returns-in_err-same_name-clause-grows
+returns-in_err-same_name-clause-grows c = grows_then _ _ _ c.in_ok-carry_conf.ensures.grows c.in_err-same_name.ensures.grows

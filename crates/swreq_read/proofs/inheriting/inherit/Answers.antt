@@ -55,3 +55,6 @@ returns-clause-grows c = c.loop-k.invariant.grows
 
 pub returns-clause-derives : goal.returns-clause-derives
 returns-clause-derives c = c.loop-k.invariant.derives
+
+pub returns-in_err-parent-clause-grows : goal.returns-in_err-parent-clause-grows
+returns-in_err-parent-clause-grows c = grows_then _ _ _ c.loop-k.invariant.grows c.in_err-parent.ensures.grows

@@ -79,3 +79,15 @@ returns-clause-grows c =
 pub returns-clause-derives : goal.returns-clause-derives
 returns-clause-derives c b d = c.in_ok-trans.ensures.derives b
     (c.in_ok-last.ensures.derives b (c.in_ok-middle.ensures.derives b (c.in_ok-first.ensures.derives b d)))
+
+pub returns-in_err-middle-clause-grows : goal.returns-in_err-middle-clause-grows
+returns-in_err-middle-clause-grows c = grows_then _ _ _ c.in_ok-first.ensures.grows c.in_err-middle.ensures.grows
+
+pub returns-in_err-last-clause-grows : goal.returns-in_err-last-clause-grows
+returns-in_err-last-clause-grows c =
+    grows_then _ _ _ (grows_then _ _ _ c.in_ok-first.ensures.grows c.in_ok-middle.ensures.grows) c.in_err-last.ensures.grows
+
+pub returns-in_err-trans-clause-grows : goal.returns-in_err-trans-clause-grows
+returns-in_err-trans-clause-grows c =
+    grows_then _ _ _ (grows_then _ _ _ (grows_then _ _ _ c.in_ok-first.ensures.grows c.in_ok-middle.ensures.grows)
+    c.in_ok-last.ensures.grows) c.in_err-trans.ensures.grows

@@ -54,3 +54,10 @@ returns-clause-derives c b f d =
     (term_still s s1 g1 c.args.members.plain c.requires.members.plain.0 ∙ c.requires.members.plain.1
     ∙ ap₂ (λ z y. Member z (Name y)) t (λ i. c.args.named.name))
     (c.in_ok-same_conf.ensures.derives b d))
+
+pub returns-in_err-assoc_bind-clause-grows : goal.returns-in_err-assoc_bind-clause-grows
+returns-in_err-assoc_bind-clause-grows c = grows_then _ _ _ c.in_ok-same_conf.ensures.grows c.in_err-assoc_bind.ensures.grows
+
+pub returns-in_err-trans-clause-grows : goal.returns-in_err-trans-clause-grows
+returns-in_err-trans-clause-grows c =
+    grows_then _ _ _ (grows_then _ _ _ c.in_ok-same_conf.ensures.grows c.in_ok-assoc_bind.ensures.grows) c.in_err-trans.ensures.grows

@@ -131,3 +131,20 @@ returns-in_ok-bind-in-Bound-clause-derives c b f d =
     c.in_ok-bind-in-Bound.ensures.derives b f
     (c.in_ok-same_name.ensures.derives b (record { rank = w.0 }) (f.associated w.0 c.args.named w.1.0)
     (c.in_ok-stepped.ensures.derives b (c.in_ok-last.ensures.derives b (c.in_ok-plain.ensures.derives b d))))
+
+pub returns-in_err-last-clause-grows : goal.returns-in_err-last-clause-grows
+returns-in_err-last-clause-grows c = grows_then _ _ _ c.in_ok-plain.ensures.grows c.in_err-last.ensures.grows
+
+pub returns-in_err-stepped-clause-grows : goal.returns-in_err-stepped-clause-grows
+returns-in_err-stepped-clause-grows c =
+    grows_then _ _ _ (grows_then _ _ _ c.in_ok-plain.ensures.grows c.in_ok-last.ensures.grows) c.in_err-stepped.ensures.grows
+
+pub returns-in_err-same_name-clause-grows : goal.returns-in_err-same_name-clause-grows
+returns-in_err-same_name-clause-grows c =
+    grows_then _ _ _ (grows_then _ _ _ (grows_then _ _ _ c.in_ok-plain.ensures.grows c.in_ok-last.ensures.grows)
+    c.in_ok-stepped.ensures.grows) c.in_err-same_name.ensures.grows
+
+pub returns-in_err-bind-in-Bound-clause-grows : goal.returns-in_err-bind-in-Bound-clause-grows
+returns-in_err-bind-in-Bound-clause-grows c =
+    grows_then _ _ _ (grows_then _ _ _ (grows_then _ _ _ (grows_then _ _ _ c.in_ok-plain.ensures.grows c.in_ok-last.ensures.grows)
+    c.in_ok-stepped.ensures.grows) c.in_ok-same_name.ensures.grows) c.in_err-bind-in-Bound.ensures.grows

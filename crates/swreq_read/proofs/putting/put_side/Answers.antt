@@ -59,3 +59,10 @@ returns-clause-grows c =
 pub returns-clause-derives : goal.returns-clause-derives
 returns-clause-derives c b f d = c.in_ok-carry_all.ensures.derives b f
     (c.in_ok-second.ensures.derives b (c.in_ok-first.ensures.derives b d))
+
+pub returns-in_err-second-clause-grows : goal.returns-in_err-second-clause-grows
+returns-in_err-second-clause-grows c = grows_then _ _ _ c.in_ok-first.ensures.grows c.in_err-second.ensures.grows
+
+pub returns-in_err-carry_all-clause-grows : goal.returns-in_err-carry_all-clause-grows
+returns-in_err-carry_all-clause-grows c =
+    grows_then _ _ _ (grows_then _ _ _ c.in_ok-first.ensures.grows c.in_ok-second.ensures.grows) c.in_err-carry_all.ensures.grows

@@ -41,3 +41,6 @@ returns-clause-grows c =
 
 pub returns-clause-derives : goal.returns-clause-derives
 returns-clause-derives c b f d = c.in_ok-put_side.ensures.derives b f (c.in_ok-v.ensures.derives b d)
+
+pub returns-in_err-put_side-clause-grows : goal.returns-in_err-put_side-clause-grows
+returns-in_err-put_side-clause-grows c = grows_then _ _ _ c.in_ok-v.ensures.grows c.in_err-put_side.ensures.grows

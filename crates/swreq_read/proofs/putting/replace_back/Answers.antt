@@ -51,3 +51,10 @@ returns-clause-grows c =
 
 pub returns-clause-derives : goal.returns-clause-derives
 returns-clause-derives c b f d = c.in_ok-replace.ensures.derives b f (c.in_ok-turn.ensures.derives b (c.in_ok-v.ensures.derives b d))
+
+pub returns-in_err-turn-clause-grows : goal.returns-in_err-turn-clause-grows
+returns-in_err-turn-clause-grows c = grows_then _ _ _ c.in_ok-v.ensures.grows c.in_err-turn.ensures.grows
+
+pub returns-in_err-replace-clause-grows : goal.returns-in_err-replace-clause-grows
+returns-in_err-replace-clause-grows c =
+    grows_then _ _ _ (grows_then _ _ _ c.in_ok-v.ensures.grows c.in_ok-turn.ensures.grows) c.in_err-replace.ensures.grows

@@ -9,3 +9,6 @@ loop-k-preserved c = let i = c.loop-k.invariant in record {
   grows = grows_then c.args.sheet.now c.loop-k.sheet c.after.new.sheet i.grows c.in_ok-at.ensures.grows;
   derives = λ b d. c.in_ok-at.ensures.derives b (i.derives b d);
 }
+
+pub returns-in_err-at-clause-grows : goal.returns-in_err-at-clause-grows
+returns-in_err-at-clause-grows c = grows_then _ _ _ c.loop-k.invariant.grows c.in_err-at.ensures.grows

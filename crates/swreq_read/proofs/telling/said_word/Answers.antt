@@ -25,3 +25,6 @@ loop-k-preserved c =
       grows = grows_then c.args.sheet.now s n i.grows grows;
       derives = λ b d. c.in_ok-at.ensures.derives b (i.derives b d);
     }
+
+pub returns-in_err-at-clause-grows : goal.returns-in_err-at-clause-grows
+returns-in_err-at-clause-grows c = grows_then _ _ _ c.loop-k.invariant.grows c.in_err-at.ensures.grows

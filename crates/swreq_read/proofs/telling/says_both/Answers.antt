@@ -33,3 +33,6 @@ returns-in-Some-second-clause-told c =
     both_told g s2 t u v (term_at s2.table c.in-Some.left) (term_at s2.table c.in-Some-second.right) c.are_equal.result
     (term_still s1 s2 grows c.in-Some.left left.0 ∙ left.2) (right.2 ∙ ap (λ z. read g z v) same)
     (word_still g s1 s2 grows t u left.1) (subst (λ z. SaysWord g s2 z v) same right.1) c.are_equal.ensures
+
+pub returns-in_err-second-in-Some-clause-grows : goal.returns-in_err-second-in-Some-clause-grows
+returns-in_err-second-in-Some-clause-grows c = grows_then _ _ _ c.in_ok-first.ensures.grows c.in_err-second-in-Some.ensures.grows

@@ -1,5 +1,12 @@
-use Rattle.swreq_sheet.proofs.SheetLemmas.{unsaid}
+use Rattle.std.proofs.Common.{refl}
+use Rattle.swreq_sheet.proofs.SheetLemmas.{grown_by_line, unsaid}
 use Rattle.swreq_sheet.proofs.adding.add.Goals as goal
 
-pub push-requires : goal.push-requires
-push-requires c = unsaid c.args.sheet.now c.args.statement c.requires.sheet c.requires.unsaid
+pub push-requires-2 : goal.push-requires-2
+push-requires-2 c = unsaid c.args.sheet.now c.args.statement c.requires.sheet c.requires.unsaid
+
+pub returns-in-Ok-clause-grows : goal.returns-in-Ok-clause-grows
+returns-in-Ok-clause-grows c =
+    let s = c.args.sheet.now in
+    grown_by_line s (record { alloc = s.alloc; table = s.table; lines = c.push.new.self; stated = c.push-2.new.self }) _
+    c.requires.sheet c.requires.ids refl c.in-Ok.ensures.ok c.in_ok-push.ensures.items

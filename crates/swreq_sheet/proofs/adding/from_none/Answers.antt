@@ -1,19 +1,14 @@
 use Rattle.std.proofs.Common.{sym, subst, []}
 use Rattle.swreq_derive.specs.Instances.{AreStated}
 use Rattle.swreq_sheet.specs.Sheets.{said}
-use Rattle.swreq_sheet.proofs.SheetLemmas.{grown_by_line, kept_by_line, says_line}
+use Rattle.swreq_sheet.proofs.SheetLemmas.{kept_by_line, says_line}
 use Rattle.swreq_sheet.proofs.adding.from_none.Goals as goal
 
 pub returns-clause-says : goal.returns-clause-says
-returns-clause-says c = says_line c.args.sheet.now c.add.new.sheet _ c.in_ok-add.ensures.table c.in_ok-add.ensures.lines
-
-pub returns-clause-grows : goal.returns-clause-grows
-returns-clause-grows c =
-    grown_by_line c.args.sheet.now c.add.new.sheet _ c.requires.sheet c.requires.gives c.in_ok-add.ensures.table c.in_ok-add.ensures.stated
-    c.in_ok-add.ensures.lines
+returns-clause-says c = says_line c.args.sheet.now c.add.new.sheet _ c.add.ensures.table c.in_ok-add.ensures.lines
 
 pub returns-clause-derives : goal.returns-clause-derives
 returns-clause-derives c b i =
     let s = c.args.sheet.now in
-    kept_by_line b s c.add.new.sheet c.args.rule _ [] c.args.gives c.in_ok-add.ensures.table c.in_ok-add.ensures.lines
+    kept_by_line b s c.add.new.sheet c.args.rule _ [] c.args.gives c.add.ensures.table c.in_ok-add.ensures.lines
     (subst (λ z. AreStated (said s) z []) (sym c.new-premises.ensures.items) tt) i

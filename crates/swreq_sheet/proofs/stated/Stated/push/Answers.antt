@@ -3,8 +3,8 @@ use Rattle.swreq_sheet.specs.Keys.{statement_by}
 use Rattle.swreq_sheet.proofs.KeyLemmas.{put_last}
 use Rattle.swreq_sheet.proofs.stated.Stated.push.Goals as goal
 
-pub returns : goal.returns
-returns c =
+pub returns-clause-ok : goal.returns-clause-ok
+returns-clause-ok c =
     ap (map statement_by) c.in_ok-insert.ensures.keys
     ∙ put_last c.key_of-key.result c.self.inside.keys.keys c.args.statement c.key_of-key.ensures
     (λ k w. c.requires k (rw (← c.self.view_is) w))
