@@ -1,5 +1,5 @@
 -- Whether a requirement follows from the others, asked by reach.
-use Rattle.std.proofs.Common.{◌≡◌, ◌∙◌, ◌↔◌, ap, sym, subst, ℕ, Bool, false, IfOk, IsTrue, List, length, map, slice_get, OnOk, Option, Result, Some, Ok, true}
+use Rattle.std.proofs.Common.{◌≡◌, ◌∙◌, ◌↔◌, ap, inl, inr, sym, subst, ℕ, Bool, false, IfOk, IsTrue, List, length, map, slice_get, OnOk, Option, Result, Some, Ok, true}
 use Rattle.std.proofs.lemmas.Option.{same_Some}
 use Rattle.std.proofs.lemmas.Result.{IfOk-weaker}
 use Rattle.swreq_param.specs.declared.ids.ProtoId.{ProtoId}
@@ -28,11 +28,14 @@ use Rattle.swreq_reqsig.specs.declared.places.Place.{Place}
 use Rattle.swreq_reqsig.specs.Families.{DerivesWith, associated_types_of, family_of, family_plan, owned}
 use Rattle.swreq_reqsig.specs.Marks.{HasRanksBelow, HaveRanksBelow, IsMarked, TellReached, kept_at, marked}
 use Rattle.swreq_reqsig.specs.Places.{all_places, owned_at}
-use Rattle.swreq_reqsig.specs.Reaching.{AreAsked, AreReachedFlags, IsBeyond, IsOutOfReach, IsReachedPart}
+use Rattle.swreq_reqsig.specs.Asked.{AreAsked, IsBeyond, IsOutOfReach}
+use Rattle.swreq_reqsig.specs.Reaching.{AreReachedFlags, IsReachedPart}
+use Rattle.swreq_reqsig.specs.Saying.{IsUnsaid}
 use Rattle.swreq_reqsig.specs.Told.{IsSettled}
 use Rattle.swreq_reqsig.specs.Told.IsSettled.{by_rounds}
 use Rattle.swreq_reqsig.proofs.ByReach.{conforms_by_reach, derives_by_reach, flags_give_part}
 use Rattle.swreq_reqsig.proofs.Passing.{conf_of, marked_reached}
+use Rattle.swreq_reqsig.proofs.Unsaid.{unsaid_not_derivable}
 use Rattle.swreq_reqsig.proofs.Placing.{owned_there, place_is, place_known, places_count, places_owned}
 
 module _ (w : IdWorld) (terms : List Term) (text : IsTextOver terms w) where
@@ -71,25 +74,30 @@ module _ (w : IdWorld) (terms : List Term) (text : IsTextOver terms w) where
     told : (marks : List Bool) → TellReached (kept_at terms places flags) x.proto marks → TellReached (family_of W flags) x.proto marks
     told marks tell = subst (λ (z : List Owned). TellReached z x.proto marks) (kept_family places flags are) tell
 
+    pub is_unsaid : IsUnsaid w.lexicon (family_of W flags) x.proto (requirement_of terms x.requirement) → IsBeyond W at flags
+    is_unsaid unsaid = record { requirement = owned_at terms x; stands = stands; follows_not = inl unsaid }
+
     pub is_beyond : (marks : List Bool) → TellReached (kept_at terms places flags) x.proto marks
         → (t : TermId) × (q : ProtoId) × (x.requirement ≡ Conf t q) × (IsMarked marks q → ⊥) → IsBeyond W at flags
     is_beyond marks tell (t, q, says, unmarked) = record {
       requirement = owned_at terms x;
       stands = stands;
-      unreached = record {
+      follows_not = inr (record {
         subject = term_at terms t;
         proto = q;
         says = ap (requirement_of terms) says;
         unreached = λ r. unmarked ((told marks tell q).1 r);
-      };
+      });
     }
 
-    pub are_asked : (marks asked : List Bool) → TellReached (kept_at terms places flags) x.proto marks → length flags ≡ length places
+    pub are_asked : (IsUnsaid w.lexicon (family_of W flags) x.proto (requirement_of terms x.requirement) → ⊥)
+        → (marks asked : List Bool) → TellReached (kept_at terms places flags) x.proto marks → length flags ≡ length places
         → ((t : TermId) (q : ProtoId) → x.requirement ≡ Conf t q → IsMarked marks q) → asked ≡ marked places flags marks
         → AreAsked W at flags asked
-    are_asked marks asked tell l within e = record {
+    are_asked said marks asked tell l within e = record {
       requirement = owned_at terms x;
       stands = stands;
+      said = said;
       within = λ u q says. let r = conf_of terms x.requirement u q says in (told marks tell q).0 (within r.0 q r.1);
       reached = subst (λ (z : List Bool). AreReachedFlags (owned W) flags x.proto z) (sym e)
           (subst (λ (all : List Owned). AreReachedFlags all flags x.proto (marked places flags marks))
@@ -113,11 +121,17 @@ module _ (w : IdWorld) (terms : List Term) (text : IsTextOver terms w) where
         out.unreached (conforms_by_reach ds (family_of W flags) x.proto out.proto out.subject
         (subst (λ (r : TermRequirement). Derivable (owned_facts ds (family_of W flags)) (SelfOf x.proto) (Requires r)) out.says e))
 
+    beyond : IsBeyond W at flags → Follows → ⊥
+    beyond is e =
+        let same = here is.requirement is.stands in
+        elim is.follows_not [
+          | inl unsaid ↦ unsaid_not_derivable w.lexicon (family_of W flags) x.proto (requirement_of terms x.requirement)
+              (subst (λ (o : Owned). IsUnsaid w.lexicon (family_of W flags) o.proto o.requirement) same unsaid) e
+          | inr out ↦ not_out_of_reach (subst (λ (o : Owned). IsOutOfReach (family_of W flags) o) same out) e
+        ]
+
     pub follows_not : IsBeyond W at flags → IsTrue false ↔ Follows
-    follows_not is = (
-      (λ t. absurd (let z : false ≡ true = t in cc)),
-      λ e. absurd (not_out_of_reach (subst (λ (o : Owned). IsOutOfReach (family_of W flags) o) (here is.requirement is.stands) is.unreached) e),
-    )
+    follows_not is = ((λ t. absurd (let z : false ≡ true = t in cc)), λ e. absurd (beyond is e))
 
     pub follows_asked : (asked : List Bool) → AreAsked W at flags asked → (b : Bool)
         → IsTrue b ↔ Derivable (owned_facts ds (family_of W asked)) (SelfOf x.proto) (Requires (requirement_of terms x.requirement))

@@ -18,7 +18,9 @@ use Rattle.swreq_reqsig.specs.declared.family.Family.{Family}
 use Rattle.swreq_reqsig.specs.Families.{associated_types_of, family_of, family_plan, numbers, owned}
 use Rattle.swreq_reqsig.specs.GoingThrough.{AreLeft, without}
 use Rattle.swreq_reqsig.specs.GoingThrough.AreLeft.{further as left_further, whole}
-use Rattle.swreq_reqsig.specs.Reaching.{AreAsked, AreReachedFlags, IsBeyond, IsOutOfReach}
+use Rattle.swreq_reqsig.specs.Asked.{AreAsked, IsBeyond, IsOutOfReach}
+use Rattle.swreq_reqsig.specs.Reaching.{AreReachedFlags}
+use Rattle.swreq_reqsig.specs.Saying.{IsUnsaid}
 use Rattle.swreq_reqsig.specs.Told.{HasGone, IsFamilyOutcome, IsForMemory, IsSettled, IsStopped, StopsAt}
 use Rattle.swreq_reqsig.specs.Told.HasGone.{further, start}
 use Rattle.swreq_reqsig.specs.Told.IsSettled.{by_rounds, out_of_reach}
@@ -64,8 +66,11 @@ module _ (limits : Limits) (w : TextWorld) (n : ℕ) (others : List Bool) where
   not_beyond : (asked : List Bool) → AreAsked w n others asked → IsBeyond w n others → ⊥
   not_beyond asked are is =
       let same : is.requirement ≡ are.requirement = same_Some _ _ (sym is.stands ∙ are.stands) in
-      let out : IsOutOfReach (family_of w others) are.requirement = subst (IsOutOfReach (family_of w others)) same is.unreached in
-      out.unreached (are.within out.subject out.proto out.says)
+      elim is.follows_not [
+        | inl unsaid ↦ are.said (subst (λ (o : Owned). IsUnsaid w.lexicon (family_of w others) o.proto o.requirement) same unsaid)
+        | inr beyond ↦ (let out : IsOutOfReach (family_of w others) are.requirement = subst (IsOutOfReach (family_of w others)) same beyond in
+            out.unreached (are.within out.subject out.proto out.says))
+      ]
 
   settled_one : (a b : List Event) → IsSettled limits w n others a → IsSettled limits w n others b → a ≡ b
   settled_one a b (out_of_reach i e) (out_of_reach j h) = e ∙ sym h

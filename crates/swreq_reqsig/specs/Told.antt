@@ -12,7 +12,7 @@ use Rattle.swreq_world.specs.Worlds.{TextWorld}
 use Rattle.swreq_reqsig.specs.declared.family.Family.{Family}
 use Rattle.swreq_reqsig.specs.Families.{associated_types_of, family_plan, numbers, owned}
 use Rattle.swreq_reqsig.specs.GoingThrough.{IsDecided, all_kept, without}
-use Rattle.swreq_reqsig.specs.Reaching.{AreAsked, IsBeyond}
+use Rattle.swreq_reqsig.specs.Asked.{AreAsked, IsBeyond}
 
 module _ (limits : Limits) (w : TextWorld) where
   -- ---- one requirement, with the others whose flags are set

@@ -11,6 +11,7 @@ ghost use Rattle.swreq_reqsig.specs.Told.{AnswersFamily, IsOnlyFamily};
 use crate::family::Family;
 use crate::flags::family_of;
 use crate::going::go_through;
+use crate::outlines::outlines;
 use crate::places::all_places;
 use crate::setting::Setting;
 use std::alloc::Global;
@@ -52,9 +53,14 @@ pub fn kept_family<W: Watch>(
         Ok(places) => places,
         Err(_) => return Err(Failed::Memory),
     };
+    let outlines = match outlines(alloc, world, table, &places) {
+        Ok(outlines) => outlines,
+        Err(_) => return Err(Failed::Memory),
+    };
     let setting = Setting {
         world,
         table,
+        outlines: &outlines,
         limits,
     };
     match go_through(alloc, &setting, &places, watch) {

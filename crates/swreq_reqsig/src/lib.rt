@@ -9,8 +9,10 @@ mod flags;
 mod going;
 mod kept;
 pub mod laws;
+mod outlines;
 mod places;
 mod reaching;
+mod saying;
 mod setting;
 mod texts;
 

@@ -1,0 +1,251 @@
+//! What a family says of type parameters with one last name, and which requirements it leaves unsaid.
+ghost use Rattle.std.specs.Prelude.{◌≡◌, ◌<◌, ◌↔◌, ◌⊎◌, IfOk, IsTrue, None, Some, length, slice_get};
+ghost use Rattle.swreq_derive.specs.Facts.{requirement_of};
+ghost use Rattle.swreq_reqsig.specs.Families.{family_of};
+ghost use Rattle.swreq_reqsig.specs.Marks.{HaveRanksBelow, IsMarked};
+ghost use Rattle.swreq_reqsig.specs.Outlines.{AreSaid, BearsBy, HasProtocolBelow, HaveProtocolsBelow, IsMarkedToo, IsSaidBefore, IsSaidBy};
+ghost use Rattle.swreq_reqsig.specs.Places.{all_places};
+ghost use Rattle.swreq_reqsig.specs.Saying.{IsUnsaid, SaysConforms, SaysEqual, SaysObject};
+ghost use Rattle.swreq_reqsig.specs.Settings.{IsSetting, text_in};
+
+use crate::outlines::{Kind, Outline};
+use crate::places::Place;
+use crate::reaching::{close, is_marked};
+use crate::setting::Setting;
+use std::alloc::{AllocError, Global};
+use swreq_param::{NameId, ProtoId};
+
+/// Whether two last names are one.
+fn is_same(a: Option<NameId>, b: Option<NameId>) -> bool
+    ensures { IsTrue result ↔ (a ≡ b) }
+{
+    match (a, b) {
+        (Some(a), Some(b)) => a.rank == b.rank,
+        (None, None) => true,
+        (Some(_), None) => false,
+        (None, Some(_)) => false,
+    }
+}
+
+/// Marks the protocol of a conformance that is kept and whose subject has the last name.
+fn mark(outline: &Outline, kept: bool, name: Option<NameId>, marks: &mut Vec<bool>)
+    requires { HasProtocolBelow (length marks.old.items) outline.now }
+    ensures { IsMarkedToo outline.now kept name marks.old.items marks.new.items }
+{
+    match outline {
+        Outline::Conformance { subject, proto } => {
+            if kept && is_same(*subject, name) {
+                marks[proto.rank as usize] = true;
+            }
+        }
+        Outline::Object { .. } => {}
+        Outline::Equality { .. } => {}
+    }
+}
+
+/// Marks for all protocols, set for those to which it is said of a type parameter with the last name that it conforms, by a requirement
+/// whose flag is set.
+fn stated(
+    alloc: Global,
+    protocols: usize,
+    outlines: &[Outline],
+    flags: &[bool],
+    name: Option<NameId>,
+) -> Result<Vec<bool>, AllocError>
+    requires flags { length flags.now ≡ length outlines.now }
+    requires ranks { HaveProtocolsBelow protocols outlines.now }
+    ensures { IfOk result (λ marks. AreSaid outlines.now flags.now (length outlines.now) name protocols marks.items) }
+{
+    let mut marks = vec![in alloc; false; protocols]?;
+    for k in 0..outlines.len() {
+        mark(&outlines[k], flags[k], name, &mut marks);
+    }
+    Ok(marks)
+}
+
+/// Marks for all protocols, set for those to which a type parameter with the last name conforms by what the family says.
+fn said(
+    alloc: Global,
+    setting: &Setting<'_>,
+    places: &[Place],
+    flags: &[bool],
+    name: Option<NameId>,
+) -> Result<Vec<bool>, AllocError>
+    requires setting { IsSetting setting.now }
+    requires places { places.now ≡ all_places setting.now.world.now }
+    requires flags { length flags.now ≡ length places.now }
+    ensures { IfOk result (λ marks. (q : ProtoId) → IsMarked marks.items q
+        ↔ SaysConforms setting.now.world.now.lexicon (family_of (text_in setting.now) flags.now) name q) }
+{
+    let protocols = setting.world.protocols() as usize;
+    let mut marks = stated(alloc, protocols, setting.outlines, flags, name)?;
+    close(places, flags, &mut marks);
+    Ok(marks)
+}
+
+/// Whether there is no name, and a protocol is marked.
+fn is_marked_self(name: Option<NameId>, owner: ProtoId, marks: &[bool]) -> bool
+    ensures { IsTrue result ↔ ((name ≡ None) × IsMarked marks.now owner) }
+{
+    match name {
+        Some(_) => false,
+        None => is_marked(marks, owner),
+    }
+}
+
+/// Whether what a protocol requires of a type parameter is required of one with the last name: whether it has this, or is `Self` and the
+/// protocol is marked.
+fn bears_on(name: Option<NameId>, marks: &[bool], owner: ProtoId, other: Option<NameId>) -> bool
+    ensures { IsTrue result ↔ BearsBy name marks.now owner other }
+{
+    is_same(other, name) || is_marked_self(other, owner, marks)
+}
+
+/// Whether a requirement says of a type parameter with the last name that it is an object, or that it is equal to one.
+fn is_said_by(kind: Kind, name: Option<NameId>, marks: &[bool], outline: &Outline) -> bool
+    ensures { IsTrue result ↔ IsSaidBy kind name marks.now outline.now }
+{
+    match (kind, outline) {
+        (_, Outline::Conformance { .. }) => false,
+        (Kind::IsObject, Outline::Object { subject, owner }) => bears_on(name, marks, *owner, *subject),
+        (Kind::IsObject, Outline::Equality { .. }) => false,
+        (Kind::IsEqual, Outline::Object { .. }) => false,
+        (Kind::IsEqual, Outline::Equality { left, right, owner }) => {
+            bears_on(name, marks, *owner, *left) || bears_on(name, marks, *owner, *right)
+        }
+    }
+}
+
+/// Whether one of the requirements whose flags are set says so.
+fn is_said(
+    kind: Kind,
+    name: Option<NameId>,
+    marks: &[bool],
+    outlines: &[Outline],
+    flags: &[bool],
+) -> bool
+    requires { length flags.now ≡ length outlines.now }
+    ensures { IsTrue result ↔ IsSaidBefore outlines.now flags.now (length outlines.now) kind name marks.now }
+{
+    for k in 0..outlines.len() {
+        if flags[k] && is_said_by(kind, name, marks, &outlines[k]) {
+            return true;
+        }
+    }
+    false
+}
+
+/// Whether the family does not say of a type parameter with the last name that it is equal to one.
+fn is_apart(
+    alloc: Global,
+    setting: &Setting<'_>,
+    places: &[Place],
+    flags: &[bool],
+    name: Option<NameId>,
+) -> Result<bool, AllocError>
+    requires setting { IsSetting setting.now }
+    requires places { places.now ≡ all_places setting.now.world.now }
+    requires flags { length flags.now ≡ length places.now }
+    ensures { IfOk result (λ b. IsTrue b
+        ↔ (SaysEqual setting.now.world.now.lexicon (family_of (text_in setting.now) flags.now) name → ⊥)) }
+{
+    let marks = said(alloc, setting, places, flags, name)?;
+    Ok(!is_said(Kind::IsEqual, name, &marks, setting.outlines, flags))
+}
+
+/// Whether the family does not say of a type parameter with the last name that it conforms to a protocol or is equal to one.
+fn lacks_conformance(
+    alloc: Global,
+    setting: &Setting<'_>,
+    places: &[Place],
+    flags: &[bool],
+    name: Option<NameId>,
+    proto: ProtoId,
+) -> Result<bool, AllocError>
+    requires setting { IsSetting setting.now }
+    requires places { places.now ≡ all_places setting.now.world.now }
+    requires flags { length flags.now ≡ length places.now }
+    ensures { IfOk result (λ b. IsTrue b
+        ↔ ((SaysEqual setting.now.world.now.lexicon (family_of (text_in setting.now) flags.now) name → ⊥)
+        × (SaysConforms setting.now.world.now.lexicon (family_of (text_in setting.now) flags.now) name proto → ⊥))) }
+{
+    let marks = said(alloc, setting, places, flags, name)?;
+    if is_marked(&marks, proto) {
+        return Ok(false);
+    }
+    Ok(!is_said(Kind::IsEqual, name, &marks, setting.outlines, flags))
+}
+
+/// Whether the family does not say of a type parameter with the last name that it is an object or equal to one.
+fn lacks_object(
+    alloc: Global,
+    setting: &Setting<'_>,
+    places: &[Place],
+    flags: &[bool],
+    name: Option<NameId>,
+) -> Result<bool, AllocError>
+    requires setting { IsSetting setting.now }
+    requires places { places.now ≡ all_places setting.now.world.now }
+    requires flags { length flags.now ≡ length places.now }
+    ensures { IfOk result (λ b. IsTrue b
+        ↔ ((SaysEqual setting.now.world.now.lexicon (family_of (text_in setting.now) flags.now) name → ⊥)
+        × (SaysObject setting.now.world.now.lexicon (family_of (text_in setting.now) flags.now) name → ⊥))) }
+{
+    let marks = said(alloc, setting, places, flags, name)?;
+    if is_said(Kind::IsObject, name, &marks, setting.outlines, flags) {
+        return Ok(false);
+    }
+    Ok(!is_said(Kind::IsEqual, name, &marks, setting.outlines, flags))
+}
+
+/// Whether type parameters with two last names are not equal by what the family says: whether the names differ, and it is not said of those with
+/// the one, or of those with the other, that they are equal to others.
+fn lacks_equality(
+    alloc: Global,
+    setting: &Setting<'_>,
+    places: &[Place],
+    flags: &[bool],
+    left: Option<NameId>,
+    right: Option<NameId>,
+) -> Result<bool, AllocError>
+    requires setting { IsSetting setting.now }
+    requires places { places.now ≡ all_places setting.now.world.now }
+    requires flags { length flags.now ≡ length places.now }
+    ensures { IfOk result (λ b. IsTrue b
+        ↔ ((left ≡ right → ⊥) × ((SaysEqual setting.now.world.now.lexicon (family_of (text_in setting.now) flags.now) left → ⊥)
+        ⊎ (SaysEqual setting.now.world.now.lexicon (family_of (text_in setting.now) flags.now) right → ⊥)))) }
+{
+    if is_same(left, right) || is_apart(alloc, setting, places, flags, left)? {
+        return Ok(!is_same(left, right));
+    }
+    is_apart(alloc, setting, places, flags, right)
+}
+
+/// Whether the requirement at a place is unsaid by those whose flags are set.
+pub(crate) fn is_unsaid(
+    alloc: Global,
+    setting: &Setting<'_>,
+    places: &[Place],
+    flags: &[bool],
+    at: usize,
+) -> Result<bool, AllocError>
+    requires setting { IsSetting setting.now }
+    requires places { places.now ≡ all_places setting.now.world.now }
+    requires flags { length flags.now ≡ length places.now }
+    requires at { at < length places.now }
+    ensures { IfOk result (λ b. (x : Place) → slice_get places.now at ≡ Some x → IsTrue b
+        ↔ IsUnsaid setting.now.world.now.lexicon (family_of (text_in setting.now) flags.now) x.proto (requirement_of setting.now.table.now x.requirement)) }
+{
+    match setting.outlines[at] {
+        Outline::Conformance { subject, proto } => {
+            if subject.is_none() && proto.rank == places[at].proto.rank {
+                return Ok(false);
+            }
+            lacks_conformance(alloc, setting, places, flags, subject, proto)
+        }
+        Outline::Object { subject, .. } => lacks_object(alloc, setting, places, flags, subject),
+        Outline::Equality { left, right, .. } => {
+            lacks_equality(alloc, setting, places, flags, left, right)
+        }
+    }
+}
