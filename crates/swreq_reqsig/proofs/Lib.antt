@@ -3,6 +3,7 @@ pub mod Leaving
 pub mod ByReach
 pub mod Unsaid
 pub mod Passing
+pub mod Naming
 pub mod Spoken
 pub mod Asking
 pub mod OneFamily

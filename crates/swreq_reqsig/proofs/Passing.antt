@@ -179,12 +179,13 @@ module _ (places : List Place) (flags starts : List Bool) where
     pub reachable : (terms : List Term) → AreReachable (kept_at terms places flags) starts marks
     pub closed : grows ≡ false → AreClosedFrom places flags marks 0
 
-  pub found_first : AreFound true starts
-  found_first = record {
+  -- where none is marked they are closed
+  pub found_first : (any : Bool) → (any ≡ false → (q : ProtoId) → IsMarked starts q → ⊥) → AreFound any starts
+  found_first any none = record {
     count = refl;
     start = λ q m. m;
     reachable = λ terms q m. record { start = q; is_marked = m; reaches = itself refl };
-    closed = λ f. absurd (let z : true ≡ false = f in cc);
+    closed = λ e k x kept f there set q leads. absurd (none e x.proto leads.own);
   }
 
   pub found_more : (grows grew : Bool) (old new : List Bool) → AreFound grows old → HasPassed places flags 0 grew old new → AreFound grew new

@@ -3,7 +3,7 @@ use Rattle.std.proofs.Common.{◌≡◌, ◌∙◌, ◌↔◌, ◌⊎◌, ◌<�
 use Rattle.std.proofs.lemmas.Bool.{cases_eq}
 use Rattle.std.proofs.lemmas.List.{length-replicate, length-set}
 use Rattle.std.proofs.lemmas.Option.{same_Some, slice_get_within}
-use Rattle.swreq_orders.proofs.Elements.{get_map, get_of_map, set_cases, set_here}
+use Rattle.swreq_orders.proofs.Elements.{contains_get, get_contains, get_map, get_of_map, set_cases, set_here}
 use Rattle.swreq_param.specs.declared.ids.NameId.{NameId}
 use Rattle.swreq_param.specs.declared.ids.ProtoId.{ProtoId}
 use Rattle.swreq_param.specs.Terms.{Term}
@@ -17,7 +17,8 @@ use Rattle.swreq_reqsig.specs.declared.outlines.Kind.TheVariants.{IsObject, IsEq
 use Rattle.swreq_reqsig.specs.declared.outlines.Outline.{Outline}
 use Rattle.swreq_reqsig.specs.declared.outlines.Outline.TheVariants.{Conformance, Object, Equality}
 use Rattle.swreq_reqsig.specs.Marks.{IsLedTo, IsMarked, TellLed}
-use Rattle.swreq_reqsig.specs.Outlines.{AreSaid, BearsBy, IsEqualBy, IsMarkedToo, IsObjectBy, IsSaidBefore, IsSaidBy, SaysBefore, outline_in, outline_of, outlines_of}
+use Rattle.swreq_reqsig.specs.Named.{AreNamed, Names, kept_for}
+use Rattle.swreq_reqsig.specs.Outlines.{ArePlaces, AreSaid, AreSaidIn, BearsBy, IsAmong, IsEqualBy, IsMarkedToo, IsObjectBy, IsSaidAt, IsSaidBy, IsSaidIn, outline_in, outline_of, outlines_of}
 use Rattle.swreq_reqsig.specs.Saying.{BearsOn, SaysConforms, SaysEqual, SaysObject, last_name}
 use Rattle.swreq_reqsig.proofs.ByReach.{at_chosen, chosen_at}
 use Rattle.swreq_reqsig.proofs.Passing.{mark_stays, no_mark, same_rank}
@@ -47,64 +48,126 @@ marks_none outline kept a old none = record {
   each = λ q. ((λ m. inl m), λ h. elim h [ inl e ↦ e | inr (set, is) ↦ absurd (none q set is) ]);
 }
 
--- ---- all that are marked
+-- ---- those at the first places of a list
 
-module _ (outlines : List Outline) (flags : List Bool) where
-  pub said_none : (a : Option NameId) (protocols : ℕ) → AreSaid outlines flags 0 a protocols (replicate protocols false)
+among_more : (outlines : List Outline) (flags : List Bool) (places : List ℕ) (n k : ℕ) → IsAmong outlines flags places n k
+    → IsAmong outlines flags places (suc n) k
+among_more outlines flags places n k s = record { at = s.at; before = (let b = s.before in omega (arith, b)); stands = s.stands }
+
+module _ (outlines : List Outline) (flags : List Bool) (places : List ℕ) where
+  pub said_none : (a : Option NameId) (protocols : ℕ) → AreSaidIn outlines flags places 0 a protocols (replicate protocols false)
   said_none a protocols = record {
     count = length-replicate protocols false;
-    each = λ q. ((λ m. absurd (no_mark protocols q m)), λ s. let b = s.before in absurd (omega (arith, b)));
+    each = λ q. ((λ m. absurd (no_mark protocols q m)), λ s. let b = s.among.before in absurd (omega (arith, b)));
   }
 
-  module _ (n : ℕ) (outline : Outline) (kept : Bool) (there : slice_get outlines n ≡ Some outline) (flag : slice_get flags n ≡ Some kept) where
-    flag_is : (k : ℕ) → k ≡ n → slice_get flags k ≡ Some true → kept ≡ true
-    flag_is k e set = same_Some _ _ (sym flag ∙ ap (slice_get flags) (sym e) ∙ set)
+  pub unsaid_none : (kind : Kind) (a : Option NameId) (marks : List Bool) → IsSaidIn outlines flags places 0 kind a marks → ⊥
+  unsaid_none kind a marks s = let b = s.among.before in omega (arith, b)
 
-    outline_is : (k : ℕ) (other : Outline) → k ≡ n → slice_get outlines k ≡ Some other → outline ≡ other
-    outline_is k other e at = same_Some _ _ (sym there ∙ ap (slice_get outlines) (sym e) ∙ at)
+  module _ (n k : ℕ) (outline : Outline) (kept : Bool) (stands : slice_get places n ≡ Some k) (there : slice_get outlines k ≡ Some outline)
+      (flag : slice_get flags k ≡ Some kept) where
+    place_is : (i j : ℕ) → i ≡ n → slice_get places i ≡ Some j → k ≡ j
+    place_is i j e at = same_Some _ _ (sym stands ∙ ap (slice_get places) (sym e) ∙ at)
 
-    pub said_on : (a : Option NameId) (protocols : ℕ) (old new : List Bool) → AreSaid outlines flags n a protocols old
-        → IsMarkedToo outline kept a old new → AreSaid outlines flags (suc n) a protocols new
+    flag_is : (j : ℕ) → k ≡ j → slice_get flags j ≡ Some true → kept ≡ true
+    flag_is j e set = same_Some _ _ (sym flag ∙ ap (slice_get flags) e ∙ set)
+
+    outline_is : (j : ℕ) (other : Outline) → k ≡ j → slice_get outlines j ≡ Some other → outline ≡ other
+    outline_is j other e at = same_Some _ _ (sym there ∙ ap (slice_get outlines) e ∙ at)
+
+    among_here : IsAmong outlines flags places (suc n) k
+    among_here = record { at = n; before = omega arith; stands = stands }
+
+    -- one more is marked
+    pub said_on : (a : Option NameId) (protocols : ℕ) (old new : List Bool) → AreSaidIn outlines flags places n a protocols old
+        → IsMarkedToo outline kept a old new → AreSaidIn outlines flags places (suc n) a protocols new
     said_on a protocols old new h m = record {
       count = m.count ∙ h.count;
       each = λ q. (
         (λ is. elim ((m.each q).0 is) [
-          | inl e ↦ (let s = (h.each q).0 e in record {
-            place = s.place;
-            before = (let b = s.before in omega (arith, b));
-            kept = s.kept;
-            says = s.says;
-          })
-          | inr (set, same) ↦ record { place = n; before = omega arith; kept = flag ∙ ap Some set; says = there ∙ ap Some same }
+          | inl e ↦ (let s = (h.each q).0 e in record { says = s.says; among = among_more outlines flags places n s.says.place s.among })
+          | inr (set, same) ↦ record {
+            says = record { place = k; kept = flag ∙ ap Some set; says = there ∙ ap Some same };
+            among = among_here;
+          }
         ]),
-        λ s. (m.each q).1 (elim (cases_eq s.place n) [
-          | inl e ↦ inr (flag_is s.place e s.kept, outline_is s.place (Conformance a q) e s.says)
+        λ s. (m.each q).1 (elim (cases_eq s.among.at n) [
+          | inl e ↦ (let here = place_is s.among.at s.says.place e s.among.stands in
+              inr (flag_is s.says.place here s.says.kept, outline_is s.says.place (Conformance a q) here s.says.says))
           | inr d ↦ inl ((h.each q).1 (record {
-            place = s.place;
-            before = (let b = s.before in omega (arith, b, d));
-            kept = s.kept;
             says = s.says;
+            among = record { at = s.among.at; before = (let b = s.among.before in omega (arith, b, d)); stands = s.among.stands };
           }))
         ]),
       );
     }
 
-    -- ---- one more that says so, or does not
-
-    pub unsaid_on : (kind : Kind) (a : Option NameId) (marks : List Bool) → (IsSaidBefore outlines flags n kind a marks → ⊥)
-        → (kept ≡ true → IsSaidBy kind a marks outline → ⊥) → IsSaidBefore outlines flags (suc n) kind a marks → ⊥
-    unsaid_on kind a marks before here s = elim (cases_eq s.place n) [
-      | inl e ↦ here (flag_is s.place e s.kept)
-          (subst (λ (z : Outline). IsSaidBy kind a marks z) (sym (outline_is s.place s.outline e s.there)) s.says)
+    -- one more does not say so
+    pub unsaid_on : (kind : Kind) (a : Option NameId) (marks : List Bool) → (IsSaidIn outlines flags places n kind a marks → ⊥)
+        → (kept ≡ true → IsSaidBy kind a marks outline → ⊥) → IsSaidIn outlines flags places (suc n) kind a marks → ⊥
+    unsaid_on kind a marks before here s = elim (cases_eq s.among.at n) [
+      | inl e ↦ (let is = place_is s.among.at s.says.place e s.among.stands in
+          here (flag_is s.says.place is s.says.kept)
+          (subst (λ (z : Outline). IsSaidBy kind a marks z) (sym (outline_is s.says.place s.says.outline is s.says.there)) s.says.says))
       | inr d ↦ before (record {
-        place = s.place;
-        outline = s.outline;
-        before = (let b = s.before in omega (arith, b, d));
-        kept = s.kept;
-        there = s.there;
         says = s.says;
+        among = record { at = s.among.at; before = (let b = s.among.before in omega (arith, b, d)); stands = s.among.stands };
       })
     ]
+
+    -- one says so
+    pub says_here : (kind : Kind) (a : Option NameId) (marks : List Bool) (length : ℕ) → n < length → kept ≡ true → IsSaidBy kind a marks outline
+        → IsSaidIn outlines flags places length kind a marks
+    says_here kind a marks length l set says = record {
+      says = record { place = k; outline = outline; kept = flag ∙ ap Some set; there = there; says = says };
+      among = record { at = n; before = l; stands = stands };
+    }
+
+-- ---- those of a last name
+
+module _ (outlines : List Outline) (flags : List Bool) (lists : List (List ℕ)) (named : AreNamed outlines lists) where
+  among_all : (a : Option NameId) (k : ℕ) (outline : Outline) → slice_get outlines k ≡ Some outline → Names a outline
+      → IsAmong outlines flags (kept_for lists a) (length (kept_for lists a)) k
+  among_all a k outline at names =
+      let (i, there) = contains_get (kept_for lists a) k ((named a k).1 (record { outline = outline; there = at; names = names })) in
+      record { at = i; before = slice_get_within (kept_for lists a) i k there; stands = there }
+
+  pub places_are : (a : Option NameId) → length flags ≡ length outlines → ArePlaces outlines flags (kept_for lists a)
+  places_are a count at k there =
+      let is = (named a k).0 (get_contains (kept_for lists a) at k there) in
+      let w = slice_get_within outlines k is.outline is.there in
+      (w, omega (arith, w, count))
+
+  pub said_all : (a : Option NameId) (protocols : ℕ) (marks : List Bool)
+      → AreSaidIn outlines flags (kept_for lists a) (length (kept_for lists a)) a protocols marks → AreSaid outlines flags a protocols marks
+  said_all a protocols marks h = record {
+    count = h.count;
+    each = λ q. (
+      (λ m. ((h.each q).0 m).says),
+      λ s. (h.each q).1 (record { says = s; among = among_all a s.place (Conformance a q) s.says refl }),
+    );
+  }
+
+  names_of : (kind : Kind) (a : Option NameId) (marks : List Bool) (outline : Outline) → IsSaidBy kind a marks outline
+      → Names a outline ⊎ (Names None outline × ((q : ProtoId) × IsMarked marks q))
+  names_of IsObject a marks (Conformance b q) h = absurd h
+  names_of IsObject a marks (Object b p) h = elim h [ inl e ↦ inl e | inr (none, m) ↦ inr (none, (p, m)) ]
+  names_of IsObject a marks (Equality b c p) h = absurd h
+  names_of IsEqual a marks (Conformance b q) h = absurd h
+  names_of IsEqual a marks (Object b p) h = absurd h
+  names_of IsEqual a marks (Equality b c p) h = elim h [
+    | inl one ↦ elim one [ inl e ↦ inl (inl e) | inr (none, m) ↦ inr (inl none, (p, m)) ]
+    | inr other ↦ elim other [ inl e ↦ inl (inr e) | inr (none, m) ↦ inr (inr none, (p, m)) ]
+  ]
+
+  -- it is said by one of the name, or by one of `Self`
+  pub said_by_list : (kind : Kind) (a : Option NameId) (marks : List Bool) → IsSaidAt outlines flags kind a marks
+      → IsSaidIn outlines flags (kept_for lists a) (length (kept_for lists a)) kind a marks
+      ⊎ (IsSaidIn outlines flags (kept_for lists None) (length (kept_for lists None)) kind a marks × ((q : ProtoId) × IsMarked marks q))
+  said_by_list kind a marks s = elim (names_of kind a marks s.outline s.says) [
+    | inl names ↦ inl (record { says = s; among = among_all a s.place s.outline s.there names })
+    | inr (names, some) ↦ inr (record { says = s; among = among_all None s.place s.outline s.there names }, some)
+  ]
 
 -- ---- what the family says
 
@@ -115,9 +178,6 @@ module _ (x : LexiconView) (all : List Owned) (flags : List Bool) (a : Option Na
   abbrev outlines : List Outline
   outlines = outlines_of x all
 
-  within : (n : ℕ) (o : Owned) → slice_get all n ≡ Some o → n < length outlines
-  within n o at = slice_get_within outlines n (outline_of x o) (get_map (outline_of x) all n o at)
-
   -- a conformance by its outline
   conformance_of : (p : ProtoId) (r : TermRequirement) (q : ProtoId) → outline_in x p r ≡ Conformance a q
       → (t : Term) × (r ≡ Conforms t q) × (last_name x t ≡ a)
@@ -125,7 +185,7 @@ module _ (x : LexiconView) (all : List Owned) (flags : List Bool) (a : Option Na
   conformance_of p (IsAnyObject t) q e = absurd cc
   conformance_of p (Equals t u) q e = absurd cc
 
-  pub says_conforms : (protocols : ℕ) (starts marks : List Bool) → AreSaid outlines flags (length outlines) a protocols starts
+  pub says_conforms : (protocols : ℕ) (starts marks : List Bool) → AreSaid outlines flags a protocols starts
       → TellLed family starts marks → (q : ProtoId) → IsMarked marks q ↔ SaysConforms x family a q
   says_conforms protocols starts marks said tell q = (
     (λ m. let led = (tell q).0 m in
@@ -144,7 +204,6 @@ module _ (x : LexiconView) (all : List Owned) (flags : List Bool) (a : Option Na
       start = s.proto;
       is_marked = (said.each s.proto).1 (record {
         place = n;
-        before = within n s.member at;
         kept = set;
         says = get_map (outline_of x) all n s.member at
             ∙ ap (λ (r : TermRequirement). Some (outline_in x s.member.proto r)) s.says
@@ -173,7 +232,7 @@ module _ (x : LexiconView) (all : List Owned) (flags : List Bool) (a : Option Na
     equal_of p (IsAnyObject t) h = absurd h
     equal_of p (Equals t u) h = (t, u, refl, elim h [ inl e ↦ inl (bears_on p t e) | inr e ↦ inr (bears_on p u e) ])
 
-    pub says_object : IsSaidBefore outlines flags (length outlines) IsObject a marks ↔ SaysObject x family a
+    pub says_object : IsSaidAt outlines flags IsObject a marks ↔ SaysObject x family a
     says_object = (
       (λ s. let (o, at, is) = get_of_map (outline_of x) all s.place s.outline s.there in
           let (t, says, bears) = object_of o.proto o.requirement (subst (IsObjectBy a marks) (sym is) s.says) in record {
@@ -186,7 +245,6 @@ module _ (x : LexiconView) (all : List Owned) (flags : List Bool) (a : Option Na
       λ s. let (n, at, set) = chosen_at all flags s.member s.there in record {
         place = n;
         outline = outline_of x s.member;
-        before = within n s.member at;
         kept = set;
         there = get_map (outline_of x) all n s.member at;
         says = subst (λ (r : TermRequirement). IsObjectBy a marks (outline_in x s.member.proto r)) (sym s.says)
@@ -194,7 +252,7 @@ module _ (x : LexiconView) (all : List Owned) (flags : List Bool) (a : Option Na
       },
     )
 
-    pub says_equal : IsSaidBefore outlines flags (length outlines) IsEqual a marks ↔ SaysEqual x family a
+    pub says_equal : IsSaidAt outlines flags IsEqual a marks ↔ SaysEqual x family a
     says_equal = (
       (λ s. let (o, at, is) = get_of_map (outline_of x) all s.place s.outline s.there in
           let (t, u, says, bears) = equal_of o.proto o.requirement (subst (IsEqualBy a marks) (sym is) s.says) in record {
@@ -208,7 +266,6 @@ module _ (x : LexiconView) (all : List Owned) (flags : List Bool) (a : Option Na
       λ s. let (n, at, set) = chosen_at all flags s.member s.there in record {
         place = n;
         outline = outline_of x s.member;
-        before = within n s.member at;
         kept = set;
         there = get_map (outline_of x) all n s.member at;
         says = subst (λ (r : TermRequirement). IsEqualBy a marks (outline_in x s.member.proto r)) (sym s.says) (elim s.bears [

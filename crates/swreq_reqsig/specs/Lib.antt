@@ -5,6 +5,8 @@ pub mod Reaching
 pub mod Saying
 pub mod Asked
 pub mod Outlines
+pub mod Named
+pub mod Spoken
 pub mod Marks
 pub mod Settings
 pub mod Told

@@ -61,25 +61,48 @@ pub record IsMarkedToo (outline : Outline) (kept : Bool) (a : Option NameId) (ol
   pub count : length new ≡ length old
   pub each : (q : ProtoId) → IsMarked new q ↔ (IsMarked old q ⊎ ((kept ≡ true) × (outline ≡ Conformance a q)))
 
--- ---- what those before a place say whose flags are set
+-- ---- what those say whose flags are set
 
--- One says of one of them that it conforms to Q.
-pub record SaysBefore (outlines : List Outline) (flags : List Bool) (n : ℕ) (a : Option NameId) (q : ProtoId) : Type 0 where
-  pub place : ℕ
-  pub before : place < n
-  pub kept : slice_get flags place ≡ Some true
-  pub says : slice_get outlines place ≡ Some (Conformance a q)
+module _ (outlines : List Outline) (flags : List Bool) where
+  -- One says of one of them that it conforms to Q.
+  pub record SaysAt (a : Option NameId) (q : ProtoId) : Type 0 where
+    pub place : ℕ
+    pub kept : slice_get flags place ≡ Some true
+    pub says : slice_get outlines place ≡ Some (Conformance a q)
 
--- Just those protocols are marked to which one of them conforms by what these say.
-pub record AreSaid (outlines : List Outline) (flags : List Bool) (n : ℕ) (a : Option NameId) (protocols : ℕ) (marks : List Bool) : Type 0 where
-  pub count : length marks ≡ protocols
-  pub each : (q : ProtoId) → IsMarked marks q ↔ SaysBefore outlines flags n a q
+  -- Just those protocols are marked to which one of them conforms by what these say.
+  pub record AreSaid (a : Option NameId) (protocols : ℕ) (marks : List Bool) : Type 0 where
+    pub count : length marks ≡ protocols
+    pub each : (q : ProtoId) → IsMarked marks q ↔ SaysAt a q
 
--- One says of one of them that it is an object, or that it is equal to a type parameter.
-pub record IsSaidBefore (outlines : List Outline) (flags : List Bool) (n : ℕ) (kind : Kind) (a : Option NameId) (marks : List Bool) : Type 0 where
-  pub place : ℕ
-  pub outline : Outline
-  pub before : place < n
-  pub kept : slice_get flags place ≡ Some true
-  pub there : slice_get outlines place ≡ Some outline
-  pub says : IsSaidBy kind a marks outline
+  -- One says of one of them that it is an object, or that it is equal to a type parameter.
+  pub record IsSaidAt (kind : Kind) (a : Option NameId) (marks : List Bool) : Type 0 where
+    pub place : ℕ
+    pub outline : Outline
+    pub kept : slice_get flags place ≡ Some true
+    pub there : slice_get outlines place ≡ Some outline
+    pub says : IsSaidBy kind a marks outline
+
+  -- ---- those among the first of these places
+
+  -- The place is there.
+  pub record IsAmong (places : List ℕ) (n place : ℕ) : Type 0 where
+    pub at : ℕ
+    pub before : at < n
+    pub stands : slice_get places at ≡ Some place
+
+  pub record SaysIn (places : List ℕ) (n : ℕ) (a : Option NameId) (q : ProtoId) : Type 0 where
+    pub says : SaysAt a q
+    pub among : IsAmong places n says.place
+
+  pub record AreSaidIn (places : List ℕ) (n : ℕ) (a : Option NameId) (protocols : ℕ) (marks : List Bool) : Type 0 where
+    pub count : length marks ≡ protocols
+    pub each : (q : ProtoId) → IsMarked marks q ↔ SaysIn places n a q
+
+  pub record IsSaidIn (places : List ℕ) (n : ℕ) (kind : Kind) (a : Option NameId) (marks : List Bool) : Type 0 where
+    pub says : IsSaidAt kind a marks
+    pub among : IsAmong places n says.place
+
+  -- The places are of these.
+  abbrev pub ArePlaces : List ℕ → Type 0
+  ArePlaces places = (at k : ℕ) → slice_get places at ≡ Some k → (k < length outlines) × (k < length flags)

@@ -11,6 +11,7 @@ ghost use Rattle.swreq_reqsig.specs.Told.{AnswersFamily, IsOnlyFamily};
 use crate::family::Family;
 use crate::flags::family_of;
 use crate::going::go_through;
+use crate::named::named;
 use crate::outlines::outlines;
 use crate::places::all_places;
 use crate::setting::Setting;
@@ -57,10 +58,15 @@ pub fn kept_family<W: Watch>(
         Ok(outlines) => outlines,
         Err(_) => return Err(Failed::Memory),
     };
+    let named = match named(alloc, world.lexicon().names() as usize, &outlines) {
+        Ok(named) => named,
+        Err(_) => return Err(Failed::Memory),
+    };
     let setting = Setting {
         world,
         table,
         outlines: &outlines,
+        named: &named,
         limits,
     };
     match go_through(alloc, &setting, &places, watch) {

@@ -9,6 +9,7 @@ mod flags;
 mod going;
 mod kept;
 pub mod laws;
+mod named;
 mod outlines;
 mod places;
 mod reaching;

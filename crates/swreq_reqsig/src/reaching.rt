@@ -91,13 +91,20 @@ fn first_mark(alloc: Global, protocols: usize, p: ProtoId) -> Result<Vec<bool>, 
     Ok(marks)
 }
 
+/// Whether a protocol is marked.
+pub(crate) fn is_any_marked(marks: &[bool]) -> bool
+    ensures { result ≡ false → (q : ProtoId) → IsMarked marks.now q → ⊥ }
+{
+    marks.contains(&true)
+}
+
 /// Marks all protocols that those marked reach by the requirements whose flags are set.
 pub(crate) fn close(places: &[Place], flags: &[bool], marks: &mut Vec<bool>)
     requires flags { length flags.now ≡ length places.now }
     requires ranks { HaveRanksBelow (length marks.old.items) places.now }
     ensures { (terms : List Term) → TellLed (kept_at terms places.now flags.now) marks.old.items marks.new.items }
 {
-    let mut grows = true;
+    let mut grows = is_any_marked(marks);
     while grows {
         grows = pass(places, flags, marks);
     }

@@ -1,19 +1,22 @@
 //! What a family says of type parameters with one last name, and which requirements it leaves unsaid.
 ghost use Rattle.std.specs.Prelude.{◌≡◌, ◌<◌, ◌↔◌, ◌⊎◌, IfOk, IsTrue, None, Some, length, slice_get};
 ghost use Rattle.swreq_derive.specs.Facts.{requirement_of};
-ghost use Rattle.swreq_reqsig.specs.Families.{family_of};
-ghost use Rattle.swreq_reqsig.specs.Marks.{HaveRanksBelow, IsMarked};
-ghost use Rattle.swreq_reqsig.specs.Outlines.{AreSaid, BearsBy, HasProtocolBelow, HaveProtocolsBelow, IsMarkedToo, IsSaidBefore, IsSaidBy};
+ghost use Rattle.swreq_reqsig.specs.Families.{family_of, owned};
+ghost use Rattle.swreq_reqsig.specs.Marks.{IsMarked};
+ghost use Rattle.swreq_reqsig.specs.Outlines.{AreSaid, ArePlaces, BearsBy, HasProtocolBelow, HaveProtocolsBelow, IsMarkedToo, IsSaidAt, IsSaidBy, IsSaidIn, outlines_of};
 ghost use Rattle.swreq_reqsig.specs.Places.{all_places};
 ghost use Rattle.swreq_reqsig.specs.Saying.{IsUnsaid, SaysConforms, SaysEqual, SaysObject};
 ghost use Rattle.swreq_reqsig.specs.Settings.{IsSetting, text_in};
+ghost use Rattle.swreq_reqsig.specs.Spoken.{IsSpoken};
 
+use crate::named::list_of;
 use crate::outlines::{Kind, Outline};
 use crate::places::Place;
-use crate::reaching::{close, is_marked};
+use crate::reaching::{close, is_any_marked, is_marked};
 use crate::setting::Setting;
 use std::alloc::{AllocError, Global};
 use swreq_param::{NameId, ProtoId};
+use swreq_rank::Lists;
 
 /// Whether two last names are one.
 fn is_same(a: Option<NameId>, b: Option<NameId>) -> bool
@@ -43,22 +46,45 @@ fn mark(outline: &Outline, kept: bool, name: Option<NameId>, marks: &mut Vec<boo
     }
 }
 
-/// Marks for all protocols, set for those to which it is said of a type parameter with the last name that it conforms, by a requirement
-/// whose flag is set.
+/// What is said of type parameters, by their last names: requirements, the places of those of each name, and which of them are kept.
+#[derive(Clone, Copy)]
+struct Spoken<'a> {
+    outlines: &'a [Outline],
+    named: &'a Lists<usize>,
+    flags: &'a [bool],
+}
+
+/// What is said by the requirements whose flags are set.
+fn spoken<'a>(setting: &Setting<'a>, flags: &'a [bool]) -> Spoken<'a>
+    requires setting { IsSetting setting.now }
+    requires flags { length flags.now ≡ length (all_places setting.now.world.now) }
+    ensures spoken { IsSpoken result }
+    ensures outlines { result.outlines.now ≡ outlines_of setting.now.world.now.lexicon (owned (text_in setting.now)) }
+    ensures flags { result.flags.now ≡ flags.now }
+{
+    Spoken {
+        outlines: setting.outlines,
+        named: setting.named,
+        flags,
+    }
+}
+
+/// Marks for all protocols, set for those to which it is said of a type parameter with the last name that it conforms.
 fn stated(
     alloc: Global,
     protocols: usize,
-    outlines: &[Outline],
-    flags: &[bool],
+    spoken: &Spoken<'_>,
     name: Option<NameId>,
 ) -> Result<Vec<bool>, AllocError>
-    requires flags { length flags.now ≡ length outlines.now }
-    requires ranks { HaveProtocolsBelow protocols outlines.now }
-    ensures { IfOk result (λ marks. AreSaid outlines.now flags.now (length outlines.now) name protocols marks.items) }
+    requires spoken { IsSpoken spoken.now }
+    requires ranks { HaveProtocolsBelow protocols spoken.now.outlines.now }
+    ensures { IfOk result (λ marks. AreSaid spoken.now.outlines.now spoken.now.flags.now name protocols marks.items) }
 {
     let mut marks = vec![in alloc; false; protocols]?;
-    for k in 0..outlines.len() {
-        mark(&outlines[k], flags[k], name, &mut marks);
+    let places = spoken.named.at(list_of(name));
+    for at in 0..places.len() {
+        let k = places[at];
+        mark(&spoken.outlines[k], spoken.flags[k], name, &mut marks);
     }
     Ok(marks)
 }
@@ -78,7 +104,8 @@ fn said(
         ↔ SaysConforms setting.now.world.now.lexicon (family_of (text_in setting.now) flags.now) name q) }
 {
     let protocols = setting.world.protocols() as usize;
-    let mut marks = stated(alloc, protocols, setting.outlines, flags, name)?;
+    let spoken = spoken(setting, flags);
+    let mut marks = stated(alloc, protocols, &spoken, name)?;
     close(places, flags, &mut marks);
     Ok(marks)
 }
@@ -116,23 +143,41 @@ fn is_said_by(kind: Kind, name: Option<NameId>, marks: &[bool], outline: &Outlin
     }
 }
 
-/// Whether one of the requirements whose flags are set says so.
-fn is_said(
+/// Whether one of the requirements at these places says so of a type parameter with the last name.
+fn is_said_in(
+    places: &[usize],
     kind: Kind,
     name: Option<NameId>,
     marks: &[bool],
-    outlines: &[Outline],
-    flags: &[bool],
+    spoken: &Spoken<'_>,
 ) -> bool
-    requires { length flags.now ≡ length outlines.now }
-    ensures { IsTrue result ↔ IsSaidBefore outlines.now flags.now (length outlines.now) kind name marks.now }
+    requires { ArePlaces spoken.now.outlines.now spoken.now.flags.now places.now }
+    ensures { IsTrue result ↔ IsSaidIn spoken.now.outlines.now spoken.now.flags.now places.now (length places.now) kind name marks.now }
 {
-    for k in 0..outlines.len() {
-        if flags[k] && is_said_by(kind, name, marks, &outlines[k]) {
+    for at in 0..places.len() {
+        let k = places[at];
+        if spoken.flags[k] && is_said_by(kind, name, marks, &spoken.outlines[k]) {
             return true;
         }
     }
     false
+}
+
+/// Whether one of the requirements says so of a type parameter with the last name: one with the name, or one of `Self` where a protocol is
+/// marked.
+fn is_said(kind: Kind, name: Option<NameId>, marks: &[bool], spoken: &Spoken<'_>) -> bool
+    requires { IsSpoken spoken.now }
+    ensures { IsTrue result ↔ IsSaidAt spoken.now.outlines.now spoken.now.flags.now kind name marks.now }
+{
+    let of_name = spoken.named.at(list_of(name));
+    if is_said_in(of_name, kind, name, marks, spoken) {
+        return true;
+    }
+    if !is_any_marked(marks) {
+        return false;
+    }
+    let of_self = spoken.named.at(list_of(None));
+    is_said_in(of_self, kind, name, marks, spoken)
 }
 
 /// Whether the family does not say of a type parameter with the last name that it is equal to one.
@@ -150,7 +195,8 @@ fn is_apart(
         ↔ (SaysEqual setting.now.world.now.lexicon (family_of (text_in setting.now) flags.now) name → ⊥)) }
 {
     let marks = said(alloc, setting, places, flags, name)?;
-    Ok(!is_said(Kind::IsEqual, name, &marks, setting.outlines, flags))
+    let spoken = spoken(setting, flags);
+    Ok(!is_said(Kind::IsEqual, name, &marks, &spoken))
 }
 
 /// Whether the family does not say of a type parameter with the last name that it conforms to a protocol or is equal to one.
@@ -170,10 +216,11 @@ fn lacks_conformance(
         × (SaysConforms setting.now.world.now.lexicon (family_of (text_in setting.now) flags.now) name proto → ⊥))) }
 {
     let marks = said(alloc, setting, places, flags, name)?;
+    let spoken = spoken(setting, flags);
     if is_marked(&marks, proto) {
         return Ok(false);
     }
-    Ok(!is_said(Kind::IsEqual, name, &marks, setting.outlines, flags))
+    Ok(!is_said(Kind::IsEqual, name, &marks, &spoken))
 }
 
 /// Whether the family does not say of a type parameter with the last name that it is an object or equal to one.
@@ -192,10 +239,11 @@ fn lacks_object(
         × (SaysObject setting.now.world.now.lexicon (family_of (text_in setting.now) flags.now) name → ⊥))) }
 {
     let marks = said(alloc, setting, places, flags, name)?;
-    if is_said(Kind::IsObject, name, &marks, setting.outlines, flags) {
+    let spoken = spoken(setting, flags);
+    if is_said(Kind::IsObject, name, &marks, &spoken) {
         return Ok(false);
     }
-    Ok(!is_said(Kind::IsEqual, name, &marks, setting.outlines, flags))
+    Ok(!is_said(Kind::IsEqual, name, &marks, &spoken))
 }
 
 /// Whether type parameters with two last names are not equal by what the family says: whether the names differ, and it is not said of those with

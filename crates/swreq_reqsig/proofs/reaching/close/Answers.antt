@@ -2,7 +2,9 @@ use Rattle.swreq_reqsig.proofs.Passing.{all_found, found_first}
 use Rattle.swreq_reqsig.proofs.reaching.close.Goals as goal
 
 pub loop-grows-init : goal.loop-grows-init
-loop-grows-init c = found_first c.args.places.now c.args.flags.now c.args.marks.now.items
+loop-grows-init c =
+    found_first c.args.places.now c.args.flags.now c.args.marks.now.items c.is_any_marked-grows.result
+    c.is_any_marked-grows.ensures
 
 pub returns : goal.returns
 returns c =
