@@ -33,7 +33,7 @@ module _ (lists : List (List ℕ)) (a : Option NameId) (k : ℕ) (l : list_of a 
   one_more xs j = (
     (λ c. elim (Contains-append_cases xs (k ∷ []) j c) [
       | inl h ↦ inl h
-      | inr h ↦ inr (elim (member_cases k j [] h) [ inl e ↦ sym e | inr n ↦ no_member j n ])
+      | inr h ↦ inr (elim (member_cases k j [] h) [ inl e ↦ e | inr n ↦ no_member j n ])
     ]),
     λ c. elim c [
       | inl h ↦ Contains-append_left xs (k ∷ []) j h

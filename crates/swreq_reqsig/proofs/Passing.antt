@@ -27,7 +27,7 @@ use Rattle.swreq_reqsig.proofs.ByReach.{at_chosen, chosen_at}
 
 -- ---- marks
 
-same_rank : (p q : ProtoId) → p.rank ≡ q.rank → p ≡ q
+pub same_rank : (p q : ProtoId) → p.rank ≡ q.rank → p ≡ q
 same_rank p q e = λ i. record { rank = e i }
 
 -- a flag more is set
@@ -39,7 +39,7 @@ fewer_unset (true ∷ marks) (suc k) e = fewer_unset marks k e
 fewer_unset (false ∷ marks) (suc k) e = let l = fewer_unset marks k e in omega (arith, l)
 
 -- those that were marked are still
-mark_stays : (marks : List Bool) (p q : ProtoId) → IsMarked marks q → IsMarked (slice_set marks p.rank true) q
+pub mark_stays : (marks : List Bool) (p q : ProtoId) → IsMarked marks q → IsMarked (slice_set marks p.rank true) q
 mark_stays marks p q h = elim (set_kept marks p.rank true q.rank true h) [ inl e ↦ e | inr e ↦ e.1 ]
 
 -- what is read there

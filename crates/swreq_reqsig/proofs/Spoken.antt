@@ -1,9 +1,10 @@
 -- What a family says of type parameters with one last name, as the code goes through the outlines of its requirements.
-use Rattle.std.proofs.Common.{◌≡◌, ◌∙◌, ◌↔◌, ◌⊎◌, ◌<◌, ◌≤◌, ap, inl, inr, refl, sym, subst, arith, ℕ, suc, Bool, true, false, List, Contains, Option, Some, None, length, map, replicate, slice_get, slice_set}
+use Rattle.std.proofs.Common.{◌≡◌, ◌∙◌, ◌↔◌, ◌⊎◌, ◌<◌, ◌≤◌, ◌+◌, ap, get_or, inl, inr, refl, sym, subst, arith, ℕ, suc, Bool, true, false, IsTrue, List, Contains, Option, Some, None, length, map, replicate, slice_get, slice_set}
+use Rattle.std.specs.Prelude.{not}
 use Rattle.std.proofs.lemmas.Bool.{cases_eq}
 use Rattle.std.proofs.lemmas.List.{length-replicate, length-set}
-use Rattle.std.proofs.lemmas.Option.{same_Some, slice_get_within}
-use Rattle.swreq_orders.proofs.Elements.{contains_get, get_contains, get_map, get_of_map, set_cases, set_here}
+use Rattle.std.proofs.lemmas.Option.{same_Some, slice_get-get_or, slice_get_within}
+use Rattle.swreq_orders.proofs.Elements.{contains_get, get_contains, get_map, get_of_map, set_cases, set_here, there_is}
 use Rattle.swreq_param.specs.declared.ids.NameId.{NameId}
 use Rattle.swreq_param.specs.declared.ids.ProtoId.{ProtoId}
 use Rattle.swreq_param.specs.Terms.{Term}
@@ -19,7 +20,7 @@ use Rattle.swreq_reqsig.specs.declared.outlines.Outline.TheVariants.{Conformance
 use Rattle.swreq_reqsig.specs.Marks.{IsLedTo, IsMarked, TellLed}
 use Rattle.swreq_reqsig.specs.Named.{AreNamed, Names, kept_for}
 use Rattle.swreq_reqsig.specs.Outlines.{ArePlaces, AreSaid, AreSaidIn, BearsBy, IsAmong, IsEqualBy, IsMarkedToo, IsObjectBy, IsSaidAt, IsSaidBy, IsSaidIn, outline_in, outline_of, outlines_of}
-use Rattle.swreq_reqsig.specs.Saying.{BearsOn, SaysConforms, SaysEqual, SaysObject, last_name}
+use Rattle.swreq_reqsig.specs.Saying.{BearsOn, IsUnsaid, SaysConforms, SaysEqual, SaysObject, last_name}
 use Rattle.swreq_reqsig.proofs.ByReach.{at_chosen, chosen_at}
 use Rattle.swreq_reqsig.proofs.Passing.{mark_stays, no_mark, same_rank}
 
@@ -123,6 +124,65 @@ module _ (outlines : List Outline) (flags : List Bool) (places : List ℕ) where
       among = record { at = n; before = l; stands = stands };
     }
 
+-- ---- one place more, as the code reads what stands there
+
+module _ (outlines : List Outline) (flags : List Bool) (places : List ℕ) (are : ArePlaces outlines flags places) (at d : ℕ)
+    (l : at < length places) where
+  abbrev k : ℕ
+  k = get_or places at d
+
+  stands : slice_get places at ≡ Some k
+  stands = slice_get-get_or places at d l
+
+  pub place_within : (k < length outlines) × (k < length flags)
+  place_within = are at k stands
+
+  outline_there : (outline : Outline) × (slice_get outlines k ≡ Some outline)
+  outline_there = there_is outlines k place_within.0
+
+  flag_there : (kept : Bool) × (slice_get flags k ≡ Some kept)
+  flag_there = there_is flags k place_within.1
+
+  pub said_further : (a : Option NameId) (protocols : ℕ) (old new : List Bool) → AreSaidIn outlines flags places at a protocols old
+      → ((outline : Outline) (kept : Bool) → slice_get outlines k ≡ Some outline → slice_get flags k ≡ Some kept
+      → IsMarkedToo outline kept a old new)
+      → AreSaidIn outlines flags places (at + 1) a protocols new
+  said_further a protocols old new h m =
+      let next : suc at ≡ at + 1 = omega arith in
+      let o = outline_there in let f = flag_there in
+      subst (λ (n : ℕ). AreSaidIn outlines flags places n a protocols new) next
+      (said_on outlines flags places at k o.0 f.0 stands o.1 f.1 a protocols old new h (m o.0 f.0 o.1 f.1))
+
+  module _ (kind : Kind) (a : Option NameId) (marks : List Bool) (b : Bool) (law : (outline : Outline) (kept : Bool)
+      → slice_get outlines k ≡ Some outline → slice_get flags k ≡ Some kept → IsTrue b ↔ ((kept ≡ true) × IsSaidBy kind a marks outline)) where
+    pub unsaid_further : (IsSaidIn outlines flags places at kind a marks → ⊥) → b ≡ false → IsSaidIn outlines flags places (at + 1) kind a marks → ⊥
+    unsaid_further h lacks s =
+        let next : at + 1 ≡ suc at = omega arith in
+        let o = outline_there in let f = flag_there in
+        unsaid_on outlines flags places at k o.0 f.0 stands o.1 f.1 kind a marks h
+        (λ set says. let has : b ≡ true = (law o.0 f.0 o.1 f.1).1 (set, says) in let z : false ≡ true = sym lacks ∙ has in cc)
+        (subst (λ (n : ℕ). IsSaidIn outlines flags places n kind a marks) next s)
+
+    pub says_found : b ≡ true → IsSaidIn outlines flags places (length places) kind a marks
+    says_found has =
+        let o = outline_there in let f = flag_there in
+        let says = (law o.0 f.0 o.1 f.1).0 has in
+        says_here outlines flags places at k o.0 f.0 stands o.1 f.1 kind a marks (length places) l says.0 says.1
+
+pub unsaid_at_end : (outlines : List Outline) (flags : List Bool) (places : List ℕ) (at : ℕ) (kind : Kind) (a : Option NameId) (marks : List Bool)
+    → length places ≤ at → (IsSaidIn outlines flags places at kind a marks → ⊥) → IsSaidIn outlines flags places (length places) kind a marks → ⊥
+unsaid_at_end outlines flags places at kind a marks l h s = h (record {
+  says = s.says;
+  among = record { at = s.among.at; before = (let b = s.among.before in omega (arith, b, l)); stands = s.among.stands };
+})
+
+pub said_at_end : (outlines : List Outline) (flags : List Bool) (places : List ℕ) (at : ℕ) (a : Option NameId) (protocols : ℕ) (marks : List Bool)
+    → length places ≤ at → at ≤ length places → AreSaidIn outlines flags places at a protocols marks
+    → AreSaidIn outlines flags places (length places) a protocols marks
+said_at_end outlines flags places at a protocols marks l u h =
+    let e : at ≡ length places = omega (arith, l, u) in
+    subst (λ (n : ℕ). AreSaidIn outlines flags places n a protocols marks) e h
+
 -- ---- those of a last name
 
 module _ (outlines : List Outline) (flags : List Bool) (lists : List (List ℕ)) (named : AreNamed outlines lists) where
@@ -169,6 +229,48 @@ module _ (outlines : List Outline) (flags : List Bool) (lists : List (List ℕ))
     | inr (names, some) ↦ inr (record { says = s; among = among_all None s.place s.outline s.there names }, some)
   ]
 
+-- ---- a requirement by its outline
+
+pub conformance_of : (x : LexiconView) (a : Option NameId) (p : ProtoId) (r : TermRequirement) (q : ProtoId) → outline_in x p r ≡ Conformance a q
+    → (t : Term) × (r ≡ Conforms t q) × (last_name x t ≡ a)
+conformance_of x a p (Conforms t r) q e = let same : r ≡ q = cc in (t, ap (Conforms t) same, cc)
+conformance_of x a p (IsAnyObject t) q e = absurd cc
+conformance_of x a p (Equals t u) q e = absurd cc
+
+module _ (x : LexiconView) (family : List Owned) (p : ProtoId) where
+  pub unsaid_conformance : (r : TermRequirement) (a : Option NameId) (q : ProtoId) → outline_in x p r ≡ Conformance a q
+      → IsUnsaid x family p r ↔ ((SaysEqual x family a → ⊥) × (SaysConforms x family a q → ⊥) × ((a ≡ None) × (q ≡ p) → ⊥))
+  unsaid_conformance (Conforms t r) a q e =
+      let name : last_name x t ≡ a = cc in let proto : r ≡ q = cc in
+      subst (λ (z : Option NameId). IsUnsaid x family p (Conforms t r)
+      ↔ ((SaysEqual x family z → ⊥) × (SaysConforms x family z q → ⊥) × ((z ≡ None) × (q ≡ p) → ⊥))) name
+      (subst (λ (z : ProtoId). IsUnsaid x family p (Conforms t r)
+      ↔ ((SaysEqual x family (last_name x t) → ⊥) × (SaysConforms x family (last_name x t) z → ⊥) × ((last_name x t ≡ None) × (z ≡ p) → ⊥))) proto
+      ((λ h. h), λ h. h))
+  unsaid_conformance (IsAnyObject t) a q e = absurd cc
+  unsaid_conformance (Equals t u) a q e = absurd cc
+
+  pub unsaid_object : (r : TermRequirement) (a : Option NameId) (o : ProtoId) → outline_in x p r ≡ Object a o
+      → IsUnsaid x family p r ↔ ((SaysEqual x family a → ⊥) × (SaysObject x family a → ⊥))
+  unsaid_object (Conforms t r) a o e = absurd cc
+  unsaid_object (IsAnyObject t) a o e =
+      let name : last_name x t ≡ a = cc in
+      subst (λ (z : Option NameId). IsUnsaid x family p (IsAnyObject t) ↔ ((SaysEqual x family z → ⊥) × (SaysObject x family z → ⊥))) name
+      ((λ h. h), λ h. h)
+  unsaid_object (Equals t u) a o e = absurd cc
+
+  pub unsaid_equality : (r : TermRequirement) (a b : Option NameId) (o : ProtoId) → outline_in x p r ≡ Equality a b o
+      → IsUnsaid x family p r ↔ ((a ≡ b → ⊥) × ((SaysEqual x family a → ⊥) ⊎ (SaysEqual x family b → ⊥)))
+  unsaid_equality (Conforms t r) a b o e = absurd cc
+  unsaid_equality (IsAnyObject t) a b o e = absurd cc
+  unsaid_equality (Equals t u) a b o e =
+      let left : last_name x t ≡ a = cc in let right : last_name x u ≡ b = cc in
+      subst (λ (z : Option NameId). IsUnsaid x family p (Equals t u)
+      ↔ ((z ≡ b → ⊥) × ((SaysEqual x family z → ⊥) ⊎ (SaysEqual x family b → ⊥)))) left
+      (subst (λ (z : Option NameId). IsUnsaid x family p (Equals t u)
+      ↔ ((last_name x t ≡ z → ⊥) × ((SaysEqual x family (last_name x t) → ⊥) ⊎ (SaysEqual x family z → ⊥)))) right
+      ((λ h. h), λ h. h))
+
 -- ---- what the family says
 
 module _ (x : LexiconView) (all : List Owned) (flags : List Bool) (a : Option NameId) where
@@ -178,20 +280,13 @@ module _ (x : LexiconView) (all : List Owned) (flags : List Bool) (a : Option Na
   abbrev outlines : List Outline
   outlines = outlines_of x all
 
-  -- a conformance by its outline
-  conformance_of : (p : ProtoId) (r : TermRequirement) (q : ProtoId) → outline_in x p r ≡ Conformance a q
-      → (t : Term) × (r ≡ Conforms t q) × (last_name x t ≡ a)
-  conformance_of p (Conforms t r) q e = let same : r ≡ q = cc in (t, ap (Conforms t) same, cc)
-  conformance_of p (IsAnyObject t) q e = absurd cc
-  conformance_of p (Equals t u) q e = absurd cc
-
   pub says_conforms : (protocols : ℕ) (starts marks : List Bool) → AreSaid outlines flags a protocols starts
       → TellLed family starts marks → (q : ProtoId) → IsMarked marks q ↔ SaysConforms x family a q
   says_conforms protocols starts marks said tell q = (
     (λ m. let led = (tell q).0 m in
         let s = (said.each led.start).0 led.is_marked in
         let (o, at, is) = get_of_map (outline_of x) all s.place (Conformance a led.start) s.says in
-        let (t, says, named) = conformance_of o.proto o.requirement led.start is in record {
+        let (t, says, named) = conformance_of x a o.proto o.requirement led.start is in record {
           member = o;
           there = at_chosen all flags s.place o at s.kept;
           subject = t;
@@ -274,3 +369,25 @@ module _ (x : LexiconView) (all : List Owned) (flags : List Bool) (a : Option Na
         ]);
       },
     )
+
+    -- ---- as the code asks for it
+
+    said_here : (kind : Kind) (here : List Outline) (set : List Bool) (b : Bool) → here ≡ outlines → set ≡ flags
+        → IsTrue b ↔ IsSaidAt here set kind a marks → IsTrue b ↔ IsSaidAt outlines flags kind a marks
+    said_here kind here set b e f h =
+        subst (λ (z : List Outline). IsTrue b ↔ IsSaidAt z flags kind a marks) e
+        (subst (λ (z : List Bool). IsTrue b ↔ IsSaidAt here z kind a marks) f h)
+
+    pub equal_said : (here : List Outline) (set : List Bool) (b : Bool) → here ≡ outlines → set ≡ flags
+        → IsTrue b ↔ IsSaidAt here set IsEqual a marks → IsTrue b ↔ SaysEqual x family a
+    equal_said here set b e f h =
+        let k = said_here IsEqual here set b e f h in ((λ t. says_equal.0 (k.0 t)), λ s. k.1 (says_equal.1 s))
+
+    pub object_said : (here : List Outline) (set : List Bool) (b : Bool) → here ≡ outlines → set ≡ flags
+        → IsTrue b ↔ IsSaidAt here set IsObject a marks → IsTrue b ↔ SaysObject x family a
+    object_said here set b e f h =
+        let k = said_here IsObject here set b e f h in ((λ t. says_object.0 (k.0 t)), λ s. k.1 (says_object.1 s))
+
+pub not_said : (b : Bool) (P : Type 0) → IsTrue b ↔ P → IsTrue (not b) ↔ (P → ⊥)
+not_said true P h = ((λ t. absurd (let z : false ≡ true = t in cc)), λ k. absurd (k (h.0 refl)))
+not_said false P h = ((λ t p. let z : false ≡ true = h.1 p in cc), λ k. refl)

@@ -4,7 +4,7 @@ use Rattle.std.proofs.lemmas.Option.{get_or_from_slice_get}
 use Rattle.swreq_param.specs.declared.ids.AssocId.{AssocId}
 use Rattle.swreq_param.specs.declared.ids.NameId.{NameId}
 use Rattle.swreq_param.specs.declared.ids.ProtoId.{ProtoId}
-use Rattle.swreq_param.specs.Terms.{Term}
+use Rattle.swreq_param.specs.Terms.{Term, self}
 use Rattle.swreq_param.specs.Terms.Term.{Generic, Member}
 use Rattle.swreq_derive.specs.Derivation.{Declares, Derivable, TermFacts, TermRequirement, for_self}
 use Rattle.swreq_derive.specs.Derivation.Derives.{conf, same, layout, assoc_bind, assoc_conf, assoc_same, assoc_layout, reflex, symm, trans, same_conf, same_layout, same_name, same_decl}
@@ -97,7 +97,7 @@ module _ (x : LexiconView) (family : List Owned) (p : ProtoId) (a : Option NameI
   })
 
   claim : {r : TermRequirement} → Derivable whole (SelfOf p) (Requires r) → Claim r
-  claim (conf {t = t} {p = q} e v) = λ n. let is : t ≡ Generic _ = cc in inr (sym n ∙ ap (last_name x) is, cc)
+  claim (conf {t = t} {p = q} e v) = λ n. let is : t ≡ self = cc in inr (sym n ∙ ap (last_name x) is, cc)
   claim (same e v w) = absurd cc
   claim (layout e v) = absurd cc
   claim (assoc_bind {t = t} {p = q} {a = b} {d = d} e c) =

@@ -43,13 +43,13 @@ fn note_outline(lists: &mut Lists<usize>, outline: &Outline, k: usize) -> Result
 /// The places of requirements by their last names, of which there are this many beside that of `Self`.
 pub(crate) fn named(
     alloc: Global,
-    names: usize,
+    names: u32,
     outlines: &[Outline],
 ) -> Result<Lists<usize>, AllocError>
     requires { HaveLists (names + 1) outlines.now }
     ensures { IfOk result (λ lists. AreNamed outlines.now lists) }
 {
-    let mut lists = Lists::new(alloc, names.saturating_add(1))?;
+    let mut lists = Lists::new(alloc, names as usize + 1)?;
     for k in 0..outlines.len() {
         note_outline(&mut lists, &outlines[k], k)?;
     }

@@ -56,7 +56,7 @@ fn last_name(world: &World, table: &ParamTable, t: TermId) -> Option<NameId>
 }
 
 /// A requirement of a protocol by the last names of its type parameters.
-fn outline(world: &World, table: &ParamTable, place: &Place) -> Outline
+fn outline_of(world: &World, table: &ParamTable, place: &Place) -> Outline
     requires { IsRequirementIn table.now world.now.lexicon place.now.requirement }
     ensures { result ≡ outline_of world.now.lexicon (owned_at table.now place.now) }
 {
@@ -92,7 +92,7 @@ pub(crate) fn outlines(
     let mut v = Vec::new(alloc);
     for k in 0..places.len() {
         let place = &places[k];
-        v.push(outline(world, table, place))?;
+        v.push(outline_of(world, table, place))?;
     }
     Ok(v)
 }

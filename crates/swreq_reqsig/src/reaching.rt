@@ -81,7 +81,15 @@ fn pass(places: &[Place], flags: &[bool], marks: &mut Vec<bool>) -> bool
     grew
 }
 
-/// Marks for all protocols, of which there are so many, with one protocol marked.
+/// Marks for all protocols, of which there are this many, with none marked.
+pub(crate) fn none_marked(alloc: Global, protocols: usize) -> Result<Vec<bool>, AllocError>
+    ensures { IfOk result (λ marks. marks.items ≡ replicate protocols false) }
+{
+    let marks = vec![in alloc; false; protocols]?;
+    Ok(marks)
+}
+
+/// Marks for all protocols, of which there are this many, with one protocol marked.
 fn first_mark(alloc: Global, protocols: usize, p: ProtoId) -> Result<Vec<bool>, AllocError>
     requires { p.rank < protocols }
     ensures { IfOk result (λ marks. marks.items ≡ slice_set (replicate protocols false) p.rank true) }
@@ -175,7 +183,8 @@ pub(crate) fn asked(
         (IsBeyond (text_in setting.now) at flags.now)
         (λ asked. AreAsked (text_in setting.now) at flags.now asked.items)) }
 {
-    if is_unsaid(alloc, setting, places, flags, at)? {
+    let unsaid = is_unsaid(alloc, setting, places, flags, at)?;
+    if unsaid {
         return Ok(None);
     }
     let place = &places[at];

@@ -1,9 +1,10 @@
 //! What a family says of type parameters with one last name, and which requirements it leaves unsaid.
-ghost use Rattle.std.specs.Prelude.{◌≡◌, ◌<◌, ◌↔◌, ◌⊎◌, IfOk, IsTrue, None, Some, length, slice_get};
+ghost use Rattle.std.specs.Prelude.{◌≡◌, ◌<◌, ◌↔◌, ◌⊎◌, Bool, IfOk, IsTrue, None, Some, length, slice_get, true};
 ghost use Rattle.swreq_derive.specs.Facts.{requirement_of};
 ghost use Rattle.swreq_reqsig.specs.Families.{family_of, owned};
 ghost use Rattle.swreq_reqsig.specs.Marks.{IsMarked};
-ghost use Rattle.swreq_reqsig.specs.Outlines.{AreSaid, ArePlaces, BearsBy, HasProtocolBelow, HaveProtocolsBelow, IsMarkedToo, IsSaidAt, IsSaidBy, IsSaidIn, outlines_of};
+ghost use Rattle.swreq_reqsig.specs.Outlines.{AreSaid, ArePlaces, BearsBy, HasProtocolBelow, HaveProtocolsBelow, IsMarkedToo, IsSaidAt, IsSaidBy, IsSaidIn, outline_in, outlines_of};
+ghost use Rattle.swreq_reqsig.specs.Named.{kept_for};
 ghost use Rattle.swreq_reqsig.specs.Places.{all_places};
 ghost use Rattle.swreq_reqsig.specs.Saying.{IsUnsaid, SaysConforms, SaysEqual, SaysObject};
 ghost use Rattle.swreq_reqsig.specs.Settings.{IsSetting, text_in};
@@ -12,7 +13,7 @@ ghost use Rattle.swreq_reqsig.specs.Spoken.{IsSpoken};
 use crate::named::list_of;
 use crate::outlines::{Kind, Outline};
 use crate::places::Place;
-use crate::reaching::{close, is_any_marked, is_marked};
+use crate::reaching::{close, is_any_marked, is_marked, none_marked};
 use crate::setting::Setting;
 use std::alloc::{AllocError, Global};
 use swreq_param::{NameId, ProtoId};
@@ -55,7 +56,7 @@ struct Spoken<'a> {
 }
 
 /// What is said by the requirements whose flags are set.
-fn spoken<'a>(setting: &Setting<'a>, flags: &'a [bool]) -> Spoken<'a>
+fn what_is_said<'a>(setting: &Setting<'a>, flags: &'a [bool]) -> Spoken<'a>
     requires setting { IsSetting setting.now }
     requires flags { length flags.now ≡ length (all_places setting.now.world.now) }
     ensures spoken { IsSpoken result }
@@ -69,6 +70,26 @@ fn spoken<'a>(setting: &Setting<'a>, flags: &'a [bool]) -> Spoken<'a>
     }
 }
 
+/// The places of those of one name, kept or not.
+fn places_of<'a>(spoken: &Spoken<'a>, name: Option<NameId>) -> &'a [usize]
+    requires { IsSpoken spoken.now }
+    ensures places { result.now ≡ kept_for spoken.now.named.now name }
+    ensures are { ArePlaces spoken.now.outlines.now spoken.now.flags.now result.now }
+{
+    spoken.named.at(list_of(name))
+}
+
+/// Marks the protocol of the conformance at a place, where that is kept and its subject has the last name.
+fn mark_at(spoken: &Spoken<'_>, k: usize, name: Option<NameId>, marks: &mut Vec<bool>)
+    requires outlines { k < length spoken.now.outlines.now }
+    requires flags { k < length spoken.now.flags.now }
+    requires rank { HaveProtocolsBelow (length marks.old.items) spoken.now.outlines.now }
+    ensures { (outline : Outline) (kept : Bool) → slice_get spoken.now.outlines.now k ≡ Some outline → slice_get spoken.now.flags.now k ≡ Some kept
+        → IsMarkedToo outline kept name marks.old.items marks.new.items }
+{
+    mark(&spoken.outlines[k], spoken.flags[k], name, marks);
+}
+
 /// Marks for all protocols, set for those to which it is said of a type parameter with the last name that it conforms.
 fn stated(
     alloc: Global,
@@ -80,11 +101,10 @@ fn stated(
     requires ranks { HaveProtocolsBelow protocols spoken.now.outlines.now }
     ensures { IfOk result (λ marks. AreSaid spoken.now.outlines.now spoken.now.flags.now name protocols marks.items) }
 {
-    let mut marks = vec![in alloc; false; protocols]?;
-    let places = spoken.named.at(list_of(name));
+    let mut marks = none_marked(alloc, protocols)?;
+    let places = places_of(spoken, name);
     for at in 0..places.len() {
-        let k = places[at];
-        mark(&spoken.outlines[k], spoken.flags[k], name, &mut marks);
+        mark_at(spoken, places[at], name, &mut marks);
     }
     Ok(marks)
 }
@@ -104,7 +124,7 @@ fn said(
         ↔ SaysConforms setting.now.world.now.lexicon (family_of (text_in setting.now) flags.now) name q) }
 {
     let protocols = setting.world.protocols() as usize;
-    let spoken = spoken(setting, flags);
+    let spoken = what_is_said(setting, flags);
     let mut marks = stated(alloc, protocols, &spoken, name)?;
     close(places, flags, &mut marks);
     Ok(marks)
@@ -143,6 +163,25 @@ fn is_said_by(kind: Kind, name: Option<NameId>, marks: &[bool], outline: &Outlin
     }
 }
 
+/// Whether the requirement at a place is kept and says so of a type parameter with the last name.
+fn says_at(
+    spoken: &Spoken<'_>,
+    k: usize,
+    kind: Kind,
+    name: Option<NameId>,
+    marks: &[bool],
+) -> bool
+    requires outlines { k < length spoken.now.outlines.now }
+    requires flags { k < length spoken.now.flags.now }
+    ensures { (outline : Outline) (kept : Bool) → slice_get spoken.now.outlines.now k ≡ Some outline → slice_get spoken.now.flags.now k ≡ Some kept
+        → IsTrue result ↔ ((kept ≡ true) × IsSaidBy kind name marks.now outline) }
+{
+    if !spoken.flags[k] {
+        return false;
+    }
+    is_said_by(kind, name, marks, &spoken.outlines[k])
+}
+
 /// Whether one of the requirements at these places says so of a type parameter with the last name.
 fn is_said_in(
     places: &[usize],
@@ -155,8 +194,7 @@ fn is_said_in(
     ensures { IsTrue result ↔ IsSaidIn spoken.now.outlines.now spoken.now.flags.now places.now (length places.now) kind name marks.now }
 {
     for at in 0..places.len() {
-        let k = places[at];
-        if spoken.flags[k] && is_said_by(kind, name, marks, &spoken.outlines[k]) {
+        if says_at(spoken, places[at], kind, name, marks) {
             return true;
         }
     }
@@ -169,15 +207,13 @@ fn is_said(kind: Kind, name: Option<NameId>, marks: &[bool], spoken: &Spoken<'_>
     requires { IsSpoken spoken.now }
     ensures { IsTrue result ↔ IsSaidAt spoken.now.outlines.now spoken.now.flags.now kind name marks.now }
 {
-    let of_name = spoken.named.at(list_of(name));
-    if is_said_in(of_name, kind, name, marks, spoken) {
+    if is_said_in(places_of(spoken, name), kind, name, marks, spoken) {
         return true;
     }
     if !is_any_marked(marks) {
         return false;
     }
-    let of_self = spoken.named.at(list_of(None));
-    is_said_in(of_self, kind, name, marks, spoken)
+    is_said_in(places_of(spoken, None), kind, name, marks, spoken)
 }
 
 /// Whether the family does not say of a type parameter with the last name that it is equal to one.
@@ -195,7 +231,7 @@ fn is_apart(
         ↔ (SaysEqual setting.now.world.now.lexicon (family_of (text_in setting.now) flags.now) name → ⊥)) }
 {
     let marks = said(alloc, setting, places, flags, name)?;
-    let spoken = spoken(setting, flags);
+    let spoken = what_is_said(setting, flags);
     Ok(!is_said(Kind::IsEqual, name, &marks, &spoken))
 }
 
@@ -216,7 +252,7 @@ fn lacks_conformance(
         × (SaysConforms setting.now.world.now.lexicon (family_of (text_in setting.now) flags.now) name proto → ⊥))) }
 {
     let marks = said(alloc, setting, places, flags, name)?;
-    let spoken = spoken(setting, flags);
+    let spoken = what_is_said(setting, flags);
     if is_marked(&marks, proto) {
         return Ok(false);
     }
@@ -239,7 +275,7 @@ fn lacks_object(
         × (SaysObject setting.now.world.now.lexicon (family_of (text_in setting.now) flags.now) name → ⊥))) }
 {
     let marks = said(alloc, setting, places, flags, name)?;
-    let spoken = spoken(setting, flags);
+    let spoken = what_is_said(setting, flags);
     if is_said(Kind::IsObject, name, &marks, &spoken) {
         return Ok(false);
     }
@@ -269,6 +305,27 @@ fn lacks_equality(
     is_apart(alloc, setting, places, flags, right)
 }
 
+/// Whether something says of `Self` that it conforms to the protocol itself.
+fn is_itself(subject: Option<NameId>, proto: ProtoId, owner: ProtoId) -> bool
+    ensures { IsTrue result ↔ ((subject ≡ None) × (proto ≡ owner)) }
+{
+    match subject {
+        Some(_) => false,
+        None => proto.rank == owner.rank,
+    }
+}
+
+/// The requirement at a place, by the last names of its type parameters.
+fn outline_at(setting: &Setting<'_>, places: &[Place], at: usize) -> Outline
+    requires setting { IsSetting setting.now }
+    requires places { places.now ≡ all_places setting.now.world.now }
+    requires at { at < length places.now }
+    ensures { (x : Place) → slice_get places.now at ≡ Some x
+        → outline_in setting.now.world.now.lexicon x.proto (requirement_of setting.now.table.now x.requirement) ≡ result }
+{
+    setting.outlines[at]
+}
+
 /// Whether the requirement at a place is unsaid by those whose flags are set.
 pub(crate) fn is_unsaid(
     alloc: Global,
@@ -284,9 +341,9 @@ pub(crate) fn is_unsaid(
     ensures { IfOk result (λ b. (x : Place) → slice_get places.now at ≡ Some x → IsTrue b
         ↔ IsUnsaid setting.now.world.now.lexicon (family_of (text_in setting.now) flags.now) x.proto (requirement_of setting.now.table.now x.requirement)) }
 {
-    match setting.outlines[at] {
+    match outline_at(setting, places, at) {
         Outline::Conformance { subject, proto } => {
-            if subject.is_none() && proto.rank == places[at].proto.rank {
+            if is_itself(subject, proto, places[at].proto) {
                 return Ok(false);
             }
             lacks_conformance(alloc, setting, places, flags, subject, proto)

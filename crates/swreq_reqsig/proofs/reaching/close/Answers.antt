@@ -1,10 +1,12 @@
+use Rattle.std.proofs.Common.{Bool, List, subst, sym}
+use Rattle.swreq_reqsig.specs.Marks.{IsMarked}
 use Rattle.swreq_reqsig.proofs.Passing.{all_found, found_first}
 use Rattle.swreq_reqsig.proofs.reaching.close.Goals as goal
 
 pub loop-grows-init : goal.loop-grows-init
 loop-grows-init c =
     found_first c.args.places.now c.args.flags.now c.args.marks.now.items c.is_any_marked-grows.result
-    c.is_any_marked-grows.ensures
+    (λ e q m. c.is_any_marked-grows.ensures e q (subst (λ (z : List Bool). IsMarked z q) (sym c.deref.ensures.value) m))
 
 pub returns : goal.returns
 returns c =
