@@ -1,15 +1,20 @@
 -- Whether a requirement follows from the others, asked by reach.
-use Rattle.std.proofs.Common.{◌≡◌, ◌∙◌, ◌↔◌, ap, sym, subst, ℕ, Bool, false, IfOk, IsTrue, List, length, map, slice_get, OnOk, Option, Result, Some, Ok, true}
-use Rattle.std.proofs.lemmas.Option.{same_Some}
+use Rattle.std.proofs.Common.{◌≡◌, ◌∙◌, ◌↔◌, ◌<◌, ◌+◌, ap, arith, inl, inr, sym, subst, ℕ, Bool, false, IfOk, IsTrue, List, length, map, slice_get, OnOk, Option, Result, Some, Ok, true}
+use Rattle.std.proofs.lemmas.Option.{get_or_from_slice_get, same_Some}
+use Rattle.swreq_orders.proofs.Elements.{get_contains, get_of_map, there_is}
 use Rattle.std.proofs.lemmas.Result.{IfOk-weaker}
+use Rattle.swreq_param.specs.declared.ids.NameId.{NameId}
 use Rattle.swreq_param.specs.declared.ids.ProtoId.{ProtoId}
+use Rattle.swreq_param.specs.declared.ids.Step.TheVariants.{Bound, Name}
 use Rattle.swreq_param.specs.declared.ids.TermId.{TermId}
 use Rattle.swreq_param.specs.Tables.{term_at}
 use Rattle.swreq_param.specs.Terms.{Term}
+use Rattle.swreq_param.specs.Terms.Term.{Generic, Member}
 use Rattle.swreq_derive.specs.declared.requirements.Requirement.{Requirement}
 use Rattle.swreq_derive.specs.declared.requirements.Requirement.TheVariants.{Conf}
 use Rattle.swreq_derive.specs.Derivation.{AssociatedType, Derivable, TermRequirement}
 use Rattle.swreq_derive.specs.Derivation.Source.{SelfOf}
+use Rattle.swreq_derive.specs.Derivation.TermRequirement.{Conforms, IsAnyObject, Equals}
 use Rattle.swreq_derive.specs.Derivation.TermStatement.{Requires}
 use Rattle.swreq_derive.specs.Facts.{requirement_of}
 use Rattle.swreq_derive.specs.Kept.{Owned, owned_facts}
@@ -18,8 +23,11 @@ use Rattle.swreq_watch.specs.declared.events.Event.{Event}
 use Rattle.swreq_watch.specs.Told.{GrewBy}
 use Rattle.swreq_complete.specs.declared.limit.Limits.{Limits}
 use Rattle.swreq_complete.specs.declared.limit.Failed.{Failed}
+use Rattle.swreq_lexicon.specs.declared.pair.ProtocolName.{ProtocolName}
 use Rattle.swreq_lexicon.specs.Views.{IsProtocol}
 use Rattle.swreq_symbols.specs.Known.{IsRequirementIn, IsTextOver}
+use Rattle.swreq_symbols.specs.Meaning.{associated_at}
+use Rattle.swreq_world.specs.Closed.{IsRequirementOf, IsTermOf}
 use Rattle.swreq_valid.specs.Answers.{Answers}
 use Rattle.swreq_valid.specs.Flags.{chosen}
 use Rattle.swreq_world.specs.ByTable.{world_by}
@@ -28,11 +36,18 @@ use Rattle.swreq_reqsig.specs.declared.places.Place.{Place}
 use Rattle.swreq_reqsig.specs.Families.{DerivesWith, associated_types_of, family_of, family_plan, owned}
 use Rattle.swreq_reqsig.specs.Marks.{HasRanksBelow, HaveRanksBelow, IsMarked, TellReached, kept_at, marked}
 use Rattle.swreq_reqsig.specs.Places.{all_places, owned_at}
-use Rattle.swreq_reqsig.specs.Reaching.{AreAsked, AreReachedFlags, IsBeyond, IsOutOfReach, IsReachedPart}
+use Rattle.swreq_reqsig.specs.declared.outlines.Outline.{Outline}
+use Rattle.swreq_reqsig.specs.Named.{HasLists, HaveLists, list_of}
+use Rattle.swreq_reqsig.specs.Outlines.{HaveProtocolsBelow, outline_in, outline_of, outlines_of}
+use Rattle.swreq_reqsig.specs.Asked.{AreAsked, IsBeyond, IsOutOfReach}
+use Rattle.swreq_reqsig.specs.Reaching.{AreReachedFlags, IsReachedPart}
+use Rattle.swreq_reqsig.specs.Saying.{IsUnsaid, last_name}
 use Rattle.swreq_reqsig.specs.Told.{IsSettled}
 use Rattle.swreq_reqsig.specs.Told.IsSettled.{by_rounds}
 use Rattle.swreq_reqsig.proofs.ByReach.{conforms_by_reach, derives_by_reach, flags_give_part}
 use Rattle.swreq_reqsig.proofs.Passing.{conf_of, marked_reached}
+use Rattle.swreq_reqsig.proofs.Spoken.{conformance_of}
+use Rattle.swreq_reqsig.proofs.Unsaid.{unsaid_not_derivable}
 use Rattle.swreq_reqsig.proofs.Placing.{owned_there, place_is, place_known, places_count, places_owned}
 
 module _ (w : IdWorld) (terms : List Term) (text : IsTextOver terms w) where
@@ -57,10 +72,52 @@ module _ (w : IdWorld) (terms : List Term) (text : IsTextOver terms w) where
         other = λ t q says. rank_below x (place_known w terms text x is) t q says;
       })
 
+  -- ---- outlines
+
+  -- a requirement at its place
+  requirement_there : (k : ℕ) (outline : Outline) → slice_get (outlines_of w.lexicon (owned W)) k ≡ Some outline
+      → (x : Place) × IsRequirementIn terms w.lexicon x.requirement × (outline_in w.lexicon x.proto (requirement_of terms x.requirement) ≡ outline)
+  requirement_there k outline at =
+      let (o, there, same) = get_of_map (outline_of w.lexicon) (owned W) k outline at in
+      let (x, placed, is) = get_of_map (owned_at terms) (all_places w) k o (ap (λ z. slice_get z k) (places_owned w terms) ∙ there) in (
+        x,
+        place_known w terms text x (place_is w text.closed.ids k x placed),
+        ap (outline_of w.lexicon) is ∙ same,
+      )
+
+  pub protocols_below : HaveProtocolsBelow (length w.lexicon.protocols) (outlines_of w.lexicon (owned W))
+  protocols_below k outline at b q is =
+      let (x, known, same) = requirement_there k outline at in
+      let (t, says, named) = conformance_of w.lexicon b x.proto (requirement_of terms x.requirement) q (same ∙ is) in
+      let r = conf_of terms x.requirement t q says in
+      rank_below x known r.0 q r.1
+
+  name_below : (t : Term) → IsTermOf w.lexicon t → list_of (last_name w.lexicon t) < length w.lexicon.names + 1
+  name_below (Generic g) h = omega arith
+  name_below (Member t (Name a)) h = let l = h.1 in omega (arith, l)
+  name_below (Member t (Bound d)) h =
+      let (e, there) = there_is w.lexicon.associated d.rank h.1 in
+      let is : associated_at w.lexicon d ≡ e = get_or_from_slice_get w.lexicon.associated d.rank e _ there in
+      let named = (text.closed.ids.associated e (get_contains w.lexicon.associated d.rank e there)).1 in
+      let rank = ap (λ (z : ProtocolName). z.name.rank) is in omega (arith, named, rank)
+
+  names_in : (r : TermRequirement) (p : ProtoId) → IsRequirementOf w.lexicon r → HasLists (length w.lexicon.names + 1) (outline_in w.lexicon p r)
+  names_in (Conforms t q) p h a is = subst (λ (z : Option NameId). list_of z < length w.lexicon.names + 1) is (name_below t h.0)
+  names_in (IsAnyObject t) p h a is = subst (λ (z : Option NameId). list_of z < length w.lexicon.names + 1) is (name_below t h)
+  names_in (Equals t u) p h a is = elim is [
+    | inl e ↦ subst (λ (z : Option NameId). list_of z < length w.lexicon.names + 1) e (name_below t h.0)
+    | inr e ↦ subst (λ (z : Option NameId). list_of z < length w.lexicon.names + 1) e (name_below u h.1)
+  ]
+
+  pub names_below : HaveLists (length w.lexicon.names + 1) (outlines_of w.lexicon (owned W))
+  names_below k outline at =
+      let (x, known, same) = requirement_there k outline at in
+      subst (HasLists (length w.lexicon.names + 1)) same (names_in (requirement_of terms x.requirement) x.proto known.1)
+
   -- ---- what is asked
 
   -- the requirements at the places whose flags are set are the family
-  kept_family : (places : List Place) (flags : List Bool) → places ≡ all_places w → kept_at terms places flags ≡ family_of W flags
+  pub kept_family : (places : List Place) (flags : List Bool) → places ≡ all_places w → kept_at terms places flags ≡ family_of W flags
   kept_family places flags e =
       ap (λ (z : List Place). chosen (map (owned_at terms) z) flags) e ∙ ap (λ (z : List Owned). chosen z flags) (places_owned w terms)
 
@@ -71,25 +128,30 @@ module _ (w : IdWorld) (terms : List Term) (text : IsTextOver terms w) where
     told : (marks : List Bool) → TellReached (kept_at terms places flags) x.proto marks → TellReached (family_of W flags) x.proto marks
     told marks tell = subst (λ (z : List Owned). TellReached z x.proto marks) (kept_family places flags are) tell
 
+    pub is_unsaid : IsUnsaid w.lexicon (family_of W flags) x.proto (requirement_of terms x.requirement) → IsBeyond W at flags
+    is_unsaid unsaid = record { requirement = owned_at terms x; stands = stands; follows_not = inl unsaid }
+
     pub is_beyond : (marks : List Bool) → TellReached (kept_at terms places flags) x.proto marks
         → (t : TermId) × (q : ProtoId) × (x.requirement ≡ Conf t q) × (IsMarked marks q → ⊥) → IsBeyond W at flags
     is_beyond marks tell (t, q, says, unmarked) = record {
       requirement = owned_at terms x;
       stands = stands;
-      unreached = record {
+      follows_not = inr (record {
         subject = term_at terms t;
         proto = q;
         says = ap (requirement_of terms) says;
         unreached = λ r. unmarked ((told marks tell q).1 r);
-      };
+      });
     }
 
-    pub are_asked : (marks asked : List Bool) → TellReached (kept_at terms places flags) x.proto marks → length flags ≡ length places
+    pub are_asked : (IsUnsaid w.lexicon (family_of W flags) x.proto (requirement_of terms x.requirement) → ⊥)
+        → (marks asked : List Bool) → TellReached (kept_at terms places flags) x.proto marks → length flags ≡ length places
         → ((t : TermId) (q : ProtoId) → x.requirement ≡ Conf t q → IsMarked marks q) → asked ≡ marked places flags marks
         → AreAsked W at flags asked
-    are_asked marks asked tell l within e = record {
+    are_asked said marks asked tell l within e = record {
       requirement = owned_at terms x;
       stands = stands;
+      said = said;
       within = λ u q says. let r = conf_of terms x.requirement u q says in (told marks tell q).0 (within r.0 q r.1);
       reached = subst (λ (z : List Bool). AreReachedFlags (owned W) flags x.proto z) (sym e)
           (subst (λ (all : List Owned). AreReachedFlags all flags x.proto (marked places flags marks))
@@ -113,11 +175,17 @@ module _ (w : IdWorld) (terms : List Term) (text : IsTextOver terms w) where
         out.unreached (conforms_by_reach ds (family_of W flags) x.proto out.proto out.subject
         (subst (λ (r : TermRequirement). Derivable (owned_facts ds (family_of W flags)) (SelfOf x.proto) (Requires r)) out.says e))
 
+    beyond : IsBeyond W at flags → Follows → ⊥
+    beyond is e =
+        let same = here is.requirement is.stands in
+        elim is.follows_not [
+          | inl unsaid ↦ unsaid_not_derivable w.lexicon (family_of W flags) x.proto (requirement_of terms x.requirement)
+              (subst (λ (o : Owned). IsUnsaid w.lexicon (family_of W flags) o.proto o.requirement) same unsaid) e
+          | inr out ↦ not_out_of_reach (subst (λ (o : Owned). IsOutOfReach (family_of W flags) o) same out) e
+        ]
+
     pub follows_not : IsBeyond W at flags → IsTrue false ↔ Follows
-    follows_not is = (
-      (λ t. absurd (let z : false ≡ true = t in cc)),
-      λ e. absurd (not_out_of_reach (subst (λ (o : Owned). IsOutOfReach (family_of W flags) o) (here is.requirement is.stands) is.unreached) e),
-    )
+    follows_not is = ((λ t. absurd (let z : false ≡ true = t in cc)), λ e. absurd (beyond is e))
 
     pub follows_asked : (asked : List Bool) → AreAsked W at flags asked → (b : Bool)
         → IsTrue b ↔ Derivable (owned_facts ds (family_of W asked)) (SelfOf x.proto) (Requires (requirement_of terms x.requirement))

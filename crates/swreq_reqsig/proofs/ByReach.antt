@@ -18,6 +18,14 @@ use Rattle.swreq_reqsig.specs.Families.{own}
 use Rattle.swreq_reqsig.specs.Reaching.{AreReachedFlags, IsReachedPart, Reaches}
 use Rattle.swreq_reqsig.specs.Reaching.Reaches.{by_conformance, itself}
 
+-- a requirement of a protocol is of the family
+pub own_there : (family : List Owned) (q : ProtoId) (r : TermRequirement) → Contains (owned_by family q) r → Contains family (own q r)
+own_there family q r c =
+    let (o, m, n, i) = owned_member family q r c in
+    let proto : o.proto ≡ q = same_proto o.proto q n in
+    let is : o ≡ own q r = λ k. record { proto = proto k; requirement = sym i k } in
+    subst (λ (z : Owned). Contains family z) is m
+
 -- ---- conformances are to reached protocols
 
 module _ (ds : List AssociatedType) (family : List Owned) (p : ProtoId) where
@@ -26,11 +34,7 @@ module _ (ds : List AssociatedType) (family : List Owned) (p : ProtoId) where
 
   -- a requirement of a reached protocol leads to a reached one
   leads_on : (q r : ProtoId) (u : Term) → Reaches family p q → Contains (owned_by family q) (Conforms u r) → Reaches family p r
-  leads_on q r u h c =
-      let (o, m, n, i) = owned_member family q (Conforms u r) c in
-      let proto : o.proto ≡ q = same_proto o.proto q n in
-      let is : o ≡ own q (Conforms u r) = λ k. record { proto = proto k; requirement = sym i k } in
-      by_conformance h (subst (λ (z : Owned). Contains family z) is m)
+  leads_on q r u h c = by_conformance h (own_there family q (Conforms u r) c)
 
   of_self : (q r : ProtoId) (t u : Term) → Reaches family p q → Conforms t r ≡ Conforms u q → Reaches family p r
   of_self q r t u h e = let alike : r ≡ q = cc in subst (Reaches family p) (sym alike) h

@@ -1,7 +1,10 @@
 pub mod Choosing
 pub mod Leaving
 pub mod ByReach
+pub mod Unsaid
 pub mod Passing
+pub mod Naming
+pub mod Spoken
 pub mod Asking
 pub mod OneFamily
 pub mod OfWorld

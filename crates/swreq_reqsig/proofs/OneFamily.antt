@@ -18,10 +18,12 @@ use Rattle.swreq_reqsig.specs.declared.family.Family.{Family}
 use Rattle.swreq_reqsig.specs.Families.{associated_types_of, family_of, family_plan, numbers, owned}
 use Rattle.swreq_reqsig.specs.GoingThrough.{AreLeft, without}
 use Rattle.swreq_reqsig.specs.GoingThrough.AreLeft.{further as left_further, whole}
-use Rattle.swreq_reqsig.specs.Reaching.{AreAsked, AreReachedFlags, IsBeyond, IsOutOfReach}
+use Rattle.swreq_reqsig.specs.Asked.{AreAsked, IsBeyond, IsOutOfReach}
+use Rattle.swreq_reqsig.specs.Reaching.{AreReachedFlags}
+use Rattle.swreq_reqsig.specs.Saying.{IsUnsaid}
 use Rattle.swreq_reqsig.specs.Told.{HasGone, IsFamilyOutcome, IsForMemory, IsSettled, IsStopped, StopsAt}
 use Rattle.swreq_reqsig.specs.Told.HasGone.{further, start}
-use Rattle.swreq_reqsig.specs.Told.IsSettled.{by_rounds, out_of_reach}
+use Rattle.swreq_reqsig.specs.Told.IsSettled.{by_rounds, without_rounds}
 use Rattle.swreq_reqsig.proofs.ByReach.{reached_flags_one}
 use Rattle.swreq_reqsig.proofs.Leaving.{left_one, within}
 
@@ -64,20 +66,23 @@ module _ (limits : Limits) (w : TextWorld) (n : ℕ) (others : List Bool) where
   not_beyond : (asked : List Bool) → AreAsked w n others asked → IsBeyond w n others → ⊥
   not_beyond asked are is =
       let same : is.requirement ≡ are.requirement = same_Some _ _ (sym is.stands ∙ are.stands) in
-      let out : IsOutOfReach (family_of w others) are.requirement = subst (IsOutOfReach (family_of w others)) same is.unreached in
-      out.unreached (are.within out.subject out.proto out.says)
+      elim is.follows_not [
+        | inl unsaid ↦ are.said (subst (λ (o : Owned). IsUnsaid w.lexicon (family_of w others) o.proto o.requirement) same unsaid)
+        | inr beyond ↦ (let out : IsOutOfReach (family_of w others) are.requirement = subst (IsOutOfReach (family_of w others)) same beyond in
+            out.unreached (are.within out.subject out.proto out.says))
+      ]
 
   settled_one : (a b : List Event) → IsSettled limits w n others a → IsSettled limits w n others b → a ≡ b
-  settled_one a b (out_of_reach i e) (out_of_reach j h) = e ∙ sym h
-  settled_one a b (out_of_reach i e) (by_rounds {asked = s} are o) = absurd (not_beyond s are i)
-  settled_one a b (by_rounds {asked = s} are o) (out_of_reach i e) = absurd (not_beyond s are i)
+  settled_one a b (without_rounds i e) (without_rounds j h) = e ∙ sym h
+  settled_one a b (without_rounds i e) (by_rounds {asked = s} are o) = absurd (not_beyond s are i)
+  settled_one a b (by_rounds {asked = s} are o) (without_rounds i e) = absurd (not_beyond s are i)
   settled_one a b (by_rounds {asked = s} {rules = r} are o) (by_rounds {asked = t} {rules = q} also u) =
       rules_told_one limits (family_plan w s) r q a b o
       (subst (λ (z : List Bool). IsOutcome limits (family_plan w z) (Ok q) b) (asked_one t s also are) u)
 
   not_settled : (which : Which) (trace : List Rule) (a b : List Event) → IsSettled limits w n others a
       → StopsAt limits w n others which trace b → ⊥
-  not_settled which trace a b (out_of_reach i e) s = not_beyond s.asked s.are i
+  not_settled which trace a b (without_rounds i e) s = not_beyond s.asked s.are i
   not_settled which trace a b (by_rounds {asked = t} {rules = r} are o) s =
       not_both limits (family_plan w t) r which trace a b o
       (subst (λ (z : List Bool). IsOutcome limits (family_plan w z) (Err (Limit which trace)) b) (asked_one s.asked t s.are are) s.stops)

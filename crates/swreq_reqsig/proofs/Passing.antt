@@ -19,7 +19,7 @@ use Rattle.swreq_valid.specs.Flags.{unset}
 use Rattle.swreq_valid.proofs.OfProtocols.{drop_at}
 use Rattle.swreq_reqsig.specs.declared.places.Place.{Place}
 use Rattle.swreq_reqsig.specs.Families.{own}
-use Rattle.swreq_reqsig.specs.Marks.{AreClosedFrom, AreReachable, HasPassed, IsClosedAt, IsMarked, IsMarkedBy, TellReached, kept_at, marked}
+use Rattle.swreq_reqsig.specs.Marks.{AreClosedFrom, AreReachable, HasPassed, IsClosedAt, IsMarked, IsLedTo, IsMarkedBy, TellLed, TellReached, kept_at, marked}
 use Rattle.swreq_reqsig.specs.Places.{owned_at}
 use Rattle.swreq_reqsig.specs.Reaching.{AreReachedFlags, Reaches}
 use Rattle.swreq_reqsig.specs.Reaching.Reaches.{by_conformance, itself}
@@ -27,7 +27,7 @@ use Rattle.swreq_reqsig.proofs.ByReach.{at_chosen, chosen_at}
 
 -- ---- marks
 
-same_rank : (p q : ProtoId) → p.rank ≡ q.rank → p ≡ q
+pub same_rank : (p q : ProtoId) → p.rank ≡ q.rank → p ≡ q
 same_rank p q e = λ i. record { rank = e i }
 
 -- a flag more is set
@@ -39,7 +39,7 @@ fewer_unset (true ∷ marks) (suc k) e = fewer_unset marks k e
 fewer_unset (false ∷ marks) (suc k) e = let l = fewer_unset marks k e in omega (arith, l)
 
 -- those that were marked are still
-mark_stays : (marks : List Bool) (p q : ProtoId) → IsMarked marks q → IsMarked (slice_set marks p.rank true) q
+pub mark_stays : (marks : List Bool) (p q : ProtoId) → IsMarked marks q → IsMarked (slice_set marks p.rank true) q
 mark_stays marks p q h = elim (set_kept marks p.rank true q.rank true h) [ inl e ↦ e | inr e ↦ e.1 ]
 
 -- what is read there
@@ -78,15 +78,19 @@ leads_in terms places flags k x t q at set says =
 
 module _ (places : List Place) (flags : List Bool) where
   -- a mark more, to which a requirement leads
-  reach_more : (terms : List Term) (p : ProtoId) (k : ℕ) (x : Place) (kept : Bool) (old new : List Bool) → slice_get places k ≡ Some x
-      → slice_get flags k ≡ Some kept → IsMarkedBy x kept old new → AreReachable (kept_at terms places flags) p old
-      → AreReachable (kept_at terms places flags) p new
-  reach_more terms p k x kept old new at flag by h q m =
+  reach_more : (terms : List Term) (starts : List Bool) (k : ℕ) (x : Place) (kept : Bool) (old new : List Bool) → slice_get places k ≡ Some x
+      → slice_get flags k ≡ Some kept → IsMarkedBy x kept old new → AreReachable (kept_at terms places flags) starts old
+      → AreReachable (kept_at terms places flags) starts new
+  reach_more terms starts k x kept old new at flag by h q m =
       elim (set_cases old by.proto.rank true q.rank true (subst (λ (z : List Bool). IsMarked z q) by.marks m)) [
         | inl e ↦ h q e
-        | inr e ↦ subst (Reaches (kept_at terms places flags) p) (sym (same_rank q by.proto e.0))
-            (by_conformance (h x.proto by.leads.own)
-            (leads_in terms places flags k x by.leads.subject by.proto at (flag ∙ ap Some by.leads.is_kept) by.leads.says))
+        | inr e ↦ (let led = h x.proto by.leads.own in
+            subst (IsLedTo (kept_at terms places flags) starts) (sym (same_rank q by.proto e.0)) (record {
+              start = led.start;
+              is_marked = led.is_marked;
+              reaches = by_conformance led.reaches
+                  (leads_in terms places flags k x by.leads.subject by.proto at (flag ∙ ap Some by.leads.is_kept) by.leads.says);
+            }))
       ]
 
   -- ---- a pass
@@ -95,7 +99,7 @@ module _ (places : List Place) (flags : List Bool) where
   passes_none n marks l = record {
     count = refl;
     stay = λ q h. h;
-    reachable = λ terms p h. h;
+    reachable = λ terms starts h. h;
     closed = λ e k x kept f at flag. absurd (let w = slice_get_within places k x at in omega (arith, w, f, l));
     fewer = λ e. absurd (let z : false ≡ true = e in cc);
     no_more = omega arith;
@@ -131,7 +135,7 @@ module _ (places : List Place) (flags : List Bool) where
     passes_more grew old mid new h by = record {
       count = ap length by.marks ∙ length-set mid by.proto.rank true ∙ h.count;
       stay = λ q m. subst (λ (z : List Bool). IsMarked z q) (sym by.marks) (mark_stays mid by.proto q (h.stay q m));
-      reachable = λ terms p r. reach_more terms p n x kept mid new at flag by (h.reachable terms p r);
+      reachable = λ terms starts r. reach_more terms starts n x kept mid new at flag by (h.reachable terms starts r);
       closed = λ e. absurd (let z : true ≡ false = e in cc);
       fewer = λ e. (let a = fewer_by mid new by in let b = h.no_more in omega (arith, a, b));
       no_more = (let a = fewer_by mid new by in let b = h.no_more in omega (arith, a, b));
@@ -167,56 +171,79 @@ conf_of terms (Same t s) u q e = absurd cc
 
 -- ---- all passes
 
-module _ (protocols : ℕ) (places : List Place) (flags : List Bool) (p : ProtoId) where
+module _ (places : List Place) (flags starts : List Bool) where
   -- These marks are reached so far; where the last pass added none they are closed.
   pub record AreFound (grows : Bool) (marks : List Bool) : Type 0 where
-    pub count : length marks ≡ protocols
-    pub start : IsMarked marks p
-    pub reachable : (terms : List Term) → AreReachable (kept_at terms places flags) p marks
+    pub count : length marks ≡ length starts
+    pub start : (q : ProtoId) → IsMarked starts q → IsMarked marks q
+    pub reachable : (terms : List Term) → AreReachable (kept_at terms places flags) starts marks
     pub closed : grows ≡ false → AreClosedFrom places flags marks 0
 
-  none_set : (n k : ℕ) → slice_get (replicate n false) k ≡ Some true → ⊥
-  none_set zero k e = cc
-  none_set (suc n) zero e = (let f : false ≡ true = cc in cc)
-  none_set (suc n) (suc k) e = none_set n k e
-
-  pub found_first : (marks : List Bool) → p.rank < protocols → marks ≡ slice_set (replicate protocols false) p.rank true → AreFound true marks
-  found_first marks l e = subst (AreFound true) (sym e) (record {
-    count = length-set (replicate protocols false) p.rank true ∙ length-replicate protocols false;
-    start = set_here (replicate protocols false) p.rank true (let c = length-replicate protocols false in omega (arith, c, l));
-    reachable = λ terms q m. elim (set_cases (replicate protocols false) p.rank true q.rank true m) [
-      | inl k ↦ absurd (none_set protocols q.rank k)
-      | inr k ↦ itself (same_rank q p k.0)
-    ];
-    closed = λ f. absurd (let z : true ≡ false = f in cc);
-  })
+  -- where none is marked they are closed
+  pub found_first : (any : Bool) → (any ≡ false → (q : ProtoId) → IsMarked starts q → ⊥) → AreFound any starts
+  found_first any none = record {
+    count = refl;
+    start = λ q m. m;
+    reachable = λ terms q m. record { start = q; is_marked = m; reaches = itself refl };
+    closed = λ e k x kept f there set q leads. absurd (none e x.proto leads.own);
+  }
 
   pub found_more : (grows grew : Bool) (old new : List Bool) → AreFound grows old → HasPassed places flags 0 grew old new → AreFound grew new
   found_more grows grew old new f h = record {
     count = h.count ∙ f.count;
-    start = h.stay p f.start;
-    reachable = λ terms. h.reachable terms p (f.reachable terms);
+    start = λ q m. h.stay q (f.start q m);
+    reachable = λ terms. h.reachable terms starts (f.reachable terms);
     closed = h.closed;
   }
 
-  complete : (marks : List Bool) → IsMarked marks p → AreClosedFrom places flags marks 0 → (terms : List Term) {q : ProtoId}
+  complete : (marks : List Bool) → AreClosedFrom places flags marks 0 → (terms : List Term) {p q : ProtoId} → IsMarked marks p
       → Reaches (kept_at terms places flags) p q → IsMarked marks q
-  complete marks start closed terms (itself e) = subst (IsMarked marks) (sym e) start
-  complete marks start closed terms (by_conformance {q = q} {r = r} {u = u} h c) =
+  complete marks closed terms start (itself e) = subst (IsMarked marks) (sym e) start
+  complete marks closed terms start (by_conformance {q = q} {r = r} {u = u} h c) =
       let (k, at, set) = chosen_at (map (owned_at terms) places) flags (own q (Conforms u r)) c in
       let (x, there, is) = get_of_map (owned_at terms) places k (own q (Conforms u r)) at in
       let proto : x.proto ≡ q = ap (λ (z : Owned). z.proto) is in
       let says = conf_of terms x.requirement u r (ap (λ (z : Owned). z.requirement) is) in
       closed k x true (omega arith) there set r (record {
         is_kept = refl;
-        own = subst (IsMarked marks) (sym proto) (complete marks start closed terms h);
+        own = subst (IsMarked marks) (sym proto) (complete marks closed terms start h);
         subject = says.0;
         says = says.1;
       })
 
   pub all_found : (grows : Bool) (marks : List Bool) → AreFound grows marks → grows ≡ false → (terms : List Term)
-      → TellReached (kept_at terms places flags) p marks
-  all_found grows marks f e terms q = (f.reachable terms q, λ r. complete marks f.start (f.closed e) terms r)
+      → TellLed (kept_at terms places flags) starts marks
+  all_found grows marks f e terms q = (
+    f.reachable terms q,
+    λ led. complete marks (f.closed e) terms (f.start led.start led.is_marked) led.reaches,
+  )
+
+-- ---- one that is marked first
+
+none_set : (n k : ℕ) → slice_get (replicate n false) k ≡ Some true → ⊥
+none_set zero k e = cc
+none_set (suc n) zero e = (let f : false ≡ true = cc in cc)
+none_set (suc n) (suc k) e = none_set n k e
+
+pub no_mark : (n : ℕ) (q : ProtoId) → IsMarked (replicate n false) q → ⊥
+no_mark n q m = none_set n q.rank m
+
+-- those that it reaches are those that the first marks reach
+pub reached_by_one : (protocols : ℕ) (family : List Owned) (p : ProtoId) (starts marks : List Bool) → p.rank < protocols
+    → starts ≡ slice_set (replicate protocols false) p.rank true → TellLed family starts marks → TellReached family p marks
+reached_by_one protocols family p starts marks l e tell q = (
+  (λ m. let led = (tell q).0 m in
+      elim (set_cases (replicate protocols false) p.rank true led.start.rank true (subst (λ (z : List Bool). IsMarked z led.start) e led.is_marked)) [
+        | inl k ↦ absurd (no_mark protocols led.start k)
+        | inr k ↦ subst (λ (z : ProtoId). Reaches family z q) (same_rank led.start p k.0) led.reaches
+      ]),
+  λ r. (tell q).1 (record {
+    start = p;
+    is_marked = subst (λ (z : List Bool). IsMarked z p) (sym e)
+        (set_here (replicate protocols false) p.rank true (let c = length-replicate protocols false in omega (arith, c, l)));
+    reaches = r;
+  }),
+)
 
 -- ---- the flags of the part
 

@@ -21,7 +21,9 @@ use Rattle.swreq_valid.specs.Plans.{bare}
 use Rattle.swreq_symbols.proofs.OfText.{own_requirements, protocol_written}
 use Rattle.swreq_valid.proofs.OfProtocols.{drop_at}
 use Rattle.swreq_reqsig.specs.declared.places.Place.{Place}
+use Rattle.swreq_reqsig.specs.declared.outlines.Outline.{Outline}
 use Rattle.swreq_reqsig.specs.Families.{own, owned, owned_in}
+use Rattle.swreq_reqsig.specs.Outlines.{outline_of, outlines_of}
 use Rattle.swreq_reqsig.specs.Places.{IsPlaceIn, all_places, owned_at, places_from, places_in}
 
 -- ---- one by one
@@ -132,3 +134,25 @@ pub place_numbered : (w : IdWorld) (terms : List Term) (x : Place) → IsPlaceIn
     → HasNumber (world_by terms w) x.proto x.number (requirement_of terms x.requirement)
 place_numbered w terms x p =
     subst (λ (n : ℕ). HasNumber (world_by terms w) x.proto n (requirement_of terms x.requirement)) (sym p.number) (place_stated w terms x p)
+
+-- ---- their outlines
+
+module _ (w : IdWorld) (terms : List Term) where
+  abbrev pub outlines_at : List Place → List Outline
+  outlines_at places = map (outline_of w.lexicon) (map (owned_at terms) places)
+
+  pub one_outline : (places : List Place) (k : ℕ) (x : Place) (outline : Outline) (old new : List Outline) (whole : List Outline)
+      → slice_get places k ≡ Some x → outline ≡ outline_of w.lexicon (owned_at terms x) → new ≡ old ++ outline ∷ []
+      → old ++ outlines_at (drop k places) ≡ whole → new ++ outlines_at (drop (k + 1) places) ≡ whole
+  one_outline places k x outline old new whole at is e h =
+      ap (λ z. z ++ outlines_at (drop (k + 1) places)) e
+      ∙ append_assoc old (outline ∷ []) (outlines_at (drop (k + 1) places))
+      ∙ ap (λ (z : Outline). old ++ (z ∷ outlines_at (drop (k + 1) places))) is
+      ∙ ap (λ (z : List Place). old ++ outlines_at z) (sym (drop_at places k x at))
+      ∙ h
+
+  pub outlines_done : (places : List Place) (k : ℕ) (all : List Outline) → length places ≤ k → places ≡ all_places w
+      → all ++ outlines_at (drop k places) ≡ outlines_at places → all ≡ outlines_of w.lexicon (owned (world_by terms w))
+  outlines_done places k all l e h =
+      sym (append-nil all) ∙ ap (λ z. all ++ outlines_at z) (sym (drop_all k places l)) ∙ h
+      ∙ ap outlines_at e ∙ ap (map (outline_of w.lexicon)) (places_owned w terms)

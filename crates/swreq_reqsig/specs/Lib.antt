@@ -2,6 +2,11 @@ pub mod GoingThrough
 pub mod Families
 pub mod Places
 pub mod Reaching
+pub mod Saying
+pub mod Asked
+pub mod Outlines
+pub mod Named
+pub mod Spoken
 pub mod Marks
 pub mod Settings
 pub mod Told

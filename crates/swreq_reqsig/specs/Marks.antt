@@ -17,9 +17,19 @@ IsMarked marks q = slice_get marks q.rank ≡ Some true
 abbrev pub kept_at : List Term → List Place → List Bool → List Owned
 kept_at terms places flags = chosen (map (owned_at terms) places) flags
 
--- P reaches the marked ones.
-abbrev pub AreReachable : List Owned → ProtoId → List Bool → Type 0
-AreReachable family p marks = (q : ProtoId) → IsMarked marks q → Reaches family p q
+-- One of the marked ones reaches Q.
+pub record IsLedTo (family : List Owned) (starts : List Bool) (q : ProtoId) : Type 0 where
+  pub start : ProtoId
+  pub is_marked : IsMarked starts start
+  pub reaches : Reaches family start q
+
+-- Those first marked reach the marked ones.
+abbrev pub AreReachable : List Owned → List Bool → List Bool → Type 0
+AreReachable family starts marks = (q : ProtoId) → IsMarked marks q → IsLedTo family starts q
+
+-- Just those are marked that those first marked reach.
+abbrev pub TellLed : List Owned → List Bool → List Bool → Type 0
+TellLed family starts marks = (q : ProtoId) → IsMarked marks q ↔ IsLedTo family starts q
 
 -- Just those are marked that P reaches.
 abbrev pub TellReached : List Owned → ProtoId → List Bool → Type 0
@@ -64,8 +74,8 @@ AreClosedFrom places flags marks from = (k : ℕ) (x : Place) (kept : Bool) → 
 pub record HasPassed (places : List Place) (flags : List Bool) (from : ℕ) (grew : Bool) (old new : List Bool) : Type 0 where
   pub count : length new ≡ length old
   pub stay : (q : ProtoId) → IsMarked old q → IsMarked new q
-  pub reachable : (terms : List Term) (p : ProtoId) → AreReachable (kept_at terms places flags) p old
-      → AreReachable (kept_at terms places flags) p new
+  pub reachable : (terms : List Term) (starts : List Bool) → AreReachable (kept_at terms places flags) starts old
+      → AreReachable (kept_at terms places flags) starts new
   pub closed : grew ≡ false → AreClosedFrom places flags new from
   pub fewer : grew ≡ true → unset new < unset old
   pub no_more : unset new ≤ unset old

@@ -7,9 +7,8 @@ use Rattle.swreq_derive.specs.Derivation.Source.{SelfOf}
 use Rattle.swreq_derive.specs.Derivation.TermRequirement.{Conforms}
 use Rattle.swreq_derive.specs.Derivation.TermStatement.{Requires}
 use Rattle.swreq_derive.specs.Kept.{Owned, owned_facts}
-use Rattle.swreq_world.specs.Worlds.{TextWorld}
 use Rattle.swreq_valid.specs.Flags.{chosen}
-use Rattle.swreq_reqsig.specs.Families.{family_of, own, owned}
+use Rattle.swreq_reqsig.specs.Families.{own}
 
 -- By the requirements of a family P reaches itself, and with a protocol each to which something conforms by a requirement of that protocol.
 pub data Reaches (family : List Owned) (p : ProtoId) : ProtoId → Type 0 where
@@ -25,34 +24,6 @@ pub record AreReachedFlags (all : List Owned) (flags : List Bool) (p : ProtoId) 
   pub count : length part ≡ length all
   pub each : (n : ℕ) (o : Owned) → slice_get all n ≡ Some o
       → (slice_get part n ≡ Some true) ↔ ((slice_get flags n ≡ Some true) × Reaches (chosen all flags) p o.proto)
-
--- ---- what is asked of a requirement
-
--- It says that something conforms to a protocol that its own does not reach by the family.
-pub record IsOutOfReach (family : List Owned) (o : Owned) : Type 0 where
-  pub subject : Term
-  pub proto : ProtoId
-  pub says : o.requirement ≡ Conforms subject proto
-  pub unreached : Reaches family o.proto proto → ⊥
-
--- If it says that something conforms to a protocol, its own reaches that by the family.
-abbrev pub IsWithinReach : List Owned → Owned → Type 0
-IsWithinReach family o = (t : Term) (q : ProtoId) → o.requirement ≡ Conforms t q → Reaches family o.proto q
-
-module _ (w : TextWorld) where
-  -- The requirement at the place is out of reach by the others, whose flags are set: it does not follow from them.
-  pub record IsBeyond (n : ℕ) (others : List Bool) : Type 0 where
-    pub requirement : Owned
-    pub stands : slice_get (owned w) n ≡ Some requirement
-    pub unreached : IsOutOfReach (family_of w others) requirement
-
-  -- The requirement at the place is within reach by the others, and these flags are of those of the others that its protocol reaches: whether
-  -- it follows is asked of them.
-  pub record AreAsked (n : ℕ) (others asked : List Bool) : Type 0 where
-    pub requirement : Owned
-    pub stands : slice_get (owned w) n ≡ Some requirement
-    pub within : IsWithinReach (family_of w others) requirement
-    pub reached : AreReachedFlags (owned w) others requirement.proto asked
 
 -- ---- laws
 

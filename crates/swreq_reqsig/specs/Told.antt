@@ -12,15 +12,15 @@ use Rattle.swreq_world.specs.Worlds.{TextWorld}
 use Rattle.swreq_reqsig.specs.declared.family.Family.{Family}
 use Rattle.swreq_reqsig.specs.Families.{associated_types_of, family_plan, numbers, owned}
 use Rattle.swreq_reqsig.specs.GoingThrough.{IsDecided, all_kept, without}
-use Rattle.swreq_reqsig.specs.Reaching.{AreAsked, IsBeyond}
+use Rattle.swreq_reqsig.specs.Asked.{AreAsked, IsBeyond}
 
 module _ (limits : Limits) (w : TextWorld) where
   -- ---- one requirement, with the others whose flags are set
 
-  -- Where the requirement at the place is out of reach nothing is completed and nothing told. Else the rounds end that are run of the others
-  -- that its protocol reaches, and they tell this.
+  -- Where the requirement at the place is unsaid or out of reach nothing is completed and nothing told. Else the rounds end that are run of the
+  -- others that its protocol reaches, and they tell this.
   pub data IsSettled (n : ℕ) (others : List Bool) (told : List Event) : Type 0 where
-    out_of_reach : IsBeyond w n others → told ≡ [] → IsSettled n others told
+    without_rounds : IsBeyond w n others → told ≡ [] → IsSettled n others told
     by_rounds : {asked : List Bool} {rules : List Rule} → AreAsked w n others asked → IsOutcome limits (family_plan w asked) (Ok rules) told
         → IsSettled n others told
 

@@ -11,6 +11,8 @@ ghost use Rattle.swreq_reqsig.specs.Told.{AnswersFamily, IsOnlyFamily};
 use crate::family::Family;
 use crate::flags::family_of;
 use crate::going::go_through;
+use crate::named::named;
+use crate::outlines::outlines;
 use crate::places::all_places;
 use crate::setting::Setting;
 use std::alloc::Global;
@@ -24,10 +26,13 @@ use swreq_world::World;
 /// Going through the protocols from the last to the first in written order, and through the requirements of each from the last to the
 /// first, each requirement is left out without which the same is derivable from `[τ_0_0 : P]` for every protocol P.
 ///
-/// Whether a requirement of P follows is asked by reach: of the requirements that are left, without the one in question, of those protocols
+/// Most requirements are seen not to follow by the last names of type parameters alone: those that the others leave unsaid, since they say
+/// nothing of the kind of type parameters with the same last name, nor that these are equal to others.
+///
+/// Whether another requirement of P follows is asked by reach: of the requirements that are left, without the one in question, of those protocols
 /// that P reaches. P reaches itself, and with a protocol each to which something conforms by such a requirement of that protocol. No other
-/// requirement bears on what is derivable from `[τ_0_0 : P]`. A conformance to a protocol that P does not reach does not follow, and for it
-/// nothing is completed; for each other requirement the rounds of the reached part are run.
+/// requirement bears on what is derivable from `[τ_0_0 : P]`. A conformance to a protocol that P does not reach does not follow. For this and for
+/// what is unsaid nothing is completed; for each other requirement the rounds of the reached part are run.
 ///
 /// It is `Failed::Limit` exactly where the rounds of such a part pass a limit, with the limit and the trace of the first. The watcher is
 /// told the events of these rounds, one after the other.
@@ -52,9 +57,19 @@ pub fn kept_family<W: Watch>(
         Ok(places) => places,
         Err(_) => return Err(Failed::Memory),
     };
+    let outlines = match outlines(alloc, world, table, &places) {
+        Ok(outlines) => outlines,
+        Err(_) => return Err(Failed::Memory),
+    };
+    let named = match named(alloc, world.lexicon().names(), &outlines) {
+        Ok(named) => named,
+        Err(_) => return Err(Failed::Memory),
+    };
     let setting = Setting {
         world,
         table,
+        outlines: &outlines,
+        named: &named,
         limits,
     };
     match go_through(alloc, &setting, &places, watch) {

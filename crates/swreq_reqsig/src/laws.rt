@@ -1,13 +1,14 @@
 //! Laws on requirement signatures, over the definitions alone.
-ghost use Rattle.std.specs.Prelude.{◌≡◌, ℕ, List, []};
-ghost use Rattle.swreq_derive.specs.Kept.{Keeps};
+ghost use Rattle.std.specs.Prelude.{◌≡◌, ◌++◌, ◌∷◌, [], ℕ, List};
+ghost use Rattle.swreq_derive.specs.Kept.{DeriveTheSame, Keeps, Owned};
 ghost use Rattle.swreq_derive.specs.WellFormed.{AreProtocolsWellFormed};
 ghost use Rattle.swreq_symbols.specs.Meaning.{facts_of};
 ghost use Rattle.swreq_world.specs.Closed.{IsClosed};
 ghost use Rattle.swreq_world.specs.Worlds.{TextWorld};
 ghost use Rattle.swreq_valid.specs.Sides.{HoldsOfEach, IsValidSide, protocol_sides};
-ghost use Rattle.swreq_reqsig.specs.Families.{IsGivenFamily, associated_types_of, members, owned};
+ghost use Rattle.swreq_reqsig.specs.Families.{AreRequirementSignatures, IsGivenFamily, associated_types_of, members, owned};
 ghost use Rattle.swreq_reqsig.specs.Reaching.{ConformsByReach, DerivesByReach, FlagsGivePart};
+ghost use Rattle.swreq_reqsig.specs.Saying.{UnsaidIsNotDerivable};
 
 /// What is left of the requirements, going through them by flags, is what is kept of their list.
 pub fn given_family_is_kept()
@@ -17,6 +18,12 @@ pub fn given_family_is_kept()
 /// Going through the requirements leaves one family.
 pub fn given_family_is_one()
     ensures { (w : TextWorld) (kept others : List (List ℕ)) → IsGivenFamily w kept → IsGivenFamily w others → kept ≡ others }
+{}
+
+/// With any member of a family of requirement signatures left out not the same is derivable from each protocol.
+pub fn requirement_signatures_lack_nothing()
+    ensures { (w : TextWorld) (family before after : List Owned) (o : Owned) → AreRequirementSignatures w family → family ≡ before ++ (o ∷ after)
+        → DeriveTheSame (associated_types_of w) (before ++ after) family → ⊥ }
 {}
 
 /// Protocols are well formed where each side of what they require is a type parameter.
@@ -38,4 +45,9 @@ pub fn conformances_are_to_reached_protocols()
 /// The flags of the part that a protocol reaches give that part.
 pub fn reached_flags_give_the_part()
     ensures { FlagsGivePart }
+{}
+
+/// A requirement of which a family says nothing of the kind is not derivable from it.
+pub fn unsaid_requirements_are_not_derivable()
+    ensures { UnsaidIsNotDerivable }
 {}

@@ -9,8 +9,11 @@ mod flags;
 mod going;
 mod kept;
 pub mod laws;
+mod named;
+mod outlines;
 mod places;
 mod reaching;
+mod saying;
 mod setting;
 mod texts;
 

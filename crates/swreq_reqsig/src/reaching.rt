@@ -3,19 +3,20 @@ ghost use Rattle.std.specs.Prelude.{◌≡◌, ◌<◌, ◌&&◌, ℕ, false, tr
 ghost use Rattle.swreq_param.specs.Terms.{Term};
 ghost use Rattle.swreq_param.specs.declared.ids.TermId.{TermId};
 ghost use Rattle.swreq_derive.specs.declared.requirements.Requirement.TheVariants.{Conf};
-ghost use Rattle.swreq_reqsig.specs.Marks.{HasPassed, HasRanksBelow, HaveRanksBelow, IsClosedAt, IsMarked, IsMarkedBy, TellReached, kept_at, marked};
+ghost use Rattle.swreq_reqsig.specs.Marks.{HasPassed, HasRanksBelow, HaveRanksBelow, IsClosedAt, IsMarked, IsMarkedBy, TellLed, TellReached, kept_at, marked};
 ghost use Rattle.swreq_reqsig.specs.Places.{all_places};
-ghost use Rattle.swreq_reqsig.specs.Reaching.{AreAsked, IsBeyond};
+ghost use Rattle.swreq_reqsig.specs.Asked.{AreAsked, IsBeyond};
 ghost use Rattle.swreq_reqsig.specs.Settings.{IsSetting, text_in};
 
 use crate::places::Place;
+use crate::saying::is_unsaid;
 use crate::setting::Setting;
 use std::alloc::{AllocError, Global};
 use swreq_derive::Requirement;
 use swreq_param::ProtoId;
 
 /// Whether a protocol is marked.
-fn is_marked(marks: &[bool], p: ProtoId) -> bool
+pub(crate) fn is_marked(marks: &[bool], p: ProtoId) -> bool
     ensures { result ≡ slice_index_or marks.now p.rank false }
 {
     match marks.get(p.rank as usize) {
@@ -80,7 +81,15 @@ fn pass(places: &[Place], flags: &[bool], marks: &mut Vec<bool>) -> bool
     grew
 }
 
-/// Marks for all protocols, of which there are so many, with one protocol marked.
+/// Marks for all protocols, of which there are this many, with none marked.
+pub(crate) fn none_marked(alloc: Global, protocols: usize) -> Result<Vec<bool>, AllocError>
+    ensures { IfOk result (λ marks. marks.items ≡ replicate protocols false) }
+{
+    let marks = vec![in alloc; false; protocols]?;
+    Ok(marks)
+}
+
+/// Marks for all protocols, of which there are this many, with one protocol marked.
 fn first_mark(alloc: Global, protocols: usize, p: ProtoId) -> Result<Vec<bool>, AllocError>
     requires { p.rank < protocols }
     ensures { IfOk result (λ marks. marks.items ≡ slice_set (replicate protocols false) p.rank true) }
@@ -88,6 +97,25 @@ fn first_mark(alloc: Global, protocols: usize, p: ProtoId) -> Result<Vec<bool>, 
     let mut marks = vec![in alloc; false; protocols]?;
     marks[p.rank as usize] = true;
     Ok(marks)
+}
+
+/// Whether a protocol is marked.
+pub(crate) fn is_any_marked(marks: &[bool]) -> bool
+    ensures { result ≡ false → (q : ProtoId) → IsMarked marks.now q → ⊥ }
+{
+    marks.contains(&true)
+}
+
+/// Marks all protocols that those marked reach by the requirements whose flags are set.
+pub(crate) fn close(places: &[Place], flags: &[bool], marks: &mut Vec<bool>)
+    requires flags { length flags.now ≡ length places.now }
+    requires ranks { HaveRanksBelow (length marks.old.items) places.now }
+    ensures { (terms : List Term) → TellLed (kept_at terms places.now flags.now) marks.old.items marks.new.items }
+{
+    let mut grows = is_any_marked(marks);
+    while grows {
+        grows = pass(places, flags, marks);
+    }
 }
 
 /// Marks for all protocols, set for those that a protocol reaches by the requirements whose flags are set.
@@ -104,10 +132,7 @@ fn reached(
     ensures { IfOk result (λ marks. (terms : List Term) → TellReached (kept_at terms places.now flags.now) p marks.items) }
 {
     let mut marks = first_mark(alloc, protocols, p)?;
-    let mut grows = true;
-    while grows {
-        grows = pass(places, flags, &mut marks);
-    }
+    close(places, flags, &mut marks);
     Ok(marks)
 }
 
@@ -142,7 +167,7 @@ fn is_beyond(marks: &[bool], requirement: &Requirement) -> bool
 }
 
 /// The flags of those of which it is asked whether the requirement at a place follows: of those whose flags are set and whose protocols
-/// its own protocol reaches by them. It is None where the requirement is out of reach.
+/// its own protocol reaches by them. It is None where the requirement is unsaid, or out of reach.
 pub(crate) fn asked(
     alloc: Global,
     setting: &Setting<'_>,
@@ -158,6 +183,10 @@ pub(crate) fn asked(
         (IsBeyond (text_in setting.now) at flags.now)
         (λ asked. AreAsked (text_in setting.now) at flags.now asked.items)) }
 {
+    let unsaid = is_unsaid(alloc, setting, places, flags, at)?;
+    if unsaid {
+        return Ok(None);
+    }
     let place = &places[at];
     let protocols = setting.world.protocols() as usize;
     let marks = reached(alloc, protocols, places, flags, place.proto)?;

@@ -1,12 +1,16 @@
 //! What families are asked over.
+use crate::outlines::Outline;
 use swreq_complete::Limits;
 use swreq_param::ParamTable;
+use swreq_rank::Lists;
 use swreq_world::World;
 
-/// A text, and the limits of completions.
+/// A text with what its protocols require by the last names of type parameters, and the limits of completions.
 #[derive(Clone, Copy)]
 pub(crate) struct Setting<'a> {
     pub world: &'a World,
     pub table: &'a ParamTable,
+    pub outlines: &'a [Outline],
+    pub named: &'a Lists<usize>,
     pub limits: Limits,
 }

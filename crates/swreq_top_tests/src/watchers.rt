@@ -46,14 +46,15 @@ func f<T: M & N & P>() where T.B == T, T: AnyObject
 
 /// For the words of a run its text, the status, how many completions a watcher is told to start, and how many rules to be born.
 ///
-/// - The protocol N has a round without its requirement, with 3 rules, and one with it, with 5. Its family has a round without it.
+/// - The protocol N has a round without its requirement, with 3 rules, and one with it, with 5. Where the requirement is written twice, the
+///   second is asked by the same two rounds, and the first is unsaid.
 /// - The protocol P has a round, with 1 rule. Each function has one without its requirement, with none, and one with it, with 1.
 /// - The protocols of `EITHER` have rounds with 11, 17 and 18 rules, and the function with none, 7 and 8. Minimising grows the rules of
 ///   `T == T.B` by those of `T : P` and `T : AnyObject`, and passes the limit. So for each of `T : M` and `T : N` the machine of the others
 ///   is built, by rounds with none, 6 and 7.
 const TOLD: &[(&str, &[u8], &str, u32, u32)] = &[
     ("answer", TEXT, "0", 4, 10),
-    ("requirements", b"protocol N { associatedtype Next: N }\n", "0", 3, 11),
+    ("requirements", b"protocol N { associatedtype Next: N, N }\n", "0", 4, 16),
     ("calls", CALLED, "0", 5, 3),
     ("calls", MISCALLED, "1", 5, 3),
     ("verify", b"func f<T>()\nquery f(T == T)\n%%\nno\n", "0", 0, 0),

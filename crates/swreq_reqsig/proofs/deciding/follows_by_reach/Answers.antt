@@ -26,6 +26,9 @@ returns-in-Ok-None-clause-answer g c x there =
     (ap (λ (z : List Place). slice_get z c.args.at) (sym c.requires.places) ∙ there)
     (MatchOption-at_none _ _ c.in-Ok-None.field-0-is c.in-Ok-None.ensures)
 
+pub returns-in-Ok-None-clause-settled : goal.returns-in-Ok-None-clause-settled
+returns-in-Ok-None-clause-settled g c = ?
+
 pub returns-in-Ok-Some-clause-answer : goal.returns-in-Ok-Some-clause-answer
 returns-in-Ok-Some-clause-answer g c =
     let s = c.args.setting.now in

@@ -14,6 +14,28 @@ returns-in-Err-clause-answer g c =
     wants_memory w c.args.table.now c.args.limits count (replicate count true) told told
     (comes_first w c.args.table.now c.args.limits count (replicate count true) told refl refl)
 
+pub returns-in-Err-outlines-clause-answer : goal.returns-in-Err-outlines-clause-answer
+returns-in-Err-outlines-clause-answer g c =
+    let w = c.args.world.now in
+    let count = length (all_places w) in
+    let told = g.W.Watch.told c.args.watch.now in
+    wants_memory w c.args.table.now c.args.limits count (replicate count true) told told
+    (comes_first w c.args.table.now c.args.limits count (replicate count true) told refl refl)
+
+pub returns-in-Err-named-clause-answer : goal.returns-in-Err-named-clause-answer
+returns-in-Err-named-clause-answer g c =
+    let w = c.args.world.now in
+    let count = length (all_places w) in
+    let told = g.W.Watch.told c.args.watch.now in
+    wants_memory w c.args.table.now c.args.limits count (replicate count true) told told
+    (comes_first w c.args.table.now c.args.limits count (replicate count true) told refl refl)
+
+pub named-requires : goal.named-requires
+named-requires g c = ?
+
+pub go_through-requires-clause-setting : goal.go_through-requires-clause-setting
+go_through-requires-clause-setting g c = ?
+
 pub returns-in-Err-go_through-clause-only : goal.returns-in-Err-go_through-clause-only
 returns-in-Err-go_through-clause-only g c =
     only c.args.limits (world_by c.args.table.now c.args.world.now) (g.W.Watch.told c.args.watch.now) (g.W.Watch.told c.go_through.new.watch)

@@ -1,7 +1,8 @@
-use Rattle.std.proofs.Common.{◌∙◌, ap, Bool, List, subst, sym}
+use Rattle.std.proofs.Common.{◌≡◌, ◌∙◌, ap, Bool, false, List, subst, sym, true}
 use Rattle.std.proofs.lemmas.Option.{slice_get-get_or}
+use Rattle.swreq_orders.proofs.Elements.{there_is}
 use Rattle.swreq_reqsig.specs.Marks.{IsMarked, marked}
-use Rattle.swreq_reqsig.proofs.Asking.{are_asked, is_beyond, ranks_below}
+use Rattle.swreq_reqsig.proofs.Asking.{are_asked, is_beyond, is_unsaid, ranks_below}
 use Rattle.swreq_reqsig.proofs.reaching.asked.Goals as goal
 
 pub reached-requires-clause-ranks : goal.reached-requires-clause-ranks
@@ -16,6 +17,13 @@ reached-requires-clause-proto c =
     (ranks_below s.world.now s.table.now c.requires.setting.text c.args.places.now c.requires.places c.protocols-protocols.result
     c.protocols-protocols.ensures c.args.at _ (slice_get-get_or c.args.places.now c.args.at _ c.requires.at)).own
 
+pub returns-then-unsaid : goal.returns-then-unsaid
+returns-then-unsaid c =
+    let s = c.args.setting.now in
+    let (x, there) = there_is c.args.places.now c.args.at c.requires.at in
+    is_unsaid s.world.now s.table.now c.requires.setting.text c.args.places.now c.args.flags.now c.args.at x c.requires.places there
+    ((c.in_ok-unsaid.ensures x there).0 c.if-unsaid.true)
+
 pub returns-then-is_beyond : goal.returns-then-is_beyond
 returns-then-is_beyond c =
     let s = c.args.setting.now in
@@ -27,8 +35,10 @@ returns-then-is_beyond c =
 pub returns : goal.returns
 returns c =
     let s = c.args.setting.now in
+    let there = slice_get-get_or c.args.places.now c.args.at _ c.requires.at in
     are_asked s.world.now s.table.now c.requires.setting.text c.args.places.now c.args.flags.now c.args.at _ c.requires.places
-    (slice_get-get_or c.args.places.now c.args.at _ c.requires.at) c.in_ok-marks.marks.items c.in_ok-asked.asked.items
+    there (λ unsaid. let has = (c.in_ok-unsaid.ensures _ there).1 unsaid in let z : false ≡ true = sym c.if-unsaid.false ∙ has in cc)
+    c.in_ok-marks.marks.items c.in_ok-asked.asked.items
     (c.in_ok-marks.ensures s.table.now) c.requires.flags
     (λ t q says. subst (λ (z : List Bool). IsMarked z q) c.deref.ensures.value (c.is_beyond.ensures.within c.if-is_beyond.false t q says))
     (c.in_ok-asked.ensures ∙ ap (marked c.args.places.now c.args.flags.now) c.deref-2.ensures.value)

@@ -1,10 +1,10 @@
 use Rattle.std.proofs.Common.{◌+◌, cond}
 use Rattle.swreq_valid.specs.Flags.{unset}
 use Rattle.swreq_reqsig.proofs.Passing.{AreFound}
-use Rattle.swreq_reqsig.proofs.reaching.reached.Given as goal
+use Rattle.swreq_reqsig.proofs.reaching.close.Given as goal
 
 abbrev pub invariant-loop-grows : goal.invariant-loop-grows
-invariant-loop-grows l = AreFound l.protocols l.places l.flags l.fn.p l.grows l.marks.items
+invariant-loop-grows l = AreFound l.places l.flags l.initial.marks.items l.grows l.marks.items
 
 abbrev pub decreases-loop-grows : goal.decreases-loop-grows
 decreases-loop-grows l = unset l.marks.items + cond l.grows 1 0

@@ -1,0 +1,38 @@
+use Rattle.std.proofs.Common.{◌∙◌, Bool, length, List, ℕ, subst, sym}
+use Rattle.swreq_derive.specs.Kept.{Owned}
+use Rattle.swreq_reqsig.specs.declared.outlines.Outline.{Outline}
+use Rattle.swreq_reqsig.specs.Families.{owned}
+use Rattle.swreq_reqsig.specs.Marks.{TellLed}
+use Rattle.swreq_reqsig.specs.Outlines.{AreSaid, HaveProtocolsBelow, outlines_of}
+use Rattle.swreq_reqsig.specs.Settings.{text_in}
+use Rattle.swreq_reqsig.proofs.Asking.{kept_family, protocols_below, ranks_below}
+use Rattle.swreq_reqsig.proofs.Spoken.{says_conforms}
+use Rattle.swreq_reqsig.proofs.saying.said.Goals as goal
+
+pub stated-requires-clause-ranks : goal.stated-requires-clause-ranks
+stated-requires-clause-ranks c =
+    let s = c.args.setting.now in
+    subst (λ (n : ℕ). HaveProtocolsBelow n c.what_is_said-spoken.result.outlines.now) (sym c.protocols-protocols.ensures)
+    (subst (λ (z : List Outline). HaveProtocolsBelow (length s.world.now.lexicon.protocols) z) (sym c.what_is_said-spoken.ensures.outlines)
+    (protocols_below s.world.now s.table.now c.requires.setting.text))
+
+pub close-requires-clause-ranks : goal.close-requires-clause-ranks
+close-requires-clause-ranks c =
+    let s = c.args.setting.now in
+    ranks_below s.world.now s.table.now c.requires.setting.text c.args.places.now c.requires.places _
+    (c.in_ok-marks.ensures.count ∙ c.protocols-protocols.ensures)
+
+pub returns : goal.returns
+returns c =
+    let s = c.args.setting.now in
+    let x = s.world.now.lexicon in
+    let starts = c.in_ok-marks.marks.items in
+    let marks = c.close.new.marks.items in
+    let protocols = c.protocols-protocols.result in
+    says_conforms x (owned (text_in s)) c.args.flags.now c.args.name protocols starts marks
+    (subst (λ (z : List Outline). AreSaid z c.args.flags.now c.args.name protocols starts) c.what_is_said-spoken.ensures.outlines
+    (subst (λ (z : List Bool). AreSaid c.what_is_said-spoken.result.outlines.now z c.args.name protocols starts) c.what_is_said-spoken.ensures.flags
+    c.in_ok-marks.ensures))
+    (subst (λ (z : List Owned). TellLed z starts marks)
+    (kept_family s.world.now s.table.now c.requires.setting.text c.args.places.now c.args.flags.now c.requires.places)
+    (c.close.ensures s.table.now))

@@ -1,0 +1,6 @@
+use Rattle.swreq_reqsig.specs.Outlines.{AreSaidIn}
+use Rattle.swreq_reqsig.proofs.saying.stated.Given as goal
+
+abbrev pub invariant-loop-at : goal.invariant-loop-at
+invariant-loop-at l =
+    AreSaidIn l.spoken.outlines.now l.spoken.flags.now l.places l.at l.fn.name l.fn.protocols l.marks.items
