@@ -1,6 +1,6 @@
 -- Places of requirements, by the last names of their type parameters.
-use Rattle.std.proofs.Common.{◌≡◌, ◌∙◌, ◌↔◌, ◌⊎◌, ◌<◌, ◌≤◌, ◌+◌, ◌++◌, ◌∷◌, [], ap, get_or, inl, inr, refl, sym, subst, arith, ℕ, suc, zero, List, Contains, Option, Some, None, length, replicate, slice_get, slice_set, slice_index_or}
-use Rattle.std.proofs.lemmas.Bool.{cases_eq, cases_lt}
+use Rattle.std.proofs.Common.{◌≡◌, ◌∙◌, ◌↔◌, ◌⊎◌, ◌<◌, ◌≤◌, ◌++◌, ◌∷◌, [], ap, inl, inr, refl, sym, subst, arith, ℕ, suc, zero, List, Contains, Option, Some, None, length, replicate, slice_get, slice_set, slice_index_or}
+use Rattle.std.proofs.lemmas.Bool.{cases_eq}
 use Rattle.std.proofs.lemmas.List.{get_or-set_other, get_or-set_same, length-replicate, length-set}
 use Rattle.std.proofs.lemmas.List.Elements.{Contains-append_cases, Contains-append_left, Contains-append_right}
 use Rattle.std.proofs.lemmas.Option.{same_Some, slice_get_within}
@@ -9,7 +9,7 @@ use Rattle.swreq_param.specs.declared.ids.NameId.{NameId}
 use Rattle.swreq_param.specs.declared.ids.ProtoId.{ProtoId}
 use Rattle.swreq_reqsig.specs.declared.outlines.Outline.{Outline}
 use Rattle.swreq_reqsig.specs.declared.outlines.Outline.TheVariants.{Conformance, Object, Equality}
-use Rattle.swreq_reqsig.specs.Named.{AreNamed, AreNamedBefore, AreNoted, HasLists, IsNoted, Names, NamesAt, kept_for, list_of}
+use Rattle.swreq_reqsig.specs.Named.{AreNamed, AreNamedBefore, AreNoted, IsNoted, Names, kept_for, list_of}
 
 -- ---- one place more
 

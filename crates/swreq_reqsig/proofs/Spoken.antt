@@ -1,5 +1,5 @@
 -- What a family says of type parameters with one last name, as the code goes through the outlines of its requirements.
-use Rattle.std.proofs.Common.{◌≡◌, ◌∙◌, ◌↔◌, ◌⊎◌, ◌<◌, ◌≤◌, ◌+◌, ap, get_or, inl, inr, refl, sym, subst, arith, ℕ, suc, Bool, true, false, IsTrue, List, Contains, Option, Some, None, length, map, replicate, slice_get, slice_set}
+use Rattle.std.proofs.Common.{◌≡◌, ◌∙◌, ◌↔◌, ◌⊎◌, ◌<◌, ◌≤◌, ◌+◌, ap, get_or, inl, inr, refl, sym, subst, arith, ℕ, suc, Bool, true, false, IsTrue, List, Option, Some, None, length, replicate, slice_get, slice_set}
 use Rattle.std.specs.Prelude.{not}
 use Rattle.std.proofs.lemmas.Bool.{cases_eq}
 use Rattle.std.proofs.lemmas.List.{length-replicate, length-set}
@@ -17,7 +17,7 @@ use Rattle.swreq_reqsig.specs.declared.outlines.Kind.{Kind}
 use Rattle.swreq_reqsig.specs.declared.outlines.Kind.TheVariants.{IsObject, IsEqual}
 use Rattle.swreq_reqsig.specs.declared.outlines.Outline.{Outline}
 use Rattle.swreq_reqsig.specs.declared.outlines.Outline.TheVariants.{Conformance, Object, Equality}
-use Rattle.swreq_reqsig.specs.Marks.{IsLedTo, IsMarked, TellLed}
+use Rattle.swreq_reqsig.specs.Marks.{IsMarked, TellLed}
 use Rattle.swreq_reqsig.specs.Named.{AreNamed, Names, kept_for}
 use Rattle.swreq_reqsig.specs.Outlines.{ArePlaces, AreSaid, AreSaidIn, BearsBy, IsAmong, IsEqualBy, IsMarkedToo, IsObjectBy, IsSaidAt, IsSaidBy, IsSaidIn, outline_in, outline_of, outlines_of}
 use Rattle.swreq_reqsig.specs.Saying.{BearsOn, IsUnsaid, SaysConforms, SaysEqual, SaysObject, last_name}

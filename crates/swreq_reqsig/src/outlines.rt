@@ -21,9 +21,19 @@ use swreq_world::World;
 /// What a protocol requires of `Self` holds of all that conforms to it: so its owner is told where something may be required of `Self`.
 #[derive(Clone, Copy, Debug)]
 pub(crate) enum Outline {
-    Conformance { subject: Option<NameId>, proto: ProtoId },
-    Object { subject: Option<NameId>, owner: ProtoId },
-    Equality { left: Option<NameId>, right: Option<NameId>, owner: ProtoId },
+    Conformance {
+        subject: Option<NameId>,
+        proto: ProtoId,
+    },
+    Object {
+        subject: Option<NameId>,
+        owner: ProtoId,
+    },
+    Equality {
+        left: Option<NameId>,
+        right: Option<NameId>,
+        owner: ProtoId,
+    },
 }
 
 /// What may be said of type parameters beside conformances.

@@ -154,7 +154,9 @@ fn is_said_by(kind: Kind, name: Option<NameId>, marks: &[bool], outline: &Outlin
 {
     match (kind, outline) {
         (_, Outline::Conformance { .. }) => false,
-        (Kind::IsObject, Outline::Object { subject, owner }) => bears_on(name, marks, *owner, *subject),
+        (Kind::IsObject, Outline::Object { subject, owner }) => bears_on(
+            name, marks, *owner, *subject,
+        ),
         (Kind::IsObject, Outline::Equality { .. }) => false,
         (Kind::IsEqual, Outline::Object { .. }) => false,
         (Kind::IsEqual, Outline::Equality { left, right, owner }) => {
@@ -164,13 +166,7 @@ fn is_said_by(kind: Kind, name: Option<NameId>, marks: &[bool], outline: &Outlin
 }
 
 /// Whether the requirement at a place is kept and says so of a type parameter with the last name.
-fn says_at(
-    spoken: &Spoken<'_>,
-    k: usize,
-    kind: Kind,
-    name: Option<NameId>,
-    marks: &[bool],
-) -> bool
+fn says_at(spoken: &Spoken<'_>, k: usize, kind: Kind, name: Option<NameId>, marks: &[bool]) -> bool
     requires outlines { k < length spoken.now.outlines.now }
     requires flags { k < length spoken.now.flags.now }
     ensures { (outline : Outline) (kept : Bool) → slice_get spoken.now.outlines.now k ≡ Some outline → slice_get spoken.now.flags.now k ≡ Some kept

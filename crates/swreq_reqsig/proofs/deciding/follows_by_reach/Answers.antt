@@ -1,7 +1,9 @@
-use Rattle.std.proofs.Common.{◌∙◌, ap, length, List, slice_get, sym}
+use Rattle.std.proofs.Common.{◌∙◌, [], ap, length, List, refl, slice_get, sym}
 use Rattle.std.proofs.lemmas.Option.{MatchOption-at_none, MatchOption-at_some, slice_get-get_or}
 use Rattle.swreq_reqsig.specs.declared.places.Place.{Place}
+use Rattle.swreq_watch.proofs.Told.{grew_none}
 use Rattle.swreq_reqsig.specs.Settings.{text_in}
+use Rattle.swreq_reqsig.specs.Told.IsSettled.{without_rounds}
 use Rattle.swreq_reqsig.proofs.Asking.{asked_count, asks_answer, asks_settle, follows_not}
 use Rattle.swreq_reqsig.proofs.Placing.{place_is}
 use Rattle.swreq_reqsig.proofs.deciding.follows_by_reach.Goals as goal
@@ -27,7 +29,11 @@ returns-in-Ok-None-clause-answer g c x there =
     (MatchOption-at_none _ _ c.in-Ok-None.field-0-is c.in-Ok-None.ensures)
 
 pub returns-in-Ok-None-clause-settled : goal.returns-in-Ok-None-clause-settled
-returns-in-Ok-None-clause-settled g c = ?
+returns-in-Ok-None-clause-settled g c = (
+  [],
+  without_rounds (MatchOption-at_none _ _ c.in-Ok-None.field-0-is c.in-Ok-None.ensures) refl,
+  grew_none (g.W.Watch.told c.args.watch.now),
+)
 
 pub returns-in-Ok-Some-clause-answer : goal.returns-in-Ok-Some-clause-answer
 returns-in-Ok-Some-clause-answer g c =

@@ -1,7 +1,12 @@
-use Rattle.std.proofs.Common.{◌∙◌, ap, length, refl, replicate, true, Ok, Err}
+use Rattle.std.proofs.Common.{◌∙◌, ◌+◌, ap, length, List, refl, replicate, subst, sym, true, ℕ, Ok, Err}
+use Rattle.swreq_lexicon.specs.Views.{LexiconView}
 use Rattle.swreq_world.specs.ByTable.{world_by}
-use Rattle.swreq_reqsig.specs.Families.{numbers}
+use Rattle.swreq_reqsig.specs.declared.outlines.Outline.{Outline}
+use Rattle.swreq_reqsig.specs.Families.{numbers, owned}
+use Rattle.swreq_reqsig.specs.Named.{AreNamed, HaveLists}
+use Rattle.swreq_reqsig.specs.Outlines.{outlines_of}
 use Rattle.swreq_reqsig.specs.Places.{all_places}
+use Rattle.swreq_reqsig.proofs.Asking.{names_below}
 use Rattle.swreq_reqsig.proofs.InLists.{numbers_count}
 use Rattle.swreq_reqsig.proofs.Coming.{answers, comes_first, gives, only, signs, wants_memory}
 use Rattle.swreq_reqsig.proofs.kept.kept_family.Goals as goal
@@ -31,10 +36,22 @@ returns-in-Err-named-clause-answer g c =
     (comes_first w c.args.table.now c.args.limits count (replicate count true) told refl refl)
 
 pub named-requires : goal.named-requires
-named-requires g c = ?
+named-requires g c =
+    let w = c.args.world.now in
+    let outlines = outlines_of w.lexicon (owned (world_by c.args.table.now w)) in
+    subst (λ (z : List Outline). HaveLists (c.names.result + 1) z) (sym (c.deref-2.ensures.value ∙ c.in-Ok-outlines.ensures))
+    (subst (λ (n : ℕ). HaveLists (n + 1) outlines) (sym (c.names.ensures ∙ ap (λ (x : LexiconView). length x.names) c.lexicon.ensures))
+    (names_below w c.args.table.now c.requires.text))
 
 pub go_through-requires-clause-setting : goal.go_through-requires-clause-setting
-go_through-requires-clause-setting g c = ?
+go_through-requires-clause-setting g c = record {
+  text = c.requires.text;
+  well_formed = c.requires.well_formed;
+  outlines = c.deref-3.ensures.value ∙ c.in-Ok-outlines.ensures;
+  named = subst (λ (z : List Outline). AreNamed z c.in-Ok-named.named) (c.deref-2.ensures.value ∙ sym c.deref-3.ensures.value)
+      c.in-Ok-named.ensures;
+  limits = c.requires.limits;
+}
 
 pub returns-in-Err-go_through-clause-only : goal.returns-in-Err-go_through-clause-only
 returns-in-Err-go_through-clause-only g c =

@@ -1,6 +1,6 @@
-use Rattle.std.proofs.Common.{◌≡◌, ◌+◌, arith, List, slice_index_or, subst, suc, sym, ℕ}
+use Rattle.std.proofs.Common.{◌≡◌, ◌+◌, arith, List, subst, suc, sym, ℕ}
 use Rattle.std.proofs.lemmas.Option.{slice_get-get_or}
-use Rattle.swreq_reqsig.specs.Named.{AreNamedBefore, list_of}
+use Rattle.swreq_reqsig.specs.Named.{AreNamedBefore}
 use Rattle.swreq_reqsig.proofs.Naming.{named_all, named_none, named_on}
 use Rattle.swreq_reqsig.proofs.named.named.Goals as goal
 

@@ -1,7 +1,7 @@
-use Rattle.std.proofs.Common.{◌∙◌, ap, length, List, slice_get, sym}
+use Rattle.std.proofs.Common.{◌∙◌, ap, List, slice_get, sym}
 use Rattle.std.proofs.lemmas.Option.{slice_get-get_or}
 use Rattle.swreq_reqsig.specs.declared.places.Place.{Place}
-use Rattle.swreq_reqsig.proofs.Placing.{one_outline, outlines_at, outlines_done, place_is, place_known}
+use Rattle.swreq_reqsig.proofs.Placing.{one_outline, outlines_done, place_is, place_known}
 use Rattle.swreq_reqsig.proofs.outlines.outlines.Goals as goal
 
 pub outline_of-requires : goal.outline_of-requires

@@ -1,4 +1,4 @@
-use Rattle.std.proofs.Common.{◌≡◌, ◌∙◌, ◌↔◌, Bool, false, List, subst, sym, true}
+use Rattle.std.proofs.Common.{◌↔◌, Bool, List, subst, sym}
 use Rattle.swreq_param.specs.declared.ids.ProtoId.{ProtoId}
 use Rattle.swreq_reqsig.specs.Families.{family_of, owned}
 use Rattle.swreq_reqsig.specs.Marks.{IsMarked}

@@ -26,8 +26,12 @@ returns-else-is_itself c =
     let law = unsaid_conformance x family y.proto (requirement_of s.table.now y.requirement) c.in-Conformance.subject c.in-Conformance.proto
     (c.outline_at.ensures y there ∙ c.in-Conformance.is) in
     let same = same_Some _ _ (sym (slice_get-get_or c.args.places.now c.args.at _ c.requires.at) ∙ there) in (
-      (λ t. law.1 ((h.0 t).0, (h.0 t).1, λ i. let has = c.is_itself.ensures.1 (i.0, i.1 ∙ ap (λ (z : Place). z.proto) (sym same)) in
-          let z : false ≡ true = sym c.if-is_itself.false ∙ has in cc)),
+      (λ t. law.1 (
+        (h.0 t).0,
+        (h.0 t).1,
+        λ i. let has = c.is_itself.ensures.1 (i.0, i.1 ∙ ap (λ (z : Place). z.proto) (sym same)) in
+            let z : false ≡ true = sym c.if-is_itself.false ∙ has in cc,
+      )),
       λ unsaid. h.1 ((law.0 unsaid).0, (law.0 unsaid).1),
     )) c.lacks_conformance.ensures
 

@@ -3,7 +3,7 @@ use Rattle.swreq_derive.specs.Kept.{Owned}
 use Rattle.swreq_reqsig.specs.declared.outlines.Outline.{Outline}
 use Rattle.swreq_reqsig.specs.Families.{owned}
 use Rattle.swreq_reqsig.specs.Marks.{TellLed}
-use Rattle.swreq_reqsig.specs.Outlines.{AreSaid, HaveProtocolsBelow, outlines_of}
+use Rattle.swreq_reqsig.specs.Outlines.{AreSaid, HaveProtocolsBelow}
 use Rattle.swreq_reqsig.specs.Settings.{text_in}
 use Rattle.swreq_reqsig.proofs.Asking.{kept_family, protocols_below, ranks_below}
 use Rattle.swreq_reqsig.proofs.Spoken.{says_conforms}

@@ -1,4 +1,4 @@
-use Rattle.std.proofs.Common.{Bool, length, List, replicate, subst, sym, false, ℕ}
+use Rattle.std.proofs.Common.{length, List, subst, sym, ℕ}
 use Rattle.swreq_reqsig.specs.Outlines.{AreSaidIn, HaveProtocolsBelow}
 use Rattle.swreq_reqsig.proofs.Spoken.{place_within, said_all, said_at_end, said_further, said_none}
 use Rattle.swreq_reqsig.proofs.saying.stated.Goals as goal
