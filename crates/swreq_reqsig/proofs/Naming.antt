@@ -17,7 +17,8 @@ one_list : (a b : Option NameId) → list_of a ≡ list_of b → a ≡ b
 one_list None None e = refl
 one_list None (Some b) e = absurd (omega (arith, e))
 one_list (Some a) None e = absurd (omega (arith, e))
-one_list (Some a) (Some b) e = let rank : a.rank ≡ b.rank = omega (arith, e) in let same : a ≡ b = λ i. record { rank = rank i } in ap Some same
+one_list (Some a) (Some b) e =
+    let rank : a.rank ≡ b.rank = omega (arith, e) in let same : a ≡ b = λ i. record { rank = rank i } in ap Some same
 
 module _ (lists : List (List ℕ)) (a : Option NameId) (k : ℕ) (l : list_of a < length lists) where
   abbrev more : List (List ℕ)
@@ -66,10 +67,12 @@ module _ (lists : List (List ℕ)) (a : Option NameId) (k : ℕ) (l : list_of a 
 
 -- ---- one requirement more
 
-pub noted_conformance : (a : Option NameId) (q : ProtoId) (k : ℕ) (old new : List (List ℕ)) → IsNoted a k old new → AreNoted (Conformance a q) k old new
+pub noted_conformance : (a : Option NameId) (q : ProtoId) (k : ℕ) (old new : List (List ℕ)) → IsNoted a k old new
+    → AreNoted (Conformance a q) k old new
 noted_conformance a q k old new h = record { count = h.count; each = h.each }
 
-pub noted_object : (a : Option NameId) (p : ProtoId) (k : ℕ) (old new : List (List ℕ)) → IsNoted a k old new → AreNoted (Object a p) k old new
+pub noted_object : (a : Option NameId) (p : ProtoId) (k : ℕ) (old new : List (List ℕ)) → IsNoted a k old new
+    → AreNoted (Object a p) k old new
 noted_object a p k old new h = record { count = h.count; each = h.each }
 
 pub noted_equality : (a b : Option NameId) (p : ProtoId) (k : ℕ) (old mid new : List (List ℕ)) → IsNoted a k old mid → IsNoted b k mid new
@@ -105,8 +108,8 @@ module _ (outlines : List Outline) (count : ℕ) where
     each = λ a k. ((λ c. absurd (none_kept count (list_of a) k c)), λ h. let l = h.0 in absurd (omega (arith, l)));
   }
 
-  pub named_on : (n : ℕ) (outline : Outline) (old new : List (List ℕ)) → slice_get outlines n ≡ Some outline → AreNamedBefore outlines n count old
-      → AreNoted outline n old new → AreNamedBefore outlines (suc n) count new
+  pub named_on : (n : ℕ) (outline : Outline) (old new : List (List ℕ)) → slice_get outlines n ≡ Some outline
+      → AreNamedBefore outlines n count old → AreNoted outline n old new → AreNamedBefore outlines (suc n) count new
   named_on n outline old new at h g = record {
     lists_are = g.count ∙ h.lists_are;
     each = λ a k. (

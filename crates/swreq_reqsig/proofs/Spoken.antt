@@ -117,8 +117,8 @@ module _ (outlines : List Outline) (flags : List Bool) (places : List ℕ) where
     ]
 
     -- one says so
-    pub says_here : (kind : Kind) (a : Option NameId) (marks : List Bool) (length : ℕ) → n < length → kept ≡ true → IsSaidBy kind a marks outline
-        → IsSaidIn outlines flags places length kind a marks
+    pub says_here : (kind : Kind) (a : Option NameId) (marks : List Bool) (length : ℕ) → n < length → kept ≡ true
+        → IsSaidBy kind a marks outline → IsSaidIn outlines flags places length kind a marks
     says_here kind a marks length l set says = record {
       says = record { place = k; outline = outline; kept = flag ∙ ap Some set; there = there; says = says };
       among = record { at = n; before = l; stands = stands };
@@ -154,8 +154,10 @@ module _ (outlines : List Outline) (flags : List Bool) (places : List ℕ) (are 
       (said_on outlines flags places at k o.0 f.0 stands o.1 f.1 a protocols old new h (m o.0 f.0 o.1 f.1))
 
   module _ (kind : Kind) (a : Option NameId) (marks : List Bool) (b : Bool) (law : (outline : Outline) (kept : Bool)
-      → slice_get outlines k ≡ Some outline → slice_get flags k ≡ Some kept → IsTrue b ↔ ((kept ≡ true) × IsSaidBy kind a marks outline)) where
-    pub unsaid_further : (IsSaidIn outlines flags places at kind a marks → ⊥) → b ≡ false → IsSaidIn outlines flags places (at + 1) kind a marks → ⊥
+      → slice_get outlines k ≡ Some outline → slice_get flags k ≡ Some kept
+      → IsTrue b ↔ ((kept ≡ true) × IsSaidBy kind a marks outline)) where
+    pub unsaid_further : (IsSaidIn outlines flags places at kind a marks → ⊥) → b ≡ false
+        → IsSaidIn outlines flags places (at + 1) kind a marks → ⊥
     unsaid_further h lacks s =
         let next : at + 1 ≡ suc at = omega arith in
         let o = outline_there in let f = flag_there in
@@ -169,15 +171,16 @@ module _ (outlines : List Outline) (flags : List Bool) (places : List ℕ) (are 
         let says = (law o.0 f.0 o.1 f.1).0 has in
         says_here outlines flags places at k o.0 f.0 stands o.1 f.1 kind a marks (length places) l says.0 says.1
 
-pub unsaid_at_end : (outlines : List Outline) (flags : List Bool) (places : List ℕ) (at : ℕ) (kind : Kind) (a : Option NameId) (marks : List Bool)
-    → length places ≤ at → (IsSaidIn outlines flags places at kind a marks → ⊥) → IsSaidIn outlines flags places (length places) kind a marks → ⊥
+pub unsaid_at_end : (outlines : List Outline) (flags : List Bool) (places : List ℕ) (at : ℕ) (kind : Kind) (a : Option NameId)
+    (marks : List Bool) → length places ≤ at → (IsSaidIn outlines flags places at kind a marks → ⊥)
+    → IsSaidIn outlines flags places (length places) kind a marks → ⊥
 unsaid_at_end outlines flags places at kind a marks l h s = h (record {
   says = s.says;
   among = record { at = s.among.at; before = (let b = s.among.before in omega (arith, b, l)); stands = s.among.stands };
 })
 
-pub said_at_end : (outlines : List Outline) (flags : List Bool) (places : List ℕ) (at : ℕ) (a : Option NameId) (protocols : ℕ) (marks : List Bool)
-    → length places ≤ at → at ≤ length places → AreSaidIn outlines flags places at a protocols marks
+pub said_at_end : (outlines : List Outline) (flags : List Bool) (places : List ℕ) (at : ℕ) (a : Option NameId) (protocols : ℕ)
+    (marks : List Bool) → length places ≤ at → at ≤ length places → AreSaidIn outlines flags places at a protocols marks
     → AreSaidIn outlines flags places (length places) a protocols marks
 said_at_end outlines flags places at a protocols marks l u h =
     let e : at ≡ length places = omega (arith, l, u) in

@@ -47,7 +47,8 @@ module _ (x : LexiconView) (family : List Owned) (p : ProtoId) (a : Option NameI
   Claim (IsAnyObject t) = last_name x t ≡ a → SaysObject x family a
   Claim (Equals t u) = (last_name x t ≡ a → last_name x u ≡ a) × (last_name x u ≡ a → last_name x t ≡ a)
 
-  -- what a protocol requires of `u` bears on one with the last name, where it says so of `u` with a type parameter that conforms to it for `Self`
+  -- what a protocol requires of `u` bears on one with the last name, where it is required of one with a type parameter for `Self` that
+  -- conforms to it
   bears : (t u : Term) (q : ProtoId) → Claim (Conforms t q) → last_name x (for_self t u) ≡ a → BearsOn x family a q u
   bears t u q claim n = elim (named_for x t u) [
     | inl e ↦ inl (sym e ∙ n)

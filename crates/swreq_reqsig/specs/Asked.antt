@@ -28,8 +28,8 @@ module _ (w : TextWorld) where
     pub follows_not : IsUnsaid w.lexicon (family_of w others) requirement.proto requirement.requirement
         ⊎ IsOutOfReach (family_of w others) requirement
 
-  -- The requirement at the place is neither, and these flags are of those of the others that its protocol reaches: whether it follows is asked
-  -- of them.
+  -- The requirement at the place is neither, and these flags are of those of the others that its protocol reaches: whether it follows is
+  -- asked of them.
   pub record AreAsked (n : ℕ) (others asked : List Bool) : Type 0 where
     pub requirement : Owned
     pub stands : slice_get (owned w) n ≡ Some requirement

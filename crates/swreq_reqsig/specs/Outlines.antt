@@ -26,7 +26,8 @@ outlines_of x os = map (outline_of x) os
 
 -- ---- what one says of type parameters with one last name, where those protocols are marked to which they conform
 
--- What P requires of a type parameter with the one last name is required of one with the other: it is the same, or there is none, and P is marked.
+-- What P requires of a type parameter with the one last name is required of one with the other: it is the same, or there is none and P is
+-- marked.
 abbrev pub BearsBy : Option NameId → List Bool → ProtoId → Option NameId → Type 0
 BearsBy a marks p b = (b ≡ a) ⊎ ((b ≡ None) × IsMarked marks p)
 

@@ -42,8 +42,8 @@ module _ (x : LexiconView) (family : List Owned) where
     pub named : last_name x subject ≡ a
     pub reaches : Reaches family proto q
 
-  -- What a protocol requires of the type parameter is required of one of them: it has the last name itself, or it is `Self`, and the family says
-  -- that one of them conforms to the protocol.
+  -- What a protocol requires of the type parameter is required of one of them: it has the last name itself, or it is `Self` and the family
+  -- says that one of them conforms to the protocol.
   abbrev pub BearsOn : Option NameId → ProtoId → Term → Type 0
   BearsOn a p t = (last_name x t ≡ a) ⊎ ((last_name x t ≡ None) × SaysConforms a p)
 
@@ -70,9 +70,9 @@ module _ (x : LexiconView) (family : List Owned) where
   abbrev pub IsItself : ProtoId → Term → ProtoId → Type 0
   IsItself p t q = (last_name x t ≡ None) × (q ≡ p)
 
-  -- From [τ_0_0 : P] the requirement does not follow, since the family says nothing of the kind. It does not say of type parameters with the last
-  -- name of the subject that they are equal to others, and not that one of them conforms to the protocol, or is an object. Two type parameters with
-  -- two last names are not equal where the family does not say so of those with the one name, or of those with the other.
+  -- From [τ_0_0 : P] the requirement does not follow, since the family says nothing of the kind. It does not say of type parameters with the
+  -- last name of the subject that they are equal to others, and not that one of them conforms to the protocol, or is an object. Two type
+  -- parameters with two last names are not equal where the family does not say so of those with the one name, or of those with the other.
   abbrev pub IsUnsaid : ProtoId → TermRequirement → Type 0
   IsUnsaid p (Conforms t q) = (SaysEqual (last_name x t) → ⊥) × (SaysConforms (last_name x t) q → ⊥) × (IsItself p t q → ⊥)
   IsUnsaid p (IsAnyObject t) = (SaysEqual (last_name x t) → ⊥) × (SaysObject (last_name x t) → ⊥)

@@ -15,8 +15,8 @@ use Rattle.swreq_reqsig.specs.Outlines.{outlines_of}
 abbrev pub text_in : Setting → TextWorld
 text_in s = world_by s.table.now s.world.now
 
--- The table is that of the text, its protocols are well formed, the outlines are of what they require and have their places by name, and the
--- limits are in range.
+-- The table is that of the text, its protocols are well formed, the outlines are of what they require and have their places by name, and
+-- the limits are in range.
 pub record IsSetting (s : Setting) : Type 0 where
   pub text : IsTextOver s.table.now s.world.now
   pub well_formed : AreProtocolsWellFormed (facts_of (text_in s))

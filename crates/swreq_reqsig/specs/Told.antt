@@ -17,8 +17,8 @@ use Rattle.swreq_reqsig.specs.Asked.{AreAsked, IsBeyond}
 module _ (limits : Limits) (w : TextWorld) where
   -- ---- one requirement, with the others whose flags are set
 
-  -- Where the requirement at the place is unsaid or out of reach nothing is completed and nothing told. Else the rounds end that are run of the
-  -- others that its protocol reaches, and they tell this.
+  -- Where the requirement at the place is unsaid or out of reach nothing is completed and nothing told. Else the rounds end that are run of
+  -- the others that its protocol reaches, and they tell this.
   pub data IsSettled (n : ℕ) (others : List Bool) (told : List Event) : Type 0 where
     without_rounds : IsBeyond w n others → told ≡ [] → IsSettled n others told
     by_rounds : {asked : List Bool} {rules : List Rule} → AreAsked w n others asked → IsOutcome limits (family_plan w asked) (Ok rules) told

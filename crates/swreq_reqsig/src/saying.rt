@@ -84,7 +84,8 @@ fn mark_at(spoken: &Spoken<'_>, k: usize, name: Option<NameId>, marks: &mut Vec<
     requires outlines { k < length spoken.now.outlines.now }
     requires flags { k < length spoken.now.flags.now }
     requires rank { HaveProtocolsBelow (length marks.old.items) spoken.now.outlines.now }
-    ensures { (outline : Outline) (kept : Bool) → slice_get spoken.now.outlines.now k ≡ Some outline → slice_get spoken.now.flags.now k ≡ Some kept
+    ensures { (outline : Outline) (kept : Bool) → slice_get spoken.now.outlines.now k ≡ Some outline
+        → slice_get spoken.now.flags.now k ≡ Some kept
         → IsMarkedToo outline kept name marks.old.items marks.new.items }
 {
     mark(&spoken.outlines[k], spoken.flags[k], name, marks);
@@ -169,7 +170,8 @@ fn is_said_by(kind: Kind, name: Option<NameId>, marks: &[bool], outline: &Outlin
 fn says_at(spoken: &Spoken<'_>, k: usize, kind: Kind, name: Option<NameId>, marks: &[bool]) -> bool
     requires outlines { k < length spoken.now.outlines.now }
     requires flags { k < length spoken.now.flags.now }
-    ensures { (outline : Outline) (kept : Bool) → slice_get spoken.now.outlines.now k ≡ Some outline → slice_get spoken.now.flags.now k ≡ Some kept
+    ensures { (outline : Outline) (kept : Bool) → slice_get spoken.now.outlines.now k ≡ Some outline
+        → slice_get spoken.now.flags.now k ≡ Some kept
         → IsTrue result ↔ ((kept ≡ true) × IsSaidBy kind name marks.now outline) }
 {
     if !spoken.flags[k] {
@@ -278,8 +280,8 @@ fn lacks_object(
     Ok(!is_said(Kind::IsEqual, name, &marks, &spoken))
 }
 
-/// Whether type parameters with two last names are not equal by what the family says: whether the names differ, and it is not said of those with
-/// the one, or of those with the other, that they are equal to others.
+/// Whether type parameters with two last names are not equal by what the family says: whether the names differ, and it is not said of those
+/// with the one, or of those with the other, that they are equal to others.
 fn lacks_equality(
     alloc: Global,
     setting: &Setting<'_>,
