@@ -11,4 +11,5 @@ pub mod PiecesMade
 pub mod Placed
 pub mod Printed
 pub mod Settled
+pub mod Untold
 pub mod Verdicts

@@ -16,6 +16,7 @@ use Rattle.swreq_resolve.proofs.Order.{one_first}
 use Rattle.swreq_print.specs.declared.refusal.RefusalKind.{RefusalKind}
 use Rattle.swreq_world.specs.Worlds.{TextWorld}
 use Rattle.swreq_subst.specs.Refusals.{RefusesCalls, refusals}
+use Rattle.swreq_reply.specs.CallLines.{HasCalls}
 use Rattle.swreq_reply.specs.Inputs.{Parts, second_at}
 use Rattle.swreq_reply.specs.Reports.{name_refusal, refusal_of}
 use Rattle.swreq_reply.specs.Verdict.{RefusesSecond}
@@ -47,10 +48,6 @@ module _ (text : List ℕ) (from : ℕ) (one : IsOnePart text from) where
   no_reason ds (grammar.Lex f) real stands h = one.no_refusal stands.0 f stands.1 h
   no_reason ds (grammar.Syntax at) real stands h = one.no_token ds at stands h
   no_reason ds (grammar.Unsupported at kind) real stands h = h
-
--- The second part stands for calls of which no name is refused.
-abbrev pub HasCalls : TextWorld → Parts → Type 0
-HasCalls w p = (ds : List CallDecl) × StandsFor p.input (second_at p) ds × (refusals w p.input ds ≡ [])
 
 module _ (w : TextWorld) (p : Parts) (one : IsOnePart p.input (second_at p)) where
   -- what is refused of calls for which the part stands is refused of all such calls

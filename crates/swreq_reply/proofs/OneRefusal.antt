@@ -38,6 +38,7 @@ use Rattle.swreq_verify.specs.SecondParts.{AreSections, IsFirstMisfit, TermSecti
 use Rattle.swreq_reply.specs.declared.content.Content.{Content}
 use Rattle.swreq_reply.specs.declared.content.Content.TheVariants.{Calls, Families, Judgements}
 use Rattle.swreq_reply.specs.declared.outcome.Outcome.{Outcome}
+use Rattle.swreq_reply.specs.CallLines.{HasCalls}
 use Rattle.swreq_reply.specs.Contents.{content_of}
 use Rattle.swreq_reply.specs.Inputs.{AreParts, HasParts, Parts, second_at}
 use Rattle.swreq_reply.specs.Machines.{IsChecked}
@@ -47,7 +48,7 @@ use Rattle.swreq_reply.specs.Told.{IsMinimisedFor, TellsBehind}
 use Rattle.swreq_reply.specs.Verdict.{ChecksMachines, HasNoWorld, HasWorld, IsAnswered, IsCutShort, IsJudged, IsRefused, IsVerdict, PassesCheck, RefusesNames, RefusesSecond, limits_of, machine_outcome, refused_with, stopped_with}
 use Rattle.swreq_reply.specs.Verdict.IsRefused.{bad_calls, in_one_part, misfit, past_a_limit_of_families, too_long, unchecked, without_world}
 use Rattle.swreq_reply.specs.Verdict.IsVerdict.{answered as is_answered, cut_short as is_cut_short, judged as is_judged, refused as is_refused}
-use Rattle.swreq_reply.proofs.OfCalls.{HasCalls, IsOnePart, never_second, one_second}
+use Rattle.swreq_reply.proofs.OfCalls.{IsOnePart, never_second, one_second}
 use Rattle.swreq_reply.proofs.Checked.{built_checked}
 use Rattle.swreq_reply.proofs.Misfits.{no_sections, one_misfit}
 use Rattle.swreq_reply.proofs.OneCheck.{one_check}
@@ -102,7 +103,7 @@ one_split c input p q a b = by (reads c) a.divided b.divided
     by _ (e, f) (g, h) = same (e ∙ whole_input ∙ sym g) (f ∙ sym h)
 
 -- one that has two parts has a line that divides it
-split_divided : (c : Command) (input : List ℕ) (p : Parts) → AreParts c input p → reads c ≡ inputs.TwoParts → Contains (lines input) divider
+pub split_divided : (c : Command) (input : List ℕ) (p : Parts) → AreParts c input p → reads c ≡ inputs.TwoParts → Contains (lines input) divider
 split_divided c input p a two =
     subst (λ (z : List ℕ). Contains (lines z) divider) a.whole
     (divided_line p.input p.source p.second (subst (λ (how : Input). HasParts how p) two a.divided))

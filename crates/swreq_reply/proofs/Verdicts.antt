@@ -48,7 +48,7 @@ use Rattle.swreq_subst.specs.Refusals.{refusals as refusals_of}
 use Rattle.swreq_subst.specs.Saying.{SayCalls}
 use Rattle.swreq_reply.specs.declared.content.Content.{Content}
 use Rattle.swreq_reply.specs.declared.content.Content.TheVariants.{Calls, Families, Judgements}
-use Rattle.swreq_reply.specs.Contents.{PrintsPieces}
+use Rattle.swreq_reply.specs.Contents.{PrintsPieces, content_of}
 use Rattle.swreq_reply.specs.Inputs.{second_at}
 use Rattle.swreq_reply.specs.Machines.{IsBuiltOver}
 use Rattle.swreq_reply.specs.Outputs.{IsOutput}
@@ -104,6 +104,14 @@ minimising_tells : (limits : Limits) (w : TextWorld) (c : Content) (rules : List
 minimising_tells limits w Families rules told prints tells = absurd prints
 minimising_tells limits w Calls rules told prints tells = absurd prints
 minimising_tells limits w c rules told prints tells = tells
+
+-- ---- commands that check machines
+
+checks_of : (c : Command) (k : Content) → content_of c ≡ k → k ≢ Judgements → ChecksMachines c
+checks_of c k asked other e = other (sym asked ∙ e)
+
+pub checks_for_pieces : (c : Command) → PrintsPieces (content_of c) → ChecksMachines c
+checks_for_pieces c prints e = subst PrintsPieces e prints
 
 -- ---- replies
 
@@ -175,9 +183,10 @@ module _ {r : Request} (request : IsRequest r) where
         → IfOk result (λ o. (refused ≢ Memory) × (o ≡ machine_outcome (line_of r) w.lexicon refused))
         → Replies (line_of r) (parts_of r).input old new result
     replies_refused checks old new Memory result (told, tells, grew) h =
-        replies (line_of r) (parts_of r).input old new told grew (inr (w, has, inl tells)) result h (λ o (real, is). absurd (real refl))
+        replies (line_of r) (parts_of r).input old new told grew (inr (checks, (w, has, inl tells))) result h
+        (λ o (real, is). absurd (real refl))
     replies_refused checks old new refused result (told, checked, grew) h =
-        replies (line_of r) (parts_of r).input old new told grew (inr (w, has, inl (check_tells (limits_in r) w checked))) result h
+        replies (line_of r) (parts_of r).input old new told grew (inr (checks, (w, has, inl (check_tells (limits_in r) w checked)))) result h
         (λ o (real, is). is_refused (unchecked w refused checks has checked is))
 
     -- ---- behind the check, which comes to these rules of the protocols
@@ -196,21 +205,23 @@ module _ {r : Request} (request : IsRequest r) where
       finishes old new more grew part (Err e) h verdict = (more, part, grew)
 
       -- minimising ends for want of memory
-      part_of : (cause : Failed) (more : List Event) → MinimisingEndsIn (limits_in r) w (printed_of r) rules cause more
-          → After more (TellsPart (line_of r) (parts_of r).input)
-      part_of cause more part first built =
-          inr (w, has, inr (inl (record { rules = rules; first = first; more = more; built = built; failed = cause; part = part; told_is = refl })))
+      part_of : ChecksMachines (line_of r).command → (cause : Failed) (more : List Event)
+          → MinimisingEndsIn (limits_in r) w (printed_of r) rules cause more → After more (TellsPart (line_of r) (parts_of r).input)
+      part_of checks cause more part first built =
+          let tells = record { rules = rules; first = first; more = more; built = built; failed = cause; part = part; told_is = refl } in
+          inr (checks, (w, has, inr (inl tells)))
 
       -- nothing is told behind the check
-      pub finishes_alone : (old : Option (List Event)) {P : Outcome → Type 0} (result : Result Outcome AllocError) → IfOk result P
-          → ((o : Outcome) → P o → After [] (IsVerdict (line_of r) (parts_of r).input o))
+      pub finishes_alone : ChecksMachines (line_of r).command → (old : Option (List Event)) {P : Outcome → Type 0} (result : Result Outcome AllocError)
+          → IfOk result P → ((o : Outcome) → P o → After [] (IsVerdict (line_of r) (parts_of r).input o))
           → Finishes (line_of r) (parts_of r).input w rules old old result
-      finishes_alone old result h verdict = finishes old old [] (grew_none old) (part_of failed.Memory [] (inl nothing)) result h verdict
+      finishes_alone checks old result h verdict =
+          finishes old old [] (grew_none old) (part_of checks failed.Memory [] (inl nothing)) result h verdict
 
       -- the check, and what is told behind it
-      abbrev checks : (k : Content) → printed_of r ≡ k → k ≢ Judgements → (more : List Event) → After more (PassesCheck (line_of r) (parts_of r).input)
-      checks k asked other more first built = record {
-        checks = λ e. other (sym asked ∙ e);
+      abbrev passes : ChecksMachines (line_of r).command → (more : List Event) → After more (PassesCheck (line_of r) (parts_of r).input)
+      passes checks more first built = record {
+        checks = checks;
         world = w;
         has_world = has;
         rules = rules;
@@ -223,7 +234,7 @@ module _ {r : Request} (request : IsRequest r) where
       answers : (k : Content) → printed_of r ≡ k → k ≢ Judgements → (more : List Event) → TellsBehind (limits_in r) w k rules more → (o : Outcome)
           → o.status ≡ 0 → IsOutput w false k (parts_of r) o.output → After more (IsVerdict (line_of r) (parts_of r).input o)
       answers k asked other more behind o status output first built = is_answered (record {
-        check = checks k asked other more first built;
+        check = passes (checks_of (line_of r).command k asked other) more first built;
         behind = subst (λ (c : Content). TellsBehind (limits_in r) w c rules more) (sym asked) behind;
         status = status;
         output = subst (λ (c : Content). IsOutput w false c (parts_of r) o.output) (sym asked) output;
@@ -232,13 +243,16 @@ module _ {r : Request} (request : IsRequest r) where
       -- ---- by pieces and minimised lists
 
       module _ (prints : PrintsPieces (printed_of r)) where
+        pieces_check : ChecksMachines (line_of r).command
+        pieces_check = checks_for_pieces (line_of r).command prints
+
         pub finishes_answered : IsClosed w → (old new : Option (List Event)) (result : Result Outcome AllocError)
             → (told : List Event) × MinimisingAllTells (limits_in r) w (printed_of r) rules told × GrewBy old new told
             → IfOk result (λ o. (o.status ≡ 0) × IsOutput w true (printed_of r) (parts_of r) o.output)
             → Finishes (line_of r) (parts_of r).input w rules old new result
         finishes_answered closed old new result (told, tells, grew) h =
-            finishes old new told grew (part_of failed.Memory told (inl tells)) result h
-            (λ o (status, output). answers (printed_of r) refl (λ e. subst PrintsPieces e prints) told
+            finishes old new told grew (part_of pieces_check failed.Memory told (inl tells)) result h
+            (λ o (status, output). answers (printed_of r) refl pieces_check told
             (minimising_tells (limits_in r) w (printed_of r) rules told prints tells) o status
             (by_book w (is_formed (limits_in r) w closed passed.built) closed (printed_of r) (parts_of r) o.output output))
 
@@ -247,11 +261,11 @@ module _ {r : Request} (request : IsRequest r) where
             → (told : List Event) × MinimisingEndsIn (limits_in r) w (printed_of r) rules cause told × GrewBy old new told
             → IfOk result (IsStopOf (line_of r) w.lexicon cause) → Finishes (line_of r) (parts_of r).input w rules old new result
         finishes_failed old new failed.Memory result (told, part, grew) h =
-            finishes old new told grew (part_of failed.Memory told part) result h (λ o none. absurd none)
+            finishes old new told grew (part_of pieces_check failed.Memory told part) result h (λ o none. absurd none)
         finishes_failed old new (failed.Limit which trace) result (told, fails, grew) h =
-            finishes old new told grew (part_of (failed.Limit which trace) told fails) result h
+            finishes old new told grew (part_of pieces_check (failed.Limit which trace) told fails) result h
             (λ o is first built. is_cut_short (record {
-              check = checks (printed_of r) refl (λ e. subst PrintsPieces e prints) told first built;
+              check = passes pieces_check told first built;
               which = which;
               trace = trace;
               fails = fails;
@@ -261,9 +275,13 @@ module _ {r : Request} (request : IsRequest r) where
       -- ---- by families of requirement signatures
 
       module _ (asked : printed_of r ≡ Families) where
+        families_check : ChecksMachines (line_of r).command
+        families_check = checks_of (line_of r).command Families asked (λ e. cc)
+
         families_part : (more : List Event) → ComesSoFar (limits_in r) w more → After more (TellsPart (line_of r) (parts_of r).input)
         families_part more part first built =
-            inr (w, has, inr (inr (asked, record { rules = rules; first = first; more = more; built = built; part = part; told_is = refl })))
+            let tells = record { rules = rules; first = first; more = more; built = built; part = part; told_is = refl } in
+            inr (families_check, (w, has, inr (inr (asked, tells))))
 
         pub families_given : (old new : Option (List Event)) (family : Family) (result : Result Outcome AllocError)
             → AnswersFamily (limits_in r) w old new (Ok family) → IsGivenFamily w family.kept
@@ -297,22 +315,25 @@ module _ {r : Request} (request : IsRequest r) where
                 s.told_is,
               );
             })) result h
-            (λ o is first built. is_refused (past_a_limit_of_families which trace (checks Families asked (λ e. cc) told first built) asked s is))
+            (λ o is first built. is_refused (past_a_limit_of_families which trace (passes families_check told first built) asked s is))
 
       -- ---- by the lines of calls
 
       module _ (asked : printed_of r ≡ Calls) where
+        calls_check : ChecksMachines (line_of r).command
+        calls_check = checks_of (line_of r).command Calls asked (λ e. cc)
+
         pub calls_refused : (old : Option (List Event)) (refusal : RefusalKind) {real : Type 0} (result : Result Outcome AllocError)
             → IfOk result (λ o. real × (o ≡ refused_with refusal)) → (real → RefusesSecond w (parts_of r) refusal)
             → Finishes (line_of r) (parts_of r).input w rules old old result
         calls_refused old refusal result h refuses =
-            finishes_alone old result h
-            (λ o (real, is) first built. is_refused (bad_calls refusal (checks Calls asked (λ e. cc) [] first built) asked (refuses real) refl is))
+            finishes_alone calls_check old result h
+            (λ o (real, is) first built. is_refused (bad_calls refusal (passes calls_check [] first built) asked (refuses real) refl is))
 
         pub calls_answered : (old : Option (List Event)) (ds : List CallDecl) → calls.StandsFor (parts_of r).input (second_at (parts_of r)) ds
             → refusals_of w (parts_of r).input ds ≡ [] → (cs : List TermCall) → SayCalls w (parts_of r).input cs ds
             → (result : Result Outcome AllocError) → IfOk result (λ o. (o.status ≡ 0) × AnswersCalls w cs o.output)
             → Finishes (line_of r) (parts_of r).input w rules old old result
         calls_answered old ds stands none cs say result h =
-            finishes_alone old result h (λ o (status, text). answers Calls asked (λ e. cc) [] refl o status
+            finishes_alone calls_check old result h (λ o (status, text). answers Calls asked (λ e. cc) [] refl o status
             (text.0, (ds, stands, none, (cs, say, text.1)), text.2))

@@ -12,13 +12,14 @@ use Rattle.swreq_reply.specs.declared.content.Content.TheVariants.{Families}
 use Rattle.swreq_reply.specs.Contents.{content_of}
 use Rattle.swreq_reply.specs.Machines.{IsBuiltOver}
 use Rattle.swreq_reply.specs.Told.{CheckTells, FamiliesPartTell, MinimisingPartTells}
-use Rattle.swreq_reply.specs.Verdict.{HasWorld, IsRefused, IsVerdict, limits_of}
+use Rattle.swreq_reply.specs.Verdict.{ChecksMachines, HasWorld, IsRefused, IsVerdict, limits_of}
 
--- So far as this an input tells where memory runs out: nothing, a part of what the check of its text tells, or that and a part of what is told
--- behind it.
+-- So far as this an input tells where memory runs out: nothing, or, of a command that checks machines, a part of what the check of its text
+-- tells, or that and a part of what is told behind it.
 abbrev pub TellsPart : CommandLine → Text → List Event → Type 0
-TellsPart line input told = (told ≡ []) ⊎ ((w : TextWorld) × HasWorld line input w × (CheckTells (limits_of line) w told
-    ⊎ (MinimisingPartTells (limits_of line) w (content_of line.command) told ⊎ ((content_of line.command ≡ Families) × FamiliesPartTell (limits_of line) w told))))
+TellsPart line input told = (told ≡ []) ⊎ (ChecksMachines line.command × ((w : TextWorld) × HasWorld line input w
+    × (CheckTells (limits_of line) w told ⊎ (MinimisingPartTells (limits_of line) w (content_of line.command) told
+    ⊎ ((content_of line.command ≡ Families) × FamiliesPartTell (limits_of line) w told)))))
 
 -- The watcher was told so far.
 abbrev pub WasToldPart : CommandLine → Text → Option (List Event) → Option (List Event) → Type 0

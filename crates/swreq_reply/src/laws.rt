@@ -1,7 +1,8 @@
 //! What holds of the verdicts on inputs.
-ghost use Rattle.std.specs.Prelude.{◌≡◌, ◌≢◌, ◌≤◌, List, length};
+ghost use Rattle.std.specs.Prelude.{◌≡◌, ◌≢◌, ◌≤◌, List, [], length};
 ghost use Rattle.swreq_watch.specs.declared.events.Event.{Event};
 ghost use Rattle.swreq_print.specs.Names.{Text};
+ghost use Rattle.swreq_words.specs.declared.command.Command.TheVariants.{Verify};
 ghost use Rattle.swreq_words.specs.declared.command.CommandLine.{CommandLine};
 ghost use Rattle.swreq_reply.specs.declared.outcome.Outcome.{Outcome};
 ghost use Rattle.swreq_reply.specs.declared.content.Backing.TheVariants.{Derivation};
@@ -9,6 +10,7 @@ ghost use Rattle.swreq_reply.specs.declared.content.Shown.TheVariants.{Each};
 ghost use Rattle.swreq_reply.specs.declared.content.Content.TheVariants.{Answers};
 ghost use Rattle.swreq_reply.specs.Contents.{content_of};
 ghost use Rattle.swreq_reply.specs.Inputs.{AreParts, Parts, second_at};
+ghost use Rattle.swreq_reply.specs.Replies.{TellsPart};
 ghost use Rattle.swreq_reply.specs.Verdict.{IsRefused, IsVerdict};
 
 /// An input with this source text, and with its second part from this offset on, that is refused has no other verdict.
@@ -41,3 +43,10 @@ pub fn one_output(input: &[u8], source: &[u8], from: u32)
     swreq_print::laws::names_tell_ids_apart(source);
     swreq_calls::laws::one_list_of_calls(input, from);
 }
+
+/// With `verify` nothing is told, whether the input has a verdict or memory runs out.
+pub fn verify_tells_nothing()
+    ensures verdict { (line : CommandLine) (input : Text) (o : Outcome) (told : List Event) → line.command ≡ Verify
+        → IsVerdict line input o told → told ≡ [] }
+    ensures part { (line : CommandLine) (input : Text) (told : List Event) → line.command ≡ Verify → TellsPart line input told → told ≡ [] }
+{}

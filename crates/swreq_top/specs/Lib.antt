@@ -1,4 +1,5 @@
 pub mod Contract
 pub mod Headline
+pub mod InOrder
 pub mod Run
 pub mod Steps

@@ -1,7 +1,10 @@
 //! What holds of runs and of verdicts on texts, over the definitions alone.
 ghost use Rattle.std.specs.Prelude.{◌≡◌, ◌≢◌, ℕ, List, Some, [], map};
 ghost use Rattle.swreq_complete.specs.declared.limit.Limits.{Limits};
+ghost use Rattle.swreq_decl.specs.declared.skeleton.Skeleton.{Skeleton};
+ghost use Rattle.swreq_decl.specs.Skeletons.{StandsFor};
 ghost use Rattle.swreq_derive.specs.WellFormed.{IsWellFormed};
+ghost use Rattle.swreq_resolve.specs.Resolving.{Resolve};
 ghost use Rattle.swreq_rule.specs.declared.rules.Rule.{Rule};
 ghost use Rattle.swreq_watch.specs.declared.events.Event.{Event};
 ghost use Rattle.swreq_words.specs.declared.command.CommandLine.{CommandLine};
@@ -9,14 +12,17 @@ ghost use Rattle.swreq_words.specs.declared.command.Input.TheVariants.{OnePart};
 ghost use Rattle.swreq_words.specs.Commands.{input as reads};
 ghost use Rattle.swreq_words.specs.Form.{Says};
 ghost use Rattle.swreq_world.specs.FactsAt.{source_of};
+ghost use Rattle.swreq_world.specs.WorldOf.{IsWorldOf};
 ghost use Rattle.swreq_world.specs.Worlds.{TextWorld};
 ghost use Rattle.swreq_symbols.specs.Meaning.{facts_of};
 ghost use Rattle.swreq_valid.specs.declared.refused.Refused.TheVariants.{NotATypeParameter};
 ghost use Rattle.swreq_print.specs.Names.{Text};
 ghost use Rattle.swreq_output.specs.Ended.{IsWorldOfText};
+ghost use Rattle.swreq_reply.specs.Inputs.{AreParts, Parts};
 ghost use Rattle.swreq_reply.specs.Machines.{IsBuiltOver, IsChecked};
 ghost use Rattle.swreq_top.specs.Contract.{IsRun};
-ghost use Rattle.swreq_top.specs.Run.{IsAnswerable, Run};
+ghost use Rattle.swreq_top.specs.InOrder.{IsInOrder};
+ghost use Rattle.swreq_top.specs.Run.{IsAnswerable, Run, known_text};
 
 use swreq_text::laws::some_streams_never_fail;
 use swreq_text::{CountSink, Sink, Source, SureSource};
@@ -25,6 +31,15 @@ use swreq_text::{CountSink, Sink, Source, SureSource};
 pub fn empty_text_is_answerable()
     ensures { (r : Run) (line : CommandLine) → Says r.words line → reads line.command ≡ OnePart
         → r.before.left ≡ Some [] → IsAnswerable r }
+{}
+
+/// A text that is in the grammar, whose names resolve, in which no protocol inherits itself, and whose world is in order for the command, is
+/// answerable. In order is one whose sides are type parameters, for which no rounds pass a limit, and which has the second part that is read.
+pub fn texts_in_order_are_answerable()
+    ensures { (r : Run) (line : CommandLine) (text : Text) (p : Parts) (s : Skeleton)
+        → Says r.words line → known_text line.command r.before.left ≡ Some text → AreParts line.command text p
+        → StandsFor p.source s → Resolve p.source s → ((w : TextWorld) → IsWorldOf p.source s w → IsInOrder line p w)
+        → IsAnswerable r }
 {}
 
 /// A text whose check refuses nothing is well formed: each side of each requirement is a type parameter. And no check refuses a side of a text

@@ -54,10 +54,22 @@ func f<T: M & N & P>() where T.B == T, T: AnyObject
 ///   is built, by rounds with none, 6 and 7.
 const TOLD: &[(&str, &[u8], &str, u32, u32)] = &[
     ("answer", TEXT, "0", 4, 10),
-    ("requirements", b"protocol N { associatedtype Next: N, N }\n", "0", 4, 16),
+    (
+        "requirements",
+        b"protocol N { associatedtype Next: N, N }\n",
+        "0",
+        4,
+        16,
+    ),
     ("calls", CALLED, "0", 5, 3),
     ("calls", MISCALLED, "1", 5, 3),
-    ("verify", b"func f<T>()\nquery f(T == T)\n%%\nno\n", "0", 0, 0),
+    (
+        "verify",
+        b"func f<T>()\nquery f(T == T)\n%%\nno\n",
+        "0",
+        0,
+        0,
+    ),
     ("signatures --max-length 2", EITHER, "0", 12, 87),
 ];
 
@@ -79,7 +91,13 @@ fn a_watcher_is_told_of_each_completion(rt: HostRuntime) -> Result<(), Fail> {
     for (words, text, status, starts, born) in TOLD {
         let mut recorder = Recorder::new(rt.alloc());
         let mut src = SureSource::new(text.to_vec(rt.alloc())?);
-        let came = status_of(rt.alloc(), words, &mut src, &mut CountSink::new(), &mut recorder)?;
+        let came = status_of(
+            rt.alloc(),
+            words,
+            &mut src,
+            &mut CountSink::new(),
+            &mut recorder,
+        )?;
         let told = counted(recorder.events());
         assert_eq!(&rt; came.as_str(), *status, "after {words}");
         assert_eq!(&rt; told.0, *starts, "after {words}");
