@@ -1,6 +1,6 @@
 //! Reduction that searches a place again only where a step changed what the search there had read.
 
-ghost use Rattle.std.specs.Prelude.{◌≡◌, ℕ, ◌<◌, ◌≤◌, length, slice_get, Some, MatchOption, IfOk, OnOk};
+ghost use Rattle.std.specs.Prelude.{◌≡◌, ℕ, ◌+◌, ◌<◌, ◌≤◌, length, slice_get, Some, MatchOption, IfOk, OnOk};
 ghost use Rattle.std.specs.Bool.{OnFalse, OnTrue};
 ghost use Rattle.swreq_word.specs.Relations.{IsIrreducible};
 ghost use Rattle.swreq_rule.specs.Reduction.{FirstRedex, ReductionStep, Reduces};

@@ -1,7 +1,7 @@
 use Rattle.std.proofs.Common.{sym, subst, arith}
 use Rattle.swreq_rule.specs.Reduction.{NoneEarlier}
 use Rattle.swreq_complete.proofs.Indexing.{redex_there, none_in_word}
-use Rattle.swreq_complete.proofs.Reading.{none_read}
+use Rattle.swreq_complete.proofs.Places.{none_read}
 use Rattle.swreq_complete.proofs.reading.next_redex.Goals as goal
 
 pub returns-in-Ok-clause-redex : goal.returns-in-Ok-clause-redex

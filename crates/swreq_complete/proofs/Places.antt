@@ -1,9 +1,9 @@
 -- What the first symbols of a word tell of its places, as they are searched and a step is taken.
-use Rattle.std.proofs.Common.{◌≡◌, ◌⊎◌, inl, inr, ℕ, ◌+◌, ◌<◌, ◌≤◌, List, [], ◌∷◌, ◌++◌, length, take, drop, refl, sym, ◌∙◌, ap, subst, arith, Some}
+use Rattle.std.proofs.Common.{◌≡◌, ◌⊎◌, inl, inr, ℕ, ◌+◌, ◌<◌, ◌≤◌, List, [], ◌∷◌, ◌++◌, length, length-take, take, drop, refl, sym, ◌∙◌, ap, subst, arith, Some}
 use Rattle.std.specs.List.{slice_get}
 use Rattle.std.proofs.lemmas.List.{take-append-le}
 use Rattle.std.proofs.lemmas.Option.{slice_get_within}
-use Rattle.swreq_orders.proofs.Elements.{get_cases, there_is}
+use Rattle.swreq_orders.proofs.Elements.{get_cases, in_whole, there_is}
 use Rattle.swreq_word.specs.declared.symbols.Symbol.{Symbol}
 use Rattle.swreq_word.proofs.Cuts.{cut_rest}
 use Rattle.swreq_rule.specs.declared.rules.Rule.{Rule}
@@ -44,6 +44,15 @@ pub none_read : (rules : List Rule) (w : List Symbol) (counts : List ℕ) → Ar
 none_read rules w counts read before rest e l =
     let c = there_is counts (length before) l in
     subst (NoneBegins rules) (cut_rest w before rest e) (read.tell (length before) c.0 c.1 w refl)
+
+-- the first counts, so many, which are within the place
+pub kept_counts : (old new : List ℕ) (kept at : ℕ) → new ≡ take kept old → ((k n : ℕ) → k < kept → slice_get old k ≡ Some n → n ≤ at)
+    → (k n : ℕ) → slice_get new k ≡ Some n → (slice_get old k ≡ Some n) × (n ≤ at)
+kept_counts old new kept at e within k n g =
+    let h = subst (λ xs. slice_get xs k ≡ Some n) e g in
+    let whole = in_whole old kept k n h in
+    let l = simp length-take at (slice_get_within (take kept old) k n h) in
+    (whole, within k n (omega (arith, l)) whole)
 
 -- After a step what was told by symbols before its place stays told.
 pub read_after : (rules : List Rule) (u v : List Symbol) (at number : ℕ) (old new : List ℕ) → FirstRedex rules u at number → ReductionStep rules u v
