@@ -40,7 +40,6 @@ struct Node {
 struct Trie {
     nodes: Vec<Node>,
     inside: HashMap<Symbol, Vec<(usize, usize)>>,
-    longest: usize,
 }
 
 impl Trie {
@@ -48,7 +47,6 @@ impl Trie {
         Trie {
             nodes: vec![Node::default()],
             inside: HashMap::new(),
-            longest: 0,
         }
     }
 
@@ -67,19 +65,21 @@ impl Trie {
         for (at, symbol) in left.iter().enumerate().skip(1) {
             self.inside.entry(*symbol).or_default().push((number, at));
         }
-        self.longest = self.longest.max(left.len());
     }
 
-    /// The rule with the shortest left side that begins the word.
-    fn find(&self, w: &[Symbol]) -> Option<usize> {
+    /// The rule with the shortest left side that begins the word, or how many of its symbols were read where there is none.
+    fn find(&self, w: &[Symbol]) -> Result<usize, usize> {
         let mut node = 0;
-        for symbol in w {
-            node = *self.nodes[node].children.get(symbol)?;
-            if self.nodes[node].end.is_some() {
-                return self.nodes[node].end;
+        for (k, symbol) in w.iter().enumerate() {
+            match self.nodes[node].children.get(symbol) {
+                Some(child) => node = *child,
+                None => return Err(k + 1),
+            }
+            if let Some(number) = self.nodes[node].end {
+                return Ok(number);
             }
         }
-        None
+        Err(w.len() + 1)
     }
 }
 
@@ -89,33 +89,51 @@ fn begins(front: &[Symbol], w: &[Symbol]) -> bool {
 
 #[derive(Default)]
 struct Completion {
+    max_length: usize,
     rules: Vec<Rule>,
     left: Word,
     right: Word,
+    reads: Vec<usize>,
     places: Vec<(usize, usize, usize)>,
 }
 
 impl Completion {
-    fn reduce(&self, trie: &Trie, w: &mut Word) {
-        let mut at = 0;
-        while at < w.len() {
+    fn new(max_length: usize) -> Completion {
+        Completion {
+            max_length,
+            ..Completion::default()
+        }
+    }
+
+    /// Reduces the word. A place is searched again only where a step changed what was read there.
+    fn reduce(&self, trie: &Trie, w: &mut Word, reads: &mut Vec<usize>) {
+        reads.clear();
+        while reads.len() < w.len() {
+            let at = reads.len();
             match trie.find(&w[at..]) {
-                Some(number) => {
+                Ok(number) => {
                     let rule = &self.rules[number - 1];
                     w.splice(at..at + rule.left.len(), rule.right.iter().copied());
-                    at = at.saturating_sub(trie.longest);
+                    while reads.last().is_some_and(|read| at < *read) {
+                        reads.pop();
+                    }
                 }
-                None => at += 1,
+                Err(count) => {
+                    let before = reads.last().copied().unwrap_or(0);
+                    reads.push(before.max(at + count));
+                }
             }
         }
     }
 
-    /// Reduces both sides, and where they differ bears a rule.
-    fn settle(&mut self, trie: &mut Trie, birth: Birth) {
+    /// Reduces both sides, and where they differ bears a rule. Answers whether its left side is within the limit.
+    fn settle(&mut self, trie: &mut Trie, birth: Birth) -> bool {
         let mut left = std::mem::take(&mut self.left);
         let mut right = std::mem::take(&mut self.right);
-        self.reduce(trie, &mut left);
-        self.reduce(trie, &mut right);
+        let mut reads = std::mem::take(&mut self.reads);
+        self.reduce(trie, &mut left, &mut reads);
+        self.reduce(trie, &mut right, &mut reads);
+        let mut is_within = true;
         if left != right {
             let is_less = (left.len(), &left) < (right.len(), &right);
             let (greater, less) = if is_less { (&right, &left) } else { (&left, &right) };
@@ -125,9 +143,12 @@ impl Completion {
                 birth,
             });
             trie.insert(greater, self.rules.len());
+            is_within = greater.len() <= self.max_length;
         }
         self.left = left;
         self.right = right;
+        self.reads = reads;
+        is_within
     }
 
     /// The places of all pairs with this greater number, in order.
@@ -193,12 +214,15 @@ impl Completion {
         }
     }
 
-    fn extend(&mut self, trie: &mut Trie, given: &[Equation]) {
+    /// Completes the rules by the equations. Answers whether all left sides are within the limit, and stops at the first that is not.
+    fn extend(&mut self, trie: &mut Trie, given: &[Equation]) -> bool {
         let base = self.rules.len();
         for (n, equation) in given.iter().enumerate() {
             self.left.clone_from(&equation.0);
             self.right.clone_from(&equation.1);
-            self.settle(trie, Birth::Given(n + 1));
+            if !self.settle(trie, Birth::Given(n + 1)) {
+                return false;
+            }
         }
         let mut greater = base + 1;
         while greater <= self.rules.len() {
@@ -206,15 +230,25 @@ impl Completion {
             for n in 0..self.places.len() {
                 let (i, j, at) = self.places[n];
                 self.write_sides(i, j, at);
-                self.settle(trie, Birth::Pair(i, j, at));
+                if !self.settle(trie, Birth::Pair(i, j, at)) {
+                    return false;
+                }
             }
             greater += 1;
         }
+        true
     }
 }
 
-/// The equations of the protocols and those of the function of a system.
-fn system(kind: &str, count: u32) -> (Vec<Equation>, Vec<Equation>) {
+/// The equations of the protocols and those of the function, and how many symbols a left side may have.
+struct System {
+    protocols: Vec<Equation>,
+    function: Vec<Equation>,
+    max_length: usize,
+}
+
+/// Systems whose completions end. Their size is that of the system.
+fn ending(kind: &str, count: u32) -> System {
     use Symbol::{Member, Name, Param, Proto};
     let mut protocols: Vec<Equation> = Vec::new();
     let mut function: Vec<Equation> = Vec::new();
@@ -242,7 +276,74 @@ fn system(kind: &str, count: u32) -> (Vec<Equation>, Vec<Equation>) {
         }
         _ => function.push(conforms(t, 0)),
     }
-    (protocols, function)
+    System {
+        protocols,
+        function,
+        max_length: 255,
+    }
+}
+
+/// Protocols by their ranks, in written order, each with two members.
+fn with_members(ranks: &[u32]) -> Vec<Equation> {
+    use Symbol::{Member, Name, Proto};
+    let mut equations: Vec<Equation> = Vec::new();
+    for rank in ranks {
+        let this = Proto(*rank);
+        let member = 2 * u64::from(*rank);
+        equations.push((vec![this, this], vec![this]));
+        equations.push((vec![this, Name(0)], vec![Member(member)]));
+        equations.push((vec![this, Name(1)], vec![Member(member + 1)]));
+    }
+    equations
+}
+
+/// That a member of the protocol conforms to the other one.
+fn member_conforms(equations: &mut Vec<Equation>, rank: u32, name: u32, other: u32) {
+    use Symbol::{Name, Proto};
+    let member = vec![Proto(rank), Name(name)];
+    equations.push((vec![Proto(rank), Name(name), Proto(other)], member));
+}
+
+/// Protocols whose two members, A and B, conform to the protocols with these ranks, with A.B.A == B.A.B in each.
+fn braids(members: &[(u32, u32)]) -> Vec<Equation> {
+    use Symbol::{Name, Proto};
+    let ranks: Vec<u32> = (0..members.len() as u32).collect();
+    let (a, b) = (Name(0), Name(1));
+    let mut equations = with_members(&ranks);
+    for (rank, (first, second)) in ranks.iter().zip(members) {
+        member_conforms(&mut equations, *rank, 0, *first);
+        member_conforms(&mut equations, *rank, 1, *second);
+        equations.push((vec![Proto(*rank), a, b, a], vec![Proto(*rank), b, a, b]));
+    }
+    equations
+}
+
+/// The protocols of `examples/lists.txt`.
+fn lists() -> Vec<Equation> {
+    use Symbol::{Name, Proto};
+    let (sorted, list, head, rest) = (Proto(0), Proto(1), Name(0), Name(1));
+    let mut equations = with_members(&[1, 0]);
+    member_conforms(&mut equations, 1, 0, 1);
+    member_conforms(&mut equations, 1, 1, 1);
+    equations.push((vec![sorted, list], vec![sorted]));
+    equations.push((vec![sorted, rest, head, sorted], vec![sorted, rest, head]));
+    equations.push((vec![sorted, rest, head, rest], vec![sorted, rest, rest]));
+    equations
+}
+
+/// A system of a kind and a size. The size of one whose completion has no end is how many symbols a left side may have.
+fn system(kind: &str, size: u32) -> System {
+    let protocols = match kind {
+        "braid" => braids(&[(0, 0)]),
+        "lists" => lists(),
+        "recursive" => braids(&[(0, 1), (1, 2), (2, 0)]),
+        _ => return ending(kind, size),
+    };
+    System {
+        protocols,
+        function: Vec::new(),
+        max_length: size as usize,
+    }
 }
 
 /// A sum in which the births of all rules are mixed in order.
@@ -258,21 +359,22 @@ fn sum_of_births(rules: &[Rule]) -> u64 {
     })
 }
 
-fn complete(protocols: &[Equation], function: &[Equation]) -> (Completion, Trie) {
-    let mut completion = Completion::default();
+fn complete(system: &System) -> (Completion, Trie) {
+    let mut completion = Completion::new(system.max_length);
     let mut trie = Trie::new();
-    completion.extend(&mut trie, protocols);
-    completion.extend(&mut trie, function);
+    if completion.extend(&mut trie, &system.protocols) {
+        completion.extend(&mut trie, &system.function);
+    }
     (completion, trie)
 }
 
 fn main() {
     let words: Vec<String> = env::args().collect();
-    let (protocols, function) = system(&words[1], words[2].parse().unwrap());
+    let system = system(&words[1], words[2].parse().unwrap());
     let repeats: u32 = words[3].parse().unwrap();
     for _ in 0..repeats {
         let start = Instant::now();
-        let (completion, _trie) = complete(&protocols, &function);
+        let (completion, _trie) = complete(&system);
         let took = start.elapsed();
         println!(
             "{} {} {}",

@@ -1,8 +1,10 @@
 -- Rules in two parts, and the tries of their left sides.
-use Rattle.std.proofs.Common.{◌≡◌, ◌⊎◌, inl, inr, ℕ, suc, ◌+◌, ◌-◌, ◌<◌, ◌≤◌, List, [], ◌++◌, length, length-append, slice_get, max, Option, Some, None, MatchOption, sym, ap, subst, ◌∙◌, arith}
+use Rattle.std.proofs.Common.{◌≡◌, ◌⊎◌, inl, inr, ℕ, suc, ◌+◌, ◌-◌, ◌<◌, ◌≤◌, List, [], ◌++◌, length, length-append, slice_get, drop, max, Option, Some, None, sym, ap, subst, ◌∙◌, arith}
 use Rattle.std.specs.Borrow.{Bor}
 use Rattle.std.proofs.lemmas.Bool.{cases_lt}
 use Rattle.std.proofs.lemmas.Option.{slice_get_within}
+use Rattle.std.proofs.lemmas.Result.{MatchResult-weaker}
+use Rattle.std.specs.Prelude.{Result, MatchResult}
 use Rattle.swreq_orders.proofs.Elements.{get_left, get_after, get_either}
 use Rattle.swreq_word.specs.declared.symbols.Symbol.{Symbol}
 use Rattle.swreq_rule.specs.declared.rules.Rule.{Rule}
@@ -12,7 +14,10 @@ use Rattle.swreq_rule.specs.Search as searches
 use Rattle.swreq_rule.specs.Steps.{RuleAt}
 use Rattle.swreq_trie.specs.declared.trie.Entry.{Entry}
 use Rattle.swreq_trie.specs.Stored.{Begins, NoneBegins, NoneLonger, Shortest}
+use Rattle.swreq_trie.specs.Stored as sides
+use Rattle.swreq_trie.proofs.Ways.{fewer}
 use Rattle.swreq_complete.specs.Index.{IsIndexAfter, IsIndexOf, PartView, AreFirst, StandsAfter, rules_below}
+use Rattle.swreq_complete.specs.Reading.{TellNone}
 use Rattle.swreq_complete.proofs.Indexing.{of_rule, chosen_same, none_same, none_longer}
 
 pub first_index : (before : ℕ) (stored : List Entry) (rules : List Rule) → before ≡ 0 → IsIndexAfter before stored rules → IsIndexOf stored rules
@@ -82,11 +87,6 @@ module _ (below own : List Entry) (w : List Symbol) where
     pub own_alone : (n : ℕ) → NoneBegins below w → Shortest own w n → Chosen rules w n
     own_alone n none p = chosen_same (below ++ own) rules index w n (shortest_own n p (λ k other e b. absurd (none k other e b)))
 
-    pub own_found : (found : Option ℕ) → NoneBegins below w → MatchOption found (NoneBegins own w) (Shortest own w)
-        → MatchOption found (left_sides.NoneBegins rules w) (Chosen rules w)
-    own_found None none m = neither none m
-    own_found (Some n) none m = own_alone n none m
-
     -- a stored side is that of the rule with its number
     entry_rule : (k : ℕ) (entry : Entry) (n : ℕ) → slice_get (below ++ own) k ≡ Some entry → entry.number ≡ n → (r : Rule) × RuleAt rules n r × (entry.left ≡ r.left)
     entry_rule k entry n e is =
@@ -134,9 +134,16 @@ longest_of_both lower upper a b h g k rule e = elim (get_either lower upper k ru
 pub longer_after : (before : ℕ) (stored : List Entry) (rules : List Rule) → IsIndexAfter before stored rules → (n : ℕ) → NoneLonger stored n → searches.NoneLonger rules n
 longer_after before stored rules index n h k rule e = h k (record { left = rule.left; number = suc (before + k) }) (index.each k rule e)
 
+-- what tells that none of either part begins
+pub both_tell : (below own : List Entry) (rules : List Rule) → IsIndexOf (below ++ own) rules → (w : List Symbol) (at first second next : ℕ) → first ≤ next → second ≤ next
+    → sides.TellNone below w at first → sides.TellNone own w at second → TellNone rules w at next
+both_tell below own rules index w at first second next l m a b v e =
+    neither below own (drop at v) rules index (a v (fewer w v first next l e)) (b v (fewer w v second next m e))
+
 -- ---- where none are borrowed
 
-module _ (stored : List Entry) (rules : List Rule) (index : IsIndexOf stored rules) (w : List Symbol) where
-  pub alone_found : (found : Option ℕ) → MatchOption found (NoneBegins stored w) (Shortest stored w) → MatchOption found (left_sides.NoneBegins rules w) (Chosen rules w)
-  alone_found None m = none_same stored rules index w m
-  alone_found (Some n) m = chosen_same stored rules index w n m
+module _ (stored : List Entry) (rules : List Rule) (index : IsIndexOf stored rules) (w : List Symbol) (at : ℕ) where
+  pub alone_found : (found : Result ℕ ℕ) → MatchResult found (Shortest stored (drop at w)) (sides.TellNone stored w at)
+      → MatchResult found (Chosen rules (drop at w)) (TellNone rules w at)
+  alone_found found m =
+      MatchResult-weaker found m (chosen_same stored rules index (drop at w)) (λ count tell v e. none_same stored rules index (drop at v) (tell v e))

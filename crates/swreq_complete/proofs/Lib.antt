@@ -14,6 +14,7 @@ pub mod Telling
 pub mod Listing
 pub mod Indexing
 pub mod Layers
+pub mod Places
 pub mod AllPlaces
 pub mod Sorting
 pub mod ReducedSystem

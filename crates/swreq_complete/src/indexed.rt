@@ -1,17 +1,18 @@
 //! Rules with the tries of their left sides. Some rules may be borrowed; they stand below those that came after them.
 
-ghost use Rattle.std.specs.Prelude.{◌≡◌, ◌⊎◌, ℕ, ◌+◌, ◌-◌, ◌<◌, ◌≤◌, ◌^◌, List, [], ◌∷◌, ◌++◌, length, drop, slice_get, Some, MatchOption, IfOk, OnOk, OnErr, vec_len, vec_capacity};
+ghost use Rattle.std.specs.Prelude.{◌≡◌, ◌⊎◌, ℕ, ◌+◌, ◌-◌, ◌<◌, ◌≤◌, ◌^◌, List, [], ◌∷◌, ◌++◌, length, drop, slice_get, Some, MatchOption, MatchResult, IfOk, OnOk, OnErr, vec_len, vec_capacity};
 ghost use Rattle.std.specs.Bool.{OnFalse, OnTrue};
 ghost use Rattle.swreq_word.specs.declared.symbols.Symbol.{Symbol};
 ghost use Rattle.swreq_word.specs.Relations.{IsIrreducible};
 ghost use Rattle.swreq_rule.specs.declared.rules.Rule.{Rule};
-ghost use Rattle.swreq_rule.specs.Reduction.{Chosen, FirstRedex, NoneBegins, NoneEarlier, Reduces};
+ghost use Rattle.swreq_rule.specs.Reduction.{Chosen, FirstRedex, NoneEarlier, Reduces};
 ghost use Rattle.swreq_rule.specs.Search.{NoneLonger, StepsPast};
 ghost use Rattle.swreq_rule.specs.Steps.{RuleAt, Step};
 ghost use Rattle.swreq_pair.specs.Pairs.{IsNumberOf};
 ghost use Rattle.swreq_trie.specs.declared.trie.Entry.{Entry};
 ghost use Rattle.swreq_trie.specs.Places.{ArePlaces};
 ghost use Rattle.swreq_complete.specs.Index.{IsIndexAfter, IsIndexOf};
+ghost use Rattle.swreq_complete.specs.Reading.{TellNone};
 
 use std::alloc::{AllocError, Global};
 use std::marker::Model;
@@ -155,23 +156,27 @@ fn shorter(rules: &Indexed<'_>, first: u32, second: u32) -> u32
     }
 }
 
-// The number of the rule that is chosen at the place, where these two tries together have the left sides.
+// The number of the rule that is chosen at the place, or how many symbols of the word tell that none is, where these two tries together
+// have the left sides.
 fn find_in_both(
     rules: &Indexed<'_>,
     below: &Trie,
     own: &Trie,
     w: &[Symbol],
     at: usize,
-) -> Option<u32>
+) -> Result<u32, usize>
     requires within { at ≤ length w.now }
     requires index { IsIndexOf (below.now ++ own.now) rules.now }
-    ensures { MatchOption result (NoneBegins rules.now (drop at w.now)) (Chosen rules.now (drop at w.now)) }
+    ensures { MatchResult result (Chosen rules.now (drop at w.now)) (TellNone rules.now w.now at) }
 {
     match below.find_at(w, at) {
-        None => own.find_at(w, at),
-        Some(first) => match own.find_at(w, at) {
-            None => Some(first),
-            Some(second) => Some(shorter(rules, first, second)),
+        Err(first) => match own.find_at(w, at) {
+            Err(second) => Err(first.max(second)),
+            Ok(second) => Ok(second),
+        },
+        Ok(first) => match own.find_at(w, at) {
+            Err(_) => Ok(first),
+            Ok(second) => Ok(shorter(rules, first, second)),
         },
     }
 }
@@ -184,9 +189,12 @@ pub(crate) fn first_redex(rules: &Indexed<'_>, w: &[Symbol], from: usize) -> Opt
         (λ redex. FirstRedex rules.now w.now redex.at redex.number) }
 {
     for at in from..w.len() {
-        if let Some(number) = rules.find_at(w, at) {
-            let number = number as usize;
-            return Some(Redex { at, number });
+        match rules.find_at(w, at) {
+            Ok(number) => {
+                let number = number as usize;
+                return Some(Redex { at, number });
+            }
+            Err(_) => {}
         }
     }
     None
@@ -309,10 +317,10 @@ impl<'b> Indexed<'b> {
         }
     }
 
-    /// The number of the rule that is chosen at the place, or None where no left side begins there.
-    pub fn find_at(&self, w: &[Symbol], at: usize) -> Option<u32>
+    /// The number of the rule that is chosen at the place. Where no left side begins there, how many symbols of the word tell so.
+    pub fn find_at(&self, w: &[Symbol], at: usize) -> Result<u32, usize>
         requires { at ≤ length w.now }
-        ensures { MatchOption result (NoneBegins self.now (drop at w.now)) (Chosen self.now (drop at w.now)) }
+        ensures { MatchResult result (Chosen self.now (drop at w.now)) (TellNone self.now w.now at) }
     {
         match self.below {
             None => self.own.index().find_at(w, at),

@@ -7,6 +7,7 @@ mod indexed;
 pub mod laws;
 mod limit;
 mod paths;
+mod reading;
 mod reduced;
 mod rewriting_system;
 mod settling;

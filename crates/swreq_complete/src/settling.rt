@@ -13,6 +13,7 @@ ghost use Rattle.swreq_complete.specs.Settling.{DoneWithin, HasCome, HasStoppedA
 
 use crate::indexed::Indexed;
 use crate::limit::{Limits, Stop, passed};
+use crate::reading::reduce;
 use crate::task::{Sides, Task};
 use std::alloc::AllocError;
 use swreq_rule::{Birth, Rule, oriented};
@@ -94,8 +95,8 @@ pub(crate) fn settle_sides<W: Watch>(
         (λ _. DoneWithin limits (λ t. Settles rules.old t birth sides.old.left.items sides.old.right.items) rules.old rules.new (W.told watch.old) (W.told watch.new))
         (λ s. StoppedAt limits (λ t. Settles rules.old t birth sides.old.left.items sides.old.right.items) rules.old rules.new (W.told watch.old) (W.told watch.new) s) }
 {
-    rules.reduce(&mut sides.left);
-    rules.reduce(&mut sides.right);
+    reduce(rules, &mut sides.left, &mut sides.counts)?;
+    reduce(rules, &mut sides.right, &mut sides.counts)?;
     match rule_of(sides, birth)? {
         None => Ok(()),
         Some(rule) => bear(rules, limits, watch, rule),

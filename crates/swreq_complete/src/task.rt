@@ -14,11 +14,12 @@ pub(crate) struct Task<'a> {
     pub limits: Limits,
 }
 
-/// The two sides of the moment that is settled, in buffers that are kept from one moment to the next.
+/// The two sides of the moment that is settled, and room for their reduction, in buffers that are kept from one moment to the next.
 #[derive(Drop)]
 pub(crate) struct Sides {
     pub left: Vec<Symbol>,
     pub right: Vec<Symbol>,
+    pub counts: Vec<usize>,
 }
 
 // Puts the word into the buffer, in place of what was there.
@@ -36,6 +37,7 @@ impl Sides {
         Sides {
             left: Vec::new(alloc),
             right: Vec::new(alloc),
+            counts: Vec::new(alloc),
         }
     }
 

@@ -87,8 +87,8 @@ fn put_found(
     let w = word(alloc, letters)?;
     for at in 0..w.len() + 1 {
         match trie.find_at(&w, at) {
-            Some(number) => write!(out, "{number} ")?,
-            None => out.push_str("- ")?,
+            Ok(number) => write!(out, "{number} ")?,
+            Err(_) => out.push_str("- ")?,
         }
     }
     write!(
@@ -114,5 +114,22 @@ fn sides_are_found_where_they_begin_overlap_or_stand_in_each_other(
         put_found(&rt, rt.alloc(), &trie, letters, *number, &mut out)?;
         assert_eq!(rt; out.as_str(), *wanted);
     }
+    Ok(())
+}
+
+/// How many symbols tell that no side begins, at each place: up to the first by which none goes on, and one more than there are where none
+/// has room.
+#[test]
+fn a_search_reads_no_further_than_some_side_goes_on(rt: HostRuntime) -> Result<(), Fail> {
+    let trie = stored(&rt, rt.alloc(), "1.ABC 2.BCA 3.CAB")?;
+    let w = word(rt.alloc(), "ABBCCABB")?;
+    let mut out = String::new(rt.alloc());
+    for at in 0..w.len() {
+        match trie.find_at(&w, at) {
+            Ok(number) => write!(out, "side {number} ")?,
+            Err(count) => write!(out, "{count} ")?,
+        }
+    }
+    assert_eq!(rt; out.as_str(), "3 3 5 5 side 3 8 9 9 ");
     Ok(())
 }

@@ -1,5 +1,5 @@
 -- What the nodes of a trie say, as sides are stored and sought.
-use Rattle.std.proofs.Common.{◌≡◌, inl, inr, ℕ, ◌+◌, ◌<◌, ◌≤◌, max, min, get_or, take, List, [], ◌∷◌, ◌++◌, length, length-append, refl, sym, ◌∙◌, ap, subst, arith, Option, Some, None, MatchOption, Vec}
+use Rattle.std.proofs.Common.{◌≡◌, inl, inr, ℕ, ◌+◌, ◌<◌, ◌≤◌, max, min, get_or, take, List, [], ◌∷◌, ◌++◌, length, length-append, refl, sym, ◌∙◌, ap, subst, arith, Option, Some, Vec}
 use Rattle.std.specs.List.{slice_get}
 use Rattle.std.specs.declared.alloc.Global.{Global}
 use Rattle.std.proofs.lemmas.Bool.{cases_lt, cases_eq}
@@ -254,13 +254,13 @@ module _ (edges edges' : List Edge) (ends ends' : List (Option ℕ)) (passing pa
 -- what the way of a word says of the stored sides
 module _ (edges : List Edge) (ends : List (Option ℕ)) (passing inside : List (Vec Spot Global)) (lengths : Lengths)
     (stored : List Entry) (index : IsIndex edges ends passing inside lengths stored) (w : List Symbol) where
-  none_begins : NoEnd edges ends w → NoneBegins stored w
+  pub none_begins : NoEnd edges ends w → NoneBegins stored w
   none_begins none k entry e b =
       let h = index.has_end k entry e in
       let size = simp length-append at (ap length b.1) in
       none entry.left b.0 h.0 h.1 b.1 (index.some k entry e) (omega (arith, size)) h.2 h.3
 
-  shortest : (number : ℕ) → FirstEnd edges ends w number → Shortest stored w number
+  pub shortest : (number : ℕ) → FirstEnd edges ends w number → Shortest stored w number
   shortest number f =
       let r = index.ends_right f.node number f.ends_there in
       let word : r.entry.left ≡ f.front = one_word edges r.entry.left f.front f.node r.leads f.leads in
@@ -286,7 +286,3 @@ module _ (edges : List Edge) (ends : List (Option ℕ)) (passing inside : List (
   -- none begins a word that is shorter than all of them
   pub none_so_short : length w < lengths.shortest → NoneBegins stored w
   none_so_short short k entry e b = let size = simp length-append at (ap length b.1) in let l = index.none_shorter k entry e in absurd (omega (arith, size, short, l))
-
-  pub found_is : (found : Option ℕ) → MatchOption found (NoEnd edges ends w) (FirstEnd edges ends w) → MatchOption found (NoneBegins stored w) (Shortest stored w)
-  found_is None h = none_begins h
-  found_is (Some number) h = shortest number h

@@ -1,8 +1,8 @@
 -- A symbol more on the way of a word.
-use Rattle.std.proofs.Common.{◌≡◌, ◌⊎◌, inl, inr, ℕ, ◌+◌, ◌<◌, List, [], ◌∷◌, ◌++◌, length, length-append, length-take, take, drop, take-append-drop, append-nil, get_or, sym, ◌∙◌, ap, subst, arith, Option}
+use Rattle.std.proofs.Common.{◌≡◌, ◌⊎◌, inl, inr, ℕ, ◌+◌, ◌<◌, ◌≤◌, List, [], ◌∷◌, ◌++◌, length, length-append, length-take, take, drop, take-append-drop, append-nil, get_or, min, refl, sym, ◌∙◌, ap, subst, arith, Option}
 use Rattle.std.proofs.Math.Seq.{take-length}
 use Rattle.std.proofs.lemmas.Bool.{cases_lt}
-use Rattle.std.proofs.lemmas.List.{take_more, take-append-le}
+use Rattle.std.proofs.lemmas.List.{take_more, take-append-le, take-take, take_all, get_or-take}
 use Rattle.swreq_word.specs.declared.symbols.Symbol.{Symbol}
 use Rattle.swreq_word.proofs.Cuts.{same_cut}
 use Rattle.swreq_trie.specs.declared.edges.Edge.{Edge}
@@ -144,3 +144,41 @@ module _ (edges : List Edge) (ends : List (Option ℕ)) (w : List Symbol) where
 
   pub none_at_end : (n : ℕ) → n ≡ length w → NoEndUpTo edges ends w n → NoEnd edges ends w
   none_at_end n e = subst (NoEndUpTo edges ends w) e
+
+-- ---- words with the same first symbols
+
+module _ (w v : List Symbol) where
+  pub fewer : (n m : ℕ) → n ≤ m → take m v ≡ take m w → take n v ≡ take n w
+  fewer n m le e = sym (take-take n m v le) ∙ ap (take n) e ∙ take-take n m w le
+
+  as_long : (n : ℕ) → n ≤ length w → take n v ≡ take n w → n ≤ length v
+  as_long n le e = let s : min n (length v) ≡ min n (length w) = sym (length-take n v) ∙ ap length e ∙ length-take n w in omega (arith, s, le)
+
+  -- Where that is more than all of the one they are one.
+  pub same_word : (n : ℕ) → length w < n → take n v ≡ take n w → v ≡ w
+  same_word n l e =
+      let s : min n (length v) ≡ min n (length w) = sym (length-take n v) ∙ ap length e ∙ length-take n w in
+      sym (take_all n v (omega (arith, s, l))) ∙ e ∙ take_all n w (omega (arith, l))
+
+  module _ (edges : List Edge) (ends : List (Option ℕ)) where
+    none_there : (n : ℕ) → n ≤ length w → take n v ≡ take n w → NoEndUpTo edges ends w n → NoEndUpTo edges ends v n
+    none_there n le e none front rest node number is some short p h =
+        let size = simp length-append at (ap length is) in
+        let first : front ≡ take (length front) w = front_is v front rest (length front) is refl ∙ fewer (length front) n short e in
+        none front (drop (length front) w) node number
+        (sym (take-append-drop (length front) w) ∙ ap (λ x. x ++ drop (length front) w) (sym first)) some short p h
+
+    -- where no edge leads on by the next symbol
+    pub none_told : (n node : ℕ) → Leads edges 0 (take n w) node → NoEndUpTo edges ends w n → (d : Symbol) → n < length w → IsForked edges
+        → NoChild edges node (get_or w n d) → take (n + 1) v ≡ take (n + 1) w → NoEnd edges ends v
+    none_told n node walked none d l forked stop e =
+        let first = fewer n (n + 1) (omega arith) e in
+        let next : get_or v n d ≡ get_or w n d = sym (get_or-take (n + 1) v n d (omega arith)) ∙ ap (λ x. get_or x n d) e ∙ get_or-take (n + 1) w n d (omega arith) in
+        let longer = as_long (n + 1) (omega (arith, l)) e in
+        way_ends edges ends v n node (subst (λ x. Leads edges 0 x node) (sym first) walked) (none_there n (omega (arith, l)) first none) d (omega (arith, longer))
+        forked (subst (NoChild edges node) (sym next) stop)
+
+    -- where the whole way was gone
+    pub none_told_at_end : (n : ℕ) → n ≡ length w → NoEndUpTo edges ends w n → take (length w + 1) v ≡ take (length w + 1) w → NoEnd edges ends v
+    none_told_at_end n whole none e =
+        subst (NoEnd edges ends) (sym (same_word (length w + 1) (omega arith) e)) (none_at_end edges ends w n whole none)

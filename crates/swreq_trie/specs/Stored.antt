@@ -1,5 +1,5 @@
 -- Stored sides, and which of them begins a word.
-use Rattle.std.specs.Prelude.{◌≡◌, ◌⊎◌, ℕ, ◌<◌, ◌≤◌, List, ◌++◌, length, slice_get, Some}
+use Rattle.std.specs.Prelude.{◌≡◌, ◌⊎◌, ℕ, ◌<◌, ◌≤◌, List, ◌++◌, length, take, drop, slice_get, Some}
 use Rattle.swreq_word.specs.declared.symbols.Symbol.{Symbol}
 use Rattle.swreq_trie.specs.declared.trie.Entry.{Entry}
 
@@ -10,6 +10,10 @@ Begins entry w = (after : List Symbol) × (w ≡ entry.left ++ after)
 -- no stored side begins the word
 abbrev pub NoneBegins : List Entry → List Symbol → Type 0
 NoneBegins stored w = (k : ℕ) (entry : Entry) → slice_get stored k ≡ Some entry → Begins entry w → ⊥
+
+-- The first symbols of the word, so many, tell that no stored side begins at the place: none does in any word with these.
+abbrev pub TellNone : List Entry → List Symbol → ℕ → ℕ → Type 0
+TellNone stored w at count = (v : List Symbol) → take count v ≡ take count w → NoneBegins stored (drop at v)
 
 -- Of the stored sides that begin the word, the shortest one, and of several that are the same the first, has this number.
 pub record Shortest (stored : List Entry) (w : List Symbol) (number : ℕ) : Type 0 where

@@ -1,5 +1,5 @@
 -- The nodes on the way of a word at which stored sides end.
-use Rattle.std.specs.Prelude.{◌≡◌, ℕ, ◌+◌, ◌<◌, ◌≤◌, List, ◌++◌, length, Option}
+use Rattle.std.specs.Prelude.{◌≡◌, ℕ, ◌+◌, ◌<◌, ◌≤◌, List, ◌++◌, length, take, Option}
 use Rattle.swreq_word.specs.declared.symbols.Symbol.{Symbol}
 use Rattle.swreq_trie.specs.declared.edges.Edge.{Edge}
 use Rattle.swreq_trie.specs.declared.walk.Met.{Met}
@@ -14,6 +14,10 @@ NoEndUpTo edges ends w count = (front rest : List Symbol) (node number : ℕ) �
 -- none ends on the whole way
 abbrev pub NoEnd : List Edge → List (Option ℕ) → List Symbol → Type 0
 NoEnd edges ends w = NoEndUpTo edges ends w (length w)
+
+-- The first symbols of the word, so many, tell that none ends on its way: none does on that of any word with these.
+abbrev pub TellsNoEnd : List Edge → List (Option ℕ) → List Symbol → ℕ → Type 0
+TellsNoEnd edges ends w count = (v : List Symbol) → take count v ≡ take count w → NoEnd edges ends v
 
 -- the side with this number ends on the way, and none ends before it
 pub record FirstEnd (edges : List Edge) (ends : List (Option ℕ)) (w : List Symbol) (number : ℕ) : Type 0 where

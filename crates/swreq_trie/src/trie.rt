@@ -1,8 +1,8 @@
 //! Stored left sides of rules by their symbols.
 
-ghost use Rattle.std.specs.Prelude.{◌≡◌, ◌<◌, ◌≤◌, [], ◌∷◌, ◌++◌, length, drop, MatchOption, IfOk, OnOk, OnErr};
+ghost use Rattle.std.specs.Prelude.{◌≡◌, ◌<◌, ◌≤◌, [], ◌∷◌, ◌++◌, length, drop, MatchResult, IfOk, OnOk, OnErr};
 ghost use Rattle.swreq_trie.specs.Places.{ArePlaces};
-ghost use Rattle.swreq_trie.specs.Stored.{NoneBegins, NoneLonger, Shortest};
+ghost use Rattle.swreq_trie.specs.Stored.{NoneLonger, Shortest, TellNone};
 
 use crate::edges::Edges;
 use crate::ends::mark;
@@ -153,17 +153,20 @@ impl Trie {
         }
     }
 
-    /// The number of the shortest stored side that begins at the place, of several that are the same the first, or None where none
-    /// begins there.
-    pub fn find_at(&self, w: &[Symbol], at: usize) -> Option<u32>
+    /// The number of the shortest stored side that begins at the place, of several that are the same the first. Where none begins there,
+    /// how many symbols of the word tell so.
+    pub fn find_at(&self, w: &[Symbol], at: usize) -> Result<u32, usize>
         requires { at ≤ length w.now }
-        ensures { MatchOption result (NoneBegins self.now (drop at w.now)) (λ number. Shortest self.now (drop at w.now) number) }
+        ensures { MatchResult result (λ number. Shortest self.now (drop at w.now) number) (λ count. TellNone self.now w.now at count) }
     {
         let rest = &w[at..];
         if rest.len() < self.lengths.shortest {
-            return None;
+            return Err(w.len() + 1);
         }
-        find(&self.edges, &self.ends, rest)
+        match find(&self.edges, &self.ends, rest) {
+            Ok(number) => Ok(number),
+            Err(count) => Err(at + count),
+        }
     }
 
     /// All places of the pairs of the rule that has this side and number with the stored ones whose number is below it, and with itself,

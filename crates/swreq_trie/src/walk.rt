@@ -1,12 +1,12 @@
 //! The ways of words through a trie.
 
-ghost use Rattle.std.specs.Prelude.{◌≡◌, ◌⊎◌, ℕ, ◌<◌, [], ◌∷◌, ◌++◌, MatchOption, IfOk, OnOk, length};
+ghost use Rattle.std.specs.Prelude.{◌≡◌, ◌⊎◌, ℕ, ◌+◌, ◌<◌, ◌≤◌, [], ◌∷◌, ◌++◌, MatchOption, MatchResult, IfOk, IfErr, OnOk, length};
 ghost use Rattle.swreq_trie.specs.declared.spots.Spot.{Spot};
 ghost use Rattle.swreq_trie.specs.declared.walk.Met.{Met};
 ghost use Rattle.swreq_trie.specs.Paths.{IsChild, IsForked, IsGrown, Leads};
 ghost use Rattle.swreq_trie.specs.Marks.{EndsAt, Holds, IsListed, KeepsListed, ListsOnly, SameEnds};
 ghost use Rattle.swreq_trie.specs.Index.{HasSpot, IsInside, IsOnWay, IsPassing, IsWithin, begin_of, spot_of};
-ghost use Rattle.swreq_trie.specs.Walk.{AreMet, FirstEnd, NoEnd};
+ghost use Rattle.swreq_trie.specs.Walk.{AreMet, FirstEnd, TellsNoEnd};
 
 use crate::edges::Edges;
 use crate::ends::{end_at, make_room};
@@ -29,25 +29,29 @@ pub(crate) struct Side<'a> {
     pub left: &'a [Symbol],
 }
 
-// The number of the shortest side that begins the word: the one that ends at the first node on its way where one does.
-pub(crate) fn find(edges: &Edges, ends: &[Option<u32>], w: &[Symbol]) -> Option<u32>
+// The number of the shortest side that begins the word: the one that ends at the first node on its way where one does. Or else how many
+// symbols of the word tell that none does: those up to the first by which no edge leads on, or one more than there are.
+pub(crate) fn find(edges: &Edges, ends: &[Option<u32>], w: &[Symbol]) -> Result<u32, usize>
     requires { IsForked edges.now }
-    ensures { MatchOption result (NoEnd edges.now ends.now w.now) (λ number. FirstEnd edges.now ends.now w.now number) }
+    ensures found { MatchResult result
+        (λ number. FirstEnd edges.now ends.now w.now number)
+        (λ count. TellsNoEnd edges.now ends.now w.now count) }
+    ensures within { IfErr result (λ count. count ≤ length w.now + 1) }
 {
     let mut node = 0;
-    for symbol in w {
-        match edges.child(node, *symbol) {
-            None => return None,
+    for k in 0..w.len() {
+        match edges.child(node, w[k]) {
+            None => return Err(k + 1),
             Some(child) => {
                 match end_at(ends, child) {
-                    Some(number) => return Some(number),
+                    Some(number) => return Ok(number),
                     None => {}
                 }
                 node = child;
             }
         }
     }
-    None
+    Err(w.len() + 1)
 }
 
 // The node to which the word leads, or None where it leads to none.

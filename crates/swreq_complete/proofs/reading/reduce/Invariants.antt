@@ -1,0 +1,14 @@
+use Rattle.swreq_word.specs.Relations.{Chain}
+use Rattle.swreq_rule.specs.Reduction.{ReductionStep}
+use Rattle.swreq_rule.proofs.Remaining.{remaining}
+use Rattle.swreq_complete.specs.Reading.{AreRead}
+use Rattle.swreq_complete.proofs.reading.reduce.Given as goal
+
+abbrev pub invariant-steps : goal.invariant-steps
+invariant-steps l = record {
+  chain : Chain (ReductionStep l.rules) l.initial.w.items l.w.items;
+  read : AreRead l.rules l.w.items l.counts.items;
+}
+
+abbrev pub decreases-steps : goal.decreases-steps
+decreases-steps l = remaining l.rules l.w.items
