@@ -1,5 +1,5 @@
-# The table of bench/hostile and of bench/minimising, which read this file. They say where they are (here), what the program is to do
-# (command), and make a text of a kind and of so many bytes (text). GENREQ is another program than the built one.
+# The table of bench/families, bench/hostile and bench/minimising, which read this file. They say where they are (here), what the program is to do
+# (command, with its options), and make a text of a kind and of so many bytes (text). GENREQ is another program than the built one.
 program=${GENREQ:-$here/../crates/genreq/out/genreq}
 out=$here/out
 
@@ -19,7 +19,7 @@ growth() {
 # A line of the table: a kind and its KiB.
 line() {
     text "$1" $(($2 * 1024)) >"$out/made.txt"
-    /usr/bin/time -f '%U %S %M' -o "$out/figures" sh -c 'ulimit -t "$1"; ulimit -v "$2"; exec "$3" "$4"' sh $seconds $memory "$program" $command \
+    /usr/bin/time -f '%U %S %M' -o "$out/figures" sh -c 'ulimit -t "$1"; ulimit -v "$2"; shift 2; exec "$@"' sh $seconds $memory "$program" $command \
         <"$out/made.txt" >"$out/printed" 2>"$out/faults"
     status=$?
     [ $status -lt 128 ] || status=stopped
