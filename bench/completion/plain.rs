@@ -283,16 +283,17 @@ fn ending(kind: &str, count: u32) -> System {
     }
 }
 
-/// Protocols by their ranks, in written order, each with two members.
+/// Protocols by their ranks, in written order, each with two members. The symbols of members go by the name and then by the protocol.
 fn with_members(ranks: &[u32]) -> Vec<Equation> {
     use Symbol::{Member, Name, Proto};
+    let count = ranks.len() as u64;
     let mut equations: Vec<Equation> = Vec::new();
     for rank in ranks {
         let this = Proto(*rank);
-        let member = 2 * u64::from(*rank);
+        let first = u64::from(*rank);
         equations.push((vec![this, this], vec![this]));
-        equations.push((vec![this, Name(0)], vec![Member(member)]));
-        equations.push((vec![this, Name(1)], vec![Member(member + 1)]));
+        equations.push((vec![this, Name(0)], vec![Member(first)]));
+        equations.push((vec![this, Name(1)], vec![Member(count + first)]));
     }
     equations
 }
