@@ -1,6 +1,5 @@
 -- Rules in two parts, and the tries of their left sides.
-use Rattle.std.proofs.Common.{◌≡◌, ◌⊎◌, inl, inr, ℕ, suc, ◌+◌, ◌-◌, ◌<◌, ◌≤◌, List, [], ◌++◌, length, length-append, slice_get, drop, max, Option, Some, None, sym, ap, subst, ◌∙◌, arith}
-use Rattle.std.specs.Borrow.{Bor}
+use Rattle.std.proofs.Common.{◌≡◌, ◌⊎◌, inl, inr, ℕ, suc, ◌+◌, ◌-◌, ◌<◌, ◌≤◌, List, ◌++◌, length, length-append, slice_get, drop, max, Some, sym, ap, subst, ◌∙◌, arith}
 use Rattle.std.proofs.lemmas.Bool.{cases_lt}
 use Rattle.std.proofs.lemmas.Option.{slice_get_within}
 use Rattle.std.proofs.lemmas.Result.{MatchResult-weaker}
@@ -16,9 +15,9 @@ use Rattle.swreq_trie.specs.declared.trie.Entry.{Entry}
 use Rattle.swreq_trie.specs.Stored.{Begins, NoneBegins, NoneLonger, Shortest}
 use Rattle.swreq_trie.specs.Stored as sides
 use Rattle.swreq_trie.proofs.Ways.{fewer}
-use Rattle.swreq_complete.specs.Index.{IsIndexAfter, IsIndexOf, PartView, AreFirst, StandsAfter, rules_below}
+use Rattle.swreq_complete.specs.Index.{IsIndexAfter, IsIndexOf}
 use Rattle.swreq_complete.specs.Reading.{TellNone}
-use Rattle.swreq_complete.proofs.Indexing.{of_rule, chosen_same, none_same, none_longer}
+use Rattle.swreq_complete.proofs.Indexing.{of_rule, chosen_same, none_same}
 
 pub first_index : (before : ℕ) (stored : List Entry) (rules : List Rule) → before ≡ 0 → IsIndexAfter before stored rules → IsIndexOf stored rules
 first_index before stored rules e index = record {

@@ -1,5 +1,5 @@
 -- What the first symbols of a word tell of its places, as they are searched and a step is taken.
-use Rattle.std.proofs.Common.{◌≡◌, ◌⊎◌, inl, inr, ℕ, ◌+◌, ◌<◌, ◌≤◌, List, [], ◌∷◌, ◌++◌, length, length-take, take, drop, refl, sym, ◌∙◌, ap, subst, arith, Some}
+use Rattle.std.proofs.Common.{◌≡◌, inl, inr, ℕ, ◌+◌, ◌<◌, ◌≤◌, List, [], ◌∷◌, ◌++◌, length, length-take, take, refl, sym, ◌∙◌, ap, subst, arith, Some}
 use Rattle.std.specs.List.{slice_get}
 use Rattle.std.proofs.lemmas.List.{take-append-le}
 use Rattle.std.proofs.lemmas.Option.{slice_get_within}
@@ -10,7 +10,7 @@ use Rattle.swreq_rule.specs.declared.rules.Rule.{Rule}
 use Rattle.swreq_rule.specs.Reduction.{NoneBegins, NoneEarlier, FirstRedex, ReductionStep}
 use Rattle.swreq_rule.proofs.Remaining.{same_place}
 use Rattle.swreq_trie.proofs.Ways.{fewer}
-use Rattle.swreq_complete.specs.Reading.{TellNone, AreRising, AreRead}
+use Rattle.swreq_complete.specs.Reading.{TellNone, AreRead}
 
 -- none is read at first
 pub read_none : (rules : List Rule) (w : List Symbol) (counts : List ℕ) → counts ≡ [] → AreRead rules w counts

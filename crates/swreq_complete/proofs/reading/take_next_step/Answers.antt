@@ -1,4 +1,4 @@
-use Rattle.std.proofs.Common.{◌≡◌, ℕ, ◌<◌, ◌≤◌, List, refl, subst, arith, Some}
+use Rattle.std.proofs.Common.{◌≡◌, ℕ, ◌<◌, ◌≤◌, List, refl, subst, Some}
 use Rattle.std.specs.List.{slice_get}
 use Rattle.swreq_word.specs.Relations.{IsIrreducible}
 use Rattle.swreq_rule.specs.Reduction.{FirstRedex}

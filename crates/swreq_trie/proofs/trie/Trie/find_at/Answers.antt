@@ -1,7 +1,7 @@
-use Rattle.std.proofs.Common.{◌-◌, take, drop, length, sym, ◌∙◌, ap, subst, arith}
+use Rattle.std.proofs.Common.{◌-◌, take, drop, length, sym, ◌∙◌, ap, subst}
 use Rattle.std.proofs.lemmas.List.{drop-take}
 use Rattle.swreq_word.proofs.Cuts.{whole_rest}
-use Rattle.swreq_trie.specs.Stored.{NoneBegins, Shortest, TellNone}
+use Rattle.swreq_trie.specs.Stored.{NoneBegins, Shortest}
 use Rattle.swreq_trie.specs.Walk.{FirstEnd, TellsNoEnd}
 use Rattle.swreq_trie.proofs.Index.{none_begins, shortest}
 use Rattle.swreq_trie.proofs.trie.Trie.find_at.Goals as goal
