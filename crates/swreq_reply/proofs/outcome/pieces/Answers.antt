@@ -1,6 +1,7 @@
 use Rattle.std.proofs.Common.{◌∙◌, Err, ap, length}
 use Rattle.std.proofs.lemmas.Result.{err_from_is_err_and}
 use Rattle.swreq_symbols.proofs.Growing.{text_stays, world_stays}
+use Rattle.swreq_reply.specs.Requests.{line_of}
 use Rattle.swreq_reply.proofs.Flags.{asked_within}
 use Rattle.swreq_reply.proofs.Verdicts.{checks_for_pieces, finishes_alone, finishes_answered, finishes_failed}
 use Rattle.swreq_reply.proofs.outcome.pieces.Goals as goal
@@ -11,7 +12,7 @@ lists_wanted-requires g c q member = asked_within c.args.world.now c.args.table.
 pub returns-in_err-wanted : goal.returns-in_err-wanted
 returns-in_err-wanted g c =
     let p = err_from_is_err_and c.from_residual.result c.from_residual.ensures.1 in
-    rw p.1 (finishes_alone c.requires.request c.requires.world c.requires.checked.passed (checks_for_pieces _ c.requires.prints)
+    rw p.1 (finishes_alone c.requires.request c.requires.world c.requires.checked.passed (checks_for_pieces (line_of c.args.r.now).command c.requires.prints)
     (g.W.Watch.told c.args.watch.now) {P = λ o. ⊥} (Err p.0) tt (λ o none. absurd none))
 
 pub answered-requires-clause-made : goal.answered-requires-clause-made
