@@ -44,7 +44,7 @@ pub(crate) fn give_member(
     requires conforms { Says sheet.old (Requires (Conforms (term_at sheet.old.table t) (member_at ground.now rank).proto)) }
     ensures both { OnOk result (SaysBoth ground.now sheet.new (term_at sheet.old.table t)
         (Proto (member_at ground.now rank).proto.rank ∷ Name (member_at ground.now rank).name.rank ∷ []) (Member rank ∷ [])) }
-    ensures grows { OnOk result (Grows sheet.old sheet.new) }
+    ensures grows { Grows sheet.old sheet.new }
     ensures derives { OnOk result ((b : Basis) → FitsBasis ground.now b → Keeps b sheet.old sheet.new) }
 {
     let named = member_at(ground, rank);
@@ -56,9 +56,9 @@ fn put_conf(sheet: &mut Sheet, origin: Origin, u: TermId, q: ProtoId) -> Result<
     requires sheet { IsSheet sheet.old }
     requires origin { IsOrigin sheet.old origin }
     requires u { IsOf sheet.old.table u }
-    ensures table { OnOk result (sheet.new.table ≡ sheet.old.table) }
+    ensures table { sheet.new.table ≡ sheet.old.table }
     ensures conforms { OnOk result (Says sheet.new (Requires (Conforms (term_at sheet.old.table u) q))) }
-    ensures grows { OnOk result (Grows sheet.old sheet.new) }
+    ensures grows { Grows sheet.old sheet.new }
     ensures derives { OnOk result ((b : Basis) (v : Term) → HasNumber origin.number (written_by b origin.owner) (Conforms v q)
         → term_at sheet.old.table u ≡ placed origin.owner (term_at sheet.old.table origin.t) v → Keeps b sheet.old sheet.new) }
 {
@@ -73,9 +73,9 @@ fn put_layout(sheet: &mut Sheet, origin: Origin, u: TermId) -> Result<(), AllocE
     requires sheet { IsSheet sheet.old }
     requires origin { IsOrigin sheet.old origin }
     requires u { IsOf sheet.old.table u }
-    ensures table { OnOk result (sheet.new.table ≡ sheet.old.table) }
+    ensures table { sheet.new.table ≡ sheet.old.table }
     ensures object { OnOk result (Says sheet.new (Requires (IsAnyObject (term_at sheet.old.table u)))) }
-    ensures grows { OnOk result (Grows sheet.old sheet.new) }
+    ensures grows { Grows sheet.old sheet.new }
     ensures derives { OnOk result ((b : Basis) (v : Term) → HasNumber origin.number (written_by b origin.owner) (IsAnyObject v)
         → term_at sheet.old.table u ≡ placed origin.owner (term_at sheet.old.table origin.t) v → Keeps b sheet.old sheet.new) }
 {
@@ -91,9 +91,9 @@ fn put_same(sheet: &mut Sheet, origin: Origin, sides: (TermId, TermId)) -> Resul
     requires origin { IsOrigin sheet.old origin }
     requires left { IsOf sheet.old.table sides.0 }
     requires right { IsOf sheet.old.table sides.1 }
-    ensures table { OnOk result (sheet.new.table ≡ sheet.old.table) }
+    ensures table { sheet.new.table ≡ sheet.old.table }
     ensures equal { OnOk result (AreSaidEqual sheet.new (term_at sheet.old.table sides.0) (term_at sheet.old.table sides.1)) }
-    ensures grows { OnOk result (Grows sheet.old sheet.new) }
+    ensures grows { Grows sheet.old sheet.new }
     ensures derives { OnOk result ((b : Basis) (u v : Term) → HasNumber origin.number (written_by b origin.owner) (Equals u v)
         → term_at sheet.old.table sides.0 ≡ placed origin.owner (term_at sheet.old.table origin.t) u
         → term_at sheet.old.table sides.1 ≡ placed origin.owner (term_at sheet.old.table origin.t) v → Keeps b sheet.old sheet.new) }
@@ -117,7 +117,7 @@ pub(crate) fn give_conf(
     requires origin { IsOrigin sheet.old origin }
     requires side { IsReadBy ground.now sheet.old origin.t u word.now }
     ensures both { OnOk result (SaysBoth ground.now sheet.new (term_at sheet.old.table origin.t) (word.now ++ Proto q.rank ∷ []) word.now) }
-    ensures grows { OnOk result (Grows sheet.old sheet.new) }
+    ensures grows { Grows sheet.old sheet.new }
     ensures derives { OnOk result ((b : Basis) (v : Term) → HasNumber origin.number (written_by b origin.owner) (Conforms v q)
         → term_at sheet.old.table u ≡ placed origin.owner (term_at sheet.old.table origin.t) v → Keeps b sheet.old sheet.new) }
 {
@@ -139,7 +139,7 @@ pub(crate) fn give_layout(
     requires origin { IsOrigin sheet.old origin }
     requires side { IsReadBy ground.now sheet.old origin.t u word.now }
     ensures both { OnOk result (SaysBoth ground.now sheet.new (term_at sheet.old.table origin.t) (word.now ++ Layout ∷ []) word.now) }
-    ensures grows { OnOk result (Grows sheet.old sheet.new) }
+    ensures grows { Grows sheet.old sheet.new }
     ensures derives { OnOk result ((b : Basis) (v : Term) → HasNumber origin.number (written_by b origin.owner) (IsAnyObject v)
         → term_at sheet.old.table u ≡ placed origin.owner (term_at sheet.old.table origin.t) v → Keeps b sheet.old sheet.new) }
 {
@@ -162,7 +162,7 @@ pub(crate) fn give_same(
     requires left { IsReadBy ground.now sheet.old origin.t ids.0 words.from.now }
     requires right { IsReadBy ground.now sheet.old origin.t ids.1 words.to.now }
     ensures both { OnOk result (SaysBoth ground.now sheet.new (term_at sheet.old.table origin.t) words.entry.from.now words.entry.to.now) }
-    ensures grows { OnOk result (Grows sheet.old sheet.new) }
+    ensures grows { Grows sheet.old sheet.new }
     ensures derives { OnOk result ((b : Basis) (u v : Term) → HasNumber origin.number (written_by b origin.owner) (Equals u v)
         → term_at sheet.old.table ids.0 ≡ placed origin.owner (term_at sheet.old.table origin.t) u
         → term_at sheet.old.table ids.1 ≡ placed origin.owner (term_at sheet.old.table origin.t) v → Keeps b sheet.old sheet.new) }

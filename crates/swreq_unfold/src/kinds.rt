@@ -48,7 +48,7 @@ pub(crate) fn cross(
         second.now.left second.now.right }
     ensures both { OnOk result ((left right : List SymbolView) → OverlapPair first.now second.now at left right
         → SaysBoth ground.now sheet.new (term_at sheet.old.table t) left right) }
-    ensures grows { OnOk result (Grows sheet.old sheet.new) }
+    ensures grows { Grows sheet.old sheet.new }
     ensures derives { OnOk result ((b : Basis) → FitsBasis ground.now b → Keeps b sheet.old sheet.new) }
 {
     let left = first.left.symbols();
@@ -90,7 +90,7 @@ pub(crate) fn within(
         second.now.left second.now.right }
     ensures both { OnOk result ((left right : List SymbolView) → ContainmentPair first.now second.now at left right
         → SaysBoth ground.now sheet.new (term_at sheet.old.table t) left right) }
-    ensures grows { OnOk result (Grows sheet.old sheet.new) }
+    ensures grows { Grows sheet.old sheet.new }
     ensures derives { OnOk result ((b : Basis) → FitsBasis ground.now b → Keeps b sheet.old sheet.new) }
 {
     let left = first.left.symbols();
@@ -132,7 +132,7 @@ pub(crate) fn meet(
         → SaysBoth ground.now sheet.new (term_at sheet.old.table t) left right) }
     ensures containment { OnOk result ((left right : List SymbolView) → ContainmentPair first.now second.now at left right
         → SaysBoth ground.now sheet.new (term_at sheet.old.table t) left right) }
-    ensures grows { OnOk result (Grows sheet.old sheet.new) }
+    ensures grows { Grows sheet.old sheet.new }
     ensures derives { OnOk result ((b : Basis) → FitsBasis ground.now b → Keeps b sheet.old sheet.new) }
 {
     let rest = first.left.symbols().len() - at;

@@ -1,7 +1,7 @@
 //! What rules say of type parameters, unfolded along the births of the rules: lines of a derivation that say that the two sides of a rule
 //! are read alike behind a type parameter.
 //!
-//! A call fails for want of memory alone, and then nothing is said of the sheet.
+//! A call fails for want of memory alone. On every answer what was stated still is, and the table begins with the old one.
 #![tactic(auto, using(crate::proofs::Alike::grown_by_none))]
 
 mod book;

@@ -46,7 +46,7 @@ fn join_at(
     requires first { SaysBoth ground.now sheet.old (term_at sheet.old.table t) w.now u.now }
     requires second { SaysBoth ground.now sheet.old (term_at sheet.old.table t) w.now v.now }
     ensures both { OnOk result (SaysBoth ground.now sheet.new (term_at sheet.old.table t) u.now v.now) }
-    ensures grows { OnOk result (Grows sheet.old sheet.new) }
+    ensures grows { Grows sheet.old sheet.new }
     ensures derives { OnOk result ((b : Basis) → Keeps b sheet.old sheet.new) }
 {
     turn(ground, sheet, t, w, u)?;
@@ -72,7 +72,7 @@ pub(crate) fn meet_within(
         (read ground.now (term_at sheet.old.table t) around.before.now) sides.from.now sides.to.now }
     ensures both { OnOk result (SaysBoth ground.now sheet.new (term_at sheet.old.table t) u.now
         (around.entry.before.now ++ (sides.entry.to.now ++ around.entry.after.now))) }
-    ensures grows { OnOk result (Grows sheet.old sheet.new) }
+    ensures grows { Grows sheet.old sheet.new }
     ensures derives { OnOk result ((b : Basis) → FitsBasis ground.now b → Keeps b sheet.old sheet.new) }
 {
     replace(ground, sheet, t, around.before, sides, around.after)?;
@@ -99,7 +99,7 @@ pub(crate) fn close(
     requires ends { SaysEnds ground.now sheet.old (term_at sheet.old.table t) words ends }
     requires oriented { IsOriented rule.now ends.from.now ends.to.now }
     ensures both { OnOk result (SaysBoth ground.now sheet.new (term_at sheet.old.table t) rule.now.left rule.now.right) }
-    ensures grows { OnOk result (Grows sheet.old sheet.new) }
+    ensures grows { Grows sheet.old sheet.new }
     ensures derives { OnOk result ((b : Basis) → Keeps b sheet.old sheet.new) }
 {
     join_at(ground, sheet, t, words.from, ends.from, words.to)?;
@@ -125,7 +125,7 @@ pub(crate) fn meet_across(
     requires word { first.from.now ++ around.after.now ≡ around.before.now ++ second.from.now }
     ensures both { OnOk result (SaysBoth ground.now sheet.new (term_at sheet.old.table t) (first.entry.to.now ++ around.entry.after.now)
         (around.entry.before.now ++ second.entry.to.now)) }
-    ensures grows { OnOk result (Grows sheet.old sheet.new) }
+    ensures grows { Grows sheet.old sheet.new }
     ensures derives { OnOk result ((b : Basis) → FitsBasis ground.now b → Keeps b sheet.old sheet.new) }
 {
     put_side(ground, sheet, t, first.from, first.to, around.after)?;

@@ -61,7 +61,7 @@ pub(crate) fn take_step(
     ensures both { OnOk result (SaysBoth ground.now sheet.new (term_at sheet.old.table t)
         (step.now.before ++ (replaced_side step.now.forward rule.now ++ step.now.after))
         (step.now.before ++ (put_side step.now.forward rule.now ++ step.now.after))) }
-    ensures grows { OnOk result (Grows sheet.old sheet.new) }
+    ensures grows { Grows sheet.old sheet.new }
     ensures derives { OnOk result ((b : Basis) → FitsBasis ground.now b → Keeps b sheet.old sheet.new) }
 {
     let left = rule.left.symbols();

@@ -47,7 +47,7 @@ pub(crate) fn start(sheet: &mut Sheet, scope: Scope, head: ParamId) -> Result<Te
     requires t { IsOf sheet.old.table scope.t }
     ensures is_of { IfOk result (IsOf sheet.new.table) }
     ensures stands { IfOk result (λ u. term_at sheet.new.table u ≡ placed scope.owner (term_at sheet.old.table scope.t) (Generic head)) }
-    ensures grows { OnOk result (Grows sheet.old sheet.new) }
+    ensures grows { Grows sheet.old sheet.new }
     ensures derives { OnOk result ((b : Basis) → Keeps b sheet.old sheet.new) }
 {
     match scope.owner {

@@ -46,7 +46,7 @@ pub(crate) fn walk_along(
     requires word { SaysWord book.now.ground sheet.old (term_at sheet.old.table t) path.now.start }
     ensures target { IfOk result (λ w. HasTarget (take at.rule (rules_at book.now at.system)) path.now w) }
     ensures both { IfOk result (λ w. SaysBoth book.now.ground sheet.new (term_at sheet.old.table t) path.now.start w) }
-    ensures grows { OnOk result (Grows sheet.old sheet.new) }
+    ensures grows { Grows sheet.old sheet.new }
     ensures derives { OnOk result ((b : Basis) → FitsBook book.now b → Keeps b sheet.old sheet.new) }
 {
     let rules = rules_before(book, at);
@@ -87,7 +87,7 @@ fn settle(
     requires both { SaysBoth book.now.ground sheet.old (term_at sheet.old.table t) words.from.now words.to.now }
     requires reduces { ReducesTo (rules_at book.now at.system) at.rule words.from.now words.to.now rule.now }
     ensures both { OnOk result (SaysBoth book.now.ground sheet.new (term_at sheet.old.table t) rule.now.left rule.now.right) }
-    ensures grows { OnOk result (Grows sheet.old sheet.new) }
+    ensures grows { Grows sheet.old sheet.new }
     ensures derives { OnOk result ((b : Basis) → FitsBook book.now b → Keeps b sheet.old sheet.new) }
 {
     let rules = rules_before(book, at);
@@ -123,7 +123,7 @@ pub fn unfold(
     requires t { IsOf sheet.old.table t }
     requires allows { AllowsWord book.now.ground sheet.old (term_at sheet.old.table t) rule.now.left }
     ensures both { OnOk result (SaysBoth book.now.ground sheet.new (term_at sheet.old.table t) rule.now.left rule.now.right) }
-    ensures grows { OnOk result (Grows sheet.old sheet.new) }
+    ensures grows { Grows sheet.old sheet.new }
     ensures derives { OnOk result ((b : Basis) → FitsBook book.now b → Keeps b sheet.old sheet.new) }
 {
     let system = system_at(book, at.system);
@@ -173,7 +173,7 @@ fn from_equation(
     requires t { IsOf sheet.old.table t }
     requires allows { AllowsWord book.now.ground sheet.old (term_at sheet.old.table t) rule.now.left }
     ensures both { OnOk result (SaysBoth book.now.ground sheet.new (term_at sheet.old.table t) rule.now.left rule.now.right) }
-    ensures grows { OnOk result (Grows sheet.old sheet.new) }
+    ensures grows { Grows sheet.old sheet.new }
     ensures derives { OnOk result ((b : Basis) → FitsBook book.now b → Keeps b sheet.old sheet.new) }
 {
     let equation = equation_at(book, at.system, n);
@@ -208,7 +208,7 @@ fn from_pair(
     requires t { IsOf sheet.old.table t }
     requires allows { AllowsWord book.now.ground sheet.old (term_at sheet.old.table t) rule.now.left }
     ensures both { OnOk result (SaysBoth book.now.ground sheet.new (term_at sheet.old.table t) rule.now.left rule.now.right) }
-    ensures grows { OnOk result (Grows sheet.old sheet.new) }
+    ensures grows { Grows sheet.old sheet.new }
     ensures derives { OnOk result ((b : Basis) → FitsBook book.now b → Keeps b sheet.old sheet.new) }
 {
     let rules = all_rules(book, at.system);
@@ -242,7 +242,7 @@ fn give(
     requires t { IsOf sheet.old.table t }
     requires allows { AllowsWord book.now.ground sheet.old (term_at sheet.old.table t) equation.now.left }
     ensures both { OnOk result (SaysBoth book.now.ground sheet.new (term_at sheet.old.table t) equation.now.left equation.now.right) }
-    ensures grows { OnOk result (Grows sheet.old sheet.new) }
+    ensures grows { Grows sheet.old sheet.new }
     ensures derives { OnOk result ((b : Basis) → FitsBook book.now b → Keeps b sheet.old sheet.new) }
 {
     match &equation.reason {
@@ -290,7 +290,7 @@ fn give_required(
         words.from.now words.to.now }
     ensures both { OnOk result (SaysBoth book.now.ground sheet.new (term_at sheet.old.table scope.t) words.entry.from.now
         words.entry.to.now) }
-    ensures grows { OnOk result (Grows sheet.old sheet.new) }
+    ensures grows { Grows sheet.old sheet.new }
     ensures derives { OnOk result ((b : Basis) → FitsBook book.now b → HasNumber number (written_by b scope.owner)
         (requirement_by requirement.now)
         → Keeps b sheet.old sheet.new) }
@@ -341,7 +341,7 @@ pub fn read_type(
     ensures word { OnOk result (SaysWord book.now.ground sheet.new (term_at sheet.old.table scope.t) word.now) }
     ensures equal { OnOk result (AreSaidEqual sheet.new (placed scope.owner (term_at sheet.old.table scope.t) (as_term param.now))
         (read book.now.ground (term_at sheet.old.table scope.t) word.now)) }
-    ensures grows { OnOk result (Grows sheet.old sheet.new) }
+    ensures grows { Grows sheet.old sheet.new }
     ensures derives { OnOk result ((b : Basis) → FitsBook book.now b → Keeps b sheet.old sheet.new) }
 {
     let mut at = start(sheet, scope, param.head)?;
@@ -371,7 +371,7 @@ pub fn declare(
     requires word { SaysWord book.now.ground sheet.old (term_at sheet.old.table scope.t) word.now }
     requires shown { IsStepShown book.now.ground (rules_at book.now scope.system) word.now step }
     ensures given { IfOk result (IsGiven book.now.ground sheet.new (read book.now.ground (term_at sheet.old.table scope.t) word.now) step) }
-    ensures grows { OnOk result (Grows sheet.old sheet.new) }
+    ensures grows { Grows sheet.old sheet.new }
     ensures derives { OnOk result ((b : Basis) → FitsBook book.now b → Keeps b sheet.old sheet.new) }
 {
     let last = read(&book.ground, sheet, scope.t, word)?;

@@ -41,3 +41,10 @@ returns c =
       grows = grows_then s s2 s3 x.grows carried.grows;
       derives = λ b v n e d. carried.derives b (last.derives b (c.in_ok-put_layout.ensures.derives b v n e d));
     }
+
+pub returns-in_err-last-clause-grows : goal.returns-in_err-last-clause-grows
+returns-in_err-last-clause-grows c = grows_then _ _ _ c.in_ok-put_layout.ensures.grows c.in_err-last.ensures.grows
+
+pub returns-in_err-carry_layout-clause-grows : goal.returns-in_err-carry_layout-clause-grows
+returns-in_err-carry_layout-clause-grows c =
+    grows_then _ _ _ (grows_then _ _ _ c.in_ok-put_layout.ensures.grows c.in_ok-last.ensures.grows) c.in_err-carry_layout.ensures.grows

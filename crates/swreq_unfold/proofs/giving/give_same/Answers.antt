@@ -126,3 +126,26 @@ pub returns-clause-derives : goal.returns-clause-derives
 returns-clause-derives c b u v n e f d =
     c.in_ok-trans-2.ensures.derives b (c.in_ok-trans.ensures.derives b (c.in_ok-symm.ensures.derives b (c.in_ok-last.ensures.derives b
     (c.in_ok-first.ensures.derives b (c.in_ok-put_same.ensures.derives b u v n e f d)))))
+
+pub returns-in_err-first-clause-grows : goal.returns-in_err-first-clause-grows
+returns-in_err-first-clause-grows c = grows_then _ _ _ c.in_ok-put_same.ensures.grows c.in_err-first.ensures.grows
+
+pub returns-in_err-last-clause-grows : goal.returns-in_err-last-clause-grows
+returns-in_err-last-clause-grows c =
+    grows_then _ _ _ (grows_then _ _ _ c.in_ok-put_same.ensures.grows c.in_ok-first.ensures.grows) c.in_err-last.ensures.grows
+
+pub returns-in_err-symm-clause-grows : goal.returns-in_err-symm-clause-grows
+returns-in_err-symm-clause-grows c =
+    grows_then _ _ _ (grows_then _ _ _ (grows_then _ _ _ c.in_ok-put_same.ensures.grows c.in_ok-first.ensures.grows)
+    c.in_ok-last.ensures.grows) c.in_err-symm.ensures.grows
+
+pub returns-in_err-trans-clause-grows : goal.returns-in_err-trans-clause-grows
+returns-in_err-trans-clause-grows c =
+    grows_then _ _ _ (grows_then _ _ _ (grows_then _ _ _ (grows_then _ _ _ c.in_ok-put_same.ensures.grows
+    c.in_ok-first.ensures.grows) c.in_ok-last.ensures.grows) c.in_ok-symm.ensures.grows) c.in_err-trans.ensures.grows
+
+pub returns-in_err-trans-2-clause-grows : goal.returns-in_err-trans-2-clause-grows
+returns-in_err-trans-2-clause-grows c =
+    grows_then _ _ _ (grows_then _ _ _ (grows_then _ _ _ (grows_then _ _ _ (grows_then _ _ _ c.in_ok-put_same.ensures.grows
+    c.in_ok-first.ensures.grows) c.in_ok-last.ensures.grows) c.in_ok-symm.ensures.grows) c.in_ok-trans.ensures.grows)
+    c.in_err-trans-2.ensures.grows

@@ -53,3 +53,10 @@ returns-clause-grows c =
 
 pub returns-clause-derives : goal.returns-clause-derives
 returns-clause-derives c b d = c.in_ok-turn.ensures.derives b (c.in_ok-join.ensures.derives b (c.in_ok-join_at.ensures.derives b d))
+
+pub returns-in_err-join-clause-grows : goal.returns-in_err-join-clause-grows
+returns-in_err-join-clause-grows c = grows_then _ _ _ c.in_ok-join_at.ensures.grows c.in_err-join.ensures.grows
+
+pub returns-in_err-turn-clause-grows : goal.returns-in_err-turn-clause-grows
+returns-in_err-turn-clause-grows c =
+    grows_then _ _ _ (grows_then _ _ _ c.in_ok-join_at.ensures.grows c.in_ok-join.ensures.grows) c.in_err-turn.ensures.grows

@@ -14,3 +14,6 @@ returns-clause-both c = both_as c.args.ground.now c.join.new.sheet _ _ c.args.u.
 
 pub returns-clause-grows : goal.returns-clause-grows
 returns-clause-grows c = grows_then c.args.sheet.now c.turn.new.sheet c.join.new.sheet c.in_ok-turn.ensures.grows c.in_ok-join.ensures.grows
+
+pub returns-in_err-join-clause-grows : goal.returns-in_err-join-clause-grows
+returns-in_err-join-clause-grows c = grows_then _ _ _ c.in_ok-turn.ensures.grows c.in_err-join.ensures.grows

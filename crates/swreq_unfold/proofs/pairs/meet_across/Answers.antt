@@ -74,3 +74,10 @@ returns-clause-grows c =
 pub returns-clause-derives : goal.returns-clause-derives
 returns-clause-derives c b f d = c.in_ok-join_at.ensures.derives b
     (c.in_ok-replace.ensures.derives b f (c.in_ok-put_side.ensures.derives b f d))
+
+pub returns-in_err-replace-clause-grows : goal.returns-in_err-replace-clause-grows
+returns-in_err-replace-clause-grows c = grows_then _ _ _ c.in_ok-put_side.ensures.grows c.in_err-replace.ensures.grows
+
+pub returns-in_err-join_at-clause-grows : goal.returns-in_err-join_at-clause-grows
+returns-in_err-join_at-clause-grows c =
+    grows_then _ _ _ (grows_then _ _ _ c.in_ok-put_side.ensures.grows c.in_ok-replace.ensures.grows) c.in_err-join_at.ensures.grows

@@ -42,3 +42,6 @@ returns-clause-both c =
 pub returns-clause-grows : goal.returns-clause-grows
 returns-clause-grows c =
     grows_then c.args.sheet.now c.replace.new.sheet c.join_at.new.sheet c.in_ok-replace.ensures.grows c.in_ok-join_at.ensures.grows
+
+pub returns-in_err-join_at-clause-grows : goal.returns-in_err-join_at-clause-grows
+returns-in_err-join_at-clause-grows c = grows_then _ _ _ c.in_ok-replace.ensures.grows c.in_err-join_at.ensures.grows

@@ -845,3 +845,98 @@ declare-returns-in_ok-walk_along-in-None t c =
       grows = grows_then s s1 s2 grows walked.grows;
       derives = λ b f d. walked.derives b f (c.in_ok-last.ensures.derives b d);
     }
+
+pub walk_along-returns-in_err-v-clause-grows : goal.walk_along-returns-in_err-v-clause-grows
+walk_along-returns-in_err-v-clause-grows t c = grows_then _ _ _ c.loop-k.invariant.grows c.in_err-v.ensures.grows
+
+pub walk_along-returns-in_err-unfold-clause-grows : goal.walk_along-returns-in_err-unfold-clause-grows
+walk_along-returns-in_err-unfold-clause-grows t c =
+    grows_then _ _ _ (grows_then _ _ _ c.loop-k.invariant.grows c.in_ok-v.ensures.grows) c.in_err-unfold.ensures.grows
+
+pub walk_along-returns-in_err-take_step-clause-grows : goal.walk_along-returns-in_err-take_step-clause-grows
+walk_along-returns-in_err-take_step-clause-grows t c =
+    grows_then _ _ _ (grows_then _ _ _ (grows_then _ _ _ c.loop-k.invariant.grows c.in_ok-v.ensures.grows)
+    c.in_ok-unfold.ensures.grows) c.in_err-take_step.ensures.grows
+
+pub walk_along-returns-in_err-next-clause-grows : goal.walk_along-returns-in_err-next-clause-grows
+walk_along-returns-in_err-next-clause-grows t c =
+    grows_then _ _ _ (grows_then _ _ _ (grows_then _ _ _ c.loop-k.invariant.grows c.in_ok-v.ensures.grows)
+    c.in_ok-unfold.ensures.grows) c.in_ok-take_step.ensures.grows
+
+pub walk_along-returns-in_err-join-clause-grows : goal.walk_along-returns-in_err-join-clause-grows
+walk_along-returns-in_err-join-clause-grows t c =
+    grows_then _ _ _ (grows_then _ _ _ (grows_then _ _ _ (grows_then _ _ _ c.loop-k.invariant.grows c.in_ok-v.ensures.grows)
+    c.in_ok-unfold.ensures.grows) c.in_ok-take_step.ensures.grows) c.in_err-join.ensures.grows
+
+pub settle-returns-in_err-last-clause-grows : goal.settle-returns-in_err-last-clause-grows
+settle-returns-in_err-last-clause-grows t c = grows_then _ _ _ c.in_ok-first.ensures.grows c.in_err-last.ensures.grows
+
+pub settle-returns-in_err-close-clause-grows : goal.settle-returns-in_err-close-clause-grows
+settle-returns-in_err-close-clause-grows t c =
+    grows_then _ _ _ (grows_then _ _ _ c.in_ok-first.ensures.grows c.in_ok-last.ensures.grows) c.in_err-close.ensures.grows
+
+pub unfold-returns-in_err-from_equation-in-Given-clause-grows : goal.unfold-returns-in_err-from_equation-in-Given-clause-grows
+unfold-returns-in_err-from_equation-in-Given-clause-grows t c =
+    grows_then _ _ _ c.in_ok-said.ensures.grows c.in_err-from_equation-in-Given.ensures.grows
+
+pub unfold-returns-in_err-from_pair-in-Pair-clause-grows : goal.unfold-returns-in_err-from_pair-in-Pair-clause-grows
+unfold-returns-in_err-from_pair-in-Pair-clause-grows t c =
+    grows_then _ _ _ c.in_ok-said.ensures.grows c.in_err-from_pair-in-Pair.ensures.grows
+
+pub from_equation-returns-in_err-settle-clause-grows : goal.from_equation-returns-in_err-settle-clause-grows
+from_equation-returns-in_err-settle-clause-grows t c = grows_then _ _ _ c.in_ok-give.ensures.grows c.in_err-settle.ensures.grows
+
+pub from_pair-returns-in_err-v-clause-grows : goal.from_pair-returns-in_err-v-clause-grows
+from_pair-returns-in_err-v-clause-grows t c = grows_then _ _ _ c.in_ok-unfold.ensures.grows c.in_err-v.ensures.grows
+
+pub from_pair-returns-in_err-unfold-2-clause-grows : goal.from_pair-returns-in_err-unfold-2-clause-grows
+from_pair-returns-in_err-unfold-2-clause-grows t c =
+    grows_then _ _ _ (grows_then _ _ _ c.in_ok-unfold.ensures.grows c.in_ok-v.ensures.grows) c.in_err-unfold-2.ensures.grows
+
+pub from_pair-returns-in_err-meet-clause-grows : goal.from_pair-returns-in_err-meet-clause-grows
+from_pair-returns-in_err-meet-clause-grows t c =
+    grows_then _ _ _ (grows_then _ _ _ (grows_then _ _ _ c.in_ok-unfold.ensures.grows c.in_ok-v.ensures.grows)
+    c.in_ok-unfold-2.ensures.grows) c.in_err-meet.ensures.grows
+
+pub from_pair-returns-in_err-left-clause-grows : goal.from_pair-returns-in_err-left-clause-grows
+from_pair-returns-in_err-left-clause-grows t c =
+    grows_then _ _ _ (grows_then _ _ _ (grows_then _ _ _ c.in_ok-unfold.ensures.grows c.in_ok-v.ensures.grows)
+    c.in_ok-unfold-2.ensures.grows) c.in_ok-meet.ensures.grows
+
+pub from_pair-returns-in_err-settle-clause-grows : goal.from_pair-returns-in_err-settle-clause-grows
+from_pair-returns-in_err-settle-clause-grows t c =
+    grows_then _ _ _ (grows_then _ _ _ (grows_then _ _ _ (grows_then _ _ _ c.in_ok-unfold.ensures.grows c.in_ok-v.ensures.grows)
+    c.in_ok-unfold-2.ensures.grows) c.in_ok-meet.ensures.grows) c.in_err-settle.ensures.grows
+
+pub give_required-returns-in_err-give_conf-in-Conf-clause-grows : goal.give_required-returns-in_err-give_conf-in-Conf-clause-grows
+give_required-returns-in_err-give_conf-in-Conf-clause-grows t c =
+    grows_then _ _ _ c.in_ok-u-in-Conf.ensures.grows c.in_err-give_conf-in-Conf.ensures.grows
+
+pub give_required-returns-in_err-give_layout-in-Layout-clause-grows : goal.give_required-returns-in_err-give_layout-in-Layout-clause-grows
+give_required-returns-in_err-give_layout-in-Layout-clause-grows t c =
+    grows_then _ _ _ c.in_ok-u-in-Layout.ensures.grows c.in_err-give_layout-in-Layout.ensures.grows
+
+pub give_required-returns-in_err-v-in-Same-clause-grows : goal.give_required-returns-in_err-v-in-Same-clause-grows
+give_required-returns-in_err-v-in-Same-clause-grows t c =
+    grows_then _ _ _ c.in_ok-u-in-Same.ensures.grows c.in_err-v-in-Same.ensures.grows
+
+pub give_required-returns-in_err-give_same-in-Same-clause-grows : goal.give_required-returns-in_err-give_same-in-Same-clause-grows
+give_required-returns-in_err-give_same-in-Same-clause-grows t c =
+    grows_then _ _ _ (grows_then _ _ _ c.in_ok-u-in-Same.ensures.grows c.in_ok-v-in-Same.ensures.grows)
+    c.in_err-give_same-in-Same.ensures.grows
+
+pub read_type-returns-in_err-named-clause-grows : goal.read_type-returns-in_err-named-clause-grows
+read_type-returns-in_err-named-clause-grows t c = grows_then _ _ _ c.loop-k.invariant.grows c.in_err-named.ensures.grows
+
+pub read_type-returns-in_err-last-clause-grows : goal.read_type-returns-in_err-last-clause-grows
+read_type-returns-in_err-last-clause-grows t c =
+    grows_then _ _ _ (grows_then _ _ _ c.loop-k.invariant.grows c.in_ok-named.ensures.grows) c.in_err-last.ensures.grows
+
+pub read_type-returns-in_err-at-2-clause-grows : goal.read_type-returns-in_err-at-2-clause-grows
+read_type-returns-in_err-at-2-clause-grows t c =
+    grows_then _ _ _ (grows_then _ _ _ (grows_then _ _ _ c.loop-k.invariant.grows c.in_ok-named.ensures.grows)
+    c.in_ok-last.ensures.grows) c.in_err-at-2.ensures.grows
+
+pub declare-returns-in_err-walk_along-in-None-clause-grows : goal.declare-returns-in_err-walk_along-in-None-clause-grows
+declare-returns-in_err-walk_along-in-None-clause-grows t c =
+    grows_then _ _ _ c.in_ok-last.ensures.grows c.in_err-walk_along-in-None.ensures.grows
