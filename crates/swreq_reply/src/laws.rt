@@ -1,14 +1,22 @@
 //! What holds of the verdicts on inputs.
-ghost use Rattle.std.specs.Prelude.{◌≡◌, ◌≢◌, ◌≤◌, List, length};
+ghost use Rattle.std.specs.Prelude.{◌≡◌, ◌≢◌, ◌≤◌, Contains, List, length};
 ghost use Rattle.swreq_watch.specs.declared.events.Event.{Event};
 ghost use Rattle.swreq_print.specs.Names.{Text};
+ghost use Rattle.swreq_lowering.specs.Queries.{TermQuery};
+ghost use Rattle.swreq_world.specs.Worlds.{TextWorld};
+ghost use Rattle.swreq_output.specs.Ended.{IsWorldOfText};
+ghost use Rattle.swreq_verify.specs.declared.judging.Judgement.TheVariants.{Derived};
+ghost use Rattle.swreq_verify.specs.Judgements.{IsJudged};
+ghost use Rattle.swreq_verify.specs.SecondParts.{TermSection};
 ghost use Rattle.swreq_words.specs.declared.command.CommandLine.{CommandLine};
 ghost use Rattle.swreq_reply.specs.declared.outcome.Outcome.{Outcome};
 ghost use Rattle.swreq_reply.specs.declared.content.Backing.TheVariants.{Derivation};
 ghost use Rattle.swreq_reply.specs.declared.content.Shown.TheVariants.{Each};
 ghost use Rattle.swreq_reply.specs.declared.content.Content.TheVariants.{Answers};
 ghost use Rattle.swreq_reply.specs.Contents.{content_of};
+ghost use Rattle.swreq_reply.specs.Explained.{IsLaidUnderYes};
 ghost use Rattle.swreq_reply.specs.Inputs.{AreParts, Parts, second_at};
+ghost use Rattle.swreq_reply.specs.Outputs.{IsDerivationText};
 ghost use Rattle.swreq_reply.specs.Verdict.{IsRefused, IsVerdict};
 
 /// An input with this source text, and with its second part from this offset on, that is refused has no other verdict.
@@ -40,4 +48,19 @@ pub fn one_output(input: &[u8], source: &[u8], from: u32)
     swreq_world::laws::signatures_are_found_by_name(source);
     swreq_print::laws::names_tell_ids_apart(source);
     swreq_calls::laws::one_list_of_calls(input, from);
+}
+
+/// What `explain` prints behind a `yes`, `verify` calls `ok` under the same query: behind a line `yes` it is a section, and of each section
+/// that is laid so `ok` is said. A second part has at most 1,048,576 bytes.
+pub fn explained_is_ok(text: &[u8])
+    ensures section { (w : TextWorld) (q : TermQuery) (behind : Text) → IsWorldOfText text.now w → Contains w.queries q
+        → IsDerivationText w q behind → length behind ≤ 1048576 → (s : TermSection) × IsLaidUnderYes w behind s }
+    ensures ok { (w : TextWorld) (q : TermQuery) (behind : Text) (s : TermSection) → IsWorldOfText text.now w → Contains w.queries q
+        → IsDerivationText w q behind → length behind ≤ 1048576 → IsLaidUnderYes w behind s → IsJudged w q s Derived }
+{
+    swreq_lowering::laws::lists_are_short(text);
+    swreq_world::laws::worlds_are_closed(text);
+    swreq_world::laws::worlds_are_short(text);
+    swreq_print::laws::names_tell_ids_apart(text);
+    swreq_lines::laws::names_are_of_one_line(text);
 }
