@@ -1,5 +1,5 @@
 //! Lines for the queries whose answer is yes.
-ghost use Rattle.std.specs.Prelude.{◌≡◌, ◌<◌, Contains, IfOk, OnOk, Some, length};
+ghost use Rattle.std.specs.Prelude.{◌≡◌, ◌<◌, Contains, IfOk, Some, length};
 ghost use Rattle.swreq_param.specs.Tables.{Extends};
 ghost use Rattle.swreq_derive.specs.declared.lines.Line.{Line as LineView};
 ghost use Rattle.swreq_derive.specs.declared.requirements.Requirement.{Requirement as RequirementView};
@@ -62,6 +62,7 @@ fn derive(
         (Requires (requirement_of table.old r)) }
     ensures written { IfOk result (λ v. AreWritten table.old table.new book.now v.items) }
     ensures last { IfOk result (λ v. EndIn v.items (Holds r)) }
+    ensures extends { Extends table.old table.new }
 {
     let (left, right) = equation(alloc, world, table, None, &r)?;
     let by_itself = owned(alloc, table, r)?;
@@ -94,7 +95,7 @@ pub fn explain_by(
     ensures lines { IfOk result (λ v. (f : FuncId) (r : RequirementView) → Asks query.now f r
         → AreLinesOf table.new (facts_at world.now f) v.items) }
     ensures ids { IfOk result (λ v. (l : LineView) → Contains v.items l → HasLineIds world.now.lexicon table.new l) }
-    ensures extends { OnOk result (Extends table.old table.new) }
+    ensures extends { Extends table.old table.new }
 {
     match asked(query) {
         None => unreachable!(),
@@ -108,8 +109,8 @@ pub fn explain_by(
 /// Lines of a derivation of what a query asks of a signature, by the rules without the guard.
 ///
 /// `m` is the machine of the signature, and what is asked is derivable. The checker of derivations accepts the lines over the facts of the
-/// signature, and the last of them states what is asked. Type parameters of the lines come into the table. For want of memory nothing is
-/// said of the table.
+/// signature, and the last of them states what is asked. Type parameters of the lines come into the table, which begins with the old one on
+/// every answer.
 pub fn explain(
     alloc: Global,
     world: &World,
@@ -127,7 +128,7 @@ pub fn explain(
     ensures last { IfOk result (λ v. (r : RequirementView) → Asks query.now f r → EndIn v.items (Holds r)) }
     ensures lines { IfOk result (λ v. AreLinesOf table.new (facts_at world.now f) v.items) }
     ensures ids { IfOk result (λ v. (l : LineView) → Contains v.items l → HasLineIds world.now.lexicon table.new l) }
-    ensures extends { OnOk result (Extends table.old table.new) }
+    ensures extends { Extends table.old table.new }
 {
     let book = book_of(alloc, world, table, protocols, machine, f)?;
     let lines = explain_by(alloc, world, table, &book, query)?;

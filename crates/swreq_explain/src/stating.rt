@@ -30,7 +30,7 @@ pub(crate) fn conform(
     requires side { IsSide desk side }
     requires vanishes { Vanishes desk side (Proto p.rank) longer.now }
     ensures says { OnOk result (Says sheet.new (Requires (Conforms (as_term side.entry.param.now) p))) }
-    ensures grows { OnOk result (Grows sheet.old sheet.new) }
+    ensures grows { Grows sheet.old sheet.new }
     ensures derives { OnOk result ((b : Basis) → FitsBook desk.entry.book.now b → Keeps b sheet.old sheet.new) }
 {
     let ids = read_side(desk, sheet, side)?;
@@ -50,7 +50,7 @@ pub(crate) fn be_object(
     requires side { IsSide desk side }
     requires vanishes { Vanishes desk side Layout longer.now }
     ensures says { OnOk result (Says sheet.new (Requires (IsAnyObject (as_term side.entry.param.now)))) }
-    ensures grows { OnOk result (Grows sheet.old sheet.new) }
+    ensures grows { Grows sheet.old sheet.new }
     ensures derives { OnOk result ((b : Basis) → FitsBook desk.entry.book.now b → Keeps b sheet.old sheet.new) }
 {
     let ids = read_side(desk, sheet, side)?;
@@ -74,7 +74,7 @@ pub(crate) fn equate(
     ensures first { IfOk result (λ r. term_at sheet.new.table r.0 ≡ as_term left.entry.param.now) }
     ensures last { IfOk result (λ r. term_at sheet.new.table r.1 ≡ as_term right.entry.param.now) }
     ensures equal { OnOk result (AreSaidEqual sheet.new (as_term left.entry.param.now) (as_term right.entry.param.now)) }
-    ensures grows { OnOk result (Grows sheet.old sheet.new) }
+    ensures grows { Grows sheet.old sheet.new }
     ensures derives { OnOk result ((b : Basis) → FitsBook desk.entry.book.now b → Keeps b sheet.old sheet.new) }
 {
     let first = read_side(desk, sheet, left)?;
@@ -98,7 +98,7 @@ fn be_equal(
     requires right { IsSide desk right }
     requires alike { ReduceAlike (rules_of desk) right.word.now left.word.now }
     ensures says { OnOk result (Says sheet.new (Requires (Equals (as_term left.entry.param.now) (as_term right.entry.param.now)))) }
-    ensures grows { OnOk result (Grows sheet.old sheet.new) }
+    ensures grows { Grows sheet.old sheet.new }
     ensures derives { OnOk result ((b : Basis) → FitsBook desk.entry.book.now b → Keeps b sheet.old sheet.new) }
 {
     let (t, u) = equate(desk, sheet, left, right)?;
@@ -120,7 +120,7 @@ pub(crate) fn state(
     requires sides { HasShownSides (ground_at desk) None (rules_of desk) r.now left.now right.now }
     requires alike { ReduceAlike (rules_of desk) right.now left.now }
     ensures says { OnOk result (Says sheet.new (Requires (requirement_by r.now))) }
-    ensures grows { OnOk result (Grows sheet.old sheet.new) }
+    ensures grows { Grows sheet.old sheet.new }
     ensures derives { OnOk result ((b : Basis) → FitsBook desk.entry.book.now b → Keeps b sheet.old sheet.new) }
 {
     match r {

@@ -51,7 +51,7 @@ fn validate_member(
     ensures is_of { IfOk result (IsOf sheet.new.table) }
     ensures stands { IfOk result (λ v. term_at sheet.new.table v ≡ Member (term_at sheet.old.table base.itself) step) }
     ensures says { OnOk result (Says sheet.new (IsValid (Member (term_at sheet.old.table base.itself) step))) }
-    ensures grows { OnOk result (Grows sheet.old sheet.new) }
+    ensures grows { Grows sheet.old sheet.new }
     ensures derives { OnOk result ((b : Basis) → FitsBook desk.entry.book.now b → Keeps b sheet.old sheet.new) }
 {
     let v = member(sheet, base.itself, step)?;
@@ -71,7 +71,7 @@ fn validate(desk: Desk<'_>, sheet: &mut Sheet, side: Side<'_>) -> Result<TermId,
     ensures is_of { IfOk result (IsOf sheet.new.table) }
     ensures stands { IfOk result (λ v. term_at sheet.new.table v ≡ as_term side.entry.param.now) }
     ensures says { OnOk result (Says sheet.new (IsValid (as_term side.entry.param.now))) }
-    ensures grows { OnOk result (Grows sheet.old sheet.new) }
+    ensures grows { Grows sheet.old sheet.new }
     ensures derives { OnOk result ((b : Basis) → FitsBook desk.entry.book.now b → Keeps b sheet.old sheet.new) }
 {
     match split(desk.alloc, side.param)? {
@@ -104,7 +104,7 @@ pub(crate) fn reflect(desk: Desk<'_>, sheet: &mut Sheet, side: Side<'_>) -> Resu
     requires ready { IsReady desk sheet.old }
     requires side { IsSide desk side }
     ensures says { OnOk result (Says sheet.new (Requires (Equals (as_term side.entry.param.now) (as_term side.entry.param.now)))) }
-    ensures grows { OnOk result (Grows sheet.old sheet.new) }
+    ensures grows { Grows sheet.old sheet.new }
     ensures derives { OnOk result ((b : Basis) → FitsBook desk.entry.book.now b → Keeps b sheet.old sheet.new) }
 {
     let t = validate(desk, sheet, side)?;

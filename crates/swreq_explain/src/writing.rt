@@ -1,5 +1,6 @@
 //! The lines that state a requirement.
 ghost use Rattle.std.specs.Prelude.{◌≡◌, ◌<◌, ◌-◌, IfOk, None, OnOk, length};
+ghost use Rattle.swreq_param.specs.Tables.{Extends};
 ghost use Rattle.swreq_derive.specs.declared.requirements.Statement.TheVariants.{Holds};
 ghost use Rattle.swreq_derive.specs.Derivation.TermStatement.{Requires};
 ghost use Rattle.swreq_derive.specs.Facts.{IdFacts, requirement_of};
@@ -35,7 +36,7 @@ fn write(
     requires sides { HasShownSides book.now.ground None (rules_at book.now (length book.now.systems - 1)) r.now left.now right.now }
     requires alike { ReduceAlike (rules_at book.now (length book.now.systems - 1)) right.now left.now }
     ensures says { OnOk result (Says sheet.new (Requires (requirement_by r.now))) }
-    ensures grows { OnOk result (Grows sheet.old sheet.new) }
+    ensures grows { Grows sheet.old sheet.new }
     ensures derives { OnOk result ((b : Basis) → FitsBook book.now b → Keeps b sheet.old sheet.new) }
 {
     let system = book.systems.items().len() - 1;
@@ -91,7 +92,7 @@ fn lines_on(
         → AreDerived sheet.new.table m v.items) }
     ensures last { IfOk result (λ v. EndIn v.items (Holds r)) }
     ensures some { IfOk result (λ v. AreSomeOf v.items sheet.new.lines.items) }
-    ensures grows { OnOk result (Grows sheet.old sheet.new) }
+    ensures grows { Grows sheet.old sheet.new }
     ensures derives { OnOk result ((b : Basis) → FitsBook book.now b → Keeps b sheet.old sheet.new) }
 {
     write(alloc, book, sheet, by_itself, sides.0, sides.1)?;
@@ -116,6 +117,7 @@ pub(crate) fn lines_over(
     requires alike { ReduceAlike (rules_at book.now (length book.now.systems - 1)) sides.1.now sides.0.now }
     ensures written { IfOk result (λ v. AreWritten table.old table.new book.now v.items) }
     ensures last { IfOk result (λ v. EndIn v.items (Holds r)) }
+    ensures extends { Extends table.old table.new }
 {
     let taken = mem::replace(table, ParamTable::new(alloc));
     let mut sheet = Sheet::new(alloc, taken);

@@ -17,7 +17,7 @@ use Rattle.swreq_lines.proofs.Cuts.{is_one_line}
 use Rattle.swreq_lines.proofs.OneLine.{one_line}
 
 -- There are no more lines than bytes.
-as_long : (x : LexiconView) (n : ℕ) (ls : List TermLine) → length ls ≤ length (lines_from x n ls)
+pub as_long : (x : LexiconView) (n : ℕ) (ls : List TermLine) → length ls ≤ length (lines_from x n ls)
 as_long x n [] = omega arith
 as_long x n (l ∷ ls) =
     let more = as_long x (suc n) ls in
@@ -26,7 +26,7 @@ as_long x n (l ∷ ls) =
 
 module _ (x : LexiconView) (tells : TellsApart x) (names : AreNamesOfOneLine x) where
   -- The lines of what is written are the texts of the lines.
-  lines_are : (n : ℕ) (ls : List TermLine) → AllByRecursion (IsReadableLine x) ls → n + length ls ≤ 2 ^ 32 → lines (lines_from x n ls) ≡ texts_from x n ls
+  pub lines_are : (n : ℕ) (ls : List TermLine) → AllByRecursion (IsReadableLine x) ls → n + length ls ≤ 2 ^ 32 → lines (lines_from x n ls) ≡ texts_from x n ls
   lines_are n [] h small = refl
   lines_are n (l ∷ ls) h small =
       lines-line (line_text x n l) (lines_from x (suc n) ls)

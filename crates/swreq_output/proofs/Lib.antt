@@ -2,7 +2,7 @@ mod Agreeing
 mod Ended
 mod Lines
 mod Minimising
-mod OfText
+pub mod OfText
 pub mod PrintingAlike
 pub mod PrintingOnce
 mod Reading

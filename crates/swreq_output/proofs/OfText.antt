@@ -31,7 +31,7 @@ use Rattle.swreq_print.specs.Reading.{HasNumbers, IsAssociated, IsReadableRequir
 -- ---- type parameters
 
 module _ (x : LexiconView) where
-  for_self_of : (t u : Term) → IsReadableType x t → IsTermOf x u → IsReadableType x (for_self t u)
+  pub for_self_of : (t u : Term) → IsReadableType x t → IsTermOf x u → IsReadableType x (for_self t u)
   for_self_of t (Generic g) h k = h
   for_self_of t (Member u s) h k = let i = for_self_of t u h k.0 in (i.0, (i.1, k.1))
 
@@ -52,7 +52,7 @@ module _ (w : TextWorld) (is : IsClosed w) where
   x = w.lexicon
 
   -- a requirement of a protocol
-  of_protocol : (p : ProtoId) (r : TermRequirement) → Contains ((facts_of w).of_protocol p) r → IsRequirementOf x r
+  pub of_protocol : (p : ProtoId) (r : TermRequirement) → Contains ((facts_of w).of_protocol p) r → IsRequirementOf x r
   of_protocol p r c = elim (cases_lt p.rank (length w.requirements)) [
     | inl l ↦ among (requirements_of w p) (All-get_or (λ z. All (IsOfProtocol x) z) w.requirements p.rank [] l is.requirements) c
     | inr l ↦ no_member r (subst (λ z. Contains (map (λ (q : PlacedRequirement). q.requirement) z) r) (get_or_past w.requirements p.rank [] l) c)
@@ -67,7 +67,7 @@ module _ (w : TextWorld) (is : IsClosed w) where
   declared_name : (p : ProtoId) (a : NameId) (d : AssocId) → Declares (facts_of w) p a d → IsName x a
   declared_name p a d c = (of_text x p a d is.ids c).1
 
-  declared_assoc : (p : ProtoId) (a : NameId) (d : AssocId) → Declares (facts_of w) p a d → IsAssociated x d
+  pub declared_assoc : (p : ProtoId) (a : NameId) (d : AssocId) → Declares (facts_of w) p a d → IsAssociated x d
   declared_assoc p a d c = slice_get_within x.associated d.rank (pair p a) (at_rank x p a d c)
 
   -- The statement speaks of the text.

@@ -76,10 +76,10 @@ same_params p q e =
     λ i. record { outer = outer i; inner = inner i }
 
 -- They are so few that their numbers have 32 bits.
-abbrev AreFew : Params → Type 0
+abbrev pub AreFew : Params → Type 0
 AreFew p = (p.outer ≤ 1048576) × (p.inner ≤ 1048576)
 
-numbers : (p : Params) → AreFew p → (g : ParamId) → Contains (generic_params p) g → HasNumbers g
+pub numbers : (p : Params) → AreFew p → (g : ParamId) → Contains (generic_params p) g → HasNumbers g
 numbers p (a, b) g h = elim ((two_depths p g).0 h) [
   | inl (d, k) ↦ (omega (arith, d), omega (arith, k, a))
   | inr (d, k) ↦ (omega (arith, d), omega (arith, k, b))
@@ -93,7 +93,7 @@ module _ (text : List ℕ) (s : Skeleton) (w : TextWorld) (world : IsWorldOf tex
   few_of : (k : Signature) → AreFew (params_of s k)
   few_of k = few_counts (outer_param_decls s k) (own_param_decls s k) (short.outer k) (short.own k)
 
-  few_params : (g : SignatureOver PlacedRequirement) → Contains w.signatures g → AreFew g.params
+  pub few_params : (g : SignatureOver PlacedRequirement) → Contains w.signatures g → AreFew g.params
   few_params g c =
       let order : List Signature = in_order s in
       let all : All (λ (k : Signature). AreFew (params_of s k)) order = λ n d l. few_of (get_or order n d) in
@@ -108,7 +108,7 @@ module _ (text : List ℕ) (s : Skeleton) (w : TextWorld) (world : IsWorldOf tex
       of_signature : All (IsOfSignature w.lexicon g.params) g.requirements
       of_signature = All-contains (HasOwn w.lexicon) w.signatures g is.signatures c
 
-      own : (r : TermRequirement) → Contains (written_list g) r → IsReadableRequirement w.lexicon r
+      pub own : (r : TermRequirement) → Contains (written_list g) r → IsReadableRequirement w.lexicon r
       own r h =
           All-contains (IsReadableRequirement w.lexicon) (written_list g) r
           (All-map (IsReadableRequirement w.lexicon) (λ (q : PlacedRequirement). q.requirement) g.requirements

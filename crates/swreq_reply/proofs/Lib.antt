@@ -1,4 +1,5 @@
 pub mod Checked
+pub mod Explained
 pub mod Flags
 pub mod Lines
 pub mod Misfits

@@ -208,15 +208,22 @@ module _ {r : Request} (request : IsRequest r) where
       part_of : ChecksMachines (line_of r).command → (cause : Failed) (more : List Event)
           → MinimisingEndsIn (limits_in r) w (printed_of r) rules cause more → After more (TellsPart (line_of r) (parts_of r).input)
       part_of checks cause more part first built =
-          inr (checks, (w, has, inr (inl (record {
-            rules = rules;
-            first = first;
-            more = more;
-            built = built;
-            failed = cause;
-            part = part;
-            told_is = refl;
-          }))))
+          inr (
+            checks,
+            (
+              w,
+              has,
+              inr (inl (record {
+                rules = rules;
+                first = first;
+                more = more;
+                built = built;
+                failed = cause;
+                part = part;
+                told_is = refl;
+              })),
+            ),
+          )
 
       -- nothing is told behind the check
       pub finishes_alone : ChecksMachines (line_of r).command → (old : Option (List Event)) {P : Outcome → Type 0} (result : Result Outcome AllocError)
@@ -287,14 +294,24 @@ module _ {r : Request} (request : IsRequest r) where
 
         families_part : (more : List Event) → ComesSoFar (limits_in r) w more → After more (TellsPart (line_of r) (parts_of r).input)
         families_part more part first built =
-            inr (families_check, (w, has, inr (inr (asked, record {
-              rules = rules;
-              first = first;
-              more = more;
-              built = built;
-              part = part;
-              told_is = refl;
-            }))))
+            inr (
+              families_check,
+              (
+                w,
+                has,
+                inr (inr (
+                  asked,
+                  record {
+                    rules = rules;
+                    first = first;
+                    more = more;
+                    built = built;
+                    part = part;
+                    told_is = refl;
+                  },
+                )),
+              ),
+            )
 
         pub families_given : (old new : Option (List Event)) (family : Family) (result : Result Outcome AllocError)
             → AnswersFamily (limits_in r) w old new (Ok family) → IsGivenFamily w family.kept

@@ -1,6 +1,7 @@
 pub mod CallLines
 pub mod Checks
 pub mod Contents
+pub mod Explained
 pub mod Inputs
 pub mod Lines
 pub mod Listing

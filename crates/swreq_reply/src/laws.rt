@@ -1,7 +1,13 @@
 //! What holds of the verdicts on inputs.
-ghost use Rattle.std.specs.Prelude.{◌≡◌, ◌≢◌, ◌≤◌, List, [], length};
+ghost use Rattle.std.specs.Prelude.{◌≡◌, ◌≢◌, ◌≤◌, [], Contains, List, length};
 ghost use Rattle.swreq_watch.specs.declared.events.Event.{Event};
 ghost use Rattle.swreq_print.specs.Names.{Text};
+ghost use Rattle.swreq_lowering.specs.Queries.{TermQuery};
+ghost use Rattle.swreq_world.specs.Worlds.{TextWorld};
+ghost use Rattle.swreq_output.specs.Ended.{IsWorldOfText};
+ghost use Rattle.swreq_verify.specs.declared.judging.Judgement.TheVariants.{Derived};
+ghost use Rattle.swreq_verify.specs.Judgements.{IsJudged};
+ghost use Rattle.swreq_verify.specs.SecondParts.{TermSection};
 ghost use Rattle.swreq_words.specs.declared.command.Command.TheVariants.{Verify};
 ghost use Rattle.swreq_words.specs.declared.command.CommandLine.{CommandLine};
 ghost use Rattle.swreq_reply.specs.declared.outcome.Outcome.{Outcome};
@@ -9,7 +15,9 @@ ghost use Rattle.swreq_reply.specs.declared.content.Backing.TheVariants.{Derivat
 ghost use Rattle.swreq_reply.specs.declared.content.Shown.TheVariants.{Each};
 ghost use Rattle.swreq_reply.specs.declared.content.Content.TheVariants.{Answers};
 ghost use Rattle.swreq_reply.specs.Contents.{content_of};
+ghost use Rattle.swreq_reply.specs.Explained.{IsLaidUnderYes};
 ghost use Rattle.swreq_reply.specs.Inputs.{AreParts, Parts, second_at};
+ghost use Rattle.swreq_reply.specs.Outputs.{IsDerivationText};
 ghost use Rattle.swreq_reply.specs.Replies.{TellsPart};
 ghost use Rattle.swreq_reply.specs.Verdict.{IsRefused, IsVerdict};
 
@@ -50,3 +58,18 @@ pub fn verify_tells_nothing()
         → IsVerdict line input o told → told ≡ [] }
     ensures part { (line : CommandLine) (input : Text) (told : List Event) → line.command ≡ Verify → TellsPart line input told → told ≡ [] }
 {}
+
+/// What `explain` prints after a `yes`, `verify` calls `ok` under the same query: behind a line `yes` it is a section, and of each section
+/// that is laid so `ok` is said. A second part has at most 1,048,576 bytes.
+pub fn explained_is_ok(text: &[u8])
+    ensures section { (w : TextWorld) (q : TermQuery) (behind : Text) → IsWorldOfText text.now w → Contains w.queries q
+        → IsDerivationText w q behind → length behind ≤ 1048576 → (s : TermSection) × IsLaidUnderYes w behind s }
+    ensures ok { (w : TextWorld) (q : TermQuery) (behind : Text) (s : TermSection) → IsWorldOfText text.now w → Contains w.queries q
+        → IsDerivationText w q behind → length behind ≤ 1048576 → IsLaidUnderYes w behind s → IsJudged w q s Derived }
+{
+    swreq_lowering::laws::lists_are_short(text);
+    swreq_world::laws::worlds_are_closed(text);
+    swreq_world::laws::worlds_are_short(text);
+    swreq_print::laws::names_tell_ids_apart(text);
+    swreq_lines::laws::names_are_of_one_line(text);
+}

@@ -26,7 +26,7 @@ use Rattle.swreq_verify.proofs.Sectioned.{Each, Readable, flat, flat_headed, tex
 -- ---- sections
 
 module _ (x : LexiconView) (names : TellsApart x) where
-  derivation_one : (n : ℕ) (ls ks : List TermLine) (t u : List Text) → Readable x ls → Readable x ks
+  pub derivation_one : (n : ℕ) (ls ks : List TermLine) (t u : List Text) → Readable x ls → Readable x ks
       → AreHeaded t → AreHeaded u → texts_from x n ls ++ t ≡ texts_from x n ks ++ u → (ls ≡ ks) × (t ≡ u)
   derivation_one n [] [] t u h j ht hu e = (refl, e)
   derivation_one n [] (k ∷ ks) t u h j ht hu e = absurd ((texts_under x n (k ∷ ks)).0 (subst AreHeaded e ht))

@@ -27,3 +27,6 @@ returns-clause-read c =
 pub returns-clause-grows : goal.returns-clause-grows
 returns-clause-grows c =
     grows_then c.args.sheet.now c.read_type.new.sheet c.read.new.sheet c.in_ok-itself.ensures.grows c.in_ok-word.ensures.grows
+
+pub returns-in_err-word-clause-grows : goal.returns-in_err-word-clause-grows
+returns-in_err-word-clause-grows c = grows_then _ _ _ c.in_ok-itself.ensures.grows c.in_err-word.ensures.grows

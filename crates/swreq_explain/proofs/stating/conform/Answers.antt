@@ -53,3 +53,10 @@ returns-clause-grows c =
 pub returns-clause-derives : goal.returns-clause-derives
 returns-clause-derives c b f k =
     c.in_ok-same_conf.ensures.derives b (c.in_ok-link.ensures.derives b f (c.in_ok-ids.ensures.derives b f k))
+
+pub returns-in_err-link-clause-grows : goal.returns-in_err-link-clause-grows
+returns-in_err-link-clause-grows c = grows_then _ _ _ c.in_ok-ids.ensures.grows c.in_err-link.ensures.grows
+
+pub returns-in_err-same_conf-clause-grows : goal.returns-in_err-same_conf-clause-grows
+returns-in_err-same_conf-clause-grows c =
+    grows_then _ _ _ (grows_then _ _ _ c.in_ok-ids.ensures.grows c.in_ok-link.ensures.grows) c.in_err-same_conf.ensures.grows

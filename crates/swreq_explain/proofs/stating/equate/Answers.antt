@@ -106,3 +106,26 @@ returns c =
       derives = λ b f k. c.in_ok-trans-2.ensures.derives b (c.in_ok-symm.ensures.derives b (c.in_ok-trans.ensures.derives b
           (c.in_ok-link.ensures.derives b f (c.in_ok-last.ensures.derives b f (c.in_ok-first.ensures.derives b f k)))));
     }
+
+pub returns-in_err-last-clause-grows : goal.returns-in_err-last-clause-grows
+returns-in_err-last-clause-grows c = grows_then _ _ _ c.in_ok-first.ensures.grows c.in_err-last.ensures.grows
+
+pub returns-in_err-link-clause-grows : goal.returns-in_err-link-clause-grows
+returns-in_err-link-clause-grows c =
+    grows_then _ _ _ (grows_then _ _ _ c.in_ok-first.ensures.grows c.in_ok-last.ensures.grows) c.in_err-link.ensures.grows
+
+pub returns-in_err-trans-clause-grows : goal.returns-in_err-trans-clause-grows
+returns-in_err-trans-clause-grows c =
+    grows_then _ _ _ (grows_then _ _ _ (grows_then _ _ _ c.in_ok-first.ensures.grows c.in_ok-last.ensures.grows)
+    c.in_ok-link.ensures.grows) c.in_err-trans.ensures.grows
+
+pub returns-in_err-symm-clause-grows : goal.returns-in_err-symm-clause-grows
+returns-in_err-symm-clause-grows c =
+    grows_then _ _ _ (grows_then _ _ _ (grows_then _ _ _ (grows_then _ _ _ c.in_ok-first.ensures.grows c.in_ok-last.ensures.grows)
+    c.in_ok-link.ensures.grows) c.in_ok-trans.ensures.grows) c.in_err-symm.ensures.grows
+
+pub returns-in_err-trans-2-clause-grows : goal.returns-in_err-trans-2-clause-grows
+returns-in_err-trans-2-clause-grows c =
+    grows_then _ _ _ (grows_then _ _ _ (grows_then _ _ _ (grows_then _ _ _ (grows_then _ _ _ c.in_ok-first.ensures.grows
+    c.in_ok-last.ensures.grows) c.in_ok-link.ensures.grows) c.in_ok-trans.ensures.grows) c.in_ok-symm.ensures.grows)
+    c.in_err-trans-2.ensures.grows

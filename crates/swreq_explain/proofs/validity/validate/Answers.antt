@@ -92,3 +92,14 @@ returns-in_ok-v-in-Some c =
       grows = grows_then s0 s2 s3 (grows_then s0 s1 s2 g1 g2) g3;
       derives = λ b f k. c.in_ok-v-in-Some.ensures.derives b f (c.in_ok-named-in-Some.ensures.derives b f (c.in_ok-ids-in-Some.ensures.derives b f k));
     }
+
+pub returns-in_err-generic-in-None-clause-grows : goal.returns-in_err-generic-in-None-clause-grows
+returns-in_err-generic-in-None-clause-grows c = grows_then _ _ _ c.in_ok-t-in-None.ensures.grows c.in_err-generic-in-None.ensures.grows
+
+pub returns-in_err-named-in-Some-clause-grows : goal.returns-in_err-named-in-Some-clause-grows
+returns-in_err-named-in-Some-clause-grows c = grows_then _ _ _ c.in_ok-ids-in-Some.ensures.grows c.in_err-named-in-Some.ensures.grows
+
+pub returns-in_err-v-in-Some-clause-grows : goal.returns-in_err-v-in-Some-clause-grows
+returns-in_err-v-in-Some-clause-grows c =
+    grows_then _ _ _ (grows_then _ _ _ c.in_ok-ids-in-Some.ensures.grows c.in_ok-named-in-Some.ensures.grows)
+    c.in_err-v-in-Some.ensures.grows

@@ -8,6 +8,7 @@ use Rattle.swreq_param.specs.Terms.{Term}
 use Rattle.swreq_param.specs.Terms.Term.{Member}
 use Rattle.swreq_read.specs.Readable.{IsOfStep}
 use Rattle.swreq_read.proofs.ReadLemmas.{term_still}
+use Rattle.swreq_sheet.proofs.SheetLemmas.{grows_then}
 use Rattle.swreq_explain.proofs.validity.validate_member.Goals as goal
 
 pub returns-in_ok-assoc_name-in-Name-clause-derives : goal.returns-in_ok-assoc_name-in-Name-clause-derives
@@ -38,3 +39,16 @@ returns-in_ok-assoc_decl-in-Bound-clause-derives c b f k =
     c.in_ok-assoc_decl-in-Bound.ensures.derives b assoc (f.ground.associated w.0 c.args.named w.1.0)
     (stands ∙ ap (Member (term_at s0.table c.args.base.itself)) step ∙ ap (λ z. Member z (Bound assoc)) (sym base))
     (c.in_ok-same_conf.ensures.derives b (c.in_ok-v.ensures.derives b k))
+
+pub returns-in_err-same_conf-clause-grows : goal.returns-in_err-same_conf-clause-grows
+returns-in_err-same_conf-clause-grows c = grows_then _ _ _ c.in_ok-v.ensures.grows c.in_err-same_conf.ensures.grows
+
+pub returns-in_err-assoc_name-in-Name-clause-grows : goal.returns-in_err-assoc_name-in-Name-clause-grows
+returns-in_err-assoc_name-in-Name-clause-grows c =
+    grows_then _ _ _ (grows_then _ _ _ c.in_ok-v.ensures.grows c.in_ok-same_conf.ensures.grows)
+    c.in_err-assoc_name-in-Name.ensures.grows
+
+pub returns-in_err-assoc_decl-in-Bound-clause-grows : goal.returns-in_err-assoc_decl-in-Bound-clause-grows
+returns-in_err-assoc_decl-in-Bound-clause-grows c =
+    grows_then _ _ _ (grows_then _ _ _ c.in_ok-v.ensures.grows c.in_ok-same_conf.ensures.grows)
+    c.in_err-assoc_decl-in-Bound.ensures.grows
