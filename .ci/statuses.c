@@ -1,4 +1,4 @@
-/* Calls genreq so that each status comes, by the name that genreq.h gives it. The one for want of memory is met in calls.c. */
+/* Calls genreq so that each status comes, by the name that genreq.h gives it. The one for a lack of memory is met in calls.c. */
 #include "genreq.h"
 
 #include <stdio.h>

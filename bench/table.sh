@@ -1,9 +1,9 @@
 # The table of bench/families, bench/hostile and bench/minimising, which read this file. They say where they are (here), what the program is to do
-# (command, with its options), and make a text of a kind and of so many bytes (text). GENREQ is another program than the built one.
+# (command, with its options), and make a text of a kind and of this many bytes (text). GENREQ is another program than the built one.
 program=${GENREQ:-$here/../crates/genreq/out/genreq}
 out=$here/out
 
-# A run is stopped after so many seconds of processor time, and gets no more than so many KiB. After that the larger texts of its kind are left out.
+# A run is stopped after this many seconds of processor time, and gets no more than this many KiB. After that the larger texts of its kind are left out.
 seconds=20
 memory=4194304
 
@@ -29,7 +29,7 @@ line() {
     before=$now
 }
 
-# The table of so many KiB, and after -- of these kinds.
+# The table of these sizes in KiB, and after -- of these kinds.
 table() {
     sizes=
     while [ "$1" != -- ]; do
