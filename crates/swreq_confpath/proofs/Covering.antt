@@ -16,7 +16,7 @@ use Rattle.swreq_derive.specs.WellFormed.{AreProtocolsWellFormed, IsListWellForm
 use Rattle.swreq_derive.proofs.PathLemmas.{has_path}
 use Rattle.swreq_confpath.specs.Routes.{TermPlace, GoesTo, LeadTo, AreAlike, IsNotAfter}
 use Rattle.swreq_confpath.specs.Routes.TermPlace.{Start, Conformance}
-use Rattle.swreq_confpath.specs.Tried.{TermSpot, start, IsCovered, AreTried, AreTriedUpTo}
+use Rattle.swreq_confpath.specs.Tried.{TermSpot, start, IsCovered, IsDeadEnd, AreTried, AreTriedUpTo}
 use Rattle.swreq_confpath.proofs.Orders.{not_after_then, not_after_with, before_longer, before_by_last, before_by_length, not_after_length, not_after_numbers}
 use Rattle.swreq_confpath.proofs.Alike.{lead_further, lead_on, on_leads, stays_derivable, goes_alike, alike_then, lead_alike}
 
@@ -77,24 +77,34 @@ module _ (f : TermFacts) (params : List ParamId) (written : List TermRequirement
     pub not_after : IsNotAfter (from.numbers ++ (by ∷ ns)) numbers
 
   module _ (sought : TermPlace) (tried : List TermSpot) (next : ℕ) (h : AreTried f params written sought tried next) where
-    -- numbers that lead to a place are covered, or go on from one that is not done
-    covers : (ms front : List ℕ) (e : TermSpot) (a d : TermPlace) → Contains tried e → AreAlike f s e.place a → AreAlike f s a a → IsNotAfter e.numbers front
-        → LeadTo f written a ms d → IsCovered f params written tried (front ++ ms) d ⊎ IsOpen tried next (front ++ ms) d
-    covers [] front e a d of alike own early k =
+    -- from a dead end no numbers lead to the place that is sought, nor from one alike it
+    none_from_dead : (c b : TermPlace) (ms : List ℕ) (d : TermPlace) → IsDeadEnd f params written sought c → AreAlike f s c b → AreAlike f s b b
+        → LeadTo f written b ms d → AreAlike f s d sought → ⊥
+    none_from_dead c b ms d dead alike own k like =
+        let rest = lead_alike f written params protocols list ms c b d alike own k in
+        dead ms rest.0 rest.1 (alike_then f written params protocols list rest.0 d sought rest.2 like)
+
+    -- numbers that lead to the place that is sought are covered, or go on from one that is not done
+    covers : (ms front : List ℕ) (e : TermSpot) (a d : TermPlace) → AreAlike f s d sought → Contains tried e → AreAlike f s e.place a → AreAlike f s a a
+        → IsNotAfter e.numbers front → LeadTo f written a ms d → IsCovered f params written tried (front ++ ms) d ⊎ IsOpen tried next (front ++ ms) d
+    covers [] front e a d like of alike own early k =
         inl (e, of, subst (AreAlike f s e.place) k alike, subst (IsNotAfter e.numbers) (sym (append-nil front)) early)
-    covers (n ∷ ms) front e a d of alike own early k =
+    covers (n ∷ ms) front e a d like of alike own early k =
         let p = contains_get tried e of in
         let one = goes_alike f written params protocols list e.place a n k.0 alike k.1 in
+        let own_now = stays_derivable f written params protocols list a n k.0 own k.1 in
         elim (cases_lt p.0 next) [
-          | inl done ↦
-              let c = h.covered p.0 e done p.1 n one.0 one.1 in
-              let alike_now = alike_then f written params protocols list c.0.place one.0 k.0 c.2 one.2 in
-              let early_now : IsNotAfter c.0.numbers (front ++ n ∷ [])
-              = not_after_then c.0.numbers (e.numbers ++ n ∷ []) (front ++ n ∷ []) c.3 (not_after_with e.numbers front (n ∷ []) early) in
-              let rest = covers ms (front ++ n ∷ []) c.0 k.0 d c.1 alike_now (stays_derivable f written params protocols list a n k.0 own k.1) early_now k.2 in
-              subst (λ z. IsCovered f params written tried z d ⊎ IsOpen tried next z d) (append_assoc front (n ∷ []) ms) rest
+          | inl done ↦ elim (h.settled p.0 e done p.1 n one.0 one.1) [
+            | inl c ↦
+                let alike_now = alike_then f written params protocols list c.0.place one.0 k.0 c.2 one.2 in
+                let early_now : IsNotAfter c.0.numbers (front ++ n ∷ [])
+                = not_after_then c.0.numbers (e.numbers ++ n ∷ []) (front ++ n ∷ []) c.3 (not_after_with e.numbers front (n ∷ []) early) in
+                let rest = covers ms (front ++ n ∷ []) c.0 k.0 d like c.1 alike_now own_now early_now k.2 in
+                subst (λ z. IsCovered f params written tried z d ⊎ IsOpen tried next z d) (append_assoc front (n ∷ []) ms) rest
+            | inr dead ↦ absurd (none_from_dead one.0 k.0 ms d dead one.2 own_now k.2 like)
+          ]
           | inr opened ↦
-              let rest = lead_alike f written params protocols list ms one.0 k.0 d one.2 (stays_derivable f written params protocols list a n k.0 own k.1) k.2 in
+              let rest = lead_alike f written params protocols list ms one.0 k.0 d one.2 own_now k.2 in
               inr (record {
                 at = p.0;
                 from = e;
@@ -114,7 +124,7 @@ module _ (f : TermFacts) (params : List ParamId) (written : List TermRequirement
     -- numbers that lead to the place that is sought go on from one that is not done
     opened_to : (ms : List ℕ) (d : TermPlace) → LeadTo f written Start ms d → AreAlike f s d sought → IsOpen tried next ms d
     opened_to ms d k like =
-        elim (covers ms [] start Start d h.begins tt tt (inl refl) k) [
+        elim (covers ms [] start Start d like h.begins tt tt (inl refl) k) [
           | inl c ↦ absurd (h.unlike c.0 c.1 (alike_then f written params protocols list c.0.place d sought c.2 like))
           | inr opened ↦ opened
         ]

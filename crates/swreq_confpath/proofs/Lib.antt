@@ -2,7 +2,9 @@ mod Orders
 mod Alike
 mod Covering
 mod Stepping
+mod Spared
 mod Standing
+mod DeadEnds
 mod Searching
 mod Requirements
 mod Texting

@@ -29,11 +29,14 @@ use Rattle.swreq_symbols.specs.Known.{IsRequirementIn, IsTextOver}
 use Rattle.swreq_symbols.proofs.OfText.{protocol_written, requirements_placed, signature_is, signature_written}
 use Rattle.swreq_valid.specs.Machines.{IsMachineOf}
 use Rattle.swreq_valid.specs.Plans.{AreKnown, bare, listed}
+use Rattle.swreq_valid.specs.Rounds.{last_rules}
 use Rattle.swreq_valid.proofs.Made.{written_known}
+use Rattle.swreq_complete.specs.Complete.{IsComplete}
 use Rattle.swreq_confpath.specs.declared.path.ConfPath.{ConfPath}
 use Rattle.swreq_confpath.specs.declared.places.Place.{Place}
 use Rattle.swreq_confpath.specs.declared.places.Place.TheVariants as places
 use Rattle.swreq_confpath.specs.declared.sought.Sought.{Sought}
+use Rattle.swreq_confpath.specs.Parting.{AllSpareOthers}
 use Rattle.swreq_confpath.specs.Searches.{IsGiven, IsKnown, IsMachineFor, IsPlaceIn, facts_in, list_in, required_at, source_in, world_in}
 
 -- the number of the k-th is k + 1
@@ -99,11 +102,14 @@ module _ (s : Sought) (f : FuncId) (text : IsTextOver s.table.now s.world.now) (
       let k = length-map (signature_at s.world.now f).requirements (λ (r : Written). r.requirement) in
       omega arith
 
-  pub known_of : Derivable (facts_in s) (source_of (signature_at (world_in s) f)) (Requires (Conforms (term_at s.table.now s.subject) s.proto)) → IsKnown s
-  known_of derivable = record {
+  pub known_of : IsComplete (last_rules s.machine.now.rounds) → AllSpareOthers (last_rules s.machine.now.rounds) s.changed.now
+      → Derivable (facts_in s) (source_of (signature_at (world_in s) f)) (Requires (Conforms (term_at s.table.now s.subject) s.proto)) → IsKnown s
+  known_of complete others derivable = record {
     text = text;
     list = signature_known s.table.now s.world.now text f of.signature s.list.now list;
     machine = subst (λ (z : List TermRequirement). IsMachineOf (world_in s) z s.machine.now) (sym same_list) of.machine;
+    complete = complete;
+    others = others;
     protocols = of.protocols;
     well_formed = subst (IsListWellFormed (facts_in s)) (sym same_source) of.list;
     few = few;

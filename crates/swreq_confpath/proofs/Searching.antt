@@ -22,11 +22,12 @@ use Rattle.swreq_confpath.specs.declared.places.Place.{Place}
 use Rattle.swreq_confpath.specs.declared.places.Place.TheVariants as places
 use Rattle.swreq_confpath.specs.declared.sought.Sought.{Sought}
 use Rattle.swreq_confpath.specs.Routes.{TermPlace, AreAlike, GoesTo, gone_on, requirements_at}
-use Rattle.swreq_confpath.specs.Searches.{AreSpotsOf, IsGiven, IsKnown, IsPlaceIn, IsSearch, IsSearchAt, StandsFor, facts_in, list_in, params_in, required_at, sought_in, source_in}
+use Rattle.swreq_confpath.specs.Searches.{AreSpotsOf, HasParted, IsGiven, IsKnown, IsPlaceIn, IsSearch, IsSearchAt, StandsFor, facts_in, list_in, params_in, required_at, sought_in, source_in}
 use Rattle.swreq_confpath.specs.Spots.{IsKept, IsReached, Spot}
-use Rattle.swreq_confpath.specs.Tried.{TermSpot, start}
+use Rattle.swreq_confpath.specs.Tried.{IsDeadEnd, TermSpot, start}
 use Rattle.swreq_confpath.proofs.Alike.{stays_derivable}
 use Rattle.swreq_confpath.proofs.Covering.{is_given, not_ended, one_there}
+use Rattle.swreq_confpath.proofs.DeadEnds.{dead_end}
 use Rattle.swreq_confpath.proofs.Standing.{alike_by_place, place_by_alike, same_requirements}
 use Rattle.swreq_confpath.proofs.Stepping.{adds, begun, done, is_known, knows, opens, passes}
 
@@ -182,6 +183,18 @@ module _ (s : Sought) (known : IsKnown s) where
       other : (place ≡ target → ⊥) → AreAlike F S d (sought_in s) → ⊥
       other differs like = differs (place_by_alike s known place target d (sought_in s) stands sought like)
 
+      -- one from which the place that is sought cannot be reached
+      set_aside : HasParted s target place → IsSearchAt s spots next from (suc count)
+      set_aside parted =
+          let dead : IsDeadEnd F G L (sought_in s) d = dead_end s known target place d sought stands parted in
+          record {
+            tried = h.tried;
+            stand = h.stand;
+            at = h.at;
+            stands_at = h.stands_at;
+            up_to = knows F G L known.protocols known.well_formed (sought_in s) h.tried next h.at count d h.up_to goes (inr dead) (dead [] d refl);
+          }
+
       -- one that was reached before
       left_out : (place ≡ target → ⊥) → IsReached spots place → IsSearchAt s spots next from (suc count)
       left_out differs reached =
@@ -247,6 +260,17 @@ module _ (s : Sought) (known : IsKnown s) where
       let e = the_number number n.0 in
       subst (IsSearchAt s spots next from) e
       (passed spots next from (number - 1) h r (subst (λ k. HasNumber k (required_at s.world.now s.list.now from) r) (sym e) n) none)
+
+  pub set_aside_by : (spots : List Spot) (next : ℕ) (from target place : Place) (number : ℕ) (t : TermId) (p : ProtoId)
+      → IsSearchAt s spots next from (number - 1) → HasNumber number (required_at s.world.now s.list.now from) (Conf t p)
+      → StandsFor s target (sought_in s) → IsPlaceIn s.world.now place
+      → ((a : TermPlace) → StandsFor s from a → StandsFor s place (gone_on a (term_at s.table.now t) p)) → HasParted s target place
+      → IsSearchAt s spots next from number
+  set_aside_by spots next from target place number t p h n sought of_text stands parted =
+      let e = the_number number n.0 in
+      subst (IsSearchAt s spots next from) e
+      (set_aside spots next from (number - 1) h t p (subst (λ k. HasNumber k (required_at s.world.now s.list.now from) (Conf t p)) (sym e) n) target place sought of_text
+      (stands h.at.place h.stands_at) parted)
 
   pub tried_by : (spots new : List Spot) (next : ℕ) (from target place : Place) (number : ℕ) (t : TermId) (p : ProtoId) (o : Option ConfPath)
       → IsSearchAt s spots next from (number - 1) → HasNumber number (required_at s.world.now s.list.now from) (Conf t p)

@@ -1,5 +1,5 @@
 -- Places of the code, and the places over type parameters for which they stand.
-use Rattle.std.proofs.Common.{◌≡◌, List, [], ◌∷◌, ◌++◌, map, None, Some, Result, Ok, Err, IfOk, refl, sym, ap, ap₂, subst, ◌∙◌}
+use Rattle.std.proofs.Common.{◌≡◌, ℕ, suc, ◌+◌, inl, inr, List, [], ◌∷◌, ◌++◌, map, take, slice_get, None, Some, Result, Ok, Err, IfOk, refl, sym, ap, ap₂, subst, ◌∙◌, append_assoc, arith}
 use Rattle.std.proofs.lemmas.Result.{IfOk-weaker}
 use Rattle.swreq_param.specs.declared.ids.ProtoId.{ProtoId}
 use Rattle.swreq_param.specs.Terms.{Term, head}
@@ -11,6 +11,8 @@ use Rattle.swreq_derive.specs.Facts.{requirement_of}
 use Rattle.swreq_derive.proofs.Substitution.{valid_sides}
 use Rattle.swreq_word.specs.declared.symbols.Symbol.{Symbol}
 use Rattle.swreq_word.proofs.Chains.{linked_back, linked_on}
+use Rattle.swreq_word.proofs.Comparing.{by_length}
+use Rattle.swreq_orders.proofs.Elements.{take_one}
 use Rattle.swreq_rule.specs.declared.rules.Rule.{Rule}
 use Rattle.swreq_rule.proofs.Context.{Linked-after}
 use Rattle.swreq_correspondence.specs.Symbols.{Symbols, Word, right_side, start, steps, word_of}
@@ -30,7 +32,23 @@ use Rattle.swreq_confpath.specs.declared.places.Place.TheVariants as places
 use Rattle.swreq_confpath.specs.declared.sought.Sought.{Sought}
 use Rattle.swreq_confpath.specs.Routes.{TermPlace, AreAlike, gone_on, requirements_at}
 use Rattle.swreq_confpath.specs.Routes.TermPlace.{Start, Conformance}
-use Rattle.swreq_confpath.specs.Searches.{IsKnown, StandsFor, facts_in, list_in, required_at, source_in, world_in}
+use Rattle.swreq_confpath.specs.Searches.{HasLeastWord, IsKnown, StandsFor, facts_in, list_in, required_at, source_in, world_in}
+
+-- ---- least words
+
+-- the empty word is the least of its class
+pub none_less : (used : List Rule) → IsLeastBy used []
+none_less used [] l = inl refl
+none_less used (x ∷ v) l = inr (by_length [] (x ∷ v) (omega arith))
+
+-- one symbol more behind a word, of which some are taken
+pub linked_more : (used : List Rule) (front rest w v : Word) (k : ℕ) (x : Symbol) → Links used (front ++ take k rest) w → slice_get rest k ≡ Some x
+    → Links used (w ++ x ∷ []) v → Links used (front ++ take (k + 1) rest) v
+linked_more used front rest w v k x l is next =
+    let e : k + 1 ≡ suc k = omega arith in
+    let whole : front ++ take (k + 1) rest ≡ (front ++ take k rest) ++ x ∷ []
+    = ap (λ z. front ++ z) (ap (λ n. take n rest) e ∙ take_one rest k x is) ∙ sym (append_assoc front (take k rest) (x ∷ [])) in
+    subst (λ z. Links used z v) (sym whole) (linked_on (Linked-after (x ∷ []) l) next)
 
 module _ (s : Sought) where
   abbrev W : TextWorld
@@ -98,6 +116,12 @@ module _ (s : Sought) where
       → IfOk r (λ v. StandsFor s (places.Conformance v p) (gone_on a t p))
   from_next base q Start h t p r of = absurd h
   from_next base q (Conformance u x) h t p r of = IfOk-weaker r (IsLeastWord W M (for_self u t)) _ (λ v l. (refl, l)) (of u h.1)
+
+  -- the word of a place that stands for one is least
+  pub place_least : (p : Place) (a : TermPlace) → StandsFor s p a → HasLeastWord s p
+  place_least places.Start a h = none_less rules
+  place_least (places.Conformance u q) Start h = absurd h
+  place_least (places.Conformance u q) (Conformance t r) h = h.1.0
 
   -- the requirements of the code at a place stand for those over type parameters
   pub same_requirements : (p : Place) (a : TermPlace) → StandsFor s p a

@@ -11,7 +11,7 @@ use Rattle.swreq_orders.proofs.Elements.{get_cases, get_contains, get_left}
 use Rattle.swreq_orders.proofs.Members.{only_member}
 use Rattle.swreq_confpath.specs.Routes.{TermPlace, GoesTo, LeadTo, AreAlike, ComesBefore}
 use Rattle.swreq_confpath.specs.Routes.TermPlace.{Start}
-use Rattle.swreq_confpath.specs.Tried.{TermSpot, start, IsCovered, AreReady, AreTriedUpTo}
+use Rattle.swreq_confpath.specs.Tried.{TermSpot, start, IsSettled, AreReady, AreTriedUpTo}
 use Rattle.swreq_confpath.proofs.Orders.{before_then, before_longer, before_by_last}
 use Rattle.swreq_confpath.proofs.Alike.{goes_once, goes_from_one, lead_further, stays_derivable}
 use Rattle.swreq_confpath.proofs.Covering.{one_there}
@@ -21,9 +21,10 @@ module _ (f : TermFacts) (params : List ParamId) (written : List TermRequirement
   abbrev s : Source
   s = Written params written
 
-  covered_more : (tried : List TermSpot) (spot : TermSpot) (numbers : List ℕ) (d : TermPlace) → IsCovered f params written tried numbers d
-      → IsCovered f params written (tried ++ spot ∷ []) numbers d
-  covered_more tried spot numbers d h = (h.0, Contains-append_left tried (spot ∷ []) h.0 h.1, h.2, h.3)
+  settled_more : (tried : List TermSpot) (spot : TermSpot) (numbers : List ℕ) (d : TermPlace) → IsSettled f params written sought tried numbers d
+      → IsSettled f params written sought (tried ++ spot ∷ []) numbers d
+  settled_more tried spot numbers d (inl h) = inl (h.0, Contains-append_left tried (spot ∷ []) h.0 h.1, h.2, h.3)
+  settled_more tried spot numbers d (inr dead) = inr dead
 
   -- ---- from the first
 
@@ -35,7 +36,7 @@ module _ (f : TermFacts) (params : List ParamId) (written : List TermRequirement
       unlike = λ e h k. other (subst (λ (z : TermSpot). AreAlike f s z.place sought) (only_member start e h) k);
       ordered = λ i j a b less x y.
           let w = slice_get_within (start ∷ []) j b y in absurd (omega arith);
-      covered = λ i a less. absurd (omega arith);
+      settled = λ i a less. absurd (omega arith);
     };
     before = λ i a e n later some x h.
         let one : e ≡ start = only_member start e h in
@@ -49,7 +50,7 @@ module _ (f : TermFacts) (params : List ParamId) (written : List TermRequirement
   opens tried next at h e = record {
     so_far = h.so_far;
     is_next = e;
-    covered = λ n d few goes. let k = goes_from_one f written at.place n d goes in absurd (omega arith);
+    settled = λ n d few goes. let k = goes_from_one f written at.place n d goes in absurd (omega arith);
     unlike = λ n d few goes like. let k = goes_from_one f written at.place n d goes in omega arith;
     before = λ e n some of. h.before next at e n (omega arith) some is_there of;
   }
@@ -65,9 +66,9 @@ module _ (f : TermFacts) (params : List ParamId) (written : List TermRequirement
   passes tried next at count h none = record {
     so_far = h.so_far;
     is_next = h.is_next;
-    covered = λ n d few goes. elim (cases_lt count n) [
+    settled = λ n d few goes. elim (cases_lt count n) [
       | inl more ↦ let e : n ≡ suc count = omega arith in absurd (none d (subst (λ z. GoesTo f written at.place z d) e goes))
-      | inr less ↦ h.covered n d less goes
+      | inr less ↦ h.settled n d less goes
     ];
     unlike = λ n d few goes like. elim (cases_lt count n) [
       | inl more ↦ let e : n ≡ suc count = omega arith in none d (subst (λ z. GoesTo f written at.place z d) e goes)
@@ -83,13 +84,15 @@ module _ (f : TermFacts) (params : List ParamId) (written : List TermRequirement
         let e : n ≡ suc count = omega arith in
         (e, goes_once f written at.place (suc count) d r goes (subst (λ z. GoesTo f written at.place z r) e to))
 
-    covered_now : (all : List TermSpot) → ((n : ℕ) (r : TermPlace) → n ≤ count → GoesTo f written at.place n r → IsCovered f params written all (at.numbers ++ n ∷ []) r)
-        → IsCovered f params written all (at.numbers ++ suc count ∷ []) d
-        → (n : ℕ) (r : TermPlace) → n ≤ suc count → GoesTo f written at.place n r → IsCovered f params written all (at.numbers ++ n ∷ []) r
-    covered_now all before known n r few to = elim (cases_lt count n) [
+    settled_now : (all : List TermSpot)
+        → ((n : ℕ) (r : TermPlace) → n ≤ count → GoesTo f written at.place n r → IsSettled f params written sought all (at.numbers ++ n ∷ []) r)
+        → IsSettled f params written sought all (at.numbers ++ suc count ∷ []) d
+        → (n : ℕ) (r : TermPlace) → n ≤ suc count → GoesTo f written at.place n r → IsSettled f params written sought all (at.numbers ++ n ∷ []) r
+    settled_now all before known n r few to = elim (cases_lt count n) [
       | inl more ↦
           let e = one_place n r more few to in
-          subst (λ z. IsCovered f params written all (at.numbers ++ z ∷ []) r) (sym e.0) (subst (IsCovered f params written all (at.numbers ++ suc count ∷ [])) e.1 known)
+          subst (λ z. IsSettled f params written sought all (at.numbers ++ z ∷ []) r) (sym e.0)
+          (subst (IsSettled f params written sought all (at.numbers ++ suc count ∷ [])) e.1 known)
       | inr less ↦ before n r less to
     ]
 
@@ -100,22 +103,22 @@ module _ (f : TermFacts) (params : List ParamId) (written : List TermRequirement
       | inr less ↦ before n r less to like
     ]
 
-  -- one that goes on to a place that is covered, and not sought
+  -- one that goes on to a place that is settled, and not sought
   pub knows : (tried : List TermSpot) (next : ℕ) (at : TermSpot) (count : ℕ) (d : TermPlace) → AreTriedUpTo f params written sought tried next at count
-      → GoesTo f written at.place (suc count) d → IsCovered f params written tried (at.numbers ++ suc count ∷ []) d → (AreAlike f s d sought → ⊥)
+      → GoesTo f written at.place (suc count) d → IsSettled f params written sought tried (at.numbers ++ suc count ∷ []) d → (AreAlike f s d sought → ⊥)
       → AreTriedUpTo f params written sought tried next at (suc count)
   knows tried next at count d h goes known other = record {
     so_far = h.so_far;
     is_next = h.is_next;
-    covered = covered_now at count d goes tried h.covered known;
+    settled = settled_now at count d goes tried h.settled known;
     unlike = unlike_now at count d goes h.unlike other;
     before = λ e n more of. h.before e n (omega arith) of;
   }
 
   -- a place that was reached goes on like one that was tried before
   pub is_known : (tried : List TermSpot) (next : ℕ) (at : TermSpot) (count : ℕ) (d : TermPlace) (e : TermSpot) → AreTriedUpTo f params written sought tried next at count
-      → Contains tried e → AreAlike f s e.place d → IsCovered f params written tried (at.numbers ++ suc count ∷ []) d
-  is_known tried next at count d e h of like = (e, of, like, inr (h.before e (suc count) (omega arith) of))
+      → Contains tried e → AreAlike f s e.place d → IsSettled f params written sought tried (at.numbers ++ suc count ∷ []) d
+  is_known tried next at count d e h of like = inl (e, of, like, inr (h.before e (suc count) (omega arith) of))
 
   -- one that is tried from now on
   module _ (tried : List TermSpot) (next : ℕ) (at : TermSpot) (count : ℕ) (d : TermPlace) (h : AreTriedUpTo f params written sought tried next at count)
@@ -135,8 +138,8 @@ module _ (f : TermFacts) (params : List ParamId) (written : List TermRequirement
     spot_of : (e : TermSpot) → Contains more e → Contains tried e ⊎ (e ≡ spot)
     spot_of e of = elim (Contains-append_cases tried (spot ∷ []) e of) [ inl k ↦ inl k | inr k ↦ inr (only_member spot e k) ]
 
-    known : IsCovered f params written more (at.numbers ++ suc count ∷ []) d
-    known = (spot, Contains-append_right tried (spot ∷ []) spot (0, omega arith, refl), derivable, inl refl)
+    known : IsSettled f params written sought more (at.numbers ++ suc count ∷ []) d
+    known = inl (spot, Contains-append_right tried (spot ∷ []) spot (0, omega arith, refl), derivable, inl refl)
 
     old_place : (i : ℕ) (a : TermSpot) → i < next → slice_get more i ≡ Some a → slice_get tried i ≡ Some a
     old_place i a less x =
@@ -172,10 +175,10 @@ module _ (f : TermFacts) (params : List ParamId) (written : List TermRequirement
           | inr k ↦ other (subst (λ (z : TermSpot). AreAlike f s z.place sought) k like)
         ];
         ordered = ordered_now;
-        covered = λ i a less x n r to. covered_more tried spot (a.numbers ++ n ∷ []) r (h.so_far.covered i a less (old_place i a less x) n r to);
+        settled = λ i a less x n r to. settled_more tried spot (a.numbers ++ n ∷ []) r (h.so_far.settled i a less (old_place i a less x) n r to);
       };
       is_next = get_left tried (spot ∷ []) next at h.is_next;
-      covered = covered_now at count d goes more (λ n r few to. covered_more tried spot (at.numbers ++ n ∷ []) r (h.covered n r few to)) known;
+      settled = settled_now at count d goes more (λ n r few to. settled_more tried spot (at.numbers ++ n ∷ []) r (h.settled n r few to)) known;
       unlike = unlike_now at count d goes h.unlike other;
       before = λ e n above of. elim (spot_of e of) [
         | inl k ↦ h.before e n (omega arith) k
@@ -193,13 +196,13 @@ module _ (f : TermFacts) (params : List ParamId) (written : List TermRequirement
       leads = h.so_far.leads;
       unlike = h.so_far.unlike;
       ordered = h.so_far.ordered;
-      covered = λ i a less x n d to. elim (cases_lt i next) [
-        | inl early ↦ h.so_far.covered i a early x n d to
+      settled = λ i a less x n d to. elim (cases_lt i next) [
+        | inl early ↦ h.so_far.settled i a early x n d to
         | inr late ↦
             let e : i ≡ next = omega arith in
             let same : a ≡ at = one_there tried next a at (subst (λ z. slice_get tried z ≡ Some a) e x) h.is_next in
             let to_now : GoesTo f written at.place n d = subst (λ (z : TermSpot). GoesTo f written z.place n d) same to in
-            subst (λ (z : TermSpot). IsCovered f params written tried (z.numbers ++ n ∷ []) d) (sym same) (h.covered n d (all n d to_now) to_now)
+            subst (λ (z : TermSpot). IsSettled f params written sought tried (z.numbers ++ n ∷ []) d) (sym same) (h.settled n d (all n d to_now) to_now)
       ];
     };
     before = λ i a e n later some x of.

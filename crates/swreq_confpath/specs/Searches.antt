@@ -16,17 +16,21 @@ use Rattle.swreq_lowering.specs.declared.ids.FuncId.{FuncId}
 use Rattle.swreq_world.specs.ByTable.{world_by}
 use Rattle.swreq_world.specs.FactsAt.{facts_of, source_of, written_list}
 use Rattle.swreq_world.specs.Worlds.{IdWorld, TextWorld, requirements_of, signature_at}
+use Rattle.swreq_complete.specs.Complete.{IsComplete}
 use Rattle.swreq_symbols.specs.Known.{IsTextOver}
+use Rattle.swreq_symbols.specs.Vanishing.{IsLeastBy}
 use Rattle.swreq_valid.specs.Asked.{IsLeastWord}
 use Rattle.swreq_valid.specs.Machines.{IsMachineOf, MachineView}
 use Rattle.swreq_valid.specs.Plans.{AreKnown, bare, listed}
+use Rattle.swreq_valid.specs.Rounds.{last_rules}
 use Rattle.swreq_confpath.specs.declared.path.ConfPath.{ConfPath}
 use Rattle.swreq_confpath.specs.declared.places.Place.{Place}
 use Rattle.swreq_confpath.specs.declared.places.Place.TheVariants as places
 use Rattle.swreq_confpath.specs.declared.sought.Sought.{Sought}
+use Rattle.swreq_confpath.specs.Parting.{AllSpareOthers, PartsForGood}
 use Rattle.swreq_confpath.specs.Routes.{TermPlace}
 use Rattle.swreq_confpath.specs.Routes.TermPlace.{Start, Conformance}
-use Rattle.swreq_confpath.specs.Spots.{Spot}
+use Rattle.swreq_confpath.specs.Spots.{Spot, word_at}
 use Rattle.swreq_confpath.specs.Tried.{TermSpot, AreReady, AreTriedUpTo}
 
 -- The signature is of the text, its list and the protocols are well formed, and this is its machine.
@@ -58,12 +62,14 @@ source_in s = Written (params_in s) (list_in s)
 abbrev pub sought_in : Sought → TermPlace
 sought_in s = Conformance (term_at s.table.now s.subject) s.proto
 
--- The text and the list are well formed, the machine is that of the list, numbers of 32 bits count all requirements, and the conformance
--- that is sought is derivable.
+-- The text and the list are well formed, the machine is that of the list, its rules spare all but the symbols that they may change, numbers
+-- of 32 bits count all requirements, and the conformance that is sought is derivable.
 pub record IsKnown (s : Sought) : Type 0 where
   pub text : IsTextOver s.table.now s.world.now
   pub list : AreKnown s.table.now s.world.now.lexicon s.list.now
   pub machine : IsMachineOf (world_in s) (list_in s) s.machine.now
+  pub complete : IsComplete (last_rules s.machine.now.rounds)
+  pub others : AllSpareOthers (last_rules s.machine.now.rounds) s.changed.now
   pub protocols : AreProtocolsWellFormed (facts_in s)
   pub well_formed : IsListWellFormed (facts_in s) (source_in s)
   pub few : length s.list.now < 2 ^ 32
@@ -88,6 +94,14 @@ StandsFor s places.Start Start = Unit {0}
 StandsFor s places.Start (Conformance t p) = ⊥
 StandsFor s (places.Conformance u q) Start = ⊥
 StandsFor s (places.Conformance u q) (Conformance t p) = (q ≡ p) × IsLeastWord (world_in s) s.machine.now t u
+
+-- The word of the place is the least of its class.
+abbrev pub HasLeastWord : Sought → Place → Type 0
+HasLeastWord s p = IsLeastBy (last_rules s.machine.now.rounds) (word_at p)
+
+-- The word of the place has parted for good from that of the target.
+abbrev pub HasParted : Sought → (target place : Place) → Type 0
+HasParted s target place = PartsForGood (last_rules s.machine.now.rounds) (word_at target) (word_at place)
 
 -- ---- how far the search is
 

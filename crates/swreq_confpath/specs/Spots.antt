@@ -1,6 +1,13 @@
 -- What the code keeps of the numbers that were tried.
 use Rattle.std.specs.Prelude.{◌≡◌, ◌⊎◌, ℕ, List, [], ◌∷◌, ◌++◌, Contains}
+use Rattle.swreq_word.specs.declared.symbols.Symbol.{Symbol}
 use Rattle.swreq_confpath.specs.declared.places.Place.{Place}
+use Rattle.swreq_confpath.specs.declared.places.Place.TheVariants.{Start, Conformance}
+
+-- the least word of the subject, which has no symbols at the start
+abbrev pub word_at : Place → List Symbol
+word_at Start = []
+word_at (Conformance u q) = u
 
 -- a place, and the numbers that led there first
 abbrev pub Spot : Type 0

@@ -1,5 +1,5 @@
 -- What the search for the given conformance path knows of the numbers that it has tried.
-use Rattle.std.specs.Prelude.{◌≡◌, ℕ, ◌<◌, ◌≤◌, List, [], ◌∷◌, ◌++◌, Some, Contains, slice_get}
+use Rattle.std.specs.Prelude.{◌≡◌, ℕ, ◌<◌, ◌≤◌, ◌⊎◌, List, [], ◌∷◌, ◌++◌, Some, Contains, slice_get}
 use Rattle.swreq_param.specs.declared.ids.ParamId.{ParamId}
 use Rattle.swreq_derive.specs.Derivation.{TermFacts, TermRequirement}
 use Rattle.swreq_derive.specs.Derivation.Source.{Written}
@@ -15,13 +15,21 @@ abbrev pub start : TermSpot
 start = record { numbers = []; place = Start }
 
 module _ (f : TermFacts) (params : List ParamId) (written : List TermRequirement) where
-  -- Numbers that lead to this place need not be tried: some that were tried lead to a place alike, and do not come after them.
+  -- Some numbers that were tried lead to a place alike this one, and do not come after these.
   abbrev pub IsCovered : List TermSpot → List ℕ → TermPlace → Type 0
   IsCovered tried numbers d =
       (e : TermSpot) × Contains tried e × AreAlike f (Written params written) e.place d × IsNotAfter e.numbers numbers
 
+  -- From the place no numbers lead on to one alike the place that is sought, nor is it alike itself.
+  abbrev pub IsDeadEnd : TermPlace → TermPlace → Type 0
+  IsDeadEnd sought d = (ns : List ℕ) (e : TermPlace) → LeadTo f written d ns e → AreAlike f (Written params written) e sought → ⊥
+
+  -- Numbers that lead to this place need not be tried.
+  abbrev pub IsSettled : TermPlace → List TermSpot → List ℕ → TermPlace → Type 0
+  IsSettled sought tried numbers d = IsCovered tried numbers d ⊎ IsDeadEnd sought d
+
   -- All of these were tried, in their order, from none on, and no place among them is alike the one that is sought. All that goes on from
-  -- the first ones, so many, is covered.
+  -- the first ones, so many, is settled.
   pub record AreTried (sought : TermPlace) (tried : List TermSpot) (next : ℕ) : Type 0 where
     pub begins : Contains tried start
     pub leads : (e : TermSpot) → Contains tried e
@@ -29,8 +37,8 @@ module _ (f : TermFacts) (params : List ParamId) (written : List TermRequirement
     pub unlike : (e : TermSpot) → Contains tried e → AreAlike f (Written params written) e.place sought → ⊥
     pub ordered : (i j : ℕ) (a b : TermSpot) → i < j → slice_get tried i ≡ Some a → slice_get tried j ≡ Some b
         → ComesBefore a.numbers b.numbers
-    pub covered : (i : ℕ) (a : TermSpot) → i < next → slice_get tried i ≡ Some a → (n : ℕ) (d : TermPlace) → GoesTo f written a.place n d
-        → IsCovered tried (a.numbers ++ n ∷ []) d
+    pub settled : (i : ℕ) (a : TermSpot) → i < next → slice_get tried i ≡ Some a → (n : ℕ) (d : TermPlace) → GoesTo f written a.place n d
+        → IsSettled sought tried (a.numbers ++ n ∷ []) d
 
   -- And all of them come before what goes on from the next one.
   pub record AreReady (sought : TermPlace) (tried : List TermSpot) (next : ℕ) : Type 0 where
@@ -38,11 +46,11 @@ module _ (f : TermFacts) (params : List ParamId) (written : List TermRequirement
     pub before : (i : ℕ) (a e : TermSpot) (n : ℕ) → next ≤ i → 0 < n → slice_get tried i ≡ Some a → Contains tried e
         → ComesBefore e.numbers (a.numbers ++ n ∷ [])
 
-  -- What goes on from the next one, `at`, by the first requirements, so many, is covered, and none of it is sought. All that were tried
+  -- What goes on from the next one, `at`, by the first requirements, so many, is settled, and none of it is sought. All that were tried
   -- come before what goes on by the later ones.
   pub record AreTriedUpTo (sought : TermPlace) (tried : List TermSpot) (next : ℕ) (at : TermSpot) (count : ℕ) : Type 0 where
     pub so_far : AreTried sought tried next
     pub is_next : slice_get tried next ≡ Some at
-    pub covered : (n : ℕ) (d : TermPlace) → n ≤ count → GoesTo f written at.place n d → IsCovered tried (at.numbers ++ n ∷ []) d
+    pub settled : (n : ℕ) (d : TermPlace) → n ≤ count → GoesTo f written at.place n d → IsSettled sought tried (at.numbers ++ n ∷ []) d
     pub unlike : (n : ℕ) (d : TermPlace) → n ≤ count → GoesTo f written at.place n d → AreAlike f (Written params written) d sought → ⊥
     pub before : (e : TermSpot) (n : ℕ) → count < n → Contains tried e → ComesBefore e.numbers (at.numbers ++ n ∷ [])

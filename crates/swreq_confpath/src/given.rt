@@ -15,6 +15,7 @@ ghost use Rattle.swreq_symbols.specs.Known.{IsRequirementIn, IsTextOver};
 ghost use Rattle.swreq_confpath.specs.declared.places.Place.TheVariants.{Start};
 ghost use Rattle.swreq_confpath.specs.Searches.{IsGiven, IsKnown, IsMachineFor, StandsFor, sought_in};
 
+use crate::parting::changed_symbols;
 use crate::path::ConfPath;
 use crate::places::Place;
 use crate::sought::{Sought, follow};
@@ -28,8 +29,9 @@ use swreq_world::World;
 
 /// The path that is given for the conformance that is sought, whose place this is.
 ///
-/// Lists of numbers are tried in their order, the shorter ones first. What was tried grows while the search goes on, so the search ends:
-/// with the path, since there is one, or for want of memory.
+/// Lists of numbers are tried in their order, the shorter ones first, but for those that lead to a place from which the one that is sought
+/// cannot be reached. What was tried grows while the search goes on, so the search ends: with the path, since there is one, or for want of
+/// memory.
 fn find(sought: &Sought<'_>, target: &Place) -> Result<ConfPath, AllocError>
     requires known { IsKnown sought.now }
     requires target { StandsFor sought.now target.now (sought_in sought.now) }
@@ -72,12 +74,14 @@ pub fn shortest(
         path.first path.steps (term_at table.now t) p) }
 {
     let list = world.bare_signature(alloc, f)?;
+    let changed = changed_symbols(alloc, machine.rules())?;
     let sought = Sought {
         alloc,
         world,
         table,
         machine,
         list: &list,
+        changed: &changed,
         subject: t,
         proto: p,
     };

@@ -9,7 +9,12 @@ ghost use Rattle.swreq_derive.specs.Derivation.TermRequirement.{Conforms};
 ghost use Rattle.swreq_derive.specs.Derivation.TermStatement.{Requires};
 ghost use Rattle.swreq_derive.specs.Paths.{IsConformancePath};
 ghost use Rattle.swreq_derive.specs.WellFormed.{AreProtocolsWellFormed, IsListWellFormed};
+ghost use Rattle.swreq_word.specs.declared.symbols.Symbol.{Symbol};
+ghost use Rattle.swreq_rule.specs.declared.rules.Rule.{Rule};
+ghost use Rattle.swreq_complete.specs.Complete.{IsComplete};
+ghost use Rattle.swreq_symbols.specs.Vanishing.{IsLeastBy, Links};
 ghost use Rattle.swreq_confpath.specs.Numbers.{AreNumbers};
+ghost use Rattle.swreq_confpath.specs.Parting.{PartsForGood};
 ghost use Rattle.swreq_confpath.specs.Routes.{AreAlike, IsNotAfter, LeadTo, TermPlace};
 ghost use Rattle.swreq_confpath.specs.Routes.TermPlace.{Conformance, Start};
 
@@ -38,4 +43,10 @@ pub fn paths_lead_from_the_start()
 pub fn paths_have_texts()
     ensures { (f : TermFacts) (params : List ParamId) (written : List TermRequirement) (t : Term) (p : ProtoId)
         (first : ℕ) (steps : List ℕ) → IsConformancePath f params written first steps t p → AreNumbers f written first steps }
+{}
+
+/// A least word that has parted for good from another least word is the front of no word of that one's class.
+pub fn parted_words_stay_apart()
+    ensures { (rules : List Rule) → IsComplete rules → (u v tail : List Symbol) → IsLeastBy rules u → IsLeastBy rules v
+        → PartsForGood rules u v → Links rules (v ++ tail) u → ⊥ }
 {}

@@ -3,6 +3,7 @@
 
 mod given;
 pub mod laws;
+mod parting;
 mod path;
 mod places;
 mod sought;

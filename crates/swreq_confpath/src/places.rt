@@ -1,9 +1,10 @@
 //! Where numbers of requirements lead.
 ghost use Rattle.std.specs.Prelude.{◌≡◌, IfOk};
+ghost use Rattle.swreq_confpath.specs.Spots.{word_at};
 
 use std::alloc::AllocError;
 use swreq_param::ProtoId;
-use swreq_word::Word;
+use swreq_word::{Symbol, Word};
 
 /// Where numbers of requirements have led.
 #[derive(Debug, Drop, PartialEq, Eq, Hash)]
@@ -15,6 +16,16 @@ pub(crate) enum Place {
 }
 
 impl Place {
+    /// The least word of the subject, which has no symbols at the start.
+    pub(crate) fn word(&self) -> &[Symbol]
+        ensures { result.now ≡ word_at self.now }
+    {
+        match self {
+            Place::Start => &[],
+            Place::Conformance { subject, .. } => subject.symbols(),
+        }
+    }
+
     /// The same place once more.
     pub(crate) fn copy(&self) -> Result<Place, AllocError>
         ensures { IfOk result (λ place. place ≡ self.now) }

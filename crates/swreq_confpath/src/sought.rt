@@ -8,14 +8,16 @@ ghost use Rattle.swreq_word.specs.declared.symbols.Symbol.{Symbol};
 ghost use Rattle.swreq_symbols.specs.Known.{IsTextOver, IsTypeIn};
 ghost use Rattle.swreq_symbols.specs.Vanishing.{IsLeastBy, Links};
 ghost use Rattle.swreq_valid.specs.Asked.{IsLeastWord};
+ghost use Rattle.swreq_valid.specs.Rounds.{last_rules};
 ghost use Rattle.swreq_confpath.specs.declared.places.Place.TheVariants.{Conformance};
 ghost use Rattle.swreq_confpath.specs.Routes.{TermPlace, gone_on};
-ghost use Rattle.swreq_confpath.specs.Searches.{IsPlaceIn, StandsFor, required_at, world_in};
+ghost use Rattle.swreq_confpath.specs.Searches.{HasLeastWord, IsPlaceIn, StandsFor, required_at, world_in};
 
 use crate::places::Place;
 use std::alloc::{AllocError, Global};
 use swreq_complete::CompleteRules;
 use swreq_derive::Requirement;
+use swreq_map::append;
 use swreq_param::{ParamTable, ProtoId, TermId};
 use swreq_symbols::equation;
 use swreq_valid::Machine;
@@ -30,6 +32,8 @@ pub(crate) struct Sought<'a> {
     pub table: &'a ParamTable,
     pub machine: &'a Machine<'a>,
     pub list: &'a [Requirement],
+    /// The symbols that rules of the machine may change in a word that is reduced up to them.
+    pub changed: &'a [Symbol],
     /// The subject of the conformance that is sought, and its protocol.
     pub subject: TermId,
     pub proto: ProtoId,
@@ -50,19 +54,23 @@ pub(crate) fn required_at<'a>(
     }
 }
 
-/// The least word of those that the rules link to the one word followed by the other.
+/// The least word of those that the rules link to a least word followed by another.
 fn least(
     alloc: Global,
     rules: &CompleteRules<'_>,
     front: &[Symbol],
     rest: &[Symbol],
 ) -> Result<Word, AllocError>
+    requires { IsLeastBy rules.now front.now }
     ensures linked { IfOk result (Links rules.now (front.now ++ rest.now)) }
     ensures least { IfOk result (IsLeastBy rules.now) }
 {
-    let mut word = Vec::from_slice(alloc, front)?;
-    word.extend_from_slice(rest)?;
-    rules.reduce(&mut word);
+    let mut word = Vec::with_capacity(alloc, front.len() + rest.len())?;
+    word.extend_from_slice(front)?;
+    for k in 0..rest.len() {
+        word.reserve(1)?;
+        append(rules, &mut word, rest[k]);
+    }
     Ok(Word::new(word))
 }
 
@@ -96,6 +104,7 @@ fn word_behind(
 ) -> Result<Word, AllocError>
     requires text { IsTextOver sought.now.table.now sought.now.world.now }
     requires t { IsTypeIn sought.now.table.now sought.now.world.now.lexicon t }
+    requires base { IsLeastBy (last_rules sought.now.machine.now.rounds) base.now }
     ensures { (u : Term) → IsLeastWord (world_in sought.now) sought.now.machine.now u base.now
         → IfOk result (IsLeastWord (world_in sought.now) sought.now.machine.now (for_self u (term_at sought.now.table.now t))) }
 {
@@ -109,6 +118,7 @@ fn word_behind(
 fn subject_from(sought: &Sought<'_>, from: &Place, t: TermId) -> Result<Word, AllocError>
     requires text { IsTextOver sought.now.table.now sought.now.world.now }
     requires t { IsTypeIn sought.now.table.now sought.now.world.now.lexicon t }
+    requires least { HasLeastWord sought.now from.now }
     ensures { (a : TermPlace) (p : ProtoId) → StandsFor sought.now from.now a
         → IfOk result (λ u. StandsFor sought.now (Conformance u p) (gone_on a (term_at sought.now.table.now t) p)) }
 {
@@ -128,6 +138,7 @@ pub(crate) fn follow(
     requires text { IsTextOver sought.now.table.now sought.now.world.now }
     requires subject { IsTypeIn sought.now.table.now sought.now.world.now.lexicon subject }
     requires proto { IsProtocol sought.now.world.now.lexicon proto }
+    requires least { HasLeastWord sought.now from.now }
     ensures place { IfOk result (IsPlaceIn sought.now.world.now) }
     ensures stands { (a : TermPlace) → StandsFor sought.now from.now a
         → IfOk result (λ place. StandsFor sought.now place (gone_on a (term_at sought.now.table.now subject) proto)) }

@@ -1,9 +1,10 @@
 //! What goes on from a place.
-ghost use Rattle.std.specs.Prelude.{◌≡◌, ◌+◌, ◌-◌, ◌<◌, ◌∷◌, ◌++◌, [], length, slice_get, Some, IfOk, MatchOption};
+ghost use Rattle.std.specs.Prelude.{◌≡◌, ◌+◌, ◌-◌, ◌<◌, ◌∷◌, ◌++◌, [], length, slice_get, Some, IfOk, IsTrue, MatchOption};
 ghost use Rattle.swreq_derive.specs.Instances.{HasNumber};
-ghost use Rattle.swreq_confpath.specs.Searches.{IsGiven, IsKnown, IsSearch, IsSearchAt, StandsFor, required_at, sought_in};
+ghost use Rattle.swreq_confpath.specs.Searches.{HasParted, IsGiven, IsKnown, IsSearch, IsSearchAt, StandsFor, required_at, sought_in};
 ghost use Rattle.swreq_confpath.specs.Spots.{IsKept, Spot};
 
+use crate::parting::parts_for_good;
 use crate::path::{ConfPath, path_of};
 use crate::places::Place;
 use crate::sought::{Sought, follow, required_at};
@@ -42,7 +43,15 @@ fn try_place(
     Ok(None)
 }
 
-/// Tries the requirement with the next number. By no other than a conformance one goes on.
+/// Whether the place has parted for good from the target: no numbers lead on from it to the conformance that is sought.
+fn has_parted(sought: &Sought<'_>, target: &Place, place: &Place) -> bool
+    requires { IsKnown sought.now }
+    ensures { IsTrue result → HasParted sought.now target.now place.now }
+{
+    parts_for_good(sought.changed, target.word(), place.word())
+}
+
+/// Tries the requirement with the next number. By no other than a conformance one goes on, and not to a place that has parted.
 fn try_requirement(
     sought: &Sought<'_>,
     target: &Place,
@@ -62,6 +71,9 @@ fn try_requirement(
     match requirement {
         Requirement::Conf { subject, proto } => {
             let place = follow(sought, turn.from, subject, proto)?;
+            if has_parted(sought, target, &place) {
+                return Ok(None);
+            }
             try_place(sought.alloc, target, tried, turn.next, number, place)
         }
         _ => Ok(None),

@@ -1,7 +1,14 @@
-use Rattle.std.proofs.Common.{◌∙◌}
+use Rattle.std.proofs.Common.{◌∙◌, sym, subst}
 use Rattle.swreq_param.specs.Tables.{term_at}
+use Rattle.swreq_symbols.specs.Vanishing.{IsLeastBy}
+use Rattle.swreq_valid.specs.Rounds.{last_rules}
 use Rattle.swreq_confpath.proofs.Standing.{next_word}
 use Rattle.swreq_confpath.proofs.sought.word_behind.Goals as goal
+
+pub least-requires : goal.least-requires
+least-requires c =
+    subst (λ z. IsLeastBy z c.symbols-2.result.now) (sym c.rules.ensures)
+    (subst (IsLeastBy (last_rules c.args.sought.now.machine.now.rounds)) (sym c.symbols-2.ensures) c.requires.base)
 
 pub returns : goal.returns
 returns c u h =

@@ -6,7 +6,8 @@ use Rattle.swreq_derive.proofs.InstanceLemmas.{contains_number}
 use Rattle.swreq_symbols.specs.Known.{IsRequirementIn}
 use Rattle.swreq_confpath.specs.Searches.{required_at}
 use Rattle.swreq_confpath.proofs.Requirements.{requirement_in}
-use Rattle.swreq_confpath.proofs.Searching.{passed_by, tried_by, within}
+use Rattle.swreq_confpath.proofs.Searching.{passed_by, set_aside_by, tried_by, within}
+use Rattle.swreq_confpath.proofs.Standing.{place_least}
 use Rattle.swreq_confpath.proofs.trying.try_requirement.Goals as goal
 
 pub follow-requires-clause-subject : goal.follow-requires-clause-subject
@@ -25,11 +26,23 @@ follow-requires-clause-proto c =
     let k = subst (IsRequirementIn s.table.now s.world.now.lexicon) c.in-Conf.is of in
     k.1.1
 
+pub follow-requires-clause-least : goal.follow-requires-clause-least
+follow-requires-clause-least c = place_least c.args.sought.now c.args.turn.from.now c.requires.at.at.place c.requires.at.stands_at
+
+pub returns-then-has_parted : goal.returns-then-has_parted
+returns-then-has_parted c =
+    let s = c.args.sought.now in
+    let rs = required_at s.world.now s.list.now c.args.turn.from.now in
+    let number = subst (HasNumber c.args.number rs) c.in-Conf.is c.requires.number in
+    set_aside_by s c.requires.known c.args.tried.now c.args.turn.next c.args.turn.from.now c.args.target.now c.in_ok-place-in-Conf.place c.args.number
+    c.in-Conf.subject c.in-Conf.proto c.requires.at number c.requires.target c.in_ok-place-in-Conf.ensures.place c.in_ok-place-in-Conf.ensures.stands
+    (c.has_parted.ensures c.if-has_parted.true)
+
 pub try_place-requires : goal.try_place-requires
 try_place-requires c = within c.args.sought.now c.args.tried.now c.args.turn.next c.args.turn.from.now _ c.requires.at
 
-pub returns-in_ok-place-in-Conf : goal.returns-in_ok-place-in-Conf
-returns-in_ok-place-in-Conf c =
+pub returns-else-has_parted : goal.returns-else-has_parted
+returns-else-has_parted c =
     let s = c.args.sought.now in
     let spots = c.args.tried.now in
     let rs = required_at s.world.now s.list.now c.args.turn.from.now in

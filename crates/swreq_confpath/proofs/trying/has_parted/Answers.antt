@@ -1,0 +1,11 @@
+use Rattle.std.proofs.Common.{subst}
+use Rattle.swreq_valid.specs.Rounds.{last_rules}
+use Rattle.swreq_confpath.specs.Parting.{PartsForGood}
+use Rattle.swreq_confpath.specs.Spots.{word_at}
+use Rattle.swreq_confpath.proofs.trying.has_parted.Goals as goal
+
+pub returns : goal.returns
+returns c holds =
+    let rules = last_rules c.args.sought.now.machine.now.rounds in
+    subst (λ z. PartsForGood rules z (word_at c.args.place.now)) c.word.ensures
+    (subst (λ z. PartsForGood rules c.word.result.now z) c.word-2.ensures (c.parts_for_good.ensures rules c.requires.others holds))
