@@ -41,7 +41,8 @@ module _ (Class : Word → Word → Type 0) (rules : List Rule) where
       ];
     }
 
-    pub one_added : (new : Rule) → IsReduced Class new → rule.left ≡ new.left → (more : List Rule) → more ≡ system ++ new ∷ [] → AreOfParams Class rules (k + 1) more
+    pub one_added : (new : Rule) → IsReduced Class new → rule.left ≡ new.left → (more : List Rule) → more ≡ system ++ new ∷ []
+        → AreOfParams Class rules (k + 1) more
     one_added new reduced left more e = subst (AreOfParams Class rules (k + 1)) (sym e) (record {
       each = λ j r g. elim (get_cases system new j r g) [
         | inl h ↦ so_far.each j r h

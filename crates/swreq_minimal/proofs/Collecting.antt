@@ -38,26 +38,38 @@ use Rattle.swreq_minimal.proofs.ByParams.{read_begins}
 use Rattle.swreq_minimal.proofs.Lifting.{from_said, to_said}
 use Rattle.swreq_minimal.proofs.Speaking.{one_said}
 
--- ---- what one rule says, beside what was there
+-- ---- what one rule says, besides what was there
 
 module _ (x : LexiconView) (rules : List Rule) (params : Params) (l r : Word) (old new : List TermRequirement) (same : new ≡ old) where
   pub nothing_more : ((q : TermRequirement) → IsRequirementOfRule x rules params l r q → ⊥) → (q : TermRequirement)
       → Contains new q ↔ (Contains old q ⊎ IsRequirementOfRule x rules params l r q)
-  nothing_more n q = ((λ h. inl (subst (λ z. Contains z q) same h)), λ h. elim h [ inl i ↦ subst (λ z. Contains z q) (sym same) i | inr i ↦ absurd (n q i) ])
+  nothing_more n q = (
+    (λ h. inl (subst (λ z. Contains z q) same h)),
+    λ h. elim h [ inl i ↦ subst (λ z. Contains z q) (sym same) i | inr i ↦ absurd (n q i) ],
+  )
 
   module _ (now : List TermRequirement) (said : TermRequirement) (says : IsRequirementOfRule x rules params l r said) where
     as_said : (q : TermRequirement) → Contains new q ⊎ (q ≡ said) → Contains old q ⊎ IsRequirementOfRule x rules params l r q
-    as_said q h = elim h [ inl i ↦ inl (subst (λ z. Contains z q) same i) | inr i ↦ inr (subst (IsRequirementOfRule x rules params l r) (sym i) says) ]
+    as_said q h =
+        elim h [
+          | inl i ↦ inl (subst (λ z. Contains z q) same i)
+          | inr i ↦ inr (subst (IsRequirementOfRule x rules params l r) (sym i) says)
+        ]
 
     pub one_more : ((q : TermRequirement) → Contains now q ↔ (Contains new q ⊎ (q ≡ said)))
         → (q : TermRequirement) → Contains now q ↔ (Contains old q ⊎ IsRequirementOfRule x rules params l r q)
     one_more h q = (
       (λ i. as_said q ((h q).0 i)),
-      λ i. (h q).1 (elim i [ inl j ↦ inl (subst (λ z. Contains z q) (sym same) j) | inr j ↦ inr (one_said x rules params l r q said j says) ]),
+      λ i. (h q).1 (elim i [
+        | inl j ↦ inl (subst (λ z. Contains z q) (sym same) j)
+        | inr j ↦ inr (one_said x rules params l r q said j says)
+      ]),
     )
 
-    pub one_more_sorted : ((f : TermFacts) (s : Source) → ((q : TermRequirement) → Contains new q ⊎ (q ≡ said) → IsCanonical f s q) → IsStrictlySorted new → IsStrictlySorted now)
-        → (f : TermFacts) (s : Source) → ((q : TermRequirement) → Contains old q ⊎ IsRequirementOfRule x rules params l r q → IsCanonical f s q)
+    pub one_more_sorted : ((f : TermFacts) (s : Source) → ((q : TermRequirement) → Contains new q ⊎ (q ≡ said) → IsCanonical f s q)
+        → IsStrictlySorted new → IsStrictlySorted now)
+        → (f : TermFacts) (s : Source)
+        → ((q : TermRequirement) → Contains old q ⊎ IsRequirementOfRule x rules params l r q → IsCanonical f s q)
         → IsStrictlySorted old → IsStrictlySorted now
     one_more_sorted h f s can was = h f s (λ q i. can q (as_said q i)) (subst IsStrictlySorted (sym same) was)
 
@@ -87,7 +99,8 @@ module _ (x : LexiconView) (rules : List Rule) (params : Params) (system : List 
 
     pub more_said : (old new : List TermRequirement) → IsListOfFirstRules x rules params system k old
         → ((q : TermRequirement) → Contains new q ↔ (Contains old q ⊎ IsRequirementOfRule x rules params rule.left rule.right q))
-        → ((f : TermFacts) (s : Source) → ((q : TermRequirement) → Contains old q ⊎ IsRequirementOfRule x rules params rule.left rule.right q → IsCanonical f s q)
+        → ((f : TermFacts) (s : Source)
+        → ((q : TermRequirement) → Contains old q ⊎ IsRequirementOfRule x rules params rule.left rule.right q → IsCanonical f s q)
         → IsStrictlySorted old → IsStrictlySorted new) → IsListOfFirstRules x rules params system (k + 1) new
     more_said old new was h sorted = record {
       members = λ q. (
@@ -95,14 +108,16 @@ module _ (x : LexiconView) (rules : List Rule) (params : Params) (system : List 
         λ i. (h q).1 (elim (said_back q i) [ inl j ↦ inl ((was.members q).1 j) | inr j ↦ inr j ]),
       );
       sorted = λ f s can.
-          sorted f s (λ q i. can q (said_next q (elim i [ inl j ↦ inl ((was.members q).0 j) | inr j ↦ inr j ]))) (was.sorted f s (λ q i. can q (said_next q (inl i))));
+          sorted f s (λ q i. can q (said_next q (elim i [ inl j ↦ inl ((was.members q).0 j) | inr j ↦ inr j ])))
+          (was.sorted f s (λ q i. can q (said_next q (inl i))));
     }
 
 -- ---- all of them
 
 module _ (w : TextWorld) (closed : IsClosed w) (machine : MachineView) (list : List TermRequirement) (is : IsMachineOf w list machine)
     (complete : IsComplete (last_rules machine.rounds)) (system : List Rule)
-    (of_params : AreOfParams (Linked (Step (last_rules machine.rounds))) (last_rules machine.rounds) (length (last_rules machine.rounds)) system) where
+    (of_params : AreOfParams (Linked (Step (last_rules machine.rounds))) (last_rules machine.rounds)
+    (length (last_rules machine.rounds)) system) where
   abbrev L : Source
   L = Written (generic_params machine.params) list
 
@@ -119,18 +134,21 @@ module _ (w : TextWorld) (closed : IsClosed w) (machine : MachineView) (list : L
     least_along D C (λ u v. (is.rules u v).0) (λ u v. (is.rules u v).1) rule.right l,
   )
 
-  from_rules : (n : ℕ) (q : TermRequirement) → IsOfFirstRules w.lexicon (last_rules machine.rounds) machine.params system n q → IsCandidate (symbols_of w.lexicon) (facts_of w) L q
+  from_rules : (n : ℕ) (q : TermRequirement) → IsOfFirstRules w.lexicon (last_rules machine.rounds) machine.params system n q
+      → IsCandidate (symbols_of w.lexicon) (facts_of w) L q
   from_rules n q (k, rule, l, at, s) =
       let reduced = in_class rule (of_params.each k rule at) in
       (rule.left, rule.right, reduced, from_said w closed machine list is rule.left rule.right reduced.1 q s)
 
-  to_rules : (n : ℕ) → length system ≤ n → (q : TermRequirement) → IsCandidate (symbols_of w.lexicon) (facts_of w) L q → IsOfFirstRules w.lexicon (last_rules machine.rounds) machine.params system n q
+  to_rules : (n : ℕ) → length system ≤ n → (q : TermRequirement) → IsCandidate (symbols_of w.lexicon) (facts_of w) L q
+      → IsOfFirstRules w.lexicon (last_rules machine.rounds) machine.params system n q
   to_rules n far q (l, r, (minimal, c, least), off) =
       let minimal_too = minimal_along C D (λ u v. (is.rules u v).1) (λ u v. (is.rules u v).0) l minimal in
       let (j, there, at, e) = minimal_there (last_rules machine.rounds) (locally (last_rules machine.rounds) complete.meet) l minimal_too in
       let begins = read_begins (symbols_of w.lexicon) (facts_of w) L l r q off in
       let within = slice_get_within (last_rules machine.rounds) j there at in
-      let (k, rule, g, same) = of_params.all j there within at (subst BeginsWithParam (sym e) begins) (subst (IsMinimal D) (sym e) minimal_too) in
+      let (k, rule, g, same) = of_params.all j there within at (subst BeginsWithParam (sym e) begins)
+      (subst (IsMinimal D) (sym e) minimal_too) in
       let (_, d, also) = in_class rule (of_params.each k rule g) in
       let left : l ≡ rule.left = sym (same ∙ e) in
       let linked = subst (λ x. C x rule.right) (sym left) d in
@@ -150,6 +168,10 @@ module _ (w : TextWorld) (closed : IsClosed w) (machine : MachineView) (list : L
       → IsCandidateList (symbols_of w.lexicon) (facts_of w) L found
   are_candidates ended found said = record {
     sorted = said.sorted (facts_of w) L
-        (λ q h. canonical_here (symbols_of w.lexicon) (facts_of w) (generic_params machine.params) list ended q (from_rules (length system) q h));
-    members = λ q. ((λ h. from_rules (length system) q ((said.members q).0 h)), λ h. (said.members q).1 (to_rules (length system) (omega arith) q h));
+        (λ q h. canonical_here (symbols_of w.lexicon) (facts_of w) (generic_params machine.params) list ended q
+        (from_rules (length system) q h));
+    members = λ q. (
+      (λ h. from_rules (length system) q ((said.members q).0 h)),
+      λ h. (said.members q).1 (to_rules (length system) (omega arith) q h),
+    );
   }

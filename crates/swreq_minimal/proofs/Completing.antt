@@ -28,5 +28,6 @@ completed w closed protocols complete rules list machine complete_too is = recor
   ranked = ranks_law w closed;
   named = members_named w closed;
   protocols = least_words protocols (ProtocolEquation (symbols_of w.lexicon) (facts_of w)) rules complete.meet;
-  of_list = least_words (last_rules machine.rounds) (UsableEquation (symbols_of w.lexicon) (facts_of w) (Written (generic_params machine.params) list)) is.rules complete_too.meet;
+  of_list = least_words (last_rules machine.rounds)
+      (UsableEquation (symbols_of w.lexicon) (facts_of w) (Written (generic_params machine.params) list)) is.rules complete_too.meet;
 }

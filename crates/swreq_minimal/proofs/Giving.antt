@@ -1,4 +1,4 @@
--- The bound member for which a member symbol stands behind a word.
+-- The bound member for which a member symbol stands after a word.
 use Rattle.std.proofs.Common.{◌≡◌, refl, sym, ap, subst, ℕ, ◌<◌, ◌≤◌, arith, List, length, slice_get, Option, Some, None, MatchOption}
 use Rattle.std.proofs.lemmas.List.{length-map}
 use Rattle.swreq_param.specs.declared.ids.AssocId.{AssocId}
@@ -42,7 +42,8 @@ module _ (x : LexiconView) (rules : List Rule) (w : Word) where
         → MatchOption o ((d : AssocId) → IsGivenBehind x rules w s.name d → ⊥) (IsFirstBehind x rules w s.name)
         → MatchOption o ((d : AssocId) → IsMemberBehind x rules w (MemberSymbol rank) d → ⊥) (IsMemberBehind x rules w (MemberSymbol rank))
     member_given v None n = λ d h. let (k, e, r, u, f) = h in
-        n d (subst (λ a. IsGivenBehind x rules w a d) name_is (subst (λ j. IsGivenBehind x rules w (name_of (symbols_of x) j) d) (sym (same_members e)) f.given))
+        n d (subst (λ a. IsGivenBehind x rules w a d) name_is
+        (subst (λ j. IsGivenBehind x rules w (name_of (symbols_of x) j) d) (sym (same_members e)) f.given))
     member_given v (Some d) f = (
       rank,
       refl,

@@ -65,12 +65,14 @@ module _ {X : Type 0} (xs : List X) (from middle to : ℕ) (a : from ≤ middle)
         ap₂ take e behind_is ∙ take-append_seam kept (drop to xs)
 
     -- the first half was gone through after it
-    pub both_stay : (last more : List X) → last ≡ take from new ++ (more ++ drop middle new) → last ≡ take from xs ++ ((more ++ kept) ++ drop to xs)
+    pub both_stay : (last more : List X) → last ≡ take from new ++ (more ++ drop middle new)
+        → last ≡ take from xs ++ ((more ++ kept) ++ drop to xs)
     both_stay last more e =
         e ∙ (ap₂ (λ u v. u ++ (more ++ v)) front_stays behind_is ∙ ap (λ z. take from xs ++ z) (sym (append_assoc more kept (drop to xs))))
 
 -- the middle of a span of two places or more stands within it
-pub halves : (from to : ℕ) → from < to → (from + (to - from) / 2 ≡ from → ⊥) → (from < from + (to - from) / 2) × (from + (to - from) / 2 < to)
+pub halves : (from to : ℕ) → from < to → (from + (to - from) / 2 ≡ from → ⊥) → (from < from + (to - from) / 2)
+    × (from + (to - from) / 2 < to)
 halves from to some n = elim (cases_lt from (from + (to - from) / 2)) [
   | inl l ↦ (l, omega (arith, some, l))
   | inr l ↦ absurd (n (omega (arith, l)))
@@ -83,7 +85,8 @@ one_place from to some e = omega (arith, some, e)
 -- ---- rules
 
 -- what holds of a value that is there holds of it where it is borrowed
-pub where_borrowed : {X : Type 0} (P : X → Type 0) (o : Option (Bor X)) (v : Option X) → option_copied o ≡ v → IfSome v P → IfSome o (λ b. P b.now)
+pub where_borrowed : {X : Type 0} (P : X → Type 0) (o : Option (Bor X)) (v : Option X) → option_copied o ≡ v → IfSome v P
+    → IfSome o (λ b. P b.now)
 where_borrowed P None v e h = tt
 where_borrowed P (Some b) v e h = subst (λ z. IfSome z P) (sym e) h
 
@@ -118,14 +121,16 @@ module _ (s : Setting) where
       )
 
   module _ (xs : List Requirement) (from middle to : ℕ) (a : from ≤ middle) (b : middle ≤ to) (c : to ≤ length xs) where
-    -- beside the second half stand the front with the first half, and what is behind
+    -- outside the second half stand the front with the first half, and what comes after
     pub for_second : (q : TermRequirement)
-        → Contains (said (take from xs ++ drop to xs) ++ said (take (middle - from) (drop from xs))) q ↔ Contains (said (take middle xs ++ drop to xs)) q
+        → Contains (said (take from xs ++ drop to xs) ++ said (take (middle - from) (drop from xs))) q
+        ↔ Contains (said (take middle xs ++ drop to xs)) q
     for_second q =
-        subst (λ z. Contains (said (take from xs ++ drop to xs) ++ said (take (middle - from) (drop from xs))) q ↔ Contains (said (z ++ drop to xs)) q)
+        subst (λ z. Contains (said (take from xs ++ drop to xs) ++ said (take (middle - from) (drop from xs))) q
+        ↔ Contains (said (z ++ drop to xs)) q)
         (sym (front_is xs from middle to a b c)) (with_front (take from xs) (drop to xs) (take (middle - from) (drop from xs)) q)
 
-    -- beside the first half stand the front, and what is left of the second half with what is behind
+    -- outside the first half stand the front, and what is left of the second half with what comes after
     pub for_first : (new kept : List Requirement) → new ≡ take middle xs ++ (kept ++ drop to xs) → (q : TermRequirement)
         → Contains (said (take from xs ++ drop to xs) ++ said (take (length new - (length xs - to) - middle) (drop middle new))) q
         ↔ Contains (said (take from new ++ drop middle new)) q
@@ -138,7 +143,8 @@ module _ (s : Setting) where
 
   -- rules that grew are those of a list with the same members
   pub grown_to : (list : List TermRequirement) (more whole : List Requirement) (old new : ListRulesView)
-      → ((q : TermRequirement) → Contains (list ++ said more) q ↔ Contains (said whole) q) → AreOfList s list old → AreGrownBy s old more new
+      → ((q : TermRequirement) → Contains (list ++ said more) q ↔ Contains (said whole) q) → AreOfList s list old
+      → AreGrownBy s old more new
       → AreOfList s (said whole) new
   grown_to list more whole old new same are grown =
       same_list s (list ++ said more) (said whole) new (λ q h. (same q).0 h) (λ q h. (same q).1 h) (grown list are)

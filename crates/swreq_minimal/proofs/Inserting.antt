@@ -57,14 +57,17 @@ one_requirement terms distinct (Same t u) (Layout v) h k e = cc
 
 -- ---- the members of a list over ids
 
-pub in_listed : (terms : List Term) (r : Requirement) (rs : List Requirement) → Contains rs r → Contains (listed terms rs) (requirement_of terms r)
+pub in_listed : (terms : List Term) (r : Requirement) (rs : List Requirement) → Contains rs r
+    → Contains (listed terms rs) (requirement_of terms r)
 in_listed terms r [] h = no_member r h
 in_listed terms r (q ∷ rs) h = elim (member_cases q r rs h) [
-  | inl e ↦ subst (λ z. Contains (requirement_of terms q ∷ listed terms rs) (requirement_of terms z)) (sym e) (first_member (requirement_of terms q) (listed terms rs))
+  | inl e ↦ subst (λ z. Contains (requirement_of terms q ∷ listed terms rs) (requirement_of terms z)) (sym e)
+      (first_member (requirement_of terms q) (listed terms rs))
   | inr k ↦ later_member (requirement_of terms q) (requirement_of terms r) (listed terms rs) (in_listed terms r rs k)
 ]
 
-pub from_listed : (terms : List Term) (r : TermRequirement) (rs : List Requirement) → Contains (listed terms rs) r → (q : Requirement) × Contains rs q × (requirement_of terms q ≡ r)
+pub from_listed : (terms : List Term) (r : TermRequirement) (rs : List Requirement) → Contains (listed terms rs) r → (q : Requirement)
+    × Contains rs q × (requirement_of terms q ≡ r)
 from_listed terms r [] h = no_member r h
 from_listed terms r (q ∷ rs) h = elim (member_cases (requirement_of terms q) r (listed terms rs) h) [
   | inl e ↦ (q, first_member q rs, sym e)
@@ -90,10 +93,11 @@ module _ (terms : List Term) (found : List Requirement) (r : Requirement) where
       | inl i ↦ none.not_same q i
       | inr e ↦ subst (λ z. requirement_of terms z ≡ requirement_of terms r → ⊥) e n
     ];
-    not_later = λ q h. elim (Contains-push_cases (take k found) (get_or found k d) q (subst (λ z. Contains z q) (take_more found k d l) h)) [
-      | inl i ↦ none.not_later q i
-      | inr e ↦ subst (λ z. RequirementBefore (requirement_of terms r) (requirement_of terms z) → ⊥) e m
-    ];
+    not_later =
+        λ q h. elim (Contains-push_cases (take k found) (get_or found k d) q (subst (λ z. Contains z q) (take_more found k d l) h)) [
+          | inl i ↦ none.not_later q i
+          | inr e ↦ subst (λ z. RequirementBefore (requirement_of terms r) (requirement_of terms z) → ⊥) e m
+        ];
   }
 
   pub belongs_here : (k : ℕ) (d : Requirement) → k < length found → NoneYet (take k found)
@@ -105,7 +109,8 @@ module _ (terms : List Term) (found : List Requirement) (r : Requirement) where
     place_is = length-take-le k found (omega (arith, l));
     not_same = none.not_same;
     not_later = none.not_later;
-    next = λ q rest e. subst (λ z. RequirementBefore (requirement_of terms r) (requirement_of terms z)) (same_heads (sym (drop-cons found k d l) ∙ e)) b;
+    next = λ q rest e. subst (λ z. RequirementBefore (requirement_of terms r) (requirement_of terms z))
+        (same_heads (sym (drop-cons found k d l) ∙ e)) b;
   }
 
   pub belongs_last : (k n : ℕ) → length found ≤ k → n ≡ length found → NoneYet (take k found) → BelongsAt terms found r n
@@ -121,7 +126,8 @@ module _ (terms : List Term) (found : List Requirement) (r : Requirement) where
 
 -- ---- insertion
 
-insertion_sorted : (xs ys : List TermRequirement) (r : TermRequirement) → IsStrictlySorted (xs ++ ys) → ((x : TermRequirement) → Contains xs x → RequirementBefore x r)
+insertion_sorted : (xs ys : List TermRequirement) (r : TermRequirement) → IsStrictlySorted (xs ++ ys)
+    → ((x : TermRequirement) → Contains xs x → RequirementBefore x r)
     → ((y : TermRequirement) (zs : List TermRequirement) → ys ≡ y ∷ zs → RequirementBefore r y) → IsStrictlySorted (xs ++ (r ∷ ys))
 insertion_sorted [] [] r s b a = ((λ q h. no_member q h), tt)
 insertion_sorted [] (y ∷ ys) r s b a = (
@@ -160,7 +166,8 @@ module _ (terms : List Term) (found : List Requirement) (r : Requirement) (k : �
   old_is : listed terms found ≡ front ++ rest
   old_is = ap (listed terms) at.split ∙ map-append (requirement_of terms) at.before at.after
 
-  pub inserted_members : (q : TermRequirement) → Contains (listed terms (insert found k r)) q ↔ (Contains (listed terms found) q ⊎ (q ≡ requirement_of terms r))
+  pub inserted_members : (q : TermRequirement) → Contains (listed terms (insert found k r)) q
+      ↔ (Contains (listed terms found) q ⊎ (q ≡ requirement_of terms r))
   inserted_members q = (
     (λ h. elim (Contains-append_cases front (requirement_of terms r ∷ rest) q (subst (λ z. Contains z q) now_is h)) [
       | inl i ↦ inl (subst (λ z. Contains z q) (sym old_is) (Contains-append_left front rest q i))
@@ -174,11 +181,13 @@ module _ (terms : List Term) (found : List Requirement) (r : Requirement) (k : �
         | inl j ↦ Contains-append_left front (requirement_of terms r ∷ rest) q j
         | inr j ↦ Contains-append_right front (requirement_of terms r ∷ rest) q (later_member (requirement_of terms r) q rest j)
       ]
-      | inr e ↦ Contains-append_right front (requirement_of terms r ∷ rest) q (subst (λ z. Contains (requirement_of terms r ∷ rest) z) (sym e) (first_member (requirement_of terms r) rest))
+      | inr e ↦ Contains-append_right front (requirement_of terms r ∷ rest) q
+          (subst (λ z. Contains (requirement_of terms r ∷ rest) z) (sym e) (first_member (requirement_of terms r) rest))
     ]),
   )
 
-  pub inserted_each : (P : Requirement → Type 0) → ((q : Requirement) → Contains found q → P q) → P r → (q : Requirement) → Contains (insert found k r) q → P q
+  pub inserted_each : (P : Requirement → Type 0) → ((q : Requirement) → Contains found q → P q) → P r → (q : Requirement)
+      → Contains (insert found k r) q → P q
   inserted_each P all one q h = elim (Contains-append_cases at.before (r ∷ at.after) q (subst (λ z. Contains z q) parts h)) [
     | inl i ↦ all q (subst (λ z. Contains z q) (sym at.split) (Contains-append_left at.before at.after q i))
     | inr i ↦ elim (member_cases r q at.after i) [
@@ -187,7 +196,8 @@ module _ (terms : List Term) (found : List Requirement) (r : Requirement) (k : �
     ]
   ]
 
-  pub inserted_sorted : (f : TermFacts) (s : Source) → ((q : TermRequirement) → Contains (listed terms found) q ⊎ (q ≡ requirement_of terms r) → IsCanonical f s q)
+  pub inserted_sorted : (f : TermFacts) (s : Source)
+      → ((q : TermRequirement) → Contains (listed terms found) q ⊎ (q ≡ requirement_of terms r) → IsCanonical f s q)
       → IsStrictlySorted (listed terms found) → IsStrictlySorted (listed terms (insert found k r))
   inserted_sorted f s c o =
       let own : IsCanonical f s (requirement_of terms r) = c (requirement_of terms r) (inr refl) in
@@ -216,6 +226,7 @@ module _ (terms : List Term) (found : List Requirement) (r : Requirement) (k : �
       omega (arith, e, p, length-append at.before at.after)
 
 -- the one that is there already
-pub there_members : (terms : List Term) (found : List Requirement) (r : Requirement) → Contains (listed terms found) (requirement_of terms r)
+pub there_members : (terms : List Term) (found : List Requirement) (r : Requirement)
+    → Contains (listed terms found) (requirement_of terms r)
     → (q : TermRequirement) → Contains (listed terms found) q ↔ (Contains (listed terms found) q ⊎ (q ≡ requirement_of terms r))
 there_members terms found r h q = ((λ i. inl i), λ i. elim i [ inl j ↦ j | inr e ↦ subst (λ z. Contains (listed terms found) z) (sym e) h ])

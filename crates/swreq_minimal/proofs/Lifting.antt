@@ -41,8 +41,11 @@ module _ (m : Symbols) (f : TermFacts) (s : Source) where
   begins_front : (t : Term) (rest u : Word) → BeginsAs m f s t rest u → (front : Word) × (u ≡ front ++ rest) × IsTypeOf m f s front t
   begins_front (Generic g) rest u h = (Param g.depth g.index ∷ [], h, refl)
   begins_front (Member t (Bound d)) rest u (k, c, i, h) =
-      let (front, e, j) = begins_front t (MemberSymbol k ∷ rest) u h in
-      (front ++ MemberSymbol k ∷ [], e ∙ sym (append_assoc front (MemberSymbol k ∷ []) rest), (k, c, i, begins_on m f s t [] (MemberSymbol k ∷ []) front j))
+      let (front, e, j) = begins_front t (MemberSymbol k ∷ rest) u h in (
+        front ++ MemberSymbol k ∷ [],
+        e ∙ sym (append_assoc front (MemberSymbol k ∷ []) rest),
+        (k, c, i, begins_on m f s t [] (MemberSymbol k ∷ []) front j),
+      )
   begins_front (Member t (Name a)) rest u h = absurd h
 
 module _ (w : TextWorld) (closed : IsClosed w) (machine : MachineView) (list : List TermRequirement) (is : IsMachineOf w list machine) where
@@ -67,7 +70,7 @@ module _ (w : TextWorld) (closed : IsClosed w) (machine : MachineView) (list : L
       stands m f ps list
       (record { symbols = symbols_law w closed; of_text = text_law w closed; in_text = is.in_text; ranked = ranks_law w closed })
 
-  -- so behind it just those protocols vanish to which T conforms
+  -- so after it just those protocols vanish to which T conforms
   module _ (t : Term) (u : Word) (h : IsTypeOf m f L u t) (v : Derivable f L (IsValid t)) where
     conforming : (p : ProtoId) → Derivable f L (Requires (Conforms t p)) ↔ Vanishes rules u (Proto p.rank)
     conforming = vanishing w closed machine list is u t (behind t u h) v
@@ -81,8 +84,13 @@ module _ (w : TextWorld) (closed : IsClosed w) (machine : MachineView) (list : L
   to_type (Generic g) u v h = (valid_generic v, h)
   to_type (Member t (Bound d)) u v (k, c, i, h) =
       let (front, e, j) = begins_front m f L t (MemberSymbol k ∷ []) u h in
-      let b = valid_base (Bound d) v in
-      (front, MemberSymbol k, e, to_type t front b j, (k, refl, c.0, (conforming t front j b (proto_of m k)).0 c.1, (firsts t front j b (name_of m k) d).0 i))
+      let b = valid_base (Bound d) v in (
+        front,
+        MemberSymbol k,
+        e,
+        to_type t front b j,
+        (k, refl, c.0, (conforming t front j b (proto_of m k)).0 c.1, (firsts t front j b (name_of m k) d).0 i),
+      )
   to_type (Member t (Name a)) u v h = absurd h
 
   from_type : (t : Term) (u : Word) → IsTypeBy w.lexicon rules machine.params u t → Derivable f L (IsValid t) × IsTypeOf m f L u t
@@ -120,7 +128,8 @@ module _ (w : TextWorld) (closed : IsClosed w) (machine : MachineView) (list : L
 
   module _ (l r : Word) (rule : AreCongruent m f L l r) where
     -- the protocol of a conformance that is read off is of the text
-    of_text : (t : Term) (p : ProtoId) → Derivable f L (IsValid t) → IsTypeOf m f L r t → l ≡ r ++ Proto p.rank ∷ [] → IsProtocol w.lexicon p
+    of_text : (t : Term) (p : ProtoId) → Derivable f L (IsValid t) → IsTypeOf m f L r t → l ≡ r ++ Proto p.rank ∷ []
+        → IsProtocol w.lexicon p
     of_text t p v h e =
         let vanishes = (is.rules (r ++ Proto p.rank ∷ []) r).1 (subst (λ z. AreCongruent m f L z r) e rule) in
         let shown = chained_usable m (symbols_law w closed) (text_law w closed) is.in_text ((conforming t r h v p).1 vanishes) in

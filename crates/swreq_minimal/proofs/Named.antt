@@ -19,7 +19,8 @@ use Rattle.swreq_orders.proofs.Elements.{get_contains}
 use Rattle.swreq_symbols.proofs.Declared.{from_rank, member_is, of_rank}
 
 module _ (w : TextWorld) (closed : IsClosed w) where
-  pub leads_to : (p q : ProtoId) → IsProtocol w.lexicon p → IsProtocol w.lexicon q → IsTrue (inherits w.lexicon p q) → LeadsTo (facts_of w) p q
+  pub leads_to : (p q : ProtoId) → IsProtocol w.lexicon p → IsProtocol w.lexicon q → IsTrue (inherits w.lexicon p q)
+      → LeadsTo (facts_of w) p q
   leads_to p q h k e = let chain = (closed.inheritance p q h k).0 e in further chain.1 chain.2
 
   members_declared : AreMembersDeclared (symbols_of w.lexicon) (facts_of w)
@@ -37,8 +38,13 @@ module _ (w : TextWorld) (closed : IsClosed w) where
           × Declares (facts_of w) q (name_of (symbols_of w.lexicon) k) a
       by e same_proto same_name (q, l, c) =
           let a : AssocId = record { rank = c.0 } in
-          let at = slice_get-get_or w.lexicon.associated c.0 (pair q e.name) c.1 ∙ ap Some c.2 in
-          (q, a, subst (λ p. LeadsTo (facts_of w) p q) same_proto l, subst (λ n. Declares (facts_of w) q n a) same_name (from_rank w.lexicon q e.name a at))
+          let at = slice_get-get_or w.lexicon.associated c.0 (pair q e.name) c.1 ∙ ap Some c.2 in (
+            q,
+            a,
+            subst (λ p. LeadsTo (facts_of w) p q) same_proto l,
+            subst (λ n. Declares (facts_of w) q n a) same_name
+                (from_rank w.lexicon q e.name a at),
+          )
 
   pub members_named : AreMembersNamed (symbols_of w.lexicon) (facts_of w)
   members_named = declared_named (symbols_of w.lexicon) (facts_of w) members_declared

@@ -25,13 +25,15 @@ use Rattle.swreq_minimal.specs.Passed.{IsLastNeeded, IsLeftFrom, IsLeftWithout, 
 module _ (f : TermFacts) (ps : List ParamId) where
   -- ---- taking
 
-  pub skip_last : {before cs out : List TermRequirement} (r : TermRequirement) → Takes f ps before cs out → Derivable f (Written ps out) (Requires r)
+  pub skip_last : {before cs out : List TermRequirement} (r : TermRequirement) → Takes f ps before cs out
+      → Derivable f (Written ps out) (Requires r)
       → Takes f ps before (cs ++ r ∷ []) out
   skip_last r ended h = skipped h ended
   skip_last r (skipped d t) h = skipped d (skip_last r t h)
   skip_last r (taken n t) h = taken n (skip_last r t h)
 
-  pub take_last : {before cs out : List TermRequirement} (r : TermRequirement) → Takes f ps before cs out → (Derivable f (Written ps out) (Requires r) → ⊥)
+  pub take_last : {before cs out : List TermRequirement} (r : TermRequirement) → Takes f ps before cs out
+      → (Derivable f (Written ps out) (Requires r) → ⊥)
       → Takes f ps before (cs ++ r ∷ []) (out ++ r ∷ [])
   take_last r ended h = taken h ended
   take_last r (skipped d t) h = skipped d (take_last r t h)
@@ -40,11 +42,13 @@ module _ (f : TermFacts) (ps : List ParamId) where
   same_last : (before front : List TermRequirement) (q r : TermRequirement) → before ++ q ∷ [] ≡ front ++ r ∷ []
       → (Derivable f (Written ps before) (Requires q) → ⊥) → Derivable f (Written ps front) (Requires r) → ⊥
   same_last before front q r e n =
-      let cut = same_cut before (q ∷ []) front (r ∷ []) e (let l = ap length e in omega (arith, l, length-append before (q ∷ []), length-append front (r ∷ []))) in
+      let cut = same_cut before (q ∷ []) front (r ∷ []) e
+      (let l = ap length e in omega (arith, l, length-append before (q ∷ []), length-append front (r ∷ []))) in
       subst₂ (λ list one. Derivable f (Written ps list) (Requires one) → ⊥) cut.0 (same_heads cut.1) n
 
   -- the last one that was taken does not follow from those that were taken before it
-  needed : {before cs out : List TermRequirement} (front : List TermRequirement) (r : TermRequirement) → Takes f ps before cs out → out ≡ front ++ r ∷ []
+  needed : {before cs out : List TermRequirement} (front : List TermRequirement) (r : TermRequirement) → Takes f ps before cs out
+      → out ≡ front ++ r ∷ []
       → (before ≡ out) ⊎ (Derivable f (Written ps front) (Requires r) → ⊥)
   needed front r ended e = inl refl
   needed front r (skipped d t) e = needed front r t e
@@ -58,11 +62,13 @@ module _ (f : TermFacts) (ps : List ParamId) where
 
   module _ (terms : List Term) (cs : List Requirement) (k : ℕ) (d : Requirement) (l : k < length cs) where
     -- one candidate more
-    pub next_taken : (out : List TermRequirement) → Takes f ps [] (listed terms (take k cs) ++ requirement_of terms (get_or cs k d) ∷ []) out
+    pub next_taken : (out : List TermRequirement)
+        → Takes f ps [] (listed terms (take k cs) ++ requirement_of terms (get_or cs k d) ∷ []) out
         → Takes f ps [] (listed terms (take (k + 1) cs)) out
     next_taken out t = subst (λ z. Takes f ps [] z out) (sym (map_more (requirement_of terms) cs k d l)) t
 
-    pub taken_before : (out : List TermRequirement) → Takes f ps [] (listed terms (take k cs)) out → IsTakenBefore f ps (listed terms cs) out
+    pub taken_before : (out : List TermRequirement) → Takes f ps [] (listed terms (take k cs)) out
+        → IsTakenBefore f ps (listed terms cs) out
     taken_before out t = record {
       before = listed terms (take k cs);
       candidate = requirement_of terms (get_or cs k d);
@@ -84,7 +90,8 @@ module _ (f : TermFacts) (ps : List ParamId) where
   pub all_passed : (all now : List TermRequirement) → IsLeftFrom f ps 0 all now → Leaves f ps [] all now
   all_passed all now (out, e, h) = subst (Leaves f ps [] all) (sym e) h
 
-  module _ (all now : List TermRequirement) (k : ℕ) (d : TermRequirement) (l : k < length all) (left : IsLeftFrom f ps (k + 1) all now) where
+  module _ (all now : List TermRequirement) (k : ℕ) (d : TermRequirement) (l : k < length all)
+      (left : IsLeftFrom f ps (k + 1) all now) where
     abbrev r : TermRequirement
     r = get_or all k d
 
@@ -100,7 +107,8 @@ module _ (f : TermFacts) (ps : List ParamId) where
     rest_is : drop k all ≡ r ∷ drop (k + 1) all
     rest_is = drop-cons all k d l ∙ ap (λ n. r ∷ drop n all) (let e : suc k ≡ k + 1 = omega arith in e)
 
-    pub next_left : (new more : List TermRequirement) → new ≡ take k all ++ more → Leaves f ps (take k all) (r ∷ drop (k + 1) all) more → IsLeftFrom f ps k all new
+    pub next_left : (new more : List TermRequirement) → new ≡ take k all ++ more → Leaves f ps (take k all) (r ∷ drop (k + 1) all) more
+        → IsLeftFrom f ps k all new
     next_left new more e h = (more, e, subst (λ z. Leaves f ps (take k all) z more) (sym rest_is) h)
 
     pub left_without : (list : List TermRequirement) → list ≡ take k all ++ left.0 → IsLeftWithout f ps all list
@@ -115,7 +123,8 @@ module _ (f : TermFacts) (ps : List ParamId) where
     }
 
   -- the last one was gone through, and is needed
-  pub last_stays : (n : ℕ) (all : List TermRequirement) (d : TermRequirement) → n ≡ length all - 1 → IsLastNeeded f ps all → IsLeftFrom f ps n all all
+  pub last_stays : (n : ℕ) (all : List TermRequirement) (d : TermRequirement) → n ≡ length all - 1 → IsLastNeeded f ps all
+      → IsLeftFrom f ps n all all
   unfolding all_there
   last_stays n [] d e is_needed = all_there n [] (omega (arith, e))
   last_stays n (x ∷ xs) d e is_needed =
@@ -136,7 +145,8 @@ module _ {X : Type 0} where
 
   pub inserted : (front out : List X) (x : X) (k : ℕ) → length front ≡ k → insert (front ++ out) k x ≡ front ++ x ∷ out
   inserted front out x k e =
-      subst (λ n. insert (front ++ out) n x ≡ front ++ x ∷ out) e (ap₂ (λ u v. u ++ x ∷ v) (take-append_seam front out) (drop-append_seam front out))
+      subst (λ n. insert (front ++ out) n x ≡ front ++ x ∷ out) e
+      (ap₂ (λ u v. u ++ x ∷ v) (take-append_seam front out) (drop-append_seam front out))
 
   pub parted : (xs : List X) (k : ℕ) (d : X) → k < length xs → xs ≡ take k xs ++ get_or xs k d ∷ drop (suc k) xs
   parted xs k d l = sym (take-append-drop k xs) ∙ ap (λ z. take k xs ++ z) (drop-cons xs k d l)
@@ -157,7 +167,8 @@ module _ (terms : List Term) (now : List Requirement) (k : ℕ) (d : Requirement
   pub there_before : (q : Requirement) → Contains (remove now k) q → Contains now q
   there_before q h = elim (Contains-append_cases (take k now) (drop (suc k) now) q (subst (λ z. Contains z q) without h)) [
     | inl i ↦ subst (λ z. Contains z q) (sym (parted now k d l)) (Contains-append_left (take k now) (one ∷ drop (suc k) now) q i)
-    | inr i ↦ subst (λ z. Contains z q) (sym (parted now k d l)) (Contains-append_right (take k now) (one ∷ drop (suc k) now) q (later_member one q (drop (suc k) now) i))
+    | inr i ↦ subst (λ z. Contains z q) (sym (parted now k d l))
+        (Contains-append_right (take k now) (one ∷ drop (suc k) now) q (later_member one q (drop (suc k) now) i))
   ]
 
   module _ (front out : List TermRequirement) (r : TermRequirement) (is : listed terms now ≡ front ++ r ∷ out) (e : length front ≡ k) where
@@ -174,13 +185,15 @@ module _ (terms : List Term) (now : List Requirement) (k : ℕ) (d : Requirement
         ap (listed terms) without ∙ (map-append (requirement_of terms) (take k now) (drop (suc k) now) ∙ ap₂ ◌++◌ cut.0 (same_tails cut.1))
 
 -- what is dropped, and what is kept
-module _ (f : TermFacts) (ps : List ParamId) (terms : List Term) (now : List Requirement) (k : ℕ) (d : Requirement) (l : k < length now) where
+module _ (f : TermFacts) (ps : List ParamId) (terms : List Term) (now : List Requirement) (k : ℕ) (d : Requirement)
+    (l : k < length now) where
   abbrev Derives : Type 0
   Derives = Derivable f (Written ps (listed terms (remove now k))) (Requires (requirement_of terms (get_or now k d)))
 
   abbrev pub LeavesNow : List Requirement → Type 0
   LeavesNow new = (front behind out : List TermRequirement) (r : TermRequirement) → listed terms now ≡ front ++ r ∷ out → length front ≡ k
-      → Leaves f ps (front ++ r ∷ []) behind out → (more : List TermRequirement) × (listed terms new ≡ front ++ more) × Leaves f ps front (r ∷ behind) more
+      → Leaves f ps (front ++ r ∷ []) behind out → (more : List TermRequirement) × (listed terms new ≡ front ++ more)
+      × Leaves f ps front (r ∷ behind) more
 
   pub one_dropped : Derives → LeavesNow (remove now k)
   one_dropped h front behind out r is e leaves =
@@ -200,9 +213,10 @@ module _ (f : TermFacts) (ps : List ParamId) (terms : List Term) (now : List Req
             (subst (λ z. Derivable f (Written ps (front ++ out)) (Requires z)) (sym (one_is terms now k d l front out r is e)) h))),
       )
 
--- ---- the one at a place, where those behind it were gone through
+-- ---- the one at a place, where those after it were gone through
 
-module _ (f : TermFacts) (ps : List ParamId) (terms : List Term) (all : List TermRequirement) (now : List Requirement) (k : ℕ) (any : Requirement)
+module _ (f : TermFacts) (ps : List ParamId) (terms : List Term) (all : List TermRequirement) (now : List Requirement) (k : ℕ)
+    (any : Requirement)
     (within : suc k ≤ length all) (left : IsLeftFrom f ps (suc k) all (listed terms now)) where
   abbrev d : TermRequirement
   d = requirement_of terms any

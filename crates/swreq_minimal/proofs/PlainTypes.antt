@@ -35,7 +35,7 @@ module _ (f : TermFacts) (ps : List ParamId) (rest : List TermRequirement) where
 -- ---- the requirements of a list, one by one
 
 module _ (f : TermFacts) (ps : List ParamId) (terms : List Term) (list : List Requirement) where
-  -- the first ones, so many, have plain types
+  -- the first k have plain types
   abbrev pub ArePlainTo : ℕ → Type 0
   ArePlainTo k = (r : Requirement) → Contains (take k list) r → HasPlainTypes f ps (listed terms list) (requirement_of terms r)
 
@@ -44,12 +44,14 @@ module _ (f : TermFacts) (ps : List ParamId) (terms : List Term) (list : List Re
 
   pub plain_next : (k : ℕ) (d : Requirement) → k < length list → ArePlainTo k
       → HasPlainTypes f ps (listed terms list) (requirement_of terms (get_or list k d)) → ArePlainTo (k + 1)
-  plain_next k d l before one r h = elim (Contains-push_cases (take k list) (get_or list k d) r (subst (λ z. Contains z r) (take_more list k d l) h)) [
-    | inl i ↦ before r i
-    | inr e ↦ subst (λ z. HasPlainTypes f ps (listed terms list) (requirement_of terms z)) e one
-  ]
+  plain_next k d l before one r h =
+      elim (Contains-push_cases (take k list) (get_or list k d) r (subst (λ z. Contains z r) (take_more list k d l) h)) [
+        | inl i ↦ before r i
+        | inr e ↦ subst (λ z. HasPlainTypes f ps (listed terms list) (requirement_of terms z)) e one
+      ]
 
   pub all_plain : (k : ℕ) → length list ≤ k → ArePlainTo k → IsPlain f ps (listed terms list)
   all_plain k l to r h =
       let found = from_listed terms r list h in
-      subst (HasPlainTypes f ps (listed terms list)) found.2 (to found.0 (subst (λ z. Contains z found.0) (sym (take_all k list l)) found.1))
+      subst (HasPlainTypes f ps (listed terms list)) found.2
+      (to found.0 (subst (λ z. Contains z found.0) (sym (take_all k list l)) found.1))

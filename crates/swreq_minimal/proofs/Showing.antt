@@ -75,10 +75,12 @@ module _ (m : Symbols) (f : TermFacts) (rest : List TermRequirement) where
   pub one_more : (rules new : List Rule) (r : TermRequirement) → Contains rest r → AreRulesOfRest m f [] rest rules
       → (new ≡ rules) ⊎ ((rule : Rule) × (new ≡ rules ++ rule ∷ []) × IsOfEquation m r rule) → AreRulesOfRest m f [] rest new
   one_more rules new r h are (inl e) = subst (AreRulesOfRest m f [] rest) (sym e) are
-  one_more rules new r h are (inr (rule, e, is)) = subst (AreRulesOfRest m f [] rest) (sym e) (λ k q at. elim (get_cases rules rule k q at) [
-    | inl b ↦ are k q b
-    | inr b ↦ subst (λ (z : Rule). RestEquation m f [] rest z.left z.right ⊎ RestEquation m f [] rest z.right z.left) (sym b.1) (of_equation r rule h is)
-  ])
+  one_more rules new r h are (inr (rule, e, is)) =
+      subst (AreRulesOfRest m f [] rest) (sym e) (λ k q at. elim (get_cases rules rule k q at) [
+        | inl b ↦ are k q b
+        | inr b ↦ subst (λ (z : Rule). RestEquation m f [] rest z.left z.right ⊎ RestEquation m f [] rest z.right z.left) (sym b.1)
+            (of_equation r rule h is)
+      ])
 
 -- ---- loops
 
@@ -89,7 +91,8 @@ pub pair_there : (rules : List Rule) (number : ℕ) (pairs : List Pair) (k : ℕ
     → ArePairs rules (HasGreater number) pairs → HasPair rules pair.place
 pair_there rules number pairs k pair l e are = (pair.left, pair.right, (are.each k pair (slice_get-get_or pairs k pair l ∙ ap Some e)).0)
 
-pub loops_more : (rules : List Rule) (loops new : List Loop) (round : Loop) → AreLoops rules loops → IsLoop rules round → new ≡ loops ++ round ∷ [] → AreLoops rules new
+pub loops_more : (rules : List Rule) (loops new : List Loop) (round : Loop) → AreLoops rules loops → IsLoop rules round
+    → new ≡ loops ++ round ∷ [] → AreLoops rules new
 loops_more rules loops new round are is e = subst (AreLoops rules) (sym e) (λ k q at. elim (get_cases loops round k q at) [
   | inl b ↦ are k q b
   | inr b ↦ subst (IsLoop rules) (sym b.1) is
@@ -97,14 +100,15 @@ loops_more rules loops new round are is e = subst (AreLoops rules) (sym e) (λ k
 
 -- ---- marks
 
--- none of so many is set but the last of all
+-- of these marks none is set but the last
 abbrev pub MarksLast : ℕ → List Bool → Type 0
 MarksLast count marks = (n : ℕ) → IsMarked marks n → n ≡ count
 
 pub none_marked : (count : ℕ) → MarksLast count []
 none_marked count n (k, e, at) = absurd cc
 
-pub one_more_mark : (count : ℕ) (marks : List Bool) (b : Bool) → (b ≡ true → length marks + 1 ≡ count) → MarksLast count marks → MarksLast count (marks ++ b ∷ [])
+pub one_more_mark : (count : ℕ) (marks : List Bool) (b : Bool) → (b ≡ true → length marks + 1 ≡ count) → MarksLast count marks
+    → MarksLast count (marks ++ b ∷ [])
 one_more_mark count marks b is before n (k, e, at) = elim (get_cases marks b k true at) [
   | inl h ↦ before n (k, e, h)
   | inr h ↦ (let l = is (sym h.1) in let i = h.0 in omega (arith, e, i, l))
@@ -130,20 +134,23 @@ last_shown rules loops keep may evidence law marks ((k, round, at, shows), witho
     ]
 
 pub some_shown : (rules : List Rule) (loops : List Loop) (keep may : List Bool) (found : Option Evidence) → EvidenceLinks rules keep
-    → MarksLast (length rules) may → MatchOption found (NoneShown keep may loops) (IsEvidence rules keep may loops) → IsTrue (is_some found) → LinkLast rules
+    → MarksLast (length rules) may → MatchOption found (NoneShown keep may loops) (IsEvidence rules keep may loops) → IsTrue (is_some found)
+    → LinkLast rules
 some_shown rules loops keep may (Some evidence) law marks is h = last_shown rules loops keep may evidence law marks is
 some_shown rules loops keep may None law marks is h = absurd cc
 
 -- ---- a derivation
 
-module _ (w : TextWorld) (closed : IsClosed w) (ps : List ParamId) (list : List TermRequirement) (in_text : IsInText (symbols_of w.lexicon) (Written ps list)) where
+module _ (w : TextWorld) (closed : IsClosed w) (ps : List ParamId) (list : List TermRequirement)
+    (in_text : IsInText (symbols_of w.lexicon) (Written ps list)) where
   abbrev m : Symbols
   m = symbols_of w.lexicon
 
   abbrev f : TermFacts
   f = facts_of w
 
-  pub evident : (r : TermRequirement) → IsPlain f ps list → HasPlainTypes f ps list r → (rules : List Rule) (rule : Rule) → AreRulesOfRest m f [] list rules
+  pub evident : (r : TermRequirement) → IsPlain f ps list → HasPlainTypes f ps list r → (rules : List Rule) (rule : Rule)
+      → AreRulesOfRest m f [] list rules
       → IsOfEquation m r rule → Linked (Step rules) rule.left rule.right → Derivable f (Written ps list) (Requires r)
   evident r plain types rules rule are is linked =
       derives m f ps list plain (symbols_law w closed) (text_law w closed) in_text r (plain_sides f ps list r types) (by is)
@@ -152,5 +159,8 @@ module _ (w : TextWorld) (closed : IsClosed w) (ps : List ParamId) (list : List 
       chain = links m f ps list rules (rules_any m f list ps rules are) linked
 
       by : IsOfEquation m r rule → HasEvidence m f ps list r
-      by (inl (e, g)) = subst₂ (Linking (RestEquation m f ps list)) (e ∙ sym (left_any m f list ps r)) (g ∙ sym (right_any m f list ps r)) chain
-      by (inr (e, g)) = turn_all (subst₂ (Linking (RestEquation m f ps list)) (e ∙ sym (right_any m f list ps r)) (g ∙ sym (left_any m f list ps r)) chain)
+      by (inl (e, g)) =
+          subst₂ (Linking (RestEquation m f ps list)) (e ∙ sym (left_any m f list ps r)) (g ∙ sym (right_any m f list ps r)) chain
+      by (inr (e, g)) =
+          turn_all (subst₂ (Linking (RestEquation m f ps list)) (e ∙ sym (right_any m f list ps r))
+          (g ∙ sym (left_any m f list ps r)) chain)

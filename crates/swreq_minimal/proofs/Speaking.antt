@@ -50,7 +50,8 @@ nothing_behind (z ∷ l) r e y h = absurd (omega arith)
 -- the part of a minimal word before its last symbol is least
 pub front_least : (Class : Word → Word → Type 0) (l : Word) (k : ℕ) → IsMinimal Class l → k < length l → IsLeast Class (take k l)
 front_least Class l k minimal w =
-    minimal.factors [] (take k l) (drop k l) (sym (take-append-drop k l)) (let e = length-take-le k l (omega (arith, w)) in omega (arith, e, w))
+    minimal.factors [] (take k l) (drop k l) (sym (take-append-drop k l))
+    (let e = length-take-le k l (omega (arith, w)) in omega (arith, e, w))
 
 module _ (x : LexiconView) (rules : List Rule) (params : Params) where
   -- ---- of what a left side speaks
@@ -92,7 +93,8 @@ module _ (x : LexiconView) (rules : List Rule) (params : Params) where
       → MatchOption o ((d : AssocId) → IsGivenBehind x rules front a d → ⊥) (IsFirstBehind x rules front a)
       → MatchOption o ((b : NameId) (d : AssocId) → IsNamed (symbols_of x) y b → IsFirstBehind x rules front b d → ⊥)
       (λ d. (b : NameId) × IsNamed (symbols_of x) y b × IsFirstBehind x rules front b d)
-  named_first front y a named None n = λ b d m f. n d (subst (λ z. IsGivenBehind x rules front z d) (one_name (symbols_of x) y b a m named) f.given)
+  named_first front y a named None n =
+      λ b d m f. n d (subst (λ z. IsGivenBehind x rules front z d) (one_name (symbols_of x) y b a m named) f.given)
   named_first front y a named (Some d) f = (a, named, f)
 
   member_subject : (front : Word) (y : Symbol) (t : Term) → 0 < length front → IsSubjectOf x rules params (front ++ y ∷ []) t
@@ -117,9 +119,11 @@ module _ (x : LexiconView) (rules : List Rule) (params : Params) where
       → (t : Term) → IsSubjectOf x rules params (front ++ y ∷ []) t → ⊥
   none_behind front y l n t h = let (z, d, a, e, k, m, f) = member_subject front y t l h in n z k
 
-  pub some_behind : (front : Word) (y : Symbol) → 0 < length front → (old new : List Term) (id : TermId) → IsTypeBy x rules params front (term_at old id) → (o : Option TermId)
+  pub some_behind : (front : Word) (y : Symbol) → 0 < length front → (old new : List Term) (id : TermId)
+      → IsTypeBy x rules params front (term_at old id) → (o : Option TermId)
       → MatchOption o ((a : NameId) (d : AssocId) → IsNamed (symbols_of x) y a → IsFirstBehind x rules front a d → ⊥)
-      (λ u. (a : NameId) × (d : AssocId) × IsNamed (symbols_of x) y a × IsFirstBehind x rules front a d × IsOf new u × (term_at new u ≡ Member (term_at old id) (Bound d)))
+      (λ u. (a : NameId) × (d : AssocId) × IsNamed (symbols_of x) y a × IsFirstBehind x rules front a d × IsOf new u
+      × (term_at new u ≡ Member (term_at old id) (Bound d)))
       → Identifies (IsSubjectOf x rules params (front ++ y ∷ [])) new o
   some_behind front y l old new id h None n = λ t k. let (z, d, a, e, j, m, f) = member_subject front y t l k in n a d m f
   some_behind front y l old new id h (Some u) (a, d, n, f, of, is) =
@@ -129,15 +133,18 @@ module _ (x : LexiconView) (rules : List Rule) (params : Params) where
   pub one_spoken : (v w : Term) (l : Word) → IsSubjectOf x rules params l v → IsSubjectOf x rules params l w → v ≡ w
   one_spoken (Generic g) (Generic h) l p q = one_type x rules params (Generic g) (Generic h) l p q
   one_spoken (Generic g) (Member t (Bound d)) l (c, e) (front, y, a, k, h, n, f) =
-      absurd (none_of_nothing x rules params t (subst (λ u. IsTypeBy x rules params u t) (nothing_before (Param g.depth g.index) y front (sym e ∙ k)).0 h))
+      absurd (none_of_nothing x rules params t
+      (subst (λ u. IsTypeBy x rules params u t) (nothing_before (Param g.depth g.index) y front (sym e ∙ k)).0 h))
   one_spoken (Member t (Bound d)) (Generic g) l (front, y, a, k, h, n, f) (c, e) =
-      absurd (none_of_nothing x rules params t (subst (λ u. IsTypeBy x rules params u t) (nothing_before (Param g.depth g.index) y front (sym e ∙ k)).0 h))
+      absurd (none_of_nothing x rules params t
+      (subst (λ u. IsTypeBy x rules params u t) (nothing_before (Param g.depth g.index) y front (sym e ∙ k)).0 h))
   one_spoken (Member t (Bound d)) (Member z (Bound b)) l (front, y, a, e, h, n, f) (other, s, c, k, j, m, g) =
       let (p, q) = same_from_push front other y s (sym e ∙ k) in
       let j' : IsTypeBy x rules params front z = subst (λ v. IsTypeBy x rules params v z) (sym p) j in
       let m' : IsNamed (symbols_of x) y c = subst (λ v. IsNamed (symbols_of x) v c) (sym q) m in
       let names : c ≡ a = one_name (symbols_of x) y c a m' n in
-      let g' : IsFirstBehind x rules front a b = subst (λ v. IsFirstBehind x rules front v b) names (subst (λ v. IsFirstBehind x rules v c b) (sym p) g) in
+      let g' : IsFirstBehind x rules front a b = subst (λ v. IsFirstBehind x rules front v b) names
+      (subst (λ v. IsFirstBehind x rules v c b) (sym p) g) in
       λ i. Member (one_type x rules params t z front h j' i) (Bound (one_first x rules front a d b f g' i))
   one_spoken (Member t (Name a)) w l h k = absurd h
   one_spoken (Generic g) (Member t (Name a)) l h k = absurd k
@@ -145,7 +152,8 @@ module _ (x : LexiconView) (rules : List Rule) (params : Params) where
 
   spoken_of_text : (v : Term) (l : Word) → IsSubjectOf x rules params l v → IsTermOf x v
   spoken_of_text (Generic g) l h = tt
-  spoken_of_text (Member t (Bound d)) l (front, y, a, e, h, n, f) = (type_of_text x rules params t front h, given_of_text x rules params front a d f)
+  spoken_of_text (Member t (Bound d)) l (front, y, a, e, h, n, f) =
+      (type_of_text x rules params t front h, given_of_text x rules params front a d f)
   spoken_of_text (Member t (Name a)) l h = absurd h
 
   -- ---- what the rule says
@@ -156,15 +164,18 @@ module _ (x : LexiconView) (rules : List Rule) (params : Params) where
       ((v : Term) → IsSubjectOf x rules params l v → term_at old t ≡ v)
       (λ r. (v : TermId) × (r ≡ Same t v) × IsOf new v × IsSubjectOf x rules params l (term_at new v) × (term_at old t ≡ term_at new v → ⊥))
 
-  pub none_same : (l : Word) (old new : List Term) (t : TermId) → ((v : Term) → IsSubjectOf x rules params l v → ⊥) → SaysSame l old new t None
+  pub none_same : (l : Word) (old new : List Term) (t : TermId) → ((v : Term) → IsSubjectOf x rules params l v → ⊥)
+      → SaysSame l old new t None
   none_same l old new t n v h = absurd (n v h)
 
-  pub some_same : (l : Word) (old new : List Term) (t v : TermId) → Extends old new → IsOf old t → IsOf new v → IsSubjectOf x rules params l (term_at new v) → (o : Option Requirement)
+  pub some_same : (l : Word) (old new : List Term) (t v : TermId) → Extends old new → IsOf old t → IsOf new v
+      → IsSubjectOf x rules params l (term_at new v) → (o : Option Requirement)
       → MatchOption o (term_at new t ≡ term_at new v) (λ r. (r ≡ Same t v) × (term_at new t ≡ term_at new v → ⊥)) → SaysSame l old new t o
   some_same l old new t v b of ov h None e = λ w k. sym (b.stands t of) ∙ (e ∙ one_spoken (term_at new v) w l h k)
   some_same l old new t v b of ov h (Some r) (i, n) = (v, i, ov, h, λ e. n (b.stands t of ∙ e))
 
-  pub nothing_said : (l r : Word) → ((t : Term) → IsTypeBy x rules params r t → ⊥) → (q : TermRequirement) → IsRequirementOfRule x rules params l r q → ⊥
+  pub nothing_said : (l r : Word) → ((t : Term) → IsTypeBy x rules params r t → ⊥) → (q : TermRequirement)
+      → IsRequirementOfRule x rules params l r q → ⊥
   nothing_said l r n (Conforms t p) h = n t h.0
   nothing_said l r n (IsAnyObject t) h = n t h.0
   nothing_said l r n (Equals t v) h = n t h.0
@@ -175,7 +186,8 @@ module _ (x : LexiconView) (rules : List Rule) (params : Params) where
       (((p : ProtoId) → l ≡ r ++ Proto p.rank ∷ [] → IsProtocol x p → ⊥) × (l ≡ r ++ Layout ∷ [] → ⊥))
       (λ q. ((p : ProtoId) × (l ≡ r ++ Proto p.rank ∷ []) × IsProtocol x p × (q ≡ Conf t p)) ⊎ ((l ≡ r ++ Layout ∷ []) × (q ≡ LayoutOf t)))
 
-  pub property_requirement : (l r : Word) (terms : List Term) (t : TermId) → IsOf terms t → IsTypeBy x rules params r (term_at terms t) → (q : Requirement)
+  pub property_requirement : (l r : Word) (terms : List Term) (t : TermId) → IsOf terms t → IsTypeBy x rules params r (term_at terms t)
+      → (q : Requirement)
       → SaysProperty l r t (Some q) → IsRequirementIn terms x q × IsRequirementOfRule x rules params l r (requirement_of terms q)
   property_requirement l r terms t of h q (inl (p, e, i, s)) =
       subst (λ z. IsRequirementIn terms x z × IsRequirementOfRule x rules params l r (requirement_of terms z)) (sym s)
@@ -184,7 +196,8 @@ module _ (x : LexiconView) (rules : List Rule) (params : Params) where
       subst (λ z. IsRequirementIn terms x z × IsRequirementOfRule x rules params l r (requirement_of terms z)) (sym s)
       ((of, type_of_text x rules params (term_at terms t) r h), (h, e))
 
-  pub same_type_requirement : (l r : Word) (old new : List Term) (t : TermId) → Extends old new → IsOf old t → IsTypeBy x rules params r (term_at old t)
+  pub same_type_requirement : (l r : Word) (old new : List Term) (t : TermId) → Extends old new → IsOf old t
+      → IsTypeBy x rules params r (term_at old t)
       → SaysProperty l r t None → (o : Option Requirement) → SaysSame l old new t o → Finds (IsRequirementOfRule x rules params l r) new x o
   same_type_requirement l r old new t b of h none None n = unsaid
     where
@@ -202,10 +215,12 @@ module _ (x : LexiconView) (rules : List Rule) (params : Params) where
 
   -- ---- a rule says at most one thing
 
-  not_spoken : (l r : Word) (y : Symbol) (t v : Term) → IsTypeBy x rules params r t → l ≡ r ++ y ∷ [] → ((a : NameId) → IsNamed (symbols_of x) y a → ⊥)
+  not_spoken : (l r : Word) (y : Symbol) (t v : Term) → IsTypeBy x rules params r t → l ≡ r ++ y ∷ []
+      → ((a : NameId) → IsNamed (symbols_of x) y a → ⊥)
       → IsSubjectOf x rules params l v → ⊥
   not_spoken l r y t (Generic g) h e none (c, k) =
-      none_of_nothing x rules params t (subst (λ u. IsTypeBy x rules params u t) (nothing_before (Param g.depth g.index) y r (sym k ∙ e)).0 h)
+      none_of_nothing x rules params t
+      (subst (λ u. IsTypeBy x rules params u t) (nothing_before (Param g.depth g.index) y r (sym k ∙ e)).0 h)
   not_spoken l r y t (Member z (Bound d)) h e none (front, s, a, k, j, n, f) =
       none a (subst (λ u. IsNamed (symbols_of x) u a) (same_from_push front r s y (sym k ∙ e)).1 n)
   not_spoken l r y t (Member z (Name a)) h e none k = k
@@ -219,12 +234,15 @@ module _ (x : LexiconView) (rules : List Rule) (params : Params) where
   no_layout : {p : ProtoId} → Proto p.rank ≡ Layout → ⊥
   no_layout e = cc
 
-  pub one_said : (l r : Word) (q o : TermRequirement) → IsRequirementOfRule x rules params l r q → IsRequirementOfRule x rules params l r o → q ≡ o
+  pub one_said : (l r : Word) (q o : TermRequirement) → IsRequirementOfRule x rules params l r q → IsRequirementOfRule x rules params l r o
+      → q ≡ o
   one_said l r (Conforms t p) (Conforms u g) (h, i, e) (k, j, s) =
       ap₂ Conforms (one_type x rules params t u r h k) (one_proto (same_from_push r r (Proto p.rank) (Proto g.rank) (sym e ∙ s)).1)
-  one_said l r (Conforms t p) (IsAnyObject u) (h, i, e) (k, s) = absurd (no_layout {p = p} (same_from_push r r (Proto p.rank) Layout (sym e ∙ s)).1)
+  one_said l r (Conforms t p) (IsAnyObject u) (h, i, e) (k, s) =
+      absurd (no_layout {p = p} (same_from_push r r (Proto p.rank) Layout (sym e ∙ s)).1)
   one_said l r (Conforms t p) (Equals u v) (h, i, e) (k, s, n) = absurd (not_spoken l r (Proto p.rank) t v h e (λ a m. m) s)
-  one_said l r (IsAnyObject t) (Conforms u p) (h, e) (k, i, s) = absurd (no_layout {p = p} (same_from_push r r (Proto p.rank) Layout (sym s ∙ e)).1)
+  one_said l r (IsAnyObject t) (Conforms u p) (h, e) (k, i, s) =
+      absurd (no_layout {p = p} (same_from_push r r (Proto p.rank) Layout (sym s ∙ e)).1)
   one_said l r (IsAnyObject t) (IsAnyObject u) (h, e) (k, s) = ap IsAnyObject (one_type x rules params t u r h k)
   one_said l r (IsAnyObject t) (Equals u v) (h, e) (k, s, n) = absurd (not_spoken l r Layout t v h e (λ a m. m) s)
   one_said l r (Equals t v) (Conforms u p) (h, s, n) (k, i, e) = absurd (not_spoken l r (Proto p.rank) u v k e (λ a m. m) s)

@@ -44,11 +44,12 @@ pub nothing_before : (z y : Symbol) (front : Word) → z ∷ [] ≡ front ++ y �
 nothing_before z y front e = let (f, s) = same_from_push [] front z y e in (sym f, s)
 
 module _ (x : LexiconView) (rules : List Rule) where
-  -- ---- the member behind a word is one
+  -- ---- the member after a word is one
 
   pub one_member : (w : Word) (y : Symbol) (d e : AssocId) → IsMemberBehind x rules w y d → IsMemberBehind x rules w y e → d ≡ e
   one_member w y d e (k, p, r, v, f) (j, q, s, u, g) =
-      one_first x rules w (name_of (symbols_of x) k) d e f (subst (λ n. IsFirstBehind x rules w (name_of (symbols_of x) n) e) (same_members (sym q ∙ p)) g)
+      one_first x rules w (name_of (symbols_of x) k) d e f
+      (subst (λ n. IsFirstBehind x rules w (name_of (symbols_of x) n) e) (same_members (sym q ∙ p)) g)
 
   module _ (params : Params) where
     -- ---- words of no symbol, and of one
@@ -61,18 +62,21 @@ module _ (x : LexiconView) (rules : List Rule) where
     pub of_one : (z : Symbol) (t : Term) → IsTypeBy x rules params (z ∷ []) t
         → (g : ParamId) × (t ≡ Generic g) × (z ≡ Param g.depth g.index) × Contains (generic_params params) g
     of_one z (Generic g) (c, e) = (g, refl, same_heads e, c)
-    of_one z (Member t (Bound d)) (front, y, e, h, m) = absurd (none_of_nothing t (subst (λ u. IsTypeBy x rules params u t) (nothing_before z y front e).0 h))
+    of_one z (Member t (Bound d)) (front, y, e, h, m) =
+        absurd (none_of_nothing t (subst (λ u. IsTypeBy x rules params u t) (nothing_before z y front e).0 h))
     of_one z (Member t (Name a)) h = absurd h
 
     pub not_param : (z : Symbol) → ((depth index : ℕ) → z ≡ Param depth index → ⊥) → (t : Term) → IsTypeBy x rules params (z ∷ []) t → ⊥
     not_param z n t h = let (g, e, i, c) = of_one z t h in n g.depth g.index i
 
-    pub not_of_these : (g : ParamId) → (Contains (generic_params params) g → ⊥) → (t : Term) → IsTypeBy x rules params (Param g.depth g.index ∷ []) t → ⊥
+    pub not_of_these : (g : ParamId) → (Contains (generic_params params) g → ⊥) → (t : Term)
+        → IsTypeBy x rules params (Param g.depth g.index ∷ []) t → ⊥
     not_of_these g n t h =
         let (k, e, i, c) = of_one (Param g.depth g.index) t h in
         n (subst (Contains (generic_params params)) (sym (one_param {g = g} {h = k} i)) c)
 
-    pub is_generic : (terms : List Term) (g : ParamId) (id : TermId) → Contains (generic_params params) g → IsOf terms id → term_at terms id ≡ Generic g
+    pub is_generic : (terms : List Term) (g : ParamId) (id : TermId) → Contains (generic_params params) g → IsOf terms id
+        → term_at terms id ≡ Generic g
         → Identifies (IsTypeBy x rules params (Param g.depth g.index ∷ [])) terms (Some id)
     is_generic terms g id c of is = (of, subst (IsTypeBy x rules params (Param g.depth g.index ∷ [])) (sym is) (c, refl))
 
@@ -82,7 +86,8 @@ module _ (x : LexiconView) (rules : List Rule) where
 
     -- ---- a word has one type
 
-    generic_or_longer : (g : ParamId) (front : Word) (y : Symbol) (t : Term) → Param g.depth g.index ∷ [] ≡ front ++ y ∷ [] → IsTypeBy x rules params front t → ⊥
+    generic_or_longer : (g : ParamId) (front : Word) (y : Symbol) (t : Term) → Param g.depth g.index ∷ [] ≡ front ++ y ∷ []
+        → IsTypeBy x rules params front t → ⊥
     generic_or_longer g front y t e h =
         none_of_nothing t (subst (λ u. IsTypeBy x rules params u t) (nothing_before (Param g.depth g.index) y front e).0 h)
 
@@ -93,7 +98,8 @@ module _ (x : LexiconView) (rules : List Rule) where
     one_type (Member t (Bound d)) (Member z (Bound b)) u (front, y, e, h, m) (other, s, k, j, n) =
         let (f, q) = same_from_push front other y s (sym e ∙ k) in
         let j' : IsTypeBy x rules params front z = subst (λ v. IsTypeBy x rules params v z) (sym f) j in
-        let n' : IsMemberBehind x rules front y b = subst (λ v. IsMemberBehind x rules v y b) (sym f) (subst (λ v. IsMemberBehind x rules other v b) (sym q) n) in
+        let n' : IsMemberBehind x rules front y b = subst (λ v. IsMemberBehind x rules v y b) (sym f)
+        (subst (λ v. IsMemberBehind x rules other v b) (sym q) n) in
         λ i. Member (one_type t z front h j' i) (Bound (one_member front y d b m n' i))
     one_type (Member t (Name a)) z u h k = absurd h
     one_type (Generic g) (Member z (Name a)) u h k = absurd k
@@ -121,7 +127,8 @@ module _ (x : LexiconView) (rules : List Rule) where
         → (t : Term) → IsTypeBy x rules params (front ++ y ∷ []) t → ⊥
     none_more front y l n t h = let (z, d, e, k, m) = behind_some front y t l h in n z k
 
-    pub one_more : (front : Word) (y : Symbol) → 0 < length front → (old new : List Term) (id : TermId) → IsTypeBy x rules params front (term_at old id) → (o : Option TermId)
+    pub one_more : (front : Word) (y : Symbol) → 0 < length front → (old new : List Term) (id : TermId)
+        → IsTypeBy x rules params front (term_at old id) → (o : Option TermId)
         → MatchOption o ((d : AssocId) → IsMemberBehind x rules front y d → ⊥)
         (λ u. (d : AssocId) × IsMemberBehind x rules front y d × IsOf new u × (term_at new u ≡ Member (term_at old id) (Bound d)))
         → Identifies (IsTypeBy x rules params (front ++ y ∷ [])) new o
@@ -136,7 +143,8 @@ module _ (x : LexiconView) (rules : List Rule) where
 
     pub type_of_text : (t : Term) (u : Word) → IsTypeBy x rules params u t → IsTermOf x t
     type_of_text (Generic g) u h = tt
-    type_of_text (Member t (Bound d)) u (front, y, e, h, (k, s, r, v, f)) = (type_of_text t front h, given_of_text front (name_of (symbols_of x) k) d f)
+    type_of_text (Member t (Bound d)) u (front, y, e, h, (k, s, r, v, f)) =
+        (type_of_text t front h, given_of_text front (name_of (symbols_of x) k) d f)
     type_of_text (Member t (Name a)) u h = absurd h
 
 pub id_there : (P : Term → Type 0) (terms : List Term) (o : Option TermId) → Identifies P terms o → MatchOption o (Unit {0}) (IsOf terms)

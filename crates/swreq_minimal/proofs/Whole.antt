@@ -35,7 +35,8 @@ use Rattle.swreq_symbols.proofs.Growing.{world_stays}
 use Rattle.swreq_minimal.proofs.Telling.{failure_of, tells_of}
 
 -- A machine of a list over a table that grew since, and the candidates that were read off it.
-pub record IsReadOffMachine (old new : List Term) (w : IdWorld) (protocols : List Rule) (machine : MachineView) (list found : List TermRequirement) : Type 0 where
+pub record IsReadOffMachine (old new : List Term) (w : IdWorld) (protocols : List Rule) (machine : MachineView)
+    (list found : List TermRequirement) : Type 0 where
   pub text : IsTextOver old w
   pub more : Extends old new
   pub complete : IsComplete protocols
@@ -67,7 +68,8 @@ module _ (old new : List Term) (w : IdWorld) (protocols : List Rule) (machine : 
 
   module _ (out : List TermRequirement) (sifted : AreMinimisedCandidates (facts_of (world_by new w)) ps found out) where
     here : AreMinimisedCandidates f ps found out
-    here = subst (λ (z : TextWorld). AreMinimisedCandidates (facts_of z) ps found out) (world_stays old new read.more w read.text.table) sifted
+    here =
+        subst (λ (z : TextWorld). AreMinimisedCandidates (facts_of z) ps found out) (world_stays old new read.more w read.text.table) sifted
 
     pub is_minimised : IsMinimised f ps list out
     is_minimised = record {
@@ -77,7 +79,9 @@ module _ (old new : List Term) (w : IdWorld) (protocols : List Rule) (machine : 
     }
 
     pub is_same : AreEquivalent f ps list out
-    is_same = minimised_same f ps list out (reduced_here m f ps list ended) (generators_told f ps list found here.generators enough here.takes) is_minimised
+    is_same =
+        minimised_same f ps list out (reduced_here m f ps list ended) (generators_told f ps list found here.generators enough here.takes)
+        is_minimised
 
     pub is_independent : IsIndependent f ps out
     is_independent = minimised_independent f ps list out is_minimised
@@ -91,19 +95,25 @@ module _ (old new : List Term) (w : IdWorld) (protocols : List Rule) (machine : 
   -- ---- what is told
 
   passed : (l : List TermRequirement) → IsPassed (facts_of (world_by new w)) ps found l → IsPassedOf m f ps list l
-  passed l h = (found, candidates, subst (λ (z : TextWorld). IsPassed (facts_of z) ps found l) (world_stays old new read.more w read.text.table) h)
+  passed l h =
+      (found, candidates, subst (λ (z : TextWorld). IsPassed (facts_of z) ps found l) (world_stays old new read.more w read.text.table) h)
 
   module _ (limits : Limits) (a b : Option (List Event)) where
     pub tells : TellsParts limits (list_of (world_by new w) protocols machine.params) (IsPassed (facts_of (world_by new w)) ps found) a b
         → TellsParts limits (list_of (world_by old w) protocols machine.params) (IsPassedOf m f ps list) a b
     tells h =
-        tells_of limits (list_of (world_by old w) protocols machine.params) (IsPassed (facts_of (world_by new w)) ps found) (IsPassedOf m f ps list) passed a b
-        (subst (λ (z : TextWorld). TellsParts limits (list_of z protocols machine.params) (IsPassed (facts_of (world_by new w)) ps found) a b)
+        tells_of limits (list_of (world_by old w) protocols machine.params) (IsPassed (facts_of (world_by new w)) ps found)
+        (IsPassedOf m f ps list) passed a b
+        (subst (λ (z : TextWorld). TellsParts limits (list_of z protocols machine.params)
+        (IsPassed (facts_of (world_by new w)) ps found) a b)
         (world_stays old new read.more w read.text.table) h)
 
-    pub fails : (failed : Failed) → TellsFailure limits (list_of (world_by new w) protocols machine.params) (IsPassed (facts_of (world_by new w)) ps found) a b failed
+    pub fails : (failed : Failed) → TellsFailure limits (list_of (world_by new w) protocols machine.params)
+        (IsPassed (facts_of (world_by new w)) ps found) a b failed
         → TellsFailure limits (list_of (world_by old w) protocols machine.params) (IsPassedOf m f ps list) a b failed
     fails failed h =
-        failure_of limits (list_of (world_by old w) protocols machine.params) (IsPassed (facts_of (world_by new w)) ps found) (IsPassedOf m f ps list) passed a b failed
-        (subst (λ (z : TextWorld). TellsFailure limits (list_of z protocols machine.params) (IsPassed (facts_of (world_by new w)) ps found) a b failed)
+        failure_of limits (list_of (world_by old w) protocols machine.params) (IsPassed (facts_of (world_by new w)) ps found)
+        (IsPassedOf m f ps list) passed a b failed
+        (subst (λ (z : TextWorld). TellsFailure limits (list_of z protocols machine.params)
+        (IsPassed (facts_of (world_by new w)) ps found) a b failed)
         (world_stays old new read.more w read.text.table) h)

@@ -5,19 +5,19 @@ use Rattle.swreq_derive.specs.Derivation.{TermRequirement}
 use Rattle.swreq_list_rules.specs.declared.setting.Setting.{Setting}
 use Rattle.swreq_list_rules.specs.ListRules.{AreOfList, ListRulesView}
 use Rattle.swreq_list_rules.specs.Settings.{said_in}
-use Rattle.swreq_minimal.specs.declared.generators.Half.{Half}
-use Rattle.swreq_minimal.specs.declared.generators.Span.{Span}
+use Rattle.swreq_minimal.specs.declared.dropping.Half.{Half}
+use Rattle.swreq_minimal.specs.declared.dropping.Span.{Span}
 
 -- Of each list of which these are the rules, the new ones are the rules of the list with these members more.
 abbrev pub AreGrownBy : Setting → ListRulesView → List Requirement → ListRulesView → Type 0
 AreGrownBy s old more new =
     (list : List TermRequirement) → AreOfList s list old → AreOfList s (list ++ said_in s more) new
 
--- it has a place or more, and all of them are of the list
+-- It has a place or more, and all of them are of the list.
 abbrev pub IsSpanOf : List Requirement → Span → Type 0
 IsSpanOf list span = (span.from < span.to) × (span.to ≤ length list)
 
--- it may be empty, and all its places are of the list
+-- It may be empty, and all its places are of the list.
 abbrev pub IsPartOf : List Requirement → Span → Type 0
 IsPartOf list span = (span.from ≤ span.to) × (span.to ≤ length list)
 
@@ -25,12 +25,13 @@ IsPartOf list span = (span.from ≤ span.to) × (span.to ≤ length list)
 abbrev pub part_of : List Requirement → Span → List Requirement
 part_of list span = take (span.to - span.from) (drop span.from list)
 
--- what stands before the span and behind it
-abbrev pub beside : List Requirement → Span → List Requirement
-beside list span = take span.from list ++ drop span.to list
+-- what stands before the span and after it
+abbrev pub outside_span : List Requirement → Span → List Requirement
+outside_span list span = take span.from list ++ drop span.to list
 
--- The rules are those of a list which, together with the other half, has just the members beside the half.
-abbrev pub AreBesideBoth : Setting → List Requirement → Half → ListRulesView → Type 0
-AreBesideBoth s left half rules =
+-- The rules are those of a list which, together with the other half, has just the members outside the half.
+abbrev pub AreOutsideBoth : Setting → List Requirement → Half → ListRulesView → Type 0
+AreOutsideBoth s left half rules =
     (list : List TermRequirement) × AreOfList s list rules
-    × ((q : TermRequirement) → Contains (list ++ said_in s (part_of left half.other)) q ↔ Contains (said_in s (beside left half.span)) q)
+    × ((q : TermRequirement) → Contains (list ++ said_in s (part_of left half.other)) q
+    ↔ Contains (said_in s (outside_span left half.span)) q)

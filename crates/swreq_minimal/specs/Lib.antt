@@ -5,3 +5,4 @@ pub mod Told
 pub mod Evident
 pub mod OfParams
 pub mod Halves
+pub mod Lists

@@ -13,7 +13,7 @@ BeginsWithParam (Param d i ∷ w) = Unit {0}
 BeginsWithParam (_ ∷ w) = ⊥
 
 -- Rules of the reduced system of the class. Among them is each whose left side begins with a generic parameter, and is that of one of the
--- first so many rules.
+-- first `count` rules.
 pub record AreOfParams (Class : Word → Word → Type 0) (rules : List Rule) (count : ℕ) (system : List Rule) : Type 0 where
   pub each : (k : ℕ) (rule : Rule) → slice_get system k ≡ Some rule → IsReduced Class rule
   pub all : (j : ℕ) (rule : Rule) → j < count → slice_get rules j ≡ Some rule → BeginsWithParam rule.left → IsMinimal Class rule.left

@@ -27,12 +27,12 @@ pub record BelongsAt (terms : List Term) (found : List Requirement) (r : Require
   pub next : (q : Requirement) (rest : List Requirement) → after ≡ q ∷ rest
       → RequirementBefore (requirement_of terms r) (requirement_of terms q)
 
--- It is the requirement of one of the first so many rules of the system.
+-- It is the requirement of one of the first n rules of the system.
 abbrev pub IsOfFirstRules : LexiconView → List Rule → Params → List Rule → ℕ → TermRequirement → Type 0
 IsOfFirstRules x rules params system n q =
     (k : ℕ) × (rule : Rule) × (k < n) × (slice_get system k ≡ Some rule) × IsRequirementOfRule x rules params rule.left rule.right q
 
--- The requirements of the first so many rules, and no others. They are strictly sorted where they are canonical.
+-- The requirements of the first n rules, and no others. They are strictly sorted where they are canonical.
 pub record IsListOfFirstRules (x : LexiconView) (rules : List Rule) (params : Params) (system : List Rule) (n : ℕ)
     (found : List TermRequirement) : Type 0 where
   pub members : (q : TermRequirement) → Contains found q ↔ IsOfFirstRules x rules params system n q

@@ -1,5 +1,6 @@
 -- What a watcher is told of the rounds of several lists.
-use Rattle.std.specs.Prelude.{◌≡◌, ◌⊎◌, List, [], ◌++◌, Option, Ok, Err}
+use Rattle.std.specs.Prelude.{◌≡◌, ◌⊎◌, List, [], ◌++◌, Option, Result, Ok, Err, MatchResult}
+use Rattle.swreq_derive.specs.declared.requirements.Requirement.{Requirement}
 use Rattle.swreq_derive.specs.Derivation.{TermRequirement}
 use Rattle.swreq_rule.specs.declared.rules.Rule.{Rule}
 use Rattle.swreq_watch.specs.declared.events.Event.{Event}
@@ -9,6 +10,8 @@ use Rattle.swreq_complete.specs.declared.limit.Failed.{Failed}
 use Rattle.swreq_complete.specs.declared.limit.Failed.TheVariants.{Limit, Memory}
 use Rattle.swreq_rounds.specs.Plan.{Plan}
 use Rattle.swreq_rounds.specs.Rounds.{ComesTo, IsOutcome}
+use Rattle.swreq_list_rules.specs.declared.setting.Setting.{Setting}
+use Rattle.swreq_list_rules.specs.Settings.{plan_in, said_in}
 
 -- Parts, one after the other: each is what the rounds of one of these lists tell, which ended.
 pub data AreParts (limits : Limits) (plan : List TermRequirement → Plan) (IsOne : List TermRequirement → Type 0) : List Event → Type 0 where
@@ -28,7 +31,7 @@ pub record StopsAt (limits : Limits) (plan : List TermRequirement → Plan) (IsO
   pub outcome : IsOutcome limits (plan list) (Err failed) part
   pub told_is : told ≡ before ++ part
 
--- The last part is so far as the rounds of one of these lists came.
+-- The last part is as far as the rounds of one of these lists came.
 pub record IsCutOff (limits : Limits) (plan : List TermRequirement → Plan) (IsOne : List TermRequirement → Type 0)
     (told : List Event) : Type 0 where
   pub before : List Event
@@ -39,8 +42,8 @@ pub record IsCutOff (limits : Limits) (plan : List TermRequirement → Plan) (Is
   pub comes : ComesTo limits (plan list) part
   pub told_is : told ≡ before ++ part
 
--- A limit is one that the rounds of one of these lists pass, with its trace. For want of memory parts are told, and maybe the beginning of
--- one.
+-- A limit is one that the rounds of one of these lists pass, with its trace. Where memory runs out, parts are told, and maybe the beginning
+-- of one.
 abbrev pub FailsBy : Limits → (List TermRequirement → Plan) → (List TermRequirement → Type 0) → Failed → List Event → Type 0
 FailsBy limits plan IsOne (Limit which trace) told = StopsAt limits plan IsOne (Limit which trace) told
 FailsBy limits plan IsOne Memory told = AreParts limits plan IsOne told ⊎ IsCutOff limits plan IsOne told
@@ -54,3 +57,13 @@ TellsParts limits plan IsOne old new = (told : List Event) × AreParts limits pl
 abbrev pub TellsFailure : Limits → (List TermRequirement → Plan) → (List TermRequirement → Type 0)
     → Option (List Event) → Option (List Event) → Failed → Type 0
 TellsFailure limits plan IsOne old new failed = (told : List Event) × FailsBy limits plan IsOne failed told × GrewBy old new told
+
+-- The watcher was told parts where there is a result, and otherwise what was told when it failed.
+abbrev pub Tells : {T : Type 0} → Setting → (List TermRequirement → Type 0) → Result T Failed
+    → Option (List Event) → Option (List Event) → Type 0
+Tells s IsOne result old new =
+    MatchResult result (λ _. TellsParts s.limits (plan_in s) IsOne old new) (TellsFailure s.limits (plan_in s) IsOne old new)
+
+-- the same, where this is the one list
+abbrev pub TellsOfList : {T : Type 0} → Setting → List Requirement → Result T Failed → Option (List Event) → Option (List Event) → Type 0
+TellsOfList s list result old new = Tells s (λ l. l ≡ said_in s list) result old new

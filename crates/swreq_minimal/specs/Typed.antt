@@ -23,13 +23,13 @@ use Rattle.swreq_symbols.specs.Meaning.{symbols_of}
 use Rattle.swreq_symbols.specs.Vanishing.{IsFirstBehind}
 use Rattle.swreq_map.specs.Properties.{Vanishes}
 
--- Behind the word the symbol `[P:A]` stands for the bound member d: `[P]` vanishes there, and d is the first associated type A given there.
+-- After the word the symbol `[P:A]` stands for the bound member d: `[P]` vanishes there, and d is the first associated type A given there.
 abbrev pub IsMemberBehind : LexiconView → List Rule → Word → Symbol → AssocId → Type 0
 IsMemberBehind x rules w y d =
     (k : ℕ) × (y ≡ MemberSymbol k) × IsRank (symbols_of x) k × Vanishes rules w (Proto (proto_of (symbols_of x) k).rank)
     × IsFirstBehind x rules w (name_of (symbols_of x) k) d
 
--- By the rules T is the type of the word: of a generic parameter's symbol that generic parameter, and of a word with a member symbol behind
+-- By the rules T is the type of the word: of a generic parameter's symbol that generic parameter, and of a word with a member symbol after
 -- it the bound member for which the symbol stands there.
 abbrev pub IsTypeBy : LexiconView → List Rule → Params → Word → Term → Type 0
 IsTypeBy x rules params u (Generic g) = Contains (generic_params params) g × (u ≡ Param g.depth g.index ∷ [])
@@ -37,7 +37,8 @@ IsTypeBy x rules params u (Member t (Bound d)) =
     (front : Word) × (y : Symbol) × (u ≡ front ++ y ∷ []) × IsTypeBy x rules params front t × IsMemberBehind x rules front y d
 IsTypeBy x rules params u (Member t (Name a)) = ⊥
 
--- By the rules V is the subject of a left side: it is the symbol of a generic parameter V, or the symbol of a member or a name behind a word,
+-- By the rules V is the subject of a left side: it is the symbol of a generic parameter V, or the symbol of a member or a name after a
+-- word,
 -- where V is the bound member of the word's type with the first associated type of that name given there.
 abbrev pub IsSubjectOf : LexiconView → List Rule → Params → Word → Term → Type 0
 IsSubjectOf x rules params l (Generic g) = IsTypeBy x rules params l (Generic g)

@@ -1,5 +1,5 @@
 //! The candidates of a machine's list, read off the reduced system of its rules.
-ghost use Rattle.std.specs.Prelude.{◌≡◌, ◌⊎◌, ◌↔◌, ◌≤◌, ◌<◌, ℕ, List, length, insert, slice_get, Some, Contains, IfOk, OnOk, MatchOption};
+ghost use Rattle.std.specs.Prelude.{◌≡◌, ◌⊎◌, ◌↔◌, ◌<◌, ℕ, List, length, slice_get, Some, Contains, IfOk, OnOk, MatchOption};
 ghost use Rattle.swreq_param.specs.Tables.{Extends};
 ghost use Rattle.swreq_derive.specs.Derivation.{Source, TermFacts, TermRequirement};
 ghost use Rattle.swreq_derive.specs.Derivation.Source.{Written};
@@ -37,7 +37,9 @@ use swreq_world::World;
 fn place_of(table: &ParamTable, found: &[Requirement], r: Requirement) -> Option<usize>
     requires found { AreHere table.now found.now }
     requires r { HasIdsOf table.now r }
-    ensures { MatchOption result (Contains (listed table.now found.now) (requirement_of table.now r)) (BelongsAt table.now found.now r) }
+    ensures { MatchOption result
+        (Contains (listed table.now found.now) (requirement_of table.now r))
+        (BelongsAt table.now found.now r) }
 {
     for k in 0..found.len() {
         let one = found[k];
@@ -51,17 +53,6 @@ fn place_of(table: &ParamTable, found: &[Requirement], r: Requirement) -> Option
     Some(found.len())
 }
 
-/// Puts a requirement at a place.
-fn put_in(found: &mut Vec<Requirement>, place: usize, r: Requirement) -> Result<(), AllocError>
-    requires { place ≤ length found.old.items }
-    ensures { OnOk result (found.new.items ≡ insert found.old.items place r) }
-{
-    match found.insert(place, r) {
-        Ok(()) => Ok(()),
-        Err(_) => Err(AllocError),
-    }
-}
-
 /// Puts a requirement where it belongs, unless it is there.
 fn put_sorted(
     table: &ParamTable,
@@ -70,17 +61,24 @@ fn put_sorted(
 ) -> Result<(), AllocError>
     requires found { AreHere table.now found.old.items }
     requires r { HasIdsOf table.now r }
-    ensures members { OnOk result ((q : TermRequirement) → Contains (listed table.now found.new.items) q
+    ensures members { OnOk result ((q : TermRequirement)
+        → Contains (listed table.now found.new.items) q
         ↔ (Contains (listed table.now found.old.items) q ⊎ (q ≡ requirement_of table.now r))) }
     ensures sorted { OnOk result ((f : TermFacts) (s : Source)
-        → ((q : TermRequirement) → Contains (listed table.now found.old.items) q ⊎ (q ≡ requirement_of table.now r) → IsCanonical f s q)
-        → IsStrictlySorted (listed table.now found.old.items) → IsStrictlySorted (listed table.now found.new.items)) }
-    ensures known { (x : LexiconView) → AreKnown table.now x found.old.items → IsRequirementIn table.now x r
+        → ((q : TermRequirement) → Contains (listed table.now found.old.items) q
+        ⊎ (q ≡ requirement_of table.now r) → IsCanonical f s q)
+        → IsStrictlySorted (listed table.now found.old.items)
+        → IsStrictlySorted (listed table.now found.new.items)) }
+    ensures known { (x : LexiconView) → AreKnown table.now x found.old.items
+        → IsRequirementIn table.now x r
         → OnOk result (AreKnown table.now x found.new.items) }
 {
     match place_of(table, found, r) {
         None => Ok(()),
-        Some(place) => put_in(found, place, r),
+        Some(place) => {
+            found.insert(place, r)?;
+            Ok(())
+        }
     }
 }
 
@@ -94,12 +92,17 @@ fn add(
     requires minimal { IsMinimal (Links by.now.rules.now) rule.now.left }
     requires least { IsLeastBy by.now.rules.now rule.now.right }
     requires known { AreKnown table.old by.now.world.now.lexicon found.old.items }
-    ensures members { OnOk result ((q : TermRequirement) → Contains (listed table.new found.new.items) q
-        ↔ (Contains (listed table.old found.old.items) q ⊎ IsRequirementOfRule by.now.world.now.lexicon by.now.rules.now by.now.params rule.now.left rule.now.right q)) }
+    ensures members { OnOk result ((q : TermRequirement)
+        → Contains (listed table.new found.new.items) q
+        ↔ (Contains (listed table.old found.old.items) q
+        ⊎ IsRequirementOfRule by.now.world.now.lexicon by.now.rules.now by.now.params
+        rule.now.left rule.now.right q)) }
     ensures sorted { OnOk result ((f : TermFacts) (s : Source)
         → ((q : TermRequirement) → Contains (listed table.old found.old.items) q
-        ⊎ IsRequirementOfRule by.now.world.now.lexicon by.now.rules.now by.now.params rule.now.left rule.now.right q → IsCanonical f s q)
-        → IsStrictlySorted (listed table.old found.old.items) → IsStrictlySorted (listed table.new found.new.items)) }
+        ⊎ IsRequirementOfRule by.now.world.now.lexicon by.now.rules.now by.now.params
+        rule.now.left rule.now.right q → IsCanonical f s q)
+        → IsStrictlySorted (listed table.old found.old.items)
+        → IsStrictlySorted (listed table.new found.new.items)) }
     ensures known { OnOk result (AreKnown table.new by.now.world.now.lexicon found.new.items) }
     ensures extends { Extends table.old table.new }
 {
@@ -118,8 +121,10 @@ fn collect(
     table: &mut ParamTable,
     system: &[Rule],
 ) -> Result<Vec<Requirement>, AllocError>
-    requires { (k : ℕ) (rule : Rule) → slice_get system.now k ≡ Some rule → IsReduced (Links by.now.rules.now) rule }
-    ensures said { IfOk result (λ v. IsListOfFirstRules by.now.world.now.lexicon by.now.rules.now by.now.params system.now (length system.now)
+    requires { (k : ℕ) (rule : Rule) → slice_get system.now k ≡ Some rule
+        → IsReduced (Links by.now.rules.now) rule }
+    ensures said { IfOk result (λ v. IsListOfFirstRules by.now.world.now.lexicon by.now.rules.now
+        by.now.params system.now (length system.now)
         (listed table.new v.items)) }
     ensures known { IfOk result (λ v. AreKnown table.new by.now.world.now.lexicon v.items) }
     ensures extends { Extends table.old table.new }
@@ -140,9 +145,12 @@ pub(crate) fn candidates(
     machine: &Machine,
 ) -> Result<Vec<Requirement>, AllocError>
     requires { IsTextOver table.old world.now }
-    ensures candidates { (list : List TermRequirement) → IsMachineOf (world_by table.old world.now) list machine.now
-        → IsCompleted (symbols_of world.now.lexicon) (facts_of (world_by table.old world.now)) (generic_params machine.now.params) list
-        → IfOk result (λ v. IsCandidateList (symbols_of world.now.lexicon) (facts_of (world_by table.old world.now))
+    ensures candidates { (list : List TermRequirement)
+        → IsMachineOf (world_by table.old world.now) list machine.now
+        → IsCompleted (symbols_of world.now.lexicon) (facts_of (world_by table.old world.now))
+        (generic_params machine.now.params) list
+        → IfOk result (λ v. IsCandidateList (symbols_of world.now.lexicon)
+        (facts_of (world_by table.old world.now))
         (Written (generic_params machine.now.params) list) (listed table.new v.items)) }
     ensures known { IfOk result (λ v. AreKnown table.new world.now.lexicon v.items) }
     ensures extends { Extends table.old table.new }

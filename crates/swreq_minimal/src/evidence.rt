@@ -59,20 +59,11 @@ fn rule_of(
 ) -> Result<Option<Rule>, AllocError>
     requires text { IsTextOver table.now world.now }
     requires r { IsRequirementIn table.now world.now.lexicon r }
-    ensures { IfOk result (λ o. MatchOption o ⊤ (IsOfEquation (symbols_of world.now.lexicon) (requirement_of table.now r))) }
+    ensures { IfOk result (λ o. MatchOption o ⊤
+        (IsOfEquation (symbols_of world.now.lexicon) (requirement_of table.now r))) }
 {
     let sides = equation(alloc, world, table, None, &r)?;
     Ok(oriented(sides.0, sides.1))
-}
-
-/// Puts a rule last.
-fn put_rule(rules: &mut Vec<Rule>, rule: Rule) -> Result<(), AllocError>
-    ensures { OnOk result (rules.new.items ≡ rules.old.items ++ rule ∷ []) }
-{
-    match rules.push(rule) {
-        Ok(()) => Ok(()),
-        Err(_) => Err(AllocError),
-    }
 }
 
 /// Adds the rule of a requirement's equation, unless its two sides are the same.
@@ -85,13 +76,17 @@ fn add_rule(
 ) -> Result<(), AllocError>
     requires text { IsTextOver table.now world.now }
     requires r { IsRequirementIn table.now world.now.lexicon r }
-    ensures { OnOk result ((rules.new.items ≡ rules.old.items) ⊎ ((rule : Rule) × (rules.new.items ≡ rules.old.items ++ rule ∷ [])
+    ensures { OnOk result ((rules.new.items ≡ rules.old.items)
+        ⊎ ((rule : Rule) × (rules.new.items ≡ rules.old.items ++ rule ∷ [])
         × IsOfEquation (symbols_of world.now.lexicon) (requirement_of table.now r) rule)) }
 {
     let found = rule_of(alloc, world, table, r)?;
     match found {
         None => Ok(()),
-        Some(rule) => put_rule(rules, rule),
+        Some(rule) => {
+            rules.push(rule)?;
+            Ok(())
+        }
     }
 }
 
@@ -104,9 +99,11 @@ fn rules_of(
     list: &[Requirement],
 ) -> Result<Vec<Rule>, AllocError>
     requires text { IsTextOver table.now world.now }
-    requires protocols { AreRulesOf (world_by table.now world.now) (last_rules protocols.now.rounds) }
+    requires protocols { AreRulesOf (world_by table.now world.now)
+        (last_rules protocols.now.rounds) }
     requires list { AreKnown table.now world.now.lexicon list.now }
-    ensures { IfOk result (λ v. AreRulesOfRest (symbols_of world.now.lexicon) (facts_of (world_by table.now world.now)) []
+    ensures { IfOk result (λ v. AreRulesOfRest (symbols_of world.now.lexicon)
+        (facts_of (world_by table.now world.now)) []
         (listed table.now list.now) v.items) }
 {
     let mut rules = protocols.rules().written_out(alloc)?;
@@ -134,7 +131,10 @@ fn add_loop(
     let found = loop_of_pair(alloc, rules, place)?;
     match found {
         None => Ok(()),
-        Some(round) => put_loop(loops, round),
+        Some(round) => {
+            loops.push(round)?;
+            Ok(())
+        }
     }
 }
 
@@ -175,16 +175,6 @@ fn add_pair(
         add_loop(alloc, rules, pair.place, loops)
     } else {
         Ok(())
-    }
-}
-
-/// Puts a loop last.
-fn put_loop(loops: &mut Vec<Loop>, round: Loop) -> Result<(), AllocError>
-    ensures { OnOk result (loops.new.items ≡ loops.old.items ++ round ∷ []) }
-{
-    match loops.push(round) {
-        Ok(()) => Ok(()),
-        Err(_) => Err(AllocError),
     }
 }
 
@@ -278,7 +268,7 @@ fn is_shown(alloc: Global, rules: Vec<Rule>, from: usize, rule: Rule) -> Result<
     ensures { IfOk result (λ b. IsTrue b → Linked (Step rules.items) rule.left rule.right) }
 {
     let mut all = rules;
-    put_rule(&mut all, rule)?;
+    all.push(rule)?;
     if all.len() < 4_294_967_295 {
         shows_last(alloc, &all, from)
     } else {
@@ -300,7 +290,8 @@ pub(crate) fn is_evident(
     requires list { AreKnown setting.now.table.now setting.now.world.now.lexicon list.now }
     requires r { IsRequirementIn setting.now.table.now setting.now.world.now.lexicon r }
     ensures { IfOk result (λ b. IsTrue b → Derivable (facts_in setting.now)
-        (Written (params_in setting.now) (listed setting.now.table.now list.now)) (Requires (requirement_of setting.now.table.now r))) }
+        (Written (params_in setting.now) (listed setting.now.table.now list.now))
+        (Requires (requirement_of setting.now.table.now r))) }
 {
     if !are_plain(setting.world, setting.table, setting.params, list) {
         return Ok(false);

@@ -1,4 +1,4 @@
-//! Which bound member a symbol stands for behind a word.
+//! Which bound member a symbol stands for after a word.
 ghost use Rattle.std.specs.Prelude.{◌+◌, ◌≤◌, length, vec_capacity, MatchOption};
 ghost use Rattle.swreq_param.specs.declared.ids.AssocId.{AssocId};
 ghost use Rattle.swreq_word.specs.declared.symbols.Symbol.TheVariants.{Member as MemberSymbol};
@@ -12,7 +12,7 @@ use swreq_symbols::first_behind;
 use swreq_word::Symbol;
 use swreq_world::World;
 
-/// The bound member for which the member symbol of this rank stands behind the word, or None where it stands for none.
+/// The bound member for which the member symbol of this rank stands after the word, or None where it stands for none.
 fn member_at(
     world: &World,
     rules: &CompleteRules<'_>,
@@ -23,7 +23,8 @@ fn member_at(
     requires least { IsLeastBy rules.now word.now }
     requires fits { length word.now + 1 ≤ vec_capacity test.old }
     ensures answer { MatchOption result
-        ((d : AssocId) → IsMemberBehind world.now.lexicon rules.now word.now (MemberSymbol rank) d → ⊥)
+        ((d : AssocId)
+        → IsMemberBehind world.now.lexicon rules.now word.now (MemberSymbol rank) d → ⊥)
         (IsMemberBehind world.now.lexicon rules.now word.now (MemberSymbol rank)) }
     ensures room { vec_capacity test.old ≤ vec_capacity test.new }
 {
@@ -37,7 +38,7 @@ fn member_at(
     first_behind(world, rules, word, symbol.name, test)
 }
 
-/// The bound member for which the symbol stands behind the word, or None where it stands for none.
+/// The bound member for which the symbol stands after the word, or None where it stands for none.
 pub(crate) fn member_behind(
     world: &World,
     rules: &CompleteRules<'_>,

@@ -2,8 +2,10 @@
 #![tactic(auto)]
 
 mod candidates;
+mod derivable;
+mod dropping;
 mod evidence;
-mod generators;
+mod extending;
 mod given;
 mod minimised;
 mod of_params;
@@ -11,6 +13,7 @@ mod order;
 mod plain;
 mod reader;
 mod rule_requirement;
+mod taking;
 mod typed;
 
 pub use minimised::minimise;

@@ -15,11 +15,13 @@ ghost use Rattle.swreq_world.specs.ByTable.{world_by};
 ghost use Rattle.swreq_valid.specs.Machines.{AreRulesOf, IsMachineOf, list_of};
 ghost use Rattle.swreq_valid.specs.Plans.{AreKnown, listed};
 ghost use Rattle.swreq_valid.specs.Rounds.{last_rules};
-ghost use Rattle.swreq_minimal.specs.Passed.{IsPassedOf};
-ghost use Rattle.swreq_minimal.specs.Told.{TellsFailure, TellsParts};
+ghost use Rattle.swreq_list_rules.specs.Settings.{AreKnownIn, IsSetting, facts_in, params_in, said_in};
+ghost use Rattle.swreq_minimal.specs.Passed.{AreMinimisedCandidates, IsPassed, IsPassedOf};
+ghost use Rattle.swreq_minimal.specs.Told.{Tells, TellsFailure, TellsParts};
 
 use crate::candidates::candidates;
-use crate::generators::minimised_candidates;
+use crate::dropping::drop_derivable;
+use crate::taking::generators;
 use std::alloc::Global;
 use swreq_complete::{Failed, Limits};
 use swreq_derive::Requirement;
@@ -28,6 +30,27 @@ use swreq_param::ParamTable;
 use swreq_valid::{Machine, Protocols};
 use swreq_watch::Watch;
 use swreq_world::World;
+
+/// The minimised candidates: what is left of them.
+fn minimised_candidates<W: Watch>(
+    alloc: Global,
+    setting: &Setting<'_>,
+    candidates: &[Requirement],
+    watch: &mut W,
+) -> Result<Vec<Requirement>, Failed>
+    requires setting { IsSetting setting.now }
+    requires candidates { AreKnownIn setting.now candidates.now }
+    ensures minimised { IfOk result (λ v. AreMinimisedCandidates
+        (facts_in setting.now) (params_in setting.now)
+        (said_in setting.now candidates.now) (said_in setting.now v.items)) }
+    ensures known { IfOk result (λ v. AreKnownIn setting.now v.items) }
+    ensures tells { Tells setting.now (IsPassed (facts_in setting.now) (params_in setting.now)
+        (said_in setting.now candidates.now)) result (W.told watch.old) (W.told watch.new) }
+{
+    let mut left = generators(alloc, setting, candidates, watch)?;
+    drop_derivable(alloc, setting, &mut left, watch)?;
+    Ok(left)
+}
 
 /// The minimised list of the machine's list.
 ///
@@ -46,29 +69,44 @@ pub fn minimise<W: Watch>(
     watch: &mut W,
 ) -> Result<Vec<Requirement>, Failed>
     requires text { IsTextOver table.old world.now }
-    requires protocols { AreRulesOf (world_by table.old world.now) (last_rules protocols.now.rounds) }
+    requires protocols { AreRulesOf (world_by table.old world.now)
+        (last_rules protocols.now.rounds) }
     requires limits { AreInRange limits }
-    ensures minimised { (list : List TermRequirement) → IsMachineOf (world_by table.old world.now) list machine.now
-        → IfOk result (λ v. IsMinimised (facts_of (world_by table.old world.now)) (generic_params machine.now.params) list
-        (listed table.new v.items)) }
-    ensures same { (list : List TermRequirement) → IsMachineOf (world_by table.old world.now) list machine.now
-        → IfOk result (λ v. AreEquivalent (facts_of (world_by table.old world.now)) (generic_params machine.now.params) list
-        (listed table.new v.items)) }
-    ensures independent { (list : List TermRequirement) → IsMachineOf (world_by table.old world.now) list machine.now
-        → IfOk result (λ v. IsIndependent (facts_of (world_by table.old world.now)) (generic_params machine.now.params)
-        (listed table.new v.items)) }
-    ensures canonical { (list : List TermRequirement) → IsMachineOf (world_by table.old world.now) list machine.now
+    ensures minimised { (list : List TermRequirement)
+        → IsMachineOf (world_by table.old world.now) list machine.now
+        → IfOk result (λ v. IsMinimised (facts_of (world_by table.old world.now))
+        (generic_params machine.now.params) list (listed table.new v.items)) }
+    ensures same { (list : List TermRequirement)
+        → IsMachineOf (world_by table.old world.now) list machine.now
+        → IfOk result (λ v. AreEquivalent (facts_of (world_by table.old world.now))
+        (generic_params machine.now.params) list (listed table.new v.items)) }
+    ensures independent { (list : List TermRequirement)
+        → IsMachineOf (world_by table.old world.now) list machine.now
+        → IfOk result (λ v. IsIndependent (facts_of (world_by table.old world.now))
+        (generic_params machine.now.params) (listed table.new v.items)) }
+    ensures canonical { (list : List TermRequirement)
+        → IsMachineOf (world_by table.old world.now) list machine.now
         → IfOk result (λ v. (r : TermRequirement) → Contains (listed table.new v.items) r
-        → IsCanonical (facts_of (world_by table.old world.now)) (Written (generic_params machine.now.params) list) r) }
-    ensures sorted { (list : List TermRequirement) → IsMachineOf (world_by table.old world.now) list machine.now
+        → IsCanonical (facts_of (world_by table.old world.now))
+        (Written (generic_params machine.now.params) list) r) }
+    ensures sorted { (list : List TermRequirement)
+        → IsMachineOf (world_by table.old world.now) list machine.now
         → IfOk result (λ v. IsStrictlySorted (listed table.new v.items)) }
-    ensures told { (list : List TermRequirement) → IsMachineOf (world_by table.old world.now) list machine.now
-        → IfOk result (λ _. TellsParts limits (list_of (world_by table.old world.now) (last_rules protocols.now.rounds) machine.now.params)
-        (IsPassedOf (symbols_of world.now.lexicon) (facts_of (world_by table.old world.now)) (generic_params machine.now.params) list)
+    ensures told { (list : List TermRequirement)
+        → IsMachineOf (world_by table.old world.now) list machine.now
+        → IfOk result (λ _. TellsParts limits
+        (list_of (world_by table.old world.now) (last_rules protocols.now.rounds)
+        machine.now.params)
+        (IsPassedOf (symbols_of world.now.lexicon) (facts_of (world_by table.old world.now))
+        (generic_params machine.now.params) list)
         (W.told watch.old) (W.told watch.new)) }
-    ensures failed { (list : List TermRequirement) → IsMachineOf (world_by table.old world.now) list machine.now
-        → IfErr result (TellsFailure limits (list_of (world_by table.old world.now) (last_rules protocols.now.rounds) machine.now.params)
-        (IsPassedOf (symbols_of world.now.lexicon) (facts_of (world_by table.old world.now)) (generic_params machine.now.params) list)
+    ensures failed { (list : List TermRequirement)
+        → IsMachineOf (world_by table.old world.now) list machine.now
+        → IfErr result (TellsFailure limits
+        (list_of (world_by table.old world.now) (last_rules protocols.now.rounds)
+        machine.now.params)
+        (IsPassedOf (symbols_of world.now.lexicon) (facts_of (world_by table.old world.now))
+        (generic_params machine.now.params) list)
         (W.told watch.old) (W.told watch.new)) }
     ensures known { IfOk result (λ v. AreKnown table.new world.now.lexicon v.items) }
     ensures extends { Extends table.old table.new }
@@ -77,17 +115,13 @@ pub fn minimise<W: Watch>(
 {
     let _of_protocols = protocols.rules().count();
     let _of_list = machine.rules().count();
-    match candidates(alloc, world, table, machine) {
-        Err(_) => Err(Failed::Memory),
-        Ok(found) => {
-            let setting = Setting {
-                world,
-                table,
-                protocols,
-                params: machine.params(),
-                limits,
-            };
-            minimised_candidates(alloc, &setting, &found, watch)
-        }
-    }
+    let found = candidates(alloc, world, table, machine)?;
+    let setting = Setting {
+        world,
+        table,
+        protocols,
+        params: machine.params(),
+        limits,
+    };
+    minimised_candidates(alloc, &setting, &found, watch)
 }

@@ -1,5 +1,5 @@
 //! The rules of the reduced system that can say a requirement.
-ghost use Rattle.std.specs.Prelude.{◌≡◌, ◌+◌, ◌<◌, ◌++◌, ◌∷◌, [], IfOk, OnOk, length};
+ghost use Rattle.std.specs.Prelude.{◌+◌, ◌<◌, ◌∷◌, IfOk, OnOk, length};
 ghost use Rattle.std.specs.Bool.{Decides};
 ghost use Rattle.swreq_complete.specs.Complete.{IsComplete};
 ghost use Rattle.swreq_correspondence.specs.Symbols.{Word};
@@ -31,16 +31,6 @@ fn begins_with_param(word: &[Symbol]) -> bool
     is_param(word[0])
 }
 
-/// Puts a rule last.
-fn put(system: &mut Vec<Rule>, rule: Rule) -> Result<(), AllocError>
-    ensures { OnOk result (system.new.items ≡ system.old.items ++ rule ∷ []) }
-{
-    match system.push(rule) {
-        Ok(()) => Ok(()),
-        Err(_) => Err(AllocError),
-    }
-}
-
 /// Adds the rule of the reduced system with the left side of the rule at a place, if there is one, and it begins with a generic parameter.
 fn add(
     alloc: Global,
@@ -58,13 +48,17 @@ fn add(
     let found = rules.canonical_at(alloc, k)?;
     match found {
         None => Ok(()),
-        Some(rule) => put(system, rule),
+        Some(rule) => {
+            system.push(rule)?;
+            Ok(())
+        }
     }
 }
 
 /// The rules of the reduced system whose left sides begin with a generic parameter. No other rule says a requirement of a list.
 pub(crate) fn of_params(alloc: Global, rules: &CompleteRules<'_>) -> Result<Vec<Rule>, AllocError>
-    ensures system { IfOk result (λ v. AreOfParams (Links rules.now) rules.now (length rules.now) v.items) }
+    ensures system { IfOk result (λ v. AreOfParams (Links rules.now) rules.now
+        (length rules.now) v.items) }
     ensures complete { IsComplete rules.now }
 {
     let mut system: Vec<Rule> = Vec::new(alloc);

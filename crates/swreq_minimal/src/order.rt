@@ -14,7 +14,8 @@ use swreq_param::{ParamTable, TermId};
 /// The principal type of a requirement.
 fn principal(r: Requirement) -> TermId
     ensures of { (terms : List Term) → HasIdsOf terms r → IsOf terms result }
-    ensures stands { (terms : List Term) → term_at terms result ≡ canonical.principal (requirement_of terms r) }
+    ensures stands { (terms : List Term)
+        → term_at terms result ≡ canonical.principal (requirement_of terms r) }
 {
     match r {
         Requirement::Conf { subject, .. } => subject,
@@ -25,7 +26,8 @@ fn principal(r: Requirement) -> TermId
 
 /// Whether a requirement comes before another one of the same principal type.
 fn is_kind_before(r: Requirement, q: Requirement) -> bool
-    ensures { (terms : List Term) → IsTrue result ↔ KindBefore (requirement_of terms r) (requirement_of terms q) }
+    ensures { (terms : List Term) → IsTrue result
+        ↔ KindBefore (requirement_of terms r) (requirement_of terms q) }
 {
     match (r, q) {
         (Requirement::Conf { proto, .. }, Requirement::Conf { proto: other, .. }) => {
@@ -40,7 +42,8 @@ fn is_kind_before(r: Requirement, q: Requirement) -> bool
 pub(crate) fn is_before(table: &ParamTable, r: Requirement, q: Requirement) -> bool
     requires r { HasIdsOf table.now r }
     requires q { HasIdsOf table.now q }
-    ensures { IsTrue result ↔ RequirementBefore (requirement_of table.now r) (requirement_of table.now q) }
+    ensures { IsTrue result ↔ RequirementBefore (requirement_of table.now r)
+        (requirement_of table.now q) }
 {
     match table.compare(principal(r), principal(q)) {
         Ordering::Less => true,

@@ -45,7 +45,8 @@ fn says_conformance(
     requires text { IsTextOver table.now world.now }
     requires r { IsRequirementIn table.now world.now.lexicon r }
     requires p { IsProtocol world.now.lexicon p }
-    ensures { IsTrue result → (q : ProtoId) × (requirement_of table.now r ≡ Conforms (term_at table.now t) q)
+    ensures { IsTrue result → (q : ProtoId)
+        × (requirement_of table.now r ≡ Conforms (term_at table.now t) q)
         × LeadsTo (facts_of (world_by table.now world.now)) q p }
 {
     match r {
@@ -71,7 +72,8 @@ fn holds_conformance(
     requires text { IsTextOver table.now world.now }
     requires list { AreKnown table.now world.now.lexicon list.now }
     requires p { IsProtocol world.now.lexicon p }
-    ensures { IsTrue result → (q : ProtoId) × Contains (listed table.now list.now) (Conforms (term_at table.now t) q)
+    ensures { IsTrue result → (q : ProtoId)
+        × Contains (listed table.now list.now) (Conforms (term_at table.now t) q)
         × LeadsTo (facts_of (world_by table.now world.now)) q p }
 {
     for k in 0..list.len() {
@@ -83,7 +85,7 @@ fn holds_conformance(
     false
 }
 
-/// Whether t with this associated type behind it is plain in the list where t is. True comes only where it is.
+/// Whether t with this associated type after it is plain in the list where t is. True comes only where it is.
 fn gives_assoc(
     world: &World,
     table: &ParamTable,
@@ -95,14 +97,16 @@ fn gives_assoc(
     requires list { AreKnown table.now world.now.lexicon list.now }
     requires d { d.rank < length world.now.lexicon.associated }
     ensures { IsTrue result → (ps : List ParamId)
-        → IsPlainIn (facts_of (world_by table.now world.now)) ps (listed table.now list.now) (term_at table.now t)
-        → IsPlainIn (facts_of (world_by table.now world.now)) ps (listed table.now list.now) (Member (term_at table.now t) (Bound d)) }
+        → IsPlainIn (facts_of (world_by table.now world.now)) ps (listed table.now list.now)
+        (term_at table.now t)
+        → IsPlainIn (facts_of (world_by table.now world.now)) ps (listed table.now list.now)
+        (Member (term_at table.now t) (Bound d)) }
 {
     let declared = world.assoc(d);
     holds_conformance(world, table, list, t, declared.proto)
 }
 
-/// Whether t with this step behind it is plain in the list where t is. True comes only where it is.
+/// Whether t with this step after it is plain in the list where t is. True comes only where it is.
 fn gives_step(
     world: &World,
     table: &ParamTable,
@@ -114,8 +118,10 @@ fn gives_step(
     requires list { AreKnown table.now world.now.lexicon list.now }
     requires step { IsStepOf world.now.lexicon step }
     ensures { IsTrue result → (ps : List ParamId)
-        → IsPlainIn (facts_of (world_by table.now world.now)) ps (listed table.now list.now) (term_at table.now t)
-        → IsPlainIn (facts_of (world_by table.now world.now)) ps (listed table.now list.now) (Member (term_at table.now t) step) }
+        → IsPlainIn (facts_of (world_by table.now world.now)) ps (listed table.now list.now)
+        (term_at table.now t)
+        → IsPlainIn (facts_of (world_by table.now world.now)) ps (listed table.now list.now)
+        (Member (term_at table.now t) step) }
 {
     match step {
         Step::Bound(d) => gives_assoc(world, table, list, t, d),
@@ -135,7 +141,8 @@ fn is_plain(
     requires list { AreKnown table.now world.now.lexicon list.now }
     requires t { IsTypeIn table.now world.now.lexicon t }
     ensures { IsTrue result
-        → IsPlainIn (facts_of (world_by table.now world.now)) (generic_params params) (listed table.now list.now) (term_at table.now t) }
+        → IsPlainIn (facts_of (world_by table.now world.now)) (generic_params params)
+        (listed table.now list.now) (term_at table.now t) }
 {
     let mut at = t;
     for _ in 0..u32::MAX {
@@ -163,7 +170,8 @@ pub(crate) fn has_plain_types(
     requires text { IsTextOver table.now world.now }
     requires list { AreKnown table.now world.now.lexicon list.now }
     requires r { IsRequirementIn table.now world.now.lexicon r }
-    ensures { IsTrue result → HasPlainTypes (facts_of (world_by table.now world.now)) (generic_params params) (listed table.now list.now)
+    ensures { IsTrue result → HasPlainTypes (facts_of (world_by table.now world.now))
+        (generic_params params) (listed table.now list.now)
         (requirement_of table.now r) }
 {
     match r {
@@ -188,7 +196,8 @@ pub(crate) fn are_plain(
 ) -> bool
     requires text { IsTextOver table.now world.now }
     requires list { AreKnown table.now world.now.lexicon list.now }
-    ensures { IsTrue result → IsPlain (facts_of (world_by table.now world.now)) (generic_params params) (listed table.now list.now) }
+    ensures { IsTrue result → IsPlain (facts_of (world_by table.now world.now))
+        (generic_params params) (listed table.now list.now) }
 {
     for k in 0..list.len() {
         let r = list[k];

@@ -41,7 +41,7 @@ fn name_of(world: &World, symbol: Symbol) -> Option<NameId>
     }
 }
 
-/// The first associated type that is given behind the word, of the name for which the symbol stands.
+/// The first associated type that is given after the word, of the name for which the symbol stands.
 fn first_named(
     world: &World,
     rules: &CompleteRules<'_>,
@@ -54,15 +54,14 @@ fn first_named(
     ensures answer { MatchOption result
         ((a : NameId) (d : AssocId) → IsNamed (symbols_of world.now.lexicon) symbol a
         → IsFirstBehind world.now.lexicon rules.now front.now a d → ⊥)
-        (λ d. (a : NameId) × IsNamed (symbols_of world.now.lexicon) symbol a × IsFirstBehind world.now.lexicon rules.now front.now a d) }
+        (λ d. (a : NameId) × IsNamed (symbols_of world.now.lexicon) symbol a
+        × IsFirstBehind world.now.lexicon rules.now front.now a d) }
 {
-    match name_of(world, symbol) {
-        None => None,
-        Some(a) => first_behind(world, rules, front, a, test),
-    }
+    let a = name_of(world, symbol)?;
+    first_behind(world, rules, front, a, test)
 }
 
-/// The bound member of t, the type of the word, with the first associated type of the name for which the symbol behind it stands.
+/// The bound member of t, the type of the word, with the first associated type of the name for which the symbol after it stands.
 fn last_member(
     by: &Reader<'_, '_>,
     table: &mut ParamTable,
@@ -87,7 +86,7 @@ fn last_member(
     }
 }
 
-/// The subject of a left side that has this symbol behind this word, which is not empty.
+/// The subject of a left side that has this symbol after this word, which is not empty.
 fn member_subject(
     by: &Reader<'_, '_>,
     table: &mut ParamTable,
@@ -96,7 +95,9 @@ fn member_subject(
 ) -> Result<Option<TermId>, AllocError>
     requires some { 0 < length front.now }
     requires least { IsLeastBy by.now.rules.now front.now }
-    ensures subject { IfOk result (Identifies (IsSubjectOf by.now.world.now.lexicon by.now.rules.now by.now.params (front.now ++ symbol ∷ [])) table.new) }
+    ensures subject { IfOk result (Identifies
+        (IsSubjectOf by.now.world.now.lexicon by.now.rules.now by.now.params
+        (front.now ++ symbol ∷ [])) table.new) }
     ensures extends { Extends table.old table.new }
 {
     let at = type_of(by, table, front)?;
@@ -113,7 +114,8 @@ fn subject(
     left: &[Symbol],
 ) -> Result<Option<TermId>, AllocError>
     requires { IsMinimal (Links by.now.rules.now) left.now }
-    ensures subject { IfOk result (Identifies (IsSubjectOf by.now.world.now.lexicon by.now.rules.now by.now.params left.now) table.new) }
+    ensures subject { IfOk result (Identifies
+        (IsSubjectOf by.now.world.now.lexicon by.now.rules.now by.now.params left.now) table.new) }
     ensures extends { Extends table.old table.new }
 {
     if left.is_empty() {
@@ -126,9 +128,10 @@ fn subject(
     member_subject(by, table, &left[..last], left[last])
 }
 
-/// The symbol that stands behind the right side in the left side, or None where the left side is no such word.
+/// The symbol that stands after the right side in the left side, or None where the left side is no such word.
 fn behind(left: &[Symbol], right: &[Symbol]) -> Option<Symbol>
-    ensures { MatchOption result ((x : Symbol) → left.now ≡ right.now ++ x ∷ [] → ⊥) (λ x. left.now ≡ right.now ++ x ∷ []) }
+    ensures { MatchOption result ((x : Symbol) → left.now ≡ right.now ++ x ∷ [] → ⊥)
+        (λ x. left.now ≡ right.now ++ x ∷ []) }
 {
     if left.is_empty() {
         return None;
@@ -145,7 +148,8 @@ fn behind(left: &[Symbol], right: &[Symbol]) -> Option<Symbol>
 fn conformance(world: &World, rank: u32, t: TermId) -> Option<Requirement>
     ensures { MatchOption result
         (IsProtocol world.now.lexicon (record { rank = rank }) → ⊥)
-        (λ r. IsProtocol world.now.lexicon (record { rank = rank }) × (r ≡ Conf t (record { rank = rank }))) }
+        (λ r. IsProtocol world.now.lexicon (record { rank = rank })
+        × (r ≡ Conf t (record { rank = rank }))) }
 {
     if rank < world.protocols() {
         Some(Requirement::Conf {
@@ -160,8 +164,10 @@ fn conformance(world: &World, rank: u32, t: TermId) -> Option<Requirement>
 /// The conformance or the layout of t for which the symbol stands, or None where it stands for none.
 fn property(world: &World, symbol: Symbol, t: TermId) -> Option<Requirement>
     ensures { MatchOption result
-        (((p : ProtoId) → symbol ≡ Proto p.rank → IsProtocol world.now.lexicon p → ⊥) × (symbol ≡ Layout → ⊥))
-        (λ r. ((p : ProtoId) × (symbol ≡ Proto p.rank) × IsProtocol world.now.lexicon p × (r ≡ Conf t p))
+        (((p : ProtoId) → symbol ≡ Proto p.rank → IsProtocol world.now.lexicon p → ⊥)
+        × (symbol ≡ Layout → ⊥))
+        (λ r. ((p : ProtoId) × (symbol ≡ Proto p.rank) × IsProtocol world.now.lexicon p
+        × (r ≡ Conf t p))
         ⊎ ((symbol ≡ Layout) × (r ≡ LayoutOf t))) }
 {
     match symbol {
@@ -179,15 +185,15 @@ fn property_requirement(
     t: TermId,
 ) -> Option<Requirement>
     ensures { MatchOption result
-        (((p : ProtoId) → left.now ≡ right.now ++ Proto p.rank ∷ [] → IsProtocol world.now.lexicon p → ⊥)
+        (((p : ProtoId) → left.now ≡ right.now ++ Proto p.rank ∷ []
+        → IsProtocol world.now.lexicon p → ⊥)
         × (left.now ≡ right.now ++ Layout ∷ [] → ⊥))
-        (λ r. ((p : ProtoId) × (left.now ≡ right.now ++ Proto p.rank ∷ []) × IsProtocol world.now.lexicon p × (r ≡ Conf t p))
+        (λ r. ((p : ProtoId) × (left.now ≡ right.now ++ Proto p.rank ∷ [])
+        × IsProtocol world.now.lexicon p × (r ≡ Conf t p))
         ⊎ ((left.now ≡ right.now ++ Layout ∷ []) × (r ≡ LayoutOf t))) }
 {
-    match behind(left, right) {
-        None => None,
-        Some(symbol) => property(world, symbol, t),
-    }
+    let symbol = behind(left, right)?;
+    property(world, symbol, t)
 }
 
 /// That the two are equal, or None where they are one type parameter.
@@ -216,8 +222,11 @@ fn same_type_requirement(
     requires minimal { IsMinimal (Links by.now.rules.now) left.now }
     requires t { IsOf table.old t }
     ensures same { IfOk result (λ o. MatchOption o
-        ((v : Term) → IsSubjectOf by.now.world.now.lexicon by.now.rules.now by.now.params left.now v → term_at table.old t ≡ v)
-        (λ r. (v : TermId) × (r ≡ Same t v) × IsOf table.new v × IsSubjectOf by.now.world.now.lexicon by.now.rules.now by.now.params left.now (term_at table.new v)
+        ((v : Term) → IsSubjectOf by.now.world.now.lexicon by.now.rules.now by.now.params left.now v
+        → term_at table.old t ≡ v)
+        (λ r. (v : TermId) × (r ≡ Same t v) × IsOf table.new v
+        × IsSubjectOf by.now.world.now.lexicon by.now.rules.now by.now.params left.now
+        (term_at table.new v)
         × (term_at table.old t ≡ term_at table.new v → ⊥))) }
     ensures extends { Extends table.old table.new }
 {
@@ -238,8 +247,11 @@ fn requirement_at(
 ) -> Result<Option<Requirement>, AllocError>
     requires minimal { IsMinimal (Links by.now.rules.now) left.now }
     requires t { IsOf table.old t }
-    requires typed { IsTypeBy by.now.world.now.lexicon by.now.rules.now by.now.params right.now (term_at table.old t) }
-    ensures requirement { IfOk result (Finds (IsRequirementOfRule by.now.world.now.lexicon by.now.rules.now by.now.params left.now right.now) table.new by.now.world.now.lexicon) }
+    requires typed { IsTypeBy by.now.world.now.lexicon by.now.rules.now by.now.params right.now
+        (term_at table.old t) }
+    ensures requirement { IfOk result (Finds
+        (IsRequirementOfRule by.now.world.now.lexicon by.now.rules.now by.now.params
+        left.now right.now) table.new by.now.world.now.lexicon) }
     ensures extends { Extends table.old table.new }
 {
     match property_requirement(by.world, left, right, t) {
@@ -257,7 +269,9 @@ pub(crate) fn rule_requirement(
 ) -> Result<Option<Requirement>, AllocError>
     requires minimal { IsMinimal (Links by.now.rules.now) left.now }
     requires least { IsLeastBy by.now.rules.now right.now }
-    ensures requirement { IfOk result (Finds (IsRequirementOfRule by.now.world.now.lexicon by.now.rules.now by.now.params left.now right.now) table.new by.now.world.now.lexicon) }
+    ensures requirement { IfOk result (Finds
+        (IsRequirementOfRule by.now.world.now.lexicon by.now.rules.now by.now.params
+        left.now right.now) table.new by.now.world.now.lexicon) }
     ensures extends { Extends table.old table.new }
 {
     let at = type_of(by, table, right)?;

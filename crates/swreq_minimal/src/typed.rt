@@ -37,7 +37,8 @@ pub(crate) fn symbol_type(
     table: &mut ParamTable,
     symbol: Symbol,
 ) -> Result<Option<TermId>, AllocError>
-    ensures typed { (x : LexiconView) (rules : List Rule) → IfOk result (Identifies (IsTypeBy x rules params (symbol ∷ [])) table.new) }
+    ensures typed { (x : LexiconView) (rules : List Rule)
+        → IfOk result (Identifies (IsTypeBy x rules params (symbol ∷ [])) table.new) }
     ensures extends { Extends table.old table.new }
 {
     match symbol {
@@ -52,7 +53,8 @@ fn begin(
     table: &mut ParamTable,
     word: &[Symbol],
 ) -> Result<Option<TermId>, AllocError>
-    ensures typed { (x : LexiconView) (rules : List Rule) → IfOk result (Identifies (IsTypeBy x rules params (take 1 word.now)) table.new) }
+    ensures typed { (x : LexiconView) (rules : List Rule)
+        → IfOk result (Identifies (IsTypeBy x rules params (take 1 word.now)) table.new) }
     ensures extends { Extends table.old table.new }
 {
     if word.is_empty() {
@@ -76,7 +78,7 @@ pub(crate) fn bound(
     Ok(Some(u))
 }
 
-/// The bound member of t for which the symbol stands behind a word of the type t, or None where it stands for none.
+/// The bound member of t for which the symbol stands after a word of the type t, or None where it stands for none.
 fn step(
     by: &Reader<'_, '_>,
     table: &mut ParamTable,
@@ -89,8 +91,10 @@ fn step(
     requires least { IsLeastBy by.now.rules.now front.now }
     requires fits { length front.now + 1 ≤ vec_capacity test.old }
     ensures member { IfOk result (λ o. MatchOption o
-        ((d : AssocId) → IsMemberBehind by.now.world.now.lexicon by.now.rules.now front.now symbol d → ⊥)
-        (λ id. (d : AssocId) × IsMemberBehind by.now.world.now.lexicon by.now.rules.now front.now symbol d
+        ((d : AssocId)
+        → IsMemberBehind by.now.world.now.lexicon by.now.rules.now front.now symbol d → ⊥)
+        (λ id. (d : AssocId)
+        × IsMemberBehind by.now.world.now.lexicon by.now.rules.now front.now symbol d
         × IsOf table.new id × (term_at table.new id ≡ Member (term_at table.old t) (Bound d)))) }
     ensures extends { Extends table.old table.new }
     ensures room { vec_capacity test.old ≤ vec_capacity test.new }
@@ -101,7 +105,7 @@ fn step(
     }
 }
 
-/// The type of a word with this symbol behind it, where that of the word is known.
+/// The type of a word with this symbol after it, where that of the word is known.
 fn go_on(
     by: &Reader<'_, '_>,
     table: &mut ParamTable,
@@ -114,8 +118,11 @@ fn go_on(
     requires some { 0 < length front.now }
     requires least { IsLeastBy by.now.rules.now front.now }
     requires fits { length front.now + 1 ≤ vec_capacity test.old }
-    ensures typed { (params : Params) → Identifies (IsTypeBy by.now.world.now.lexicon by.now.rules.now params front.now) table.old at
-        → IfOk result (Identifies (IsTypeBy by.now.world.now.lexicon by.now.rules.now params (front.now ++ symbol ∷ [])) table.new) }
+    ensures typed { (params : Params)
+        → Identifies (IsTypeBy by.now.world.now.lexicon by.now.rules.now params front.now)
+        table.old at
+        → IfOk result (Identifies (IsTypeBy by.now.world.now.lexicon by.now.rules.now params
+        (front.now ++ symbol ∷ [])) table.new) }
     ensures extends { Extends table.old table.new }
     ensures room { vec_capacity test.old ≤ vec_capacity test.new }
 {
@@ -132,7 +139,8 @@ pub(crate) fn type_of(
     word: &[Symbol],
 ) -> Result<Option<TermId>, AllocError>
     requires { IsLeastBy by.now.rules.now word.now }
-    ensures typed { IfOk result (Identifies (IsTypeBy by.now.world.now.lexicon by.now.rules.now by.now.params word.now) table.new) }
+    ensures typed { IfOk result (Identifies
+        (IsTypeBy by.now.world.now.lexicon by.now.rules.now by.now.params word.now) table.new) }
     ensures extends { Extends table.old table.new }
 {
     let mut test: Vec<Symbol> = Vec::with_capacity(by.alloc, word.len() + 1)?;

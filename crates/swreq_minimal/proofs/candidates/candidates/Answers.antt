@@ -26,8 +26,11 @@ returns-clause-candidates c list is ended =
     IfOk-weaker c.collect.result _ _ (λ v said.
     are_candidates w c.requires.closed c.args.machine.now list is
     (subst IsComplete c.rules-rules.ensures c.in_ok-system.ensures.complete) system
-    (subst (λ (z : List Rule). AreOfParams (Links z) z (length z) system) c.rules-rules.ensures c.in_ok-system.ensures.system) ended (listed new v.items)
-    (subst (λ (z : List Rule). IsListOfFirstRules x z c.args.machine.now.params system (length system) (listed new v.items)) c.rules-rules.ensures
+    (subst (λ (z : List Rule). AreOfParams (Links z) z (length z) system) c.rules-rules.ensures c.in_ok-system.ensures.system) ended
+    (listed new v.items)
+    (subst (λ (z : List Rule). IsListOfFirstRules x z c.args.machine.now.params system (length system) (listed new v.items))
+    c.rules-rules.ensures
     (subst (λ (z : Params). IsListOfFirstRules x c.rules-rules.result.now z system (length system) (listed new v.items)) c.params.ensures
-    (subst (λ (z : List Rule). IsListOfFirstRules x c.rules-rules.result.now c.params.result z (length z) (listed new v.items)) c.deref.ensures.value said))))
+    (subst (λ (z : List Rule). IsListOfFirstRules x c.rules-rules.result.now c.params.result z (length z) (listed new v.items))
+    c.deref.ensures.value said))))
     c.collect.ensures.said

@@ -15,11 +15,13 @@ is_before-requires-clause-q c =
 pub returns-then-is_same : goal.returns-then-is_same
 returns-then-is_same c =
     subst (Contains (listed c.args.table.now c.args.found.now)) (c.is_same.ensures.0 c.if-is_same.true)
-    (in_listed c.args.table.now (get_or c.args.found.now c.loop-k.k any) c.args.found.now (Contains-get_or c.args.found.now c.loop-k.k any c.loop-k-test.true))
+    (in_listed c.args.table.now (get_or c.args.found.now c.loop-k.k any) c.args.found.now
+    (Contains-get_or c.args.found.now c.loop-k.k any c.loop-k-test.true))
 
 pub returns-then-is_before : goal.returns-then-is_before
 returns-then-is_before c =
-    belongs_here c.args.table.now c.args.found.now c.args.r c.loop-k.k any c.loop-k-test.true c.loop-k.invariant (c.is_before.ensures.0 c.if-is_before.true)
+    belongs_here c.args.table.now c.args.found.now c.args.r c.loop-k.k any c.loop-k-test.true c.loop-k.invariant
+    (c.is_before.ensures.0 c.if-is_before.true)
 
 pub loop-k-init : goal.loop-k-init
 loop-k-init c = nothing_yet c.args.table.now c.args.found.now c.args.r

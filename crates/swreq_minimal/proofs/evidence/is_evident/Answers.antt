@@ -15,10 +15,13 @@ pub returns-in-Some : goal.returns-in-Some
 returns-in-Some c =
     let terms = c.args.setting.now.table.now in
     let list = listed terms c.args.list.now in
-    let of_rule = subst (λ (z : Option Rule). MatchOption z ⊤ (IsOfEquation (symbols_of c.args.setting.now.world.now.lexicon) (requirement_of terms c.args.r)))
+    let of_rule = subst (λ (z : Option Rule). MatchOption z ⊤
+    (IsOfEquation (symbols_of c.args.setting.now.world.now.lexicon) (requirement_of terms c.args.r)))
     c.in-Some.is c.in_ok-found.ensures in
     IfOk-weaker c.is_shown.result _ _ (λ b law h.
     evident (text_in c.args.setting.now) c.requires.setting.text.closed (params_in c.args.setting.now) list
-    (list_in_text terms c.args.setting.now.world.now.lexicon c.requires.setting.text.closed.ids c.args.setting.now.params c.args.list.now c.requires.list)
-    (requirement_of terms c.args.r) (c.are_plain.ensures c.if-not-are_plain.false) (c.has_plain_types.ensures c.if-not-has_plain_types.false)
+    (list_in_text terms c.args.setting.now.world.now.lexicon c.requires.setting.text.closed.ids c.args.setting.now.params c.args.list.now
+    c.requires.list)
+    (requirement_of terms c.args.r) (c.are_plain.ensures c.if-not-are_plain.false)
+    (c.has_plain_types.ensures c.if-not-has_plain_types.false)
     c.in_ok-rules.rules.items c.in-Some.rule c.in_ok-rules.ensures of_rule (law h)) c.is_shown.ensures

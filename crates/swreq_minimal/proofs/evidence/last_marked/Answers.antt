@@ -10,5 +10,6 @@ loop-k-preserved c =
     record {
       count = (let l = ap length items ∙ length-append c.loop-k.marks.items (one ∷ []) in omega (arith, l, was));
       last = subst (MarksLast c.args.count) (sym items)
-          (one_more_mark c.args.count c.loop-k.marks.items one (λ e. let s = eqb-true (c.loop-k.k + 1) c.args.count e in omega (arith, s, was)) c.loop-k.invariant.last);
+          (one_more_mark c.args.count c.loop-k.marks.items one
+          (λ e. let s = eqb-true (c.loop-k.k + 1) c.args.count e in omega (arith, s, was)) c.loop-k.invariant.last);
     }

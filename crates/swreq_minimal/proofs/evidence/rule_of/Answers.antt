@@ -11,4 +11,5 @@ pub returns : goal.returns
 returns c =
     let right = right_side (symbols_of c.args.world.now.lexicon) (Written [] []) (requirement_of c.args.table.now c.args.r) in
     subst (λ (z : Word). MatchOption c.oriented.result ⊤ (HasSides z right)) c.in_ok-sides.ensures.left
-    (subst (λ (z : Word). MatchOption c.oriented.result ⊤ (HasSides c.in_ok-sides.sides.0 z)) c.in_ok-sides.ensures.right c.oriented.ensures)
+    (subst (λ (z : Word). MatchOption c.oriented.result ⊤ (HasSides c.in_ok-sides.sides.0 z)) c.in_ok-sides.ensures.right
+    c.oriented.ensures)

@@ -4,7 +4,8 @@ use Rattle.swreq_minimal.proofs.given.member_at.Goals as goal
 
 pub returns-then-rank-members-clause-answer : goal.returns-then-rank-members-clause-answer
 returns-then-rank-members-clause-answer c =
-    no_rank c.args.world.now.lexicon c.args.rules.now c.args.word.now c.args.rank (let a = c.if-rank-members.true in let b = c.members.ensures in omega (arith, a, b))
+    no_rank c.args.world.now.lexicon c.args.rules.now c.args.word.now c.args.rank
+    (let a = c.if-rank-members.true in let b = c.members.ensures in omega (arith, a, b))
 
 pub returns-then-not-vanishes-clause-answer : goal.returns-then-not-vanishes-clause-answer
 returns-then-not-vanishes-clause-answer c =

@@ -1,5 +1,5 @@
 use Rattle.std.proofs.Common.{sym, subst, List}
-use Rattle.std.proofs.lemmas.Result.{IfErr-weaker, IfOk-weaker}
+use Rattle.std.proofs.lemmas.Result.{IfOk-weaker, MatchResult-weaker, err_from_is_err_and}
 use Rattle.swreq_derive.specs.Derivation.{TermRequirement}
 use Rattle.swreq_derive.specs.Facts.{generic_params}
 use Rattle.swreq_symbols.specs.Meaning.{facts_of, symbols_of}
@@ -14,60 +14,85 @@ use Rattle.swreq_minimal.proofs.Telling.{wants_at_once}
 use Rattle.swreq_minimal.proofs.Whole.{IsReadOffMachine, fails, is_canonical, is_independent, is_minimised, is_same, is_sorted, tells}
 use Rattle.swreq_minimal.proofs.minimised.minimise.Goals as goal
 
-pub returns-in-Err-clause-failed : goal.returns-in-Err-clause-failed
-returns-in-Err-clause-failed g c list is =
-    wants_at_once c.args.limits (list_of (world_by c.args.table.now c.args.world.now) (last_rules c.args.protocols.now.rounds) c.args.machine.now.params)
-    (IsPassedOf (symbols_of c.args.world.now.lexicon) (facts_of (world_by c.args.table.now c.args.world.now)) (generic_params c.args.machine.now.params) list) (g.W.Watch.told c.args.watch.now)
+-- ---- memory ran out where candidates were read off
+
+pub returns-in_err-found-clause-failed : goal.returns-in_err-found-clause-failed
+returns-in_err-found-clause-failed g c list is =
+    let w = world_by c.args.table.now c.args.world.now in
+    let params = c.args.machine.now.params in
+    let p = err_from_is_err_and c.from_residual.result c.from_residual.ensures.1 in
+    rw (p.1, p.2)
+    (wants_at_once c.args.limits (list_of w (last_rules c.args.protocols.now.rounds) params)
+    (IsPassedOf (symbols_of c.args.world.now.lexicon) (facts_of w) (generic_params params) list) (g.W.Watch.told c.args.watch.now))
+
+pub returns-in_err-found-clause-world : goal.returns-in_err-found-clause-world
+returns-in_err-found-clause-world g c =
+    world_stays c.args.table.now c.candidates.new.table c.candidates.ensures.extends c.args.world.now c.requires.text.table
+
+pub returns-in_err-found-clause-text : goal.returns-in_err-found-clause-text
+returns-in_err-found-clause-text g c =
+    text_stays c.args.table.now c.candidates.new.table c.candidates.ensures.extends c.args.world.now c.requires.text
+
+-- ---- what the candidates are minimised over
 
 pub minimised_candidates-requires-clause-setting : goal.minimised_candidates-requires-clause-setting
-minimised_candidates-requires-clause-setting g c = record {
-  text = text_stays c.args.table.now c.candidates.new.table c.candidates.ensures.extends c.args.world.now c.requires.text;
-  protocols = subst (λ (z : TextWorld). AreRulesOf z (last_rules c.args.protocols.now.rounds))
-      (sym (world_stays c.args.table.now c.candidates.new.table c.candidates.ensures.extends c.args.world.now c.requires.text.table)) c.requires.protocols;
-  limits = c.requires.limits;
-}
+minimised_candidates-requires-clause-setting g c =
+    let old = c.args.table.now in
+    let new = c.candidates.new.table in
+    let w = c.args.world.now in
+    record {
+      text = text_stays old new c.candidates.ensures.extends w c.requires.text;
+      protocols = subst (λ (z : TextWorld). AreRulesOf z (last_rules c.args.protocols.now.rounds))
+          (sym (world_stays old new c.candidates.ensures.extends w c.requires.text.table)) c.requires.protocols;
+      limits = c.requires.limits;
+    }
 
 pub minimised_candidates-requires-clause-candidates : goal.minimised_candidates-requires-clause-candidates
-minimised_candidates-requires-clause-candidates g c = subst (AreKnown c.candidates.new.table c.args.world.now.lexicon) (sym c.deref.ensures.value) c.in-Ok.ensures.known
+minimised_candidates-requires-clause-candidates g c =
+    subst (AreKnown c.candidates.new.table c.args.world.now.lexicon) (sym c.deref.ensures.value) c.in_ok-found.ensures.known
 
-pub returns-in-Ok : goal.returns-in-Ok
-returns-in-Ok g c =
+-- ---- what is left of them is the minimised list
+
+pub returns : goal.returns
+returns g c =
     let old = c.args.table.now in
     let new = c.candidates.new.table in
     let w = c.args.world.now in
     let protocols = last_rules c.args.protocols.now.rounds in
     let machine = c.args.machine.now in
-    let found = listed new c.in-Ok.found.items in
-    let read : (list : List TermRequirement) → IsMachineOf (world_by old w) list machine → IsReadOffMachine old new w protocols machine list found = λ list is. record {
+    let found = listed new c.in_ok-found.found.items in
+    let read : (list : List TermRequirement) → IsMachineOf (world_by old w) list machine
+    → IsReadOffMachine old new w protocols machine list found = λ list is. record {
       text = c.requires.text;
       more = c.candidates.ensures.extends;
       complete = rw c.rules.ensures at c.count-of_protocols.ensures.complete;
       rules = c.requires.protocols;
       complete_too = rw c.rules-2.ensures at c.count-of_list.ensures.complete;
       is = is;
-      candidates = c.in-Ok.ensures.candidates list is;
+      candidates = c.in_ok-found.ensures.candidates list is;
     } in
-    let sifted = rw (c.params.ensures, c.deref.ensures.value) at c.minimised_candidates.ensures.sifted in
-    let told = rw (c.params.ensures, c.deref.ensures.value) at c.minimised_candidates.ensures.told in
-    let failed = rw (c.params.ensures, c.deref.ensures.value) at c.minimised_candidates.ensures.failed in
+    let result = c.minimised_candidates.result in
+    let sifted = rw (c.params.ensures, c.deref.ensures.value) at c.minimised_candidates.ensures.minimised in
+    let told = rw (c.params.ensures, c.deref.ensures.value) at c.minimised_candidates.ensures.tells in
     let a = g.W.Watch.told c.args.watch.now in
     let b = g.W.Watch.told c.minimised_candidates.new.watch in
     record {
-      minimised = λ list is. IfOk-weaker c.minimised_candidates.result _ _ (λ v s. is_minimised old new w protocols machine list found (read list is) (listed new v.items) s) sifted;
-      same = λ list is. IfOk-weaker c.minimised_candidates.result _ _ (λ v s. is_same old new w protocols machine list found (read list is) (listed new v.items) s) sifted;
-      independent = λ list is. IfOk-weaker c.minimised_candidates.result _ _ (λ v s. is_independent old new w protocols machine list found (read list is) (listed new v.items) s) sifted;
-      canonical = λ list is. IfOk-weaker c.minimised_candidates.result _ _ (λ v s. is_canonical old new w protocols machine list found (read list is) (listed new v.items) s) sifted;
-      sorted = λ list is. IfOk-weaker c.minimised_candidates.result _ _ (λ v s. is_sorted old new w protocols machine list found (read list is) (listed new v.items) s) sifted;
-      told = λ list is. IfOk-weaker c.minimised_candidates.result _ _ (λ v h. tells old new w protocols machine list found (read list is) c.args.limits a b h) told;
-      failed = λ list is. IfErr-weaker c.minimised_candidates.result _ _ (λ e h. fails old new w protocols machine list found (read list is) c.args.limits a b e h) failed;
+      minimised = λ list is. IfOk-weaker result _ _
+          (λ v s. is_minimised old new w protocols machine list found (read list is) (listed new v.items) s) sifted;
+      same = λ list is. IfOk-weaker result _ _
+          (λ v s. is_same old new w protocols machine list found (read list is) (listed new v.items) s) sifted;
+      independent = λ list is. IfOk-weaker result _ _
+          (λ v s. is_independent old new w protocols machine list found (read list is) (listed new v.items) s) sifted;
+      canonical = λ list is. IfOk-weaker result _ _
+          (λ v s. is_canonical old new w protocols machine list found (read list is) (listed new v.items) s) sifted;
+      sorted = λ list is. IfOk-weaker result _ _
+          (λ v s. is_sorted old new w protocols machine list found (read list is) (listed new v.items) s) sifted;
+      told = λ list is. MatchResult-weaker result told
+          (λ v h. tells old new w protocols machine list found (read list is) c.args.limits a b h) (λ e h. tt);
+      failed = λ list is. MatchResult-weaker result told (λ v h. tt)
+          (λ e h. fails old new w protocols machine list found (read list is) c.args.limits a b e h);
       known = c.minimised_candidates.ensures.known;
       extends = c.candidates.ensures.extends;
       world = world_stays old new c.candidates.ensures.extends w c.requires.text.table;
       text = text_stays old new c.candidates.ensures.extends w c.requires.text;
     }
-
-pub returns-in-Err-clause-world : goal.returns-in-Err-clause-world
-returns-in-Err-clause-world g c = world_stays c.args.table.now c.candidates.new.table c.candidates.ensures.extends c.args.world.now c.requires.text.table
-
-pub returns-in-Err-clause-text : goal.returns-in-Err-clause-text
-returns-in-Err-clause-text g c = text_stays c.args.table.now c.candidates.new.table c.candidates.ensures.extends c.args.world.now c.requires.text

@@ -1,5 +1,4 @@
 use Rattle.std.proofs.Common.{sym, subst}
-use Rattle.std.proofs.lemmas.Result.{on_ok_weaker}
 use Rattle.swreq_correspondence.specs.Symbols.{Word}
 use Rattle.swreq_symbols.specs.Vanishing.{Links}
 use Rattle.swreq_minimal.specs.OfParams.{BeginsWithParam}
@@ -8,18 +7,20 @@ use Rattle.swreq_minimal.proofs.of_params.add.Goals as goal
 
 pub returns-then-not-begins_with_param : goal.returns-then-not-begins_with_param
 returns-then-not-begins_with_param c =
-    passed_over (Links c.args.rules.now) c.args.rules.now c.args.k c.rule.result.now c.rule.ensures c.args.system.now.items c.requires.so_far
-    (λ b m. let yes = c.begins_with_param.ensures.1 (subst (λ (z : Word). BeginsWithParam z) (sym c.symbols.ensures) b) in let not = c.if-not-begins_with_param.true in cc)
+    passed_over (Links c.args.rules.now) c.args.rules.now c.args.k c.rule.result.now c.rule.ensures c.args.system.now.items
+    c.requires.so_far
+    (λ b m. let yes = c.begins_with_param.ensures.1 (subst (λ (z : Word). BeginsWithParam z) (sym c.symbols.ensures) b) in
+    let not = c.if-not-begins_with_param.true in cc)
 
 pub returns-in-None : goal.returns-in-None
 returns-in-None c =
     let none = rw c.in-None.is at c.in_ok-found.ensures in
-    passed_over (Links c.args.rules.now) c.args.rules.now c.args.k c.rule.result.now c.rule.ensures c.args.system.now.items c.requires.so_far
+    passed_over (Links c.args.rules.now) c.args.rules.now c.args.k c.rule.result.now c.rule.ensures c.args.system.now.items
+    c.requires.so_far
     (λ b m. none c.rule.result.now c.rule.ensures m)
 
-pub returns-in-Some : goal.returns-in-Some
-returns-in-Some c =
+pub returns-in_ok-push-in-Some : goal.returns-in_ok-push-in-Some
+returns-in_ok-push-in-Some c =
     let (reduced, (rule, at, left, birth)) = rw c.in-Some.is at c.in_ok-found.ensures in
-    on_ok_weaker c.put.result
-    (one_added (Links c.args.rules.now) c.args.rules.now c.args.k rule at c.args.system.now.items c.requires.so_far c.in-Some.rule reduced left c.put.new.system.items)
-    c.put.ensures
+    one_added (Links c.args.rules.now) c.args.rules.now c.args.k rule at c.args.system.now.items c.requires.so_far
+    c.in-Some.rule reduced left c.push.new.self.items c.in_ok-push-in-Some.ensures.items

@@ -11,7 +11,8 @@ returns-in-Equal c =
     let terms = c.args.table.now in
     let r = requirement_of terms c.args.r in
     let q = requirement_of terms c.args.q in
-    let e : canonical.principal r ≡ canonical.principal q = sym (c.principal.ensures.stands terms) ∙ (c.in-Equal.ensures.order ∙ c.principal-2.ensures.stands terms) in (
+    let e : canonical.principal r ≡ canonical.principal q = sym (c.principal.ensures.stands terms)
+    ∙ (c.in-Equal.ensures.order ∙ c.principal-2.ensures.stands terms) in (
       (λ h. inr (e, (c.is_kind_before.ensures terms).0 h)),
       λ b. (c.is_kind_before.ensures terms).1 (by_kinds r q e b),
     )

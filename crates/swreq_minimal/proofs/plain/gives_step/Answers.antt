@@ -11,5 +11,6 @@ use Rattle.swreq_minimal.proofs.plain.gives_step.Goals as goal
 pub returns-in-Bound : goal.returns-in-Bound
 returns-in-Bound c h ps plain =
     let terms = c.args.table.now in
-    subst (λ (z : Step). IsPlainIn (facts_of (world_by terms c.args.world.now)) ps (listed terms c.args.list.now) (Member (term_at terms c.args.t) z))
+    subst (λ (z : Step). IsPlainIn (facts_of (world_by terms c.args.world.now)) ps (listed terms c.args.list.now)
+    (Member (term_at terms c.args.t) z))
     (sym c.in-Bound.is) (c.gives_assoc.ensures h ps plain)

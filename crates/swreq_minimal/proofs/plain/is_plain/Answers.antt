@@ -17,6 +17,7 @@ pub loop-preserved : goal.loop-preserved
 loop-preserved c = (
   (c.in-Some.ensures.0, (subst (λ t. IsTermOf c.args.world.now.lexicon t) c.in-Some.ensures.1 c.loop.invariant.0.1).0),
   λ h. c.loop.invariant.1
-      (subst (IsPlainIn (facts_of (world_by c.args.table.now c.args.world.now)) (generic_params c.args.params) (listed c.args.table.now c.args.list.now))
+      (subst (IsPlainIn (facts_of (world_by c.args.table.now c.args.world.now)) (generic_params c.args.params)
+      (listed c.args.table.now c.args.list.now))
       (sym c.in-Some.ensures.1) (c.gives_step.ensures c.if-not-gives_step.false (generic_params c.args.params) h)),
 )

@@ -14,4 +14,5 @@ returns-then-q-p c terms written t =
 
 pub returns : goal.returns
 returns c terms closed t =
-    leads_to (world_by terms c.args.world.now) closed c.args.q c.args.p c.requires.q c.requires.p (subst (λ b. IsTrue b) c.inherits.ensures t)
+    leads_to (world_by terms c.args.world.now) closed c.args.q c.args.p c.requires.q c.requires.p
+    (subst (λ b. IsTrue b) c.inherits.ensures t)

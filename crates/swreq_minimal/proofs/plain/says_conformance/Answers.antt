@@ -10,7 +10,8 @@ use Rattle.swreq_minimal.proofs.plain.says_conformance.Goals as goal
 pub returns-then-eq : goal.returns-then-eq
 returns-then-eq c h =
     let same : c.in-Conf.subject ≡ c.args.t
-    = (Decides-at c.eq.result (eq-value.it c.in-Conf.subject c.args.t) c.eq.ensures (ids_decide c.in-Conf.subject c.args.t)).0 c.if-eq.true in (
+    = (Decides-at c.eq.result (eq-value.it c.in-Conf.subject c.args.t) c.eq.ensures (ids_decide c.in-Conf.subject c.args.t)).0
+    c.if-eq.true in (
       c.in-Conf.proto,
       ap (requirement_of c.args.table.now) c.in-Conf.is ∙ ap (λ t. Conforms (term_at c.args.table.now t) c.in-Conf.proto) same,
       c.leads.ensures c.args.table.now c.requires.text.closed h,

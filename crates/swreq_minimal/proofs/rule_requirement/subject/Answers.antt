@@ -16,7 +16,8 @@ returns-then-last-eq0-clause-subject c =
     let l : 0 < length c.args.left.now = search rules in
     let e : length c.args.left.now ≡ 1 = omega (arith, l, c.if-last-eq0.true) in
     IfOk-weaker c.symbol_type.result _ _
-    (spoken_single c.args.by.now.world.now.lexicon c.args.by.now.rules.now c.args.by.now.params c.args.left.now (Proto 0) e c.symbol_type.new.table)
+    (spoken_single c.args.by.now.world.now.lexicon c.args.by.now.rules.now c.args.by.now.params c.args.left.now
+    (Proto 0) e c.symbol_type.new.table)
     (c.symbol_type.ensures.typed c.args.by.now.world.now.lexicon c.args.by.now.rules.now)
 
 pub member_subject-requires-clause-some : goal.member_subject-requires-clause-some
@@ -34,5 +35,6 @@ member_subject-requires-clause-least c =
 pub returns-clause-subject : goal.returns-clause-subject
 returns-clause-subject c =
     let l : 0 < length c.args.left.now = search rules in
-    subst (λ z. IfOk c.member_subject.result (Identifies (IsSubjectOf c.args.by.now.world.now.lexicon c.args.by.now.rules.now c.args.by.now.params z) c.member_subject.new.table))
+    subst (λ z. IfOk c.member_subject.result
+    (Identifies (IsSubjectOf c.args.by.now.world.now.lexicon c.args.by.now.rules.now c.args.by.now.params z) c.member_subject.new.table))
     (sym (with_last c.args.left.now (length c.args.left.now - 1) (Proto 0) (omega (arith, l)))) c.member_subject.ensures.subject

@@ -12,5 +12,6 @@ returns-then-is_empty-clause-typed c x all =
 pub returns-clause-typed : goal.returns-clause-typed
 returns-clause-typed c x all =
     let l : 0 < length c.args.word.now = search rules in
-    subst (λ z. IfOk c.symbol_type.result (Identifies (IsTypeBy x all c.args.params z) c.symbol_type.new.table)) (sym (one_taken c.args.word.now (Proto 0) l))
+    subst (λ z. IfOk c.symbol_type.result (Identifies (IsTypeBy x all c.args.params z) c.symbol_type.new.table))
+    (sym (one_taken c.args.word.now (Proto 0) l))
     (c.symbol_type.ensures.typed x all)

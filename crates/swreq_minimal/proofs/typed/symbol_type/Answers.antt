@@ -6,7 +6,8 @@ use Rattle.swreq_minimal.proofs.typed.symbol_type.Goals as goal
 
 pub returns-in-Param-clause-typed : goal.returns-in-Param-clause-typed
 returns-in-Param-clause-typed c x rules =
-    subst (λ z. IfOk c.generic.result (Identifies (IsTypeBy x rules c.args.params (z ∷ [])) c.generic.new.table)) (sym c.in-Param.is) (c.generic.ensures.typed x rules)
+    subst (λ z. IfOk c.generic.result (Identifies (IsTypeBy x rules c.args.params (z ∷ [])) c.generic.new.table)) (sym c.in-Param.is)
+    (c.generic.ensures.typed x rules)
 
 pub returns-in_default : goal.returns-in_default
 returns-in_default c = record {

@@ -18,7 +18,8 @@ loop-k-init c =
 
 pub go_on-requires-clause-at : goal.go_on-requires-clause-at
 go_on-requires-clause-at c =
-    id_there (IsTypeBy c.args.by.now.world.now.lexicon c.args.by.now.rules.now c.args.by.now.params (take c.loop-k.k c.args.word.now)) c.loop-k.table c.loop-k.at c.loop-k.invariant.typed
+    id_there (IsTypeBy c.args.by.now.world.now.lexicon c.args.by.now.rules.now c.args.by.now.params (take c.loop-k.k c.args.word.now))
+    c.loop-k.table c.loop-k.at c.loop-k.invariant.typed
 
 pub go_on-requires-clause-least : goal.go_on-requires-clause-least
 go_on-requires-clause-least c = part_least c.args.by.now.rules.now c.args.word.now c.loop-k.k c.requires
@@ -40,7 +41,9 @@ loop-k-preserved c =
     let r = c.loop-k.invariant.room in
     let m = c.go_on.ensures.room in
     record {
-      typed = subst (λ z. Identifies (IsTypeBy c.args.by.now.world.now.lexicon c.args.by.now.rules.now c.args.by.now.params z) c.go_on.new.table c.in_ok-next.next)
+      typed =
+          subst (λ z. Identifies (IsTypeBy c.args.by.now.world.now.lexicon c.args.by.now.rules.now c.args.by.now.params z) c.go_on.new.table
+          c.in_ok-next.next)
           (sym (take_more c.args.word.now c.loop-k.k (Proto 0) c.loop-k-test.true))
           (c.in_ok-next.ensures.typed c.args.by.now.params c.loop-k.invariant.typed);
       extends = onward c.begin.new.table c.loop-k.table c.go_on.new.table c.loop-k.invariant.extends c.go_on.ensures.extends;
@@ -49,7 +52,8 @@ loop-k-preserved c =
 
 pub returns-clause-typed : goal.returns-clause-typed
 returns-clause-typed c =
-    subst (λ z. Identifies (IsTypeBy c.args.by.now.world.now.lexicon c.args.by.now.rules.now c.args.by.now.params z) c.loop-k.table c.loop-k.at)
+    subst (λ z. Identifies (IsTypeBy c.args.by.now.world.now.lexicon c.args.by.now.rules.now c.args.by.now.params z) c.loop-k.table
+    c.loop-k.at)
     (take_all c.loop-k.k c.args.word.now c.loop-k-test.false) c.loop-k.invariant.typed
 
 pub returns-clause-extends : goal.returns-clause-extends
