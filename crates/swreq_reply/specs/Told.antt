@@ -15,10 +15,10 @@ use Rattle.swreq_world.specs.Worlds.{SignatureOver, TextWorld, signature_at}
 use Rattle.swreq_valid.specs.Machines.{list_of, protocols_of}
 use Rattle.swreq_output.specs.Minimising.{MinimisingFails, MinimisingTells}
 use Rattle.swreq_world.specs.FactsAt.{written_list}
-use Rattle.swreq_reqsig.specs.Told.{ComesSoFar, HasGone}
+use Rattle.swreq_reqsig.specs.Told.{ComesSoFar, WasReduced}
 use Rattle.swreq_reply.specs.Machines.{IsBuiltOver, ProtocolsCome, SignatureComes}
 
--- The minimised list of the signature is wanted: for answers where a query asks for it, for the signatures of each, and else of none.
+-- The minimised list of the signature is wanted: for answers where a query asks for it, for the signatures of each, and otherwise of none.
 abbrev pub IsMinimisedFor : Content → TextWorld → SignatureOver PlacedRequirement → Type 0
 IsMinimisedFor (Answers b) w g = (f : FuncId) × Contains w.queries (AsksSignature f) × (g ≡ signature_at w f)
 IsMinimisedFor Signatures w g = Contains w.signatures g
@@ -31,11 +31,11 @@ module _ (limits : Limits) (w : TextWorld) where
   -- ---- minimising
 
   module _ (wants : Content) (rules : List Rule) where
-    -- Of one signature minimising tells this where the command asks for it, and else nothing.
+    -- Of one signature minimising tells this where the command asks for it, and otherwise nothing.
     abbrev pub TellsOne : SignatureOver PlacedRequirement → List Event → Type 0
     TellsOne g told = (told ≡ []) ⊎ (IsMinimisedFor wants w g × MinimisingTells limits w rules g told)
 
-    -- At one for which the command asks it fails so.
+    -- Minimising fails in this way at a signature for which the command asks.
     abbrev pub FailsAt : SignatureOver PlacedRequirement → Failed → List Event → Type 0
     FailsAt g failed told = IsMinimisedFor wants w g × MinimisingFails limits w rules g failed told
 
@@ -45,7 +45,7 @@ module _ (limits : Limits) (w : TextWorld) where
       one_more : {before part told : List Event} (g : SignatureOver PlacedRequirement) → MinimisingAllTells before → IsMinimisedFor wants w g
           → MinimisingTells limits w rules g part → told ≡ before ++ part → MinimisingAllTells told
 
-    -- It fails so at one of them, behind such parts.
+    -- Minimising fails in this way at a signature, after such parts of those before it.
     pub record MinimisingAllFails (failed : Failed) (told : List Event) : Type 0 where
       pub before : List Event
       pub last : List Event
@@ -55,14 +55,14 @@ module _ (limits : Limits) (w : TextWorld) where
       pub fails : MinimisingFails limits w rules g failed last
       pub told_is : told ≡ before ++ last
 
-    -- It fails by a limit at one of them, or for want of memory behind such parts or at one of them.
+    -- Minimising fails by a limit at a signature, or because memory runs out at one or after such parts.
     abbrev pub MinimisingEndsIn : Failed → List Event → Type 0
     MinimisingEndsIn (Limit which trace) told = MinimisingAllFails (Limit which trace) told
     MinimisingEndsIn Memory told = MinimisingAllTells told ⊎ MinimisingAllFails Memory told
 
   -- ---- where memory runs out
 
-  -- So far as this the signatures tell.
+  -- What the checks of these signatures may have told when memory runs out.
   pub data SignaturesTell (rules : List Rule) : List (SignatureOver PlacedRequirement) → List Event → Type 0 where
     nothing_yet : {gs : List (SignatureOver PlacedRequirement)} → SignaturesTell rules gs []
     in_first : {g : SignatureOver PlacedRequirement} {gs : List (SignatureOver PlacedRequirement)} {told : List Event}
@@ -71,13 +71,13 @@ module _ (limits : Limits) (w : TextWorld) where
         (own : List Rule) → SignatureComes limits w rules g (Ok own) first → SignaturesTell rules gs more → told ≡ first ++ more
         → SignaturesTell rules (g ∷ gs) told
 
-  -- So far as this the check tells.
+  -- What the check may have told when memory runs out.
   pub data CheckTells : List Event → Type 0 where
     in_protocols : {told : List Event} → ComesTo limits (protocols_of w) told → CheckTells told
     past_protocols : {first more told : List Event} (rules : List Rule) → ProtocolsCome limits w (Ok rules) first
         → SignaturesTell rules w.signatures more → told ≡ first ++ more → CheckTells told
 
-  -- So far as this minimising tells behind the check, which came to rules.
+  -- What the check, which came to rules, and minimising after it may have told when memory runs out.
   pub record MinimisingPartTells (wants : Content) (told : List Event) : Type 0 where
     pub rules : List Rule
     pub first : List Event
@@ -87,7 +87,7 @@ module _ (limits : Limits) (w : TextWorld) where
     pub part : MinimisingEndsIn wants rules failed more
     pub told_is : told ≡ first ++ more
 
-  -- So far as this the families of requirement signatures tell behind the check.
+  -- What the check, and the search for families of requirement signatures after it, may have told when memory runs out.
   pub record FamiliesPartTell (told : List Event) : Type 0 where
     pub rules : List Rule
     pub first : List Event
@@ -96,9 +96,9 @@ module _ (limits : Limits) (w : TextWorld) where
     pub part : ComesSoFar limits w more
     pub told_is : told ≡ first ++ more
 
-  -- What is told behind the check of a text that is answered: parts of minimising; of requirement signatures what the rounds tell that
+  -- What is told after the check of a text that is answered: parts of minimising; of requirement signatures what the rounds tell that
   -- are run for the requirements of the protocols, going through all of them; of calls nothing.
   abbrev pub TellsBehind : Content → List Rule → List Event → Type 0
-  TellsBehind Families rules more = (flags : List Bool) × HasGone limits w 0 flags more
+  TellsBehind Families rules more = (flags : List Bool) × WasReduced limits w 0 flags more
   TellsBehind Calls rules more = more ≡ []
   TellsBehind c rules more = MinimisingAllTells c rules more

@@ -15,10 +15,10 @@ use Rattle.swreq_world.specs.ByTable.{world_by}
 use Rattle.swreq_world.specs.Worlds.{IdWorld, TextWorld}
 use Rattle.swreq_reqsig.specs.declared.family.Family.{Family}
 use Rattle.swreq_reqsig.specs.Families.{AreRequirementSignatures, IsGivenFamily, associated_types_of, members, numbers, owned}
-use Rattle.swreq_reqsig.specs.GoingThrough.{AreLeft, without}
+use Rattle.swreq_reqsig.specs.GoingThrough.{AreKept, without}
 use Rattle.swreq_reqsig.specs.Places.{all_places}
-use Rattle.swreq_reqsig.specs.Told.{AnswersFamily, FailsAt, HasGone, MeetsFamily, IsOnlyFamily}
-use Rattle.swreq_reqsig.specs.Told.HasGone.{further, start}
+use Rattle.swreq_reqsig.specs.Told.{AnswersFamily, FailsAt, WasReduced, MeetsFamily, IsOnlyFamily}
+use Rattle.swreq_reqsig.specs.Told.WasReduced.{further, start}
 use Rattle.swreq_reqsig.proofs.InLists.{numbers_by}
 use Rattle.swreq_reqsig.proofs.OneFamily.{family_outcomes_are_one, gone_left}
 use Rattle.swreq_reqsig.proofs.Placing.{places_count}
@@ -30,7 +30,7 @@ module _ (w : IdWorld) (terms : List Term) (limits : Limits) where
 
   -- one has gone through the requirements down to this one, and the watcher was told what was told
   abbrev pub HasCome : ℕ → List Bool → Option (List Event) → Option (List Event) → Type 0
-  HasCome n flags old new = (told : List Event) × HasGone limits W n flags told × GrewBy old new told
+  HasCome n flags old new = (told : List Event) × WasReduced limits W n flags told × GrewBy old new told
 
   pub comes_first : (n : ℕ) (flags : List Bool) (old : Option (List Event)) → n ≡ length (all_places w) → flags ≡ replicate n true
       → HasCome n flags old old
@@ -39,23 +39,33 @@ module _ (w : IdWorld) (terms : List Term) (limits : Limits) where
       ([], start count (f ∙ ap (λ (k : ℕ). replicate k true) count) refl, grew_none old)
 
   pub left_at : (k n : ℕ) (flags : List Bool) (old new : Option (List Event)) → k ≡ suc n → HasCome k flags old new
-      → AreLeft (associated_types_of W) (owned W) (suc n) flags
-  left_at k n flags old new e (told, gone, grew) = subst (λ (z : ℕ). AreLeft (associated_types_of W) (owned W) z flags) e (gone_left limits W gone)
+      → AreKept (associated_types_of W) (owned W) (suc n) flags
+  left_at k n flags old new e (told, gone, grew) =
+      subst (λ (z : ℕ). AreKept (associated_types_of W) (owned W) z flags) e (gone_left limits W gone)
 
   pub comes_on : (k n : ℕ) (flags left : List Bool) (old mid new : Option (List Event)) → k ≡ suc n → HasCome k flags old mid
       → (part : List Event) × MeetsFamily limits W n flags left part × GrewBy mid new part → HasCome n left old new
   comes_on k n flags left old mid new e (told, gone, grew) (part, met, more) = (
     told ++ part,
-    further (subst (λ (z : ℕ). HasGone limits W z flags told) e gone) met refl,
+    further (subst (λ (z : ℕ). WasReduced limits W z flags told) e gone) met refl,
     grew_on old mid new told part grew more,
   )
 
   -- the rounds for the next requirement fail
   pub fails_on : (k n : ℕ) (flags : List Bool) (old mid new : Option (List Event)) → k ≡ suc n → HasCome k flags old mid → (failed : Failed)
-      → (part : List Event) × FailsAt limits W n (without flags n) failed part × GrewBy mid new part → AnswersFamily limits W old new (Err failed)
+      → (part : List Event) × FailsAt limits W n (without flags n) failed part × GrewBy mid new part
+      → AnswersFamily limits W old new (Err failed)
   fails_on k n flags old mid new e (told, gone, grew) (Limit which trace) (part, stops, more) = (
     told ++ part,
-    record { place = n; flags = flags; before = told; part = part; gone = subst (λ (z : ℕ). HasGone limits W z flags told) e gone; stops = stops; told_is = refl },
+    record {
+      place = n;
+      flags = flags;
+      before = told;
+      part = part;
+      gone = subst (λ (z : ℕ). WasReduced limits W z flags told) e gone;
+      stops = stops;
+      told_is = refl;
+    },
     grew_on old mid new told part grew more,
   )
   fails_on k n flags old mid new e (told, gone, grew) Memory (part, fails, more) = (
@@ -70,10 +80,17 @@ module _ (w : IdWorld) (terms : List Term) (limits : Limits) where
     grew_on old mid new told part grew more,
   )
 
-  -- memory is wanting between two requirements
+  -- memory runs out between two requirements
   pub wants_memory : (n : ℕ) (flags : List Bool) (old new : Option (List Event)) → HasCome n flags old new
       → AnswersFamily limits W old new (Err Memory)
-  wants_memory n flags old new (told, gone, grew) = (told, record { place = n; flags = flags; before = told; gone = gone; part = inl refl }, grew)
+  wants_memory n flags old new (told, gone, grew) =
+      (told, record { place = n; flags = flags; before = told; gone = gone; part = inl refl }, grew)
+
+  -- memory runs out before the first of them
+  pub wants_at_first : (told : Option (List Event)) → AnswersFamily limits W told told (Err Memory)
+  wants_at_first told =
+      let count = length (all_places w) in
+      wants_memory count (replicate count true) told told (comes_first count (replicate count true) told refl refl)
 
   -- one has gone through all
   pub answers : (flags : List Bool) (old new : Option (List Event)) → HasCome 0 flags old new → (family : Family)
@@ -82,7 +99,8 @@ module _ (w : IdWorld) (terms : List Term) (limits : Limits) where
   answers flags old new (told, gone, grew) family e = (told, (flags, gone, e ∙ sym (numbers_by w terms flags)), grew)
 
   -- this family is given
-  pub gives : (flags : List Bool) (old new : Option (List Event)) → HasCome 0 flags old new → (family : Family) → family.kept ≡ numbers w flags
+  pub gives : (flags : List Bool) (old new : Option (List Event)) → HasCome 0 flags old new → (family : Family)
+      → family.kept ≡ numbers w flags
       → IsGivenFamily W family.kept
   gives flags old new (told, gone, grew) family e = (flags, gone_left limits W gone, e ∙ sym (numbers_by w terms flags))
 
@@ -96,7 +114,8 @@ module _ (w : IdWorld) (terms : List Term) (limits : Limits) where
 -- an answer is the only one
 module _ (limits : Limits) (w : TextWorld) where
   pub only : (old new : Option (List Event)) (a : Result Family Failed) → AnswersFamily limits w old new a → IsOnlyFamily limits w a
-  only old new (Ok family) h other told k = elim (family_outcomes_are_one limits w (Ok family) other h.0 told h.1 k) [ inl e ↦ inl e.0 | inr e ↦ inr e ]
+  only old new (Ok family) h other told k =
+      elim (family_outcomes_are_one limits w (Ok family) other h.0 told h.1 k) [ inl e ↦ inl e.0 | inr e ↦ inr e ]
   only old new (Err (Limit which trace)) h other told k =
       elim (family_outcomes_are_one limits w (Err (Limit which trace)) other h.0 told h.1 k) [ inl e ↦ inl e.0 | inr e ↦ inr e ]
   only old new (Err Memory) h other told k = inr (inl refl)

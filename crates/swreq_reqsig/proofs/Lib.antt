@@ -9,6 +9,7 @@ pub mod Asking
 pub mod OneFamily
 pub mod OfWorld
 pub mod Placing
+pub mod Selecting
 pub mod InLists
 pub mod Signatures
 pub mod ByRules

@@ -16,13 +16,13 @@ use Rattle.swreq_rounds.proofs.OneOutcome.{outcomes_are_one}
 use Rattle.swreq_world.specs.Worlds.{TextWorld}
 use Rattle.swreq_reqsig.specs.declared.family.Family.{Family}
 use Rattle.swreq_reqsig.specs.Families.{associated_types_of, family_of, family_plan, numbers, owned}
-use Rattle.swreq_reqsig.specs.GoingThrough.{AreLeft, without}
-use Rattle.swreq_reqsig.specs.GoingThrough.AreLeft.{further as left_further, whole}
+use Rattle.swreq_reqsig.specs.GoingThrough.{AreKept, without}
+use Rattle.swreq_reqsig.specs.GoingThrough.AreKept.{further as left_further, whole}
 use Rattle.swreq_reqsig.specs.Asked.{AreAsked, IsBeyond, IsOutOfReach}
 use Rattle.swreq_reqsig.specs.Reaching.{AreReachedFlags}
 use Rattle.swreq_reqsig.specs.Saying.{IsUnsaid}
-use Rattle.swreq_reqsig.specs.Told.{HasGone, IsFamilyOutcome, IsForMemory, IsSettled, IsStopped, StopsAt}
-use Rattle.swreq_reqsig.specs.Told.HasGone.{further, start}
+use Rattle.swreq_reqsig.specs.Told.{WasReduced, IsFamilyOutcome, IsForMemory, IsSettled, IsStopped, StopsAt}
+use Rattle.swreq_reqsig.specs.Told.WasReduced.{further, start}
 use Rattle.swreq_reqsig.specs.Told.IsSettled.{by_rounds, without_rounds}
 use Rattle.swreq_reqsig.proofs.ByReach.{reached_flags_one}
 use Rattle.swreq_reqsig.proofs.Leaving.{left_one, within}
@@ -68,7 +68,8 @@ module _ (limits : Limits) (w : TextWorld) (n : ℕ) (others : List Bool) where
       let same : is.requirement ≡ are.requirement = same_Some _ _ (sym is.stands ∙ are.stands) in
       elim is.follows_not [
         | inl unsaid ↦ are.said (subst (λ (o : Owned). IsUnsaid w.lexicon (family_of w others) o.proto o.requirement) same unsaid)
-        | inr beyond ↦ (let out : IsOutOfReach (family_of w others) are.requirement = subst (IsOutOfReach (family_of w others)) same beyond in
+        | inr beyond ↦ (let out : IsOutOfReach (family_of w others) are.requirement =
+            subst (IsOutOfReach (family_of w others)) same beyond in
             out.unreached (are.within out.subject out.proto out.says))
       ]
 
@@ -91,7 +92,8 @@ module _ (limits : Limits) (w : TextWorld) (n : ℕ) (others : List Bool) where
       → StopsAt limits w n others kind other b → (which ≡ kind) × (trace ≡ other) × (a ≡ b)
   stops_told_one which kind trace other a b s u =
       limit_told_one limits (family_plan w s.asked) which kind trace other a b s.stops
-      (subst (λ (z : List Bool). IsOutcome limits (family_plan w z) (Err (Limit kind other)) b) (asked_one u.asked s.asked u.are s.are) u.stops)
+      (subst (λ (z : List Bool). IsOutcome limits (family_plan w z) (Err (Limit kind other)) b) (asked_one u.asked s.asked u.are s.are)
+      u.stops)
 
 -- ---- outcomes for all requirements
 
@@ -102,18 +104,19 @@ module _ (limits : Limits) (w : TextWorld) where
   abbrev all : List Owned
   all = owned w
 
-  pub gone_left : {n : ℕ} {flags : List Bool} {told : List Event} → HasGone limits w n flags told → AreLeft ds all n flags
+  pub gone_left : {n : ℕ} {flags : List Bool} {told : List Event} → WasReduced limits w n flags told → AreKept ds all n flags
   gone_left (start e f t) = whole e f
   gone_left (further g m t) = left_further (gone_left g) m.decided
 
-  gone_within : {n : ℕ} {flags : List Bool} {told : List Event} → HasGone limits w n flags told → n ≤ length all
+  gone_within : {n : ℕ} {flags : List Bool} {told : List Event} → WasReduced limits w n flags told → n ≤ length all
   gone_within g = within ds all (gone_left g)
 
-  told_one : {n : ℕ} {a b : List Bool} {told also : List Event} → HasGone limits w n a told → HasGone limits w n b also → told ≡ also
+  told_one : {n : ℕ} {a b : List Bool} {told also : List Event} → WasReduced limits w n a told → WasReduced limits w n b also → told ≡ also
   told_one (start e f t) (start g h u) = t ∙ sym u
   told_one (start e f t) (further g m u) = let l = gone_within g in absurd (omega (arith, l, e))
   told_one (further g m u) (start e f t) = let l = gone_within g in absurd (omega (arith, l, e))
-  told_one (further {n = n} {flags = flags} {before = before} {part = part} g m t) (further {flags = others} {before = prior} {part = piece} h k u) =
+  told_one (further {n = n} {flags = flags} {before = before} {part = part} g m t)
+      (further {flags = others} {before = prior} {part = piece} h k u) =
       let same = left_one ds all (gone_left g) (gone_left h) in
       let also = subst (λ (z : List Bool). IsSettled limits w n (without z n) piece) (sym same) k.settled in
       t ∙ ap₂ (λ x y. x ++ y) (told_one g h) (settled_one limits w n (without flags n) part piece m.settled also) ∙ sym u
@@ -123,10 +126,10 @@ module _ (limits : Limits) (w : TextWorld) where
     pub flags : List Bool
     pub before : List Event
     pub part : List Event
-    pub gone : HasGone limits w (suc m) flags before
+    pub gone : WasReduced limits w (suc m) flags before
     pub settled : IsSettled limits w m (without flags m) part
 
-  was_met : {n : ℕ} {flags : List Bool} {told : List Event} → HasGone limits w n flags told → (m : ℕ) → n ≤ m → m < length all → WasMet m
+  was_met : {n : ℕ} {flags : List Bool} {told : List Event} → WasReduced limits w n flags told → (m : ℕ) → n ≤ m → m < length all → WasMet m
   was_met (start e f t) m l h = absurd (omega (arith, l, h, e))
   was_met (further {n = n} {flags = flags} {before = before} {part = part} g k t) m l h = elim (cases_eq m n) [
     | inl e ↦ subst WasMet (sym e) (record { flags = flags; before = before; part = part; gone = g; settled = k.settled })
@@ -134,7 +137,7 @@ module _ (limits : Limits) (w : TextWorld) where
   ]
 
   -- where the rounds for a requirement pass a limit, one has not gone past it
-  not_past : {n : ℕ} {flags : List Bool} {told : List Event} → HasGone limits w n flags told
+  not_past : {n : ℕ} {flags : List Bool} {told : List Event} → WasReduced limits w n flags told
       → (which : Which) (trace : List Rule) (also : List Event)
       → (s : IsStopped limits w which trace also) → n ≤ s.place → ⊥
   not_past g which trace also s l =
@@ -148,7 +151,7 @@ module _ (limits : Limits) (w : TextWorld) where
       → IsStopped limits w kind other also
       → (which ≡ kind) × (trace ≡ other) × (told ≡ also)
   stops_one which kind trace other told also s u = elim (cases_eq s.place u.place) [
-    | inl e ↦ (let gone = subst (λ (z : ℕ). HasGone limits w (suc z) u.flags u.before) (sym e) u.gone in
+    | inl e ↦ (let gone = subst (λ (z : ℕ). WasReduced limits w (suc z) u.flags u.before) (sym e) u.gone in
         let same = left_one ds all (gone_left s.gone) (gone_left gone) in
         let stops = subst (λ (z : List Bool). StopsAt limits w s.place (without z s.place) kind other u.part) (sym same)
         (subst (λ (z : ℕ). StopsAt limits w z (without u.flags z) kind other u.part) (sym e) u.stops) in

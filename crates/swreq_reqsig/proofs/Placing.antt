@@ -45,7 +45,7 @@ protocols_done w ps k all whole l h = sym (append-nil all) ∙ ap (λ z. all ++ 
 
 -- ---- what stands at a place
 
--- it is the requirement after so many of these, the first of which has the number after n
+-- it is the requirement after this many of these, the first of which has the number after n
 record IsFrom (p : ProtoId) (n : ℕ) (rs : List Requirement) (x : Place) : Type 0 where
   pub proto : x.proto ≡ p
   pub count : ℕ

@@ -28,7 +28,7 @@ use Rattle.swreq_world.specs.Closed.{IsClosed, IsOfProtocol}
 use Rattle.swreq_world.specs.Worlds.{IdWorld, TextWorld, requirements_of}
 use Rattle.swreq_reqsig.specs.declared.places.Place.{Place}
 use Rattle.swreq_reqsig.specs.Families.{AreRequirementSignatures, DerivesWith, IsGivenFamily, associated_types_of, family_of, members, numbers, owned}
-use Rattle.swreq_reqsig.specs.GoingThrough.{AreAlike, AreGiven, AreLeft, IsDecided, without}
+use Rattle.swreq_reqsig.specs.GoingThrough.{AreAlike, AreGiven, AreKept, IsDecided, without}
 use Rattle.swreq_reqsig.specs.Places.{all_places, owned_at}
 use Rattle.swreq_reqsig.specs.Told.{IsSettled, MeetsFamily}
 use Rattle.swreq_reqsig.proofs.Choosing.{chosen_in}
@@ -52,11 +52,12 @@ module _ (w : TextWorld) (closed : IsClosed w) where
     | inl l ↦ (let q = contains_of_map (λ (z : PlacedRequirement). z.requirement) (requirements_of w p) r c in
         subst IsOverSelf (sym q.2) (All-contains (IsOfProtocol w.lexicon) (requirements_of w p) q.0
         (All-get_or (AllOf w) w.requirements p.rank [] l closed.requirements) q.1).1)
-    | inr l ↦ no_member r (subst (λ z. Contains (map (λ (z : PlacedRequirement). z.requirement) z) r) (get_or_past w.requirements p.rank [] l) c)
+    | inr l ↦ no_member r
+        (subst (λ z. Contains (map (λ (z : PlacedRequirement). z.requirement) z) r) (get_or_past w.requirements p.rank [] l) c)
   ]
 
   -- where one has gone through the requirements after it, it is derivable with those that are left
-  left_derivable : AreProtocolsWellFormed f → (n : ℕ) (flags : List Bool) (o : Owned) → AreLeft ds (owned w) n flags → Contains (owned w) o
+  left_derivable : AreProtocolsWellFormed f → (n : ℕ) (flags : List Bool) (o : Owned) → AreKept ds (owned w) n flags → Contains (owned w) o
       → DerivesWith w (family_of w flags) o.proto (Requires o.requirement)
   left_derivable well n flags o l c = (left_same ds (owned w) l o.proto (Requires o.requirement)).1 (owned_derivable w closed well o c)
 
@@ -84,7 +85,7 @@ module _ (w : TextWorld) (closed : IsClosed w) where
   -- ---- one requirement
 
   -- the same is derivable without it where it is
-  pub alike_if : AreProtocolsWellFormed f → (n : ℕ) (flags : List Bool) (o : Owned) → AreLeft ds (owned w) (suc n) flags
+  pub alike_if : AreProtocolsWellFormed f → (n : ℕ) (flags : List Bool) (o : Owned) → AreKept ds (owned w) (suc n) flags
       → slice_get (owned w) n ≡ Some o
       → AreAlike ds (owned w) (without flags n) flags ↔ DerivesWith w (family_of w (without flags n)) o.proto (Requires o.requirement)
   alike_if well n flags o l at =
@@ -127,7 +128,8 @@ place_there w places n e l = let (x, at) = there_is places n l in (x, at, ap (λ
 
 -- one requirement, as the code decides on it
 module _ (w : IdWorld) (terms : List Term) (text : IsTextOver terms w) (limits : Limits) (n : ℕ) (flags : List Bool) (x : Place)
-    (at : slice_get (all_places w) n ≡ Some x) (left : AreLeft (associated_types_of (world_by terms w)) (owned (world_by terms w)) (suc n) flags) where
+    (at : slice_get (all_places w) n ≡ Some x)
+    (left : AreKept (associated_types_of (world_by terms w)) (owned (world_by terms w)) (suc n) flags) where
   abbrev W : TextWorld
   W = world_by terms w
 
@@ -144,11 +146,13 @@ module _ (w : IdWorld) (terms : List Term) (text : IsTextOver terms w) (limits :
       → (part : List Event) × MeetsFamily limits W n flags (slice_set (slice_set flags n false) n (not b)) part × GrewBy old new part
   met_by well others b e d old new (part, settled, grew) =
       let law = alike_if W text.closed well n flags (owned_at terms x) left (owned_there w terms n x at) in
-      let here = subst (λ (z : List Bool). IsTrue b ↔ DerivesWith W (family_of W z) x.proto (Requires (requirement_of terms x.requirement))) e d in (
+      let here =
+      subst (λ (z : List Bool). IsTrue b ↔ DerivesWith W (family_of W z) x.proto (Requires (requirement_of terms x.requirement))) e d in (
         part,
         record {
           settled = subst (λ (z : List Bool). IsSettled limits W n z part) e settled;
-          decided = decided_by (associated_types_of W) (owned W) n flags (left_before (associated_types_of W) (owned W) left n (omega arith)) b
+          decided = decided_by (associated_types_of W) (owned W) n flags
+              (left_before (associated_types_of W) (owned W) left n (omega arith)) b
               ((λ t. law.1 (here.0 t)), λ a. here.1 (law.0 a));
         },
         grew,

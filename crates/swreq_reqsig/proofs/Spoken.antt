@@ -1,5 +1,5 @@
 -- What a family says of type parameters with one last name, as the code goes through the outlines of its requirements.
-use Rattle.std.proofs.Common.{◌≡◌, ◌∙◌, ◌↔◌, ◌⊎◌, ◌<◌, ◌≤◌, ◌+◌, ap, get_or, inl, inr, refl, sym, subst, arith, ℕ, suc, Bool, true, false, IsTrue, List, Option, Some, None, length, replicate, slice_get, slice_set}
+use Rattle.std.proofs.Common.{◌≡◌, ◌∙◌, ◌↔◌, ◌⊎◌, ◌<◌, ◌≤◌, ◌+◌, ap, get_or, inl, inr, refl, sym, subst, arith, ℕ, suc, Bool, true, false, Contains, IsTrue, List, Option, Some, None, length, replicate, slice_get, slice_set}
 use Rattle.std.specs.Prelude.{not}
 use Rattle.std.proofs.lemmas.Bool.{cases_eq}
 use Rattle.std.proofs.lemmas.List.{length-replicate, length-set}
@@ -234,7 +234,8 @@ module _ (outlines : List Outline) (flags : List Bool) (lists : List (List ℕ))
 
 -- ---- a requirement by its outline
 
-pub conformance_of : (x : LexiconView) (a : Option NameId) (p : ProtoId) (r : TermRequirement) (q : ProtoId) → outline_in x p r ≡ Conformance a q
+pub conformance_of : (x : LexiconView) (a : Option NameId) (p : ProtoId) (r : TermRequirement) (q : ProtoId)
+    → outline_in x p r ≡ Conformance a q
     → (t : Term) × (r ≡ Conforms t q) × (last_name x t ≡ a)
 conformance_of x a p (Conforms t r) q e = let same : r ≡ q = cc in (t, ap (Conforms t) same, cc)
 conformance_of x a p (IsAnyObject t) q e = absurd cc
@@ -248,7 +249,8 @@ module _ (x : LexiconView) (family : List Owned) (p : ProtoId) where
       subst (λ (z : Option NameId). IsUnsaid x family p (Conforms t r)
       ↔ ((SaysEqual x family z → ⊥) × (SaysConforms x family z q → ⊥) × ((z ≡ None) × (q ≡ p) → ⊥))) name
       (subst (λ (z : ProtoId). IsUnsaid x family p (Conforms t r)
-      ↔ ((SaysEqual x family (last_name x t) → ⊥) × (SaysConforms x family (last_name x t) z → ⊥) × ((last_name x t ≡ None) × (z ≡ p) → ⊥))) proto
+      ↔ ((SaysEqual x family (last_name x t) → ⊥) × (SaysConforms x family (last_name x t) z → ⊥)
+      × ((last_name x t ≡ None) × (z ≡ p) → ⊥))) proto
       ((λ h. h), λ h. h))
   unsaid_conformance (IsAnyObject t) a q e = absurd cc
   unsaid_conformance (Equals t u) a q e = absurd cc
@@ -275,6 +277,11 @@ module _ (x : LexiconView) (family : List Owned) (p : ProtoId) where
       ((λ h. h), λ h. h))
 
 -- ---- what the family says
+
+-- It says that a type parameter with the last name is an object, or that it is equal to one.
+abbrev pub Says : LexiconView → List Owned → Option NameId → Kind → Type 0
+Says x family a IsObject = SaysObject x family a
+Says x family a IsEqual = SaysEqual x family a
 
 module _ (x : LexiconView) (all : List Owned) (flags : List Bool) (a : Option NameId) where
   abbrev family : List Owned
@@ -330,66 +337,40 @@ module _ (x : LexiconView) (all : List Owned) (flags : List Bool) (a : Option Na
     equal_of p (IsAnyObject t) h = absurd h
     equal_of p (Equals t u) h = (t, u, refl, elim h [ inl e ↦ inl (bears_on p t e) | inr e ↦ inr (bears_on p u e) ])
 
-    pub says_object : IsSaidAt outlines flags IsObject a marks ↔ SaysObject x family a
-    says_object = (
-      (λ s. let (o, at, is) = get_of_map (outline_of x) all s.place s.outline s.there in
-          let (t, says, bears) = object_of o.proto o.requirement (subst (IsObjectBy a marks) (sym is) s.says) in record {
-            member = o;
-            there = at_chosen all flags s.place o at s.kept;
-            subject = t;
-            says = says;
-            bears = bears;
-          }),
-      λ s. let (n, at, set) = chosen_at all flags s.member s.there in record {
-        place = n;
-        outline = outline_of x s.member;
-        kept = set;
-        there = get_map (outline_of x) all n s.member at;
-        says = subst (λ (r : TermRequirement). IsObjectBy a marks (outline_in x s.member.proto r)) (sym s.says)
-            (bears_by s.member.proto s.subject s.bears);
-      },
+    -- what a member says
+    of_member : (kind : Kind) (o : Owned) → Contains family o → IsSaidBy kind a marks (outline_of x o) → Says x family a kind
+    of_member IsObject o c h =
+        let (t, says, bears) = object_of o.proto o.requirement h in
+        record { member = o; there = c; subject = t; says = says; bears = bears }
+    of_member IsEqual o c h =
+        let (t, u, says, bears) = equal_of o.proto o.requirement h in
+        record { member = o; there = c; left = t; right = u; says = says; bears = bears }
+
+    a_member : (kind : Kind) → Says x family a kind → (o : Owned) × Contains family o × IsSaidBy kind a marks (outline_of x o)
+    a_member IsObject s = (
+      s.member,
+      s.there,
+      subst (λ (r : TermRequirement). IsObjectBy a marks (outline_in x s.member.proto r)) (sym s.says)
+          (bears_by s.member.proto s.subject s.bears),
+    )
+    a_member IsEqual s = (
+      s.member,
+      s.there,
+      subst (λ (r : TermRequirement). IsEqualBy a marks (outline_in x s.member.proto r)) (sym s.says) (elim s.bears [
+        | inl e ↦ inl (bears_by s.member.proto s.left e)
+        | inr e ↦ inr (bears_by s.member.proto s.right e)
+      ]),
     )
 
-    pub says_equal : IsSaidAt outlines flags IsEqual a marks ↔ SaysEqual x family a
-    says_equal = (
+    -- it is said at a place if and only if a member says it
+    pub says : (kind : Kind) → IsSaidAt outlines flags kind a marks ↔ Says x family a kind
+    says kind = (
       (λ s. let (o, at, is) = get_of_map (outline_of x) all s.place s.outline s.there in
-          let (t, u, says, bears) = equal_of o.proto o.requirement (subst (IsEqualBy a marks) (sym is) s.says) in record {
-            member = o;
-            there = at_chosen all flags s.place o at s.kept;
-            left = t;
-            right = u;
-            says = says;
-            bears = bears;
-          }),
-      λ s. let (n, at, set) = chosen_at all flags s.member s.there in record {
-        place = n;
-        outline = outline_of x s.member;
-        kept = set;
-        there = get_map (outline_of x) all n s.member at;
-        says = subst (λ (r : TermRequirement). IsEqualBy a marks (outline_in x s.member.proto r)) (sym s.says) (elim s.bears [
-          | inl e ↦ inl (bears_by s.member.proto s.left e)
-          | inr e ↦ inr (bears_by s.member.proto s.right e)
-        ]);
-      },
+          of_member kind o (at_chosen all flags s.place o at s.kept) (subst (IsSaidBy kind a marks) (sym is) s.says)),
+      λ s. let (o, there, h) = a_member kind s in
+          let (n, at, set) = chosen_at all flags o there in
+          record { place = n; outline = outline_of x o; kept = set; there = get_map (outline_of x) all n o at; says = h },
     )
-
-    -- ---- as the code asks for it
-
-    said_here : (kind : Kind) (here : List Outline) (set : List Bool) (b : Bool) → here ≡ outlines → set ≡ flags
-        → IsTrue b ↔ IsSaidAt here set kind a marks → IsTrue b ↔ IsSaidAt outlines flags kind a marks
-    said_here kind here set b e f h =
-        subst (λ (z : List Outline). IsTrue b ↔ IsSaidAt z flags kind a marks) e
-        (subst (λ (z : List Bool). IsTrue b ↔ IsSaidAt here z kind a marks) f h)
-
-    pub equal_said : (here : List Outline) (set : List Bool) (b : Bool) → here ≡ outlines → set ≡ flags
-        → IsTrue b ↔ IsSaidAt here set IsEqual a marks → IsTrue b ↔ SaysEqual x family a
-    equal_said here set b e f h =
-        let k = said_here IsEqual here set b e f h in ((λ t. says_equal.0 (k.0 t)), λ s. k.1 (says_equal.1 s))
-
-    pub object_said : (here : List Outline) (set : List Bool) (b : Bool) → here ≡ outlines → set ≡ flags
-        → IsTrue b ↔ IsSaidAt here set IsObject a marks → IsTrue b ↔ SaysObject x family a
-    object_said here set b e f h =
-        let k = said_here IsObject here set b e f h in ((λ t. says_object.0 (k.0 t)), λ s. k.1 (says_object.1 s))
 
 pub not_said : (b : Bool) (P : Type 0) → IsTrue b ↔ P → IsTrue (not b) ↔ (P → ⊥)
 not_said true P h = ((λ t. absurd (let z : false ≡ true = t in cc)), λ k. absurd (k (h.0 refl)))

@@ -24,11 +24,11 @@ abbrev pub IsDecided : List AssociatedType → List Owned → ℕ → List Bool 
 IsDecided ds all n flags left =
     (AreAlike ds all (without flags n) flags × (left ≡ without flags n)) ⊎ ((AreAlike ds all (without flags n) flags → ⊥) × (left ≡ flags))
 
--- These are kept where one has gone through the requirements from the last to the one at this place. Before the first step all are kept.
-pub data AreLeft (ds : List AssociatedType) (all : List Owned) : ℕ → List Bool → Type 0 where
-  whole : {n : ℕ} {flags : List Bool} → n ≡ length all → flags ≡ all_kept all → AreLeft ds all n flags
-  further : {n : ℕ} {flags left : List Bool} → AreLeft ds all (suc n) flags → IsDecided ds all n flags left → AreLeft ds all n left
+-- These are kept after the requirements from the last to the one at this place are decided. Before the first step all are kept.
+pub data AreKept (ds : List AssociatedType) (all : List Owned) : ℕ → List Bool → Type 0 where
+  whole : {n : ℕ} {flags : List Bool} → n ≡ length all → flags ≡ all_kept all → AreKept ds all n flags
+  further : {n : ℕ} {flags left : List Bool} → AreKept ds all (suc n) flags → IsDecided ds all n flags left → AreKept ds all n left
 
--- These are kept where one has gone through all of them.
+-- These are kept after all of them are decided.
 abbrev pub AreGiven : List AssociatedType → List Owned → List Bool → Type 0
-AreGiven ds all flags = AreLeft ds all 0 flags
+AreGiven ds all flags = AreKept ds all 0 flags

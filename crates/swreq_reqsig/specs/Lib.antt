@@ -6,7 +6,7 @@ pub mod Saying
 pub mod Asked
 pub mod Outlines
 pub mod Named
-pub mod Spoken
+pub mod Selections
 pub mod Marks
 pub mod Settings
 pub mod Told

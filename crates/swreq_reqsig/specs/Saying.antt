@@ -1,7 +1,8 @@
 -- What a family says of type parameters, where each is known by the name of its last member alone.
 --
--- A requirement bears on what is said of the type parameters with one last name where no equality leads to them from type parameters with
--- another. So most requirements are seen not to follow from a family that says nothing of the kind.
+-- Unless the family says that a type parameter is equal to another, only two kinds of requirements say anything of it: those of type
+-- parameters with the same last name, and those of `Self` in protocols to which one of these conforms. So most requirements are seen not to
+-- follow from a family, since it says nothing of the kind.
 use Rattle.std.specs.Prelude.{◌≡◌, ◌⊎◌, List, Contains, Option, Some, None}
 use Rattle.swreq_param.specs.declared.ids.NameId.{NameId}
 use Rattle.swreq_param.specs.declared.ids.ProtoId.{ProtoId}
@@ -70,9 +71,10 @@ module _ (x : LexiconView) (family : List Owned) where
   abbrev pub IsItself : ProtoId → Term → ProtoId → Type 0
   IsItself p t q = (last_name x t ≡ None) × (q ≡ p)
 
-  -- From [τ_0_0 : P] the requirement does not follow, since the family says nothing of the kind. It does not say of type parameters with the
-  -- last name of the subject that they are equal to others, and not that one of them conforms to the protocol, or is an object. Two type
-  -- parameters with two last names are not equal where the family does not say so of those with the one name, or of those with the other.
+  -- From [τ_0_0 : P] the requirement does not follow, since the family says nothing of the kind. It does not say of type parameters with
+  -- the last name of the subject that they are equal to others, and not that one of them conforms to the protocol, or is an object. Two
+  -- type parameters with two last names are not equal where the family does not say so of those with the one name, or of those with the
+  -- other.
   abbrev pub IsUnsaid : ProtoId → TermRequirement → Type 0
   IsUnsaid p (Conforms t q) = (SaysEqual (last_name x t) → ⊥) × (SaysConforms (last_name x t) q → ⊥) × (IsItself p t q → ⊥)
   IsUnsaid p (IsAnyObject t) = (SaysEqual (last_name x t) → ⊥) × (SaysObject (last_name x t) → ⊥)

@@ -30,31 +30,32 @@ module _ (limits : Limits) (w : TextWorld) where
     pub are : AreAsked w n others asked
     pub stops : IsOutcome limits (family_plan w asked) (Err (Limit which trace)) told
 
-  -- So far as this the rounds tell that are run of the others that its protocol reaches.
+  -- This is told by the rounds of the others that its protocol reaches, up to some moment.
   pub record ComesAt (n : ℕ) (others : List Bool) (told : List Event) : Type 0 where
     pub asked : List Bool
     pub are : AreAsked w n others asked
     pub comes : ComesTo limits (family_plan w asked) told
 
-  -- The rounds for the requirement at the place fail so: by a limit, or for want of memory, before the first of them or so far as they come.
+  -- The rounds for the requirement at the place fail so: by a limit, or when memory runs out, before the first of them or later.
   abbrev pub FailsAt : ℕ → List Bool → Failed → List Event → Type 0
   FailsAt n others (Limit which trace) told = StopsAt n others which trace told
   FailsAt n others Memory told = (told ≡ []) ⊎ ComesAt n others told
 
   -- ---- all requirements
 
-  -- It is settled whether the requirement at the place follows from the others that are kept, this is told, and it is decided whether it stays.
+  -- It is settled whether the requirement at the place follows from the others that are kept, this is told, and it is decided whether the
+  -- requirement stays.
   pub record MeetsFamily (n : ℕ) (flags left : List Bool) (part : List Event) : Type 0 where
     pub settled : IsSettled n (without flags n) part
     pub decided : IsDecided (associated_types_of w) (owned w) n flags left
 
-  -- One has gone through the requirements from the last to the one at this place; these are kept, and the rounds that were run for them told
-  -- this, one after the other.
-  pub data HasGone : ℕ → List Bool → List Event → Type 0 where
+  -- The requirements from the last to the one at this place are decided: these are kept, and the rounds that were run for them told this,
+  -- one after the other.
+  pub data WasReduced : ℕ → List Bool → List Event → Type 0 where
     start : {n : ℕ} {flags : List Bool} {told : List Event}
-        → n ≡ length (owned w) → flags ≡ all_kept (owned w) → told ≡ [] → HasGone n flags told
+        → n ≡ length (owned w) → flags ≡ all_kept (owned w) → told ≡ [] → WasReduced n flags told
     further : {n : ℕ} {flags left : List Bool} {before part told : List Event}
-        → HasGone (suc n) flags before → MeetsFamily n flags left part → told ≡ before ++ part → HasGone n left told
+        → WasReduced (suc n) flags before → MeetsFamily n flags left part → told ≡ before ++ part → WasReduced n left told
 
   -- The rounds for the next requirement pass the limit, with this trace.
   pub record IsStopped (which : Which) (trace : List Rule) (told : List Event) : Type 0 where
@@ -62,14 +63,13 @@ module _ (limits : Limits) (w : TextWorld) where
     pub flags : List Bool
     pub before : List Event
     pub part : List Event
-    pub gone : HasGone (suc place) flags before
+    pub gone : WasReduced (suc place) flags before
     pub stops : StopsAt place (without flags place) which trace part
     pub told_is : told ≡ before ++ part
 
-  -- One has gone through all requirements, and this family is left, with its numbers; or the rounds for a requirement pass a limit, with that
-  -- trace.
+  -- All requirements are decided, and this family is left, with its numbers; or the rounds for a requirement pass a limit, with that trace.
   abbrev pub IsFamilyOutcome : Result Family Failed → List Event → Type 0
-  IsFamilyOutcome (Ok family) told = (flags : List Bool) × HasGone 0 flags told × (family.kept ≡ numbers w flags)
+  IsFamilyOutcome (Ok family) told = (flags : List Bool) × WasReduced 0 flags told × (family.kept ≡ numbers w flags)
   IsFamilyOutcome (Err (Limit which trace)) told = IsStopped which trace told
   IsFamilyOutcome (Err Memory) told = Unit {0}
 
@@ -78,11 +78,11 @@ module _ (limits : Limits) (w : TextWorld) where
     pub place : ℕ
     pub flags : List Bool
     pub before : List Event
-    pub gone : HasGone place flags before
+    pub gone : WasReduced place flags before
     pub part : (told ≡ before)
         ⊎ ((n : ℕ) × (some : List Event) × (place ≡ suc n) × ComesAt n (without flags n) some × (told ≡ before ++ some))
 
-  -- It comes out so, and the watcher was told what is told: in all, or for want of memory so far as one came.
+  -- It comes out so, and the watcher was told all that is told; if memory runs out, what was told until then.
   abbrev pub AnswersFamily : Option (List Event) → Option (List Event) → Result Family Failed → Type 0
   AnswersFamily old new (Ok family) = (told : List Event) × IsFamilyOutcome (Ok family) told × GrewBy old new told
   AnswersFamily old new (Err (Limit which trace)) =
@@ -92,7 +92,7 @@ module _ (limits : Limits) (w : TextWorld) where
   abbrev pub IsForMemory : Result Family Failed → Type 0
   IsForMemory answer = answer ≡ Err Memory
 
-  -- But for want of memory it comes out in no other way.
+  -- Unless memory runs out, it comes out in no other way.
   abbrev pub IsOnlyFamily : Result Family Failed → Type 0
   IsOnlyFamily answer = (other : Result Family Failed) (told : List Event) → IsFamilyOutcome other told
       → (answer ≡ other) ⊎ (IsForMemory answer ⊎ IsForMemory other)

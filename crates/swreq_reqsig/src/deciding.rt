@@ -10,7 +10,7 @@ ghost use Rattle.swreq_watch.specs.declared.events.Event.{Event};
 ghost use Rattle.swreq_watch.specs.Told.{GrewBy};
 ghost use Rattle.swreq_valid.specs.Answers.{Answers};
 ghost use Rattle.swreq_reqsig.specs.Families.{DerivesWith, associated_types_of, family_of, family_plan, owned};
-ghost use Rattle.swreq_reqsig.specs.GoingThrough.{AreLeft, without};
+ghost use Rattle.swreq_reqsig.specs.GoingThrough.{AreKept, without};
 ghost use Rattle.swreq_reqsig.specs.Places.{IsPlaceIn, all_places};
 ghost use Rattle.swreq_reqsig.specs.Settings.{IsSetting, text_in};
 ghost use Rattle.swreq_reqsig.specs.Told.{FailsAt, IsSettled, MeetsFamily};
@@ -19,6 +19,7 @@ use crate::derived::is_derivable;
 use crate::flags::kept_by;
 use crate::places::Place;
 use crate::reaching::asked;
+use crate::selection::Selection;
 use crate::setting::Setting;
 use std::alloc::Global;
 use swreq_complete::Failed;
@@ -26,7 +27,7 @@ use swreq_valid::Protocols;
 use swreq_watch::Watch;
 
 /// Whether a requirement is derivable with those alone whose flags are set. The watcher is told the events of their rounds.
-fn follows<W: Watch>(
+fn is_derivable_with<W: Watch>(
     alloc: Global,
     setting: &Setting<'_>,
     flags: &[bool],
@@ -36,37 +37,32 @@ fn follows<W: Watch>(
     requires setting { IsSetting setting.now }
     requires flags { length flags.now ≡ length (all_places setting.now.world.now) }
     requires place { IsPlaceIn setting.now.world.now place.now }
-    ensures answer { IfOk result (λ b. IsTrue b
-        ↔ Derivable (owned_facts (associated_types_of (text_in setting.now)) (family_of (text_in setting.now) flags.now))
-        (SelfOf place.now.proto) (Requires (requirement_of setting.now.table.now place.now.requirement))) }
-    ensures told { IfOk result (λ _. (rules : List Rule) × Answers setting.now.limits (family_plan (text_in setting.now) flags.now)
+    ensures answer { IfOk result (λ b. IsTrue b ↔ Derivable
+        (owned_facts (associated_types_of (text_in setting.now))
+        (family_of (text_in setting.now) flags.now)) (SelfOf place.now.proto)
+        (Requires (requirement_of setting.now.table.now place.now.requirement))) }
+    ensures told { IfOk result (λ _. (rules : List Rule)
+        × Answers setting.now.limits (family_plan (text_in setting.now) flags.now)
         (W.told watch.old) (W.told watch.new) (Ok rules)) }
-    ensures failed { IfErr result (λ failed. Answers setting.now.limits (family_plan (text_in setting.now) flags.now)
+    ensures failed { IfErr result (λ failed.
+        Answers setting.now.limits (family_plan (text_in setting.now) flags.now)
         (W.told watch.old) (W.told watch.new) (Err failed)) }
 {
-    let keep = match kept_by(alloc, setting.world, flags) {
-        Ok(keep) => keep,
-        Err(_) => return Err(Failed::Memory),
-    };
-    match Protocols::build_kept(
+    let keep = kept_by(alloc, setting.world, flags)?;
+    let protocols = Protocols::build_kept(
         alloc,
         setting.world,
         setting.table,
         &keep,
         setting.limits,
         watch,
-    ) {
-        Err(failed) => Err(failed),
-        Ok(protocols) => match is_derivable(alloc, setting, &protocols, place) {
-            Ok(derivable) => Ok(derivable),
-            Err(_) => Err(Failed::Memory),
-        },
-    }
+    )?;
+    Ok(is_derivable(alloc, setting, &protocols, place)?)
 }
 
 /// Whether the requirement at a place is derivable with those alone whose flags are set. It is asked of those that its protocol reaches by
 /// them: the watcher is told the events of their rounds, and nothing where the requirement is out of reach.
-fn follows_by_reach<W: Watch>(
+fn is_derivable_without<W: Watch>(
     alloc: Global,
     setting: &Setting<'_>,
     places: &[Place],
@@ -81,23 +77,29 @@ fn follows_by_reach<W: Watch>(
     ensures answer { IfOk result (λ b. (x : Place) → slice_get places.now at ≡ Some x → IsTrue b
         ↔ DerivesWith (text_in setting.now) (family_of (text_in setting.now) flags.now)
         x.proto (Requires (requirement_of setting.now.table.now x.requirement))) }
-    ensures settled { OnOk result ((part : List Event) × IsSettled setting.now.limits (text_in setting.now) at flags.now part
+    ensures settled { OnOk result ((part : List Event)
+        × IsSettled setting.now.limits (text_in setting.now) at flags.now part
         × GrewBy (W.told watch.old) (W.told watch.new) part) }
-    ensures failed { IfErr result (λ failed. (part : List Event) × FailsAt setting.now.limits (text_in setting.now) at flags.now failed part
+    ensures failed { IfErr result (λ failed. (part : List Event)
+        × FailsAt setting.now.limits (text_in setting.now) at flags.now failed part
         × GrewBy (W.told watch.old) (W.told watch.new) part) }
 {
-    match asked(alloc, setting, places, flags, at) {
-        Err(_) => Err(Failed::Memory),
-        Ok(None) => Ok(false),
-        Ok(Some(asked)) => {
+    let selection = Selection {
+        setting: *setting,
+        places,
+        flags,
+    };
+    match asked(alloc, &selection, at)? {
+        None => Ok(false),
+        Some(asked) => {
             let place = &places[at];
-            follows(alloc, setting, &asked, place, watch)
+            is_derivable_with(alloc, setting, &asked, place, watch)
         }
     }
 }
 
 /// Leaves out the requirement at a place, where the same is derivable without it: where it is derivable itself without it.
-pub(crate) fn decide<W: Watch>(
+pub(crate) fn drop_if_derivable<W: Watch>(
     alloc: Global,
     setting: &Setting<'_>,
     places: &[Place],
@@ -108,20 +110,19 @@ pub(crate) fn decide<W: Watch>(
     requires setting { IsSetting setting.now }
     requires places { places.now ≡ all_places setting.now.world.now }
     requires at { at < length places.now }
-    requires left { AreLeft (associated_types_of (text_in setting.now)) (owned (text_in setting.now)) (suc at) flags.old.items }
+    requires left { AreKept (associated_types_of (text_in setting.now))
+        (owned (text_in setting.now)) (suc at) flags.old.items }
     ensures met { OnOk result ((part : List Event)
-        × MeetsFamily setting.now.limits (text_in setting.now) at flags.old.items flags.new.items part
+        × MeetsFamily setting.now.limits (text_in setting.now) at
+        flags.old.items flags.new.items part
         × GrewBy (W.told watch.old) (W.told watch.new) part) }
     ensures failed { IfErr result (λ failed. (part : List Event)
-        × FailsAt setting.now.limits (text_in setting.now) at (without flags.old.items at) failed part
+        × FailsAt setting.now.limits (text_in setting.now) at
+        (without flags.old.items at) failed part
         × GrewBy (W.told watch.old) (W.told watch.new) part) }
 {
     flags[at] = false;
-    match follows_by_reach(alloc, setting, places, flags, at, watch) {
-        Err(failed) => Err(failed),
-        Ok(derivable) => {
-            flags[at] = !derivable;
-            Ok(())
-        }
-    }
+    let derivable = is_derivable_without(alloc, setting, places, flags, at, watch)?;
+    flags[at] = !derivable;
+    Ok(())
 }

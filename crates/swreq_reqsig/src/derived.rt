@@ -52,7 +52,8 @@ pub(crate) fn is_derivable(
 ) -> Result<bool, AllocError>
     requires setting { IsSetting setting.now }
     requires place { IsPlaceIn setting.now.world.now place.now }
-    ensures { (keep : List (List Bool)) → AreRulesOfKept (text_in setting.now) keep protocols.now → IfOk result (λ b. IsTrue b
+    ensures { (keep : List (List Bool)) → AreRulesOfKept (text_in setting.now) keep protocols.now
+        → IfOk result (λ b. IsTrue b
         ↔ Derivable (kept_facts (text_in setting.now) keep) (SelfOf place.now.proto)
         (Requires (requirement_of setting.now.table.now place.now.requirement))) }
 {

@@ -1,5 +1,5 @@
 //! Flags for the requirements of all protocols, in a list for each protocol.
-ghost use Rattle.std.specs.Prelude.{◌≡◌, ◌++◌, ◌∷◌, [], IfOk, OnOk, drop, length, take};
+ghost use Rattle.std.specs.Prelude.{◌≡◌, IfOk, drop, length, take};
 ghost use Rattle.swreq_valid.specs.Keeping.{AreFlags};
 ghost use Rattle.swreq_world.specs.Closed.{AreIds};
 ghost use Rattle.swreq_reqsig.specs.Families.{flag_lists, numbers, numbers_from};
@@ -13,7 +13,7 @@ use swreq_valid::Kept;
 use swreq_world::World;
 
 /// The first `count` flags, or all if there are fewer.
-fn first(flags: &[bool], count: usize) -> &[bool]
+fn take_flags(flags: &[bool], count: usize) -> &[bool]
     ensures { result.now ≡ take count flags.now }
 {
     if count < flags.len() {
@@ -24,24 +24,13 @@ fn first(flags: &[bool], count: usize) -> &[bool]
 }
 
 /// The flags after the first `count`.
-fn behind(flags: &[bool], count: usize) -> &[bool]
+fn drop_flags(flags: &[bool], count: usize) -> &[bool]
     ensures { result.now ≡ drop count flags.now }
 {
     if count < flags.len() {
         &flags[count..]
     } else {
         &[]
-    }
-}
-
-/// Puts the flags last, as a list.
-fn put_flags(alloc: Global, flags: &[bool], lists: &mut Vec<Seq<bool>>) -> Result<(), AllocError>
-    ensures { OnOk result (lists.new.items ≡ lists.old.items ++ flags.now ∷ []) }
-{
-    let list = Seq::new(flags.to_vec(alloc)?);
-    match lists.push(list) {
-        Ok(()) => Ok(()),
-        Err(_) => Err(AllocError),
     }
 }
 
@@ -55,8 +44,9 @@ fn flag_lists(alloc: Global, world: &World, flags: &[bool]) -> Result<Vec<Seq<bo
     for k in 0..world.protocols() {
         let p = world.proto_at(k);
         let count = world.bare_requirements(p).len();
-        put_flags(alloc, first(rest, count), &mut lists)?;
-        rest = behind(rest, count);
+        let list = Seq::new(take_flags(rest, count).to_vec(alloc)?);
+        lists.push(list)?;
+        rest = drop_flags(rest, count);
     }
     Ok(lists)
 }
@@ -87,17 +77,6 @@ fn numbers_of(alloc: Global, flags: &[bool]) -> Result<Vec<u32>, AllocError>
     Ok(numbers)
 }
 
-/// Puts the numbers of those whose flags are set last, as a list.
-fn put_numbers(alloc: Global, flags: &[bool], lists: &mut Vec<Seq<u32>>) -> Result<(), AllocError>
-    ensures { OnOk result (lists.new.items ≡ lists.old.items ++ numbers_from 1 flags.now ∷ []) }
-{
-    let list = Seq::new(numbers_of(alloc, flags)?);
-    match lists.push(list) {
-        Ok(()) => Ok(()),
-        Err(_) => Err(AllocError),
-    }
-}
-
 /// The family of the requirements whose flags are set.
 pub(crate) fn family_of(alloc: Global, world: &World, flags: &[bool]) -> Result<Family, AllocError>
     requires { AreIds world.now.lexicon }
@@ -107,7 +86,7 @@ pub(crate) fn family_of(alloc: Global, world: &World, flags: &[bool]) -> Result<
     let mut kept: Vec<Seq<u32>> = Vec::new(alloc);
     for k in 0..lists.len() {
         let list = &lists[k];
-        put_numbers(alloc, list.items(), &mut kept)?;
+        kept.push(Seq::new(numbers_of(alloc, list.items())?))?;
     }
     Ok(Family {
         kept: Seq::new(kept),

@@ -4,9 +4,9 @@ ghost use Rattle.swreq_watch.specs.declared.events.Event.{Event};
 ghost use Rattle.swreq_watch.specs.Told.{GrewBy};
 ghost use Rattle.swreq_reqsig.specs.Places.{all_places};
 ghost use Rattle.swreq_reqsig.specs.Settings.{IsSetting, text_in};
-ghost use Rattle.swreq_reqsig.specs.Told.{AnswersFamily, HasGone};
+ghost use Rattle.swreq_reqsig.specs.Told.{AnswersFamily, WasReduced};
 
-use crate::deciding::decide;
+use crate::deciding::drop_if_derivable;
 use crate::places::Place;
 use crate::setting::Setting;
 use std::alloc::{AllocError, Global};
@@ -17,13 +17,12 @@ use swreq_watch::Watch;
 fn all_set(alloc: Global, count: usize) -> Result<Vec<bool>, AllocError>
     ensures { IfOk result (λ flags. flags.items ≡ replicate count true) }
 {
-    let flags = vec![in alloc; true; count]?;
-    Ok(flags)
+    vec![in alloc; true; count]
 }
 
 /// Goes through the requirements from the last to the first, and leaves out each without which the same is derivable. The watcher is told
 /// the events of the rounds that are run for them, one after the other.
-pub(crate) fn go_through<W: Watch>(
+pub(crate) fn drop_derivable<W: Watch>(
     alloc: Global,
     setting: &Setting<'_>,
     places: &[Place],
@@ -31,22 +30,18 @@ pub(crate) fn go_through<W: Watch>(
 ) -> Result<Vec<bool>, Failed>
     requires setting { IsSetting setting.now }
     requires places { places.now ≡ all_places setting.now.world.now }
-    ensures gone { IfOk result (λ flags. (told : List Event) × HasGone setting.now.limits (text_in setting.now) 0 flags.items told
+    ensures gone { IfOk result (λ flags. (told : List Event)
+        × WasReduced setting.now.limits (text_in setting.now) 0 flags.items told
         × GrewBy (W.told watch.old) (W.told watch.new) told) }
-    ensures failed { IfErr result (λ failed. AnswersFamily setting.now.limits (text_in setting.now)
+    ensures failed { IfErr result (λ failed.
+        AnswersFamily setting.now.limits (text_in setting.now)
         (W.told watch.old) (W.told watch.new) (Err failed)) }
 {
-    let mut flags = match all_set(alloc, places.len()) {
-        Ok(flags) => flags,
-        Err(_) => return Err(Failed::Memory),
-    };
+    let mut flags = all_set(alloc, places.len())?;
     let mut left = places.len();
     while left > 0 {
         left -= 1;
-        match decide(alloc, setting, places, &mut flags, left, watch) {
-            Ok(()) => {}
-            Err(failed) => return Err(failed),
-        }
+        drop_if_derivable(alloc, setting, places, &mut flags, left, watch)?;
     }
     Ok(flags)
 }

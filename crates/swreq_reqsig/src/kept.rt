@@ -10,7 +10,7 @@ ghost use Rattle.swreq_reqsig.specs.Told.{AnswersFamily, IsOnlyFamily};
 
 use crate::family::Family;
 use crate::flags::family_of;
-use crate::going::go_through;
+use crate::going::drop_derivable;
 use crate::named::named;
 use crate::outlines::outlines;
 use crate::places::all_places;
@@ -29,10 +29,10 @@ use swreq_world::World;
 /// Most requirements are seen not to follow by the last names of type parameters alone: those that the others leave unsaid, since they say
 /// nothing of the kind of type parameters with the same last name, nor that these are equal to others.
 ///
-/// Whether another requirement of P follows is asked by reach: of the requirements that are left, without the one in question, of those protocols
-/// that P reaches. P reaches itself, and with a protocol each to which something conforms by such a requirement of that protocol. No other
-/// requirement bears on what is derivable from `[τ_0_0 : P]`. A conformance to a protocol that P does not reach does not follow. For this and for
-/// what is unsaid nothing is completed; for each other requirement the rounds of the reached part are run.
+/// Whether another requirement of P follows is asked by reach: of the requirements that are left, without the one in question, of those
+/// protocols that P reaches. P reaches itself, and with a protocol each to which something conforms by such a requirement of that protocol.
+/// No other requirement bears on what is derivable from `[τ_0_0 : P]`. A conformance to a protocol that P does not reach does not follow.
+/// For this and for what is unsaid nothing is completed; for each other requirement the rounds of the reached part are run.
 ///
 /// It is `Failed::Limit` exactly where the rounds of such a part pass a limit, with the limit and the trace of the first. The watcher is
 /// told the events of these rounds, one after the other.
@@ -46,25 +46,20 @@ pub fn kept_family<W: Watch>(
     requires text { IsTextOver table.now world.now }
     requires well_formed { AreProtocolsWellFormed (facts_of (world_by table.now world.now)) }
     requires limits { AreInRange limits }
-    ensures answer { AnswersFamily limits (world_by table.now world.now) (W.told watch.old) (W.told watch.new) result }
+    ensures answer { AnswersFamily limits (world_by table.now world.now)
+        (W.told watch.old) (W.told watch.new) result }
     ensures only { IsOnlyFamily limits (world_by table.now world.now) result }
-    ensures given { IfOk result (λ family. IsGivenFamily (world_by table.now world.now) family.kept) }
-    ensures protocols { IfOk result (λ family. length family.kept ≡ length world.now.lexicon.protocols) }
-    ensures signatures { IfOk result (λ family. AreRequirementSignatures (world_by table.now world.now)
+    ensures given { IfOk result (λ family.
+        IsGivenFamily (world_by table.now world.now) family.kept) }
+    ensures protocols { IfOk result (λ family.
+        length family.kept ≡ length world.now.lexicon.protocols) }
+    ensures signatures { IfOk result (λ family.
+        AreRequirementSignatures (world_by table.now world.now)
         (members (world_by table.now world.now) family.kept)) }
 {
-    let places = match all_places(alloc, world) {
-        Ok(places) => places,
-        Err(_) => return Err(Failed::Memory),
-    };
-    let outlines = match outlines(alloc, world, table, &places) {
-        Ok(outlines) => outlines,
-        Err(_) => return Err(Failed::Memory),
-    };
-    let named = match named(alloc, world.lexicon().names(), &outlines) {
-        Ok(named) => named,
-        Err(_) => return Err(Failed::Memory),
-    };
+    let places = all_places(alloc, world)?;
+    let outlines = outlines(alloc, world, table, &places)?;
+    let named = named(alloc, world.lexicon().names(), &outlines)?;
     let setting = Setting {
         world,
         table,
@@ -72,11 +67,6 @@ pub fn kept_family<W: Watch>(
         named: &named,
         limits,
     };
-    match go_through(alloc, &setting, &places, watch) {
-        Err(failed) => Err(failed),
-        Ok(flags) => match family_of(alloc, world, &flags) {
-            Ok(family) => Ok(family),
-            Err(_) => Err(Failed::Memory),
-        },
-    }
+    let flags = drop_derivable(alloc, &setting, &places, watch)?;
+    Ok(family_of(alloc, world, &flags)?)
 }

@@ -12,23 +12,27 @@ ghost use Rattle.swreq_reqsig.specs.Saying.{UnsaidIsNotDerivable};
 
 /// What is left of the requirements, going through them by flags, is what is kept of their list.
 pub fn given_family_is_kept()
-    ensures { (w : TextWorld) (kept : List (List ℕ)) → IsGivenFamily w kept → Keeps (associated_types_of w) [] (owned w) (members w kept) }
+    ensures { (w : TextWorld) (kept : List (List ℕ)) → IsGivenFamily w kept
+        → Keeps (associated_types_of w) [] (owned w) (members w kept) }
 {}
 
 /// Going through the requirements leaves one family.
 pub fn given_family_is_one()
-    ensures { (w : TextWorld) (kept others : List (List ℕ)) → IsGivenFamily w kept → IsGivenFamily w others → kept ≡ others }
+    ensures { (w : TextWorld) (kept others : List (List ℕ)) → IsGivenFamily w kept
+        → IsGivenFamily w others → kept ≡ others }
 {}
 
 /// With any member of a family of requirement signatures left out not the same is derivable from each protocol.
 pub fn requirement_signatures_lack_nothing()
-    ensures { (w : TextWorld) (family before after : List Owned) (o : Owned) → AreRequirementSignatures w family → family ≡ before ++ (o ∷ after)
+    ensures { (w : TextWorld) (family before after : List Owned) (o : Owned)
+        → AreRequirementSignatures w family → family ≡ before ++ (o ∷ after)
         → DeriveTheSame (associated_types_of w) (before ++ after) family → ⊥ }
 {}
 
 /// Protocols are well formed where each side of what they require is a type parameter.
 pub fn valid_sides_are_well_formed()
-    ensures { (w : TextWorld) → IsClosed w → HoldsOfEach (IsValidSide (facts_of w)) (protocol_sides w)
+    ensures { (w : TextWorld) → IsClosed w
+        → HoldsOfEach (IsValidSide (facts_of w)) (protocol_sides w)
         → AreProtocolsWellFormed (facts_of w) }
 {}
 

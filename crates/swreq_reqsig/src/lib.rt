@@ -14,6 +14,7 @@ mod outlines;
 mod places;
 mod reaching;
 mod saying;
+mod selection;
 mod setting;
 mod texts;
 

@@ -1,7 +1,6 @@
 //! Requirements of which each type parameter is known by its last name alone.
 ghost use Rattle.std.specs.Prelude.{◌≡◌, IfOk};
 ghost use Rattle.swreq_param.specs.Tables.{term_at};
-ghost use Rattle.swreq_derive.specs.Facts.{requirement_of};
 ghost use Rattle.swreq_symbols.specs.Known.{IsRequirementIn, IsTextOver, IsTypeIn};
 ghost use Rattle.swreq_world.specs.ByTable.{world_by};
 ghost use Rattle.swreq_reqsig.specs.Families.{owned};
@@ -59,10 +58,8 @@ fn last_name(world: &World, table: &ParamTable, t: TermId) -> Option<NameId>
     requires { IsTypeIn table.now world.now.lexicon t }
     ensures { result ≡ last_name world.now.lexicon (term_at table.now t) }
 {
-    match table.split(t) {
-        Some((_, step)) => Some(step_name(world, step)),
-        None => None,
-    }
+    let (_, step) = table.split(t)?;
+    Some(step_name(world, step))
 }
 
 /// A requirement of a protocol by the last names of its type parameters.
@@ -97,7 +94,8 @@ pub(crate) fn outlines(
 ) -> Result<Vec<Outline>, AllocError>
     requires text { IsTextOver table.now world.now }
     requires places { places.now ≡ all_places world.now }
-    ensures { IfOk result (λ v. v.items ≡ outlines_of world.now.lexicon (owned (world_by table.now world.now))) }
+    ensures { IfOk result (λ v. v.items
+        ≡ outlines_of world.now.lexicon (owned (world_by table.now world.now))) }
 {
     let mut v = Vec::new(alloc);
     for k in 0..places.len() {

@@ -20,10 +20,7 @@ pub(crate) struct Place {
 pub(crate) fn number(k: usize) -> Result<u32, AllocError>
     ensures { IfOk result (λ n. n ≡ k) }
 {
-    match u32::try_from(k) {
-        Ok(n) => Ok(n),
-        Err(_) => Err(AllocError),
-    }
+    u32::try_from(k).map_err(|_| AllocError)
 }
 
 /// Puts the requirements of a protocol last.

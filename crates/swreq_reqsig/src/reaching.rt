@@ -1,16 +1,16 @@
 //! Which protocols a protocol reaches by the requirements that are kept, and which requirements are of these.
-ghost use Rattle.std.specs.Prelude.{◌≡◌, ◌<◌, ◌&&◌, ℕ, false, true, IfOk, List, MatchOption, length, slice_get, slice_index_or, slice_set, Some, replicate};
+ghost use Rattle.std.specs.Prelude.{◌≡◌, ◌<◌, ◌&&◌, false, true, IfOk, List, MatchOption, length, slice_get, slice_index_or, slice_set, Some, replicate};
 ghost use Rattle.swreq_param.specs.Terms.{Term};
 ghost use Rattle.swreq_param.specs.declared.ids.TermId.{TermId};
 ghost use Rattle.swreq_derive.specs.declared.requirements.Requirement.TheVariants.{Conf};
 ghost use Rattle.swreq_reqsig.specs.Marks.{HasPassed, HasRanksBelow, HaveRanksBelow, IsClosedAt, IsMarked, IsMarkedBy, TellLed, TellReached, kept_at, marked};
-ghost use Rattle.swreq_reqsig.specs.Places.{all_places};
 ghost use Rattle.swreq_reqsig.specs.Asked.{AreAsked, IsBeyond};
-ghost use Rattle.swreq_reqsig.specs.Settings.{IsSetting, text_in};
+ghost use Rattle.swreq_reqsig.specs.Selections.{IsSelection};
+ghost use Rattle.swreq_reqsig.specs.Settings.{text_in};
 
 use crate::places::Place;
 use crate::saying::is_unsaid;
-use crate::setting::Setting;
+use crate::selection::Selection;
 use std::alloc::{AllocError, Global};
 use swreq_derive::Requirement;
 use swreq_param::ProtoId;
@@ -28,8 +28,10 @@ pub(crate) fn is_marked(marks: &[bool], p: ProtoId) -> bool
 /// Marks a protocol. Whether it was not marked.
 fn add(marks: &mut Vec<bool>, p: ProtoId) -> bool
     requires { p.rank < length marks.old.items }
-    ensures stays { result ≡ false → IsMarked marks.old.items p × (marks.new.items ≡ marks.old.items) }
-    ensures added { result ≡ true → (slice_get marks.old.items p.rank ≡ Some false) × (marks.new.items ≡ slice_set marks.old.items p.rank true) }
+    ensures stays { result ≡ false
+        → IsMarked marks.old.items p × (marks.new.items ≡ marks.old.items) }
+    ensures added { result ≡ true → (slice_get marks.old.items p.rank ≡ Some false)
+        × (marks.new.items ≡ slice_set marks.old.items p.rank true) }
 {
     if is_marked(marks, p) {
         return false;
@@ -49,7 +51,8 @@ fn is_of_marked(place: &Place, kept: bool, marks: &[bool]) -> bool
 /// that was not marked.
 fn go_on(place: &Place, kept: bool, marks: &mut Vec<bool>) -> bool
     requires { HasRanksBelow (length marks.old.items) place.now }
-    ensures stays { result ≡ false → IsClosedAt place.now kept marks.old.items × (marks.new.items ≡ marks.old.items) }
+    ensures stays { result ≡ false
+        → IsClosedAt place.now kept marks.old.items × (marks.new.items ≡ marks.old.items) }
     ensures added { result ≡ true → IsMarkedBy place.now kept marks.old.items marks.new.items }
 {
     if !is_of_marked(place, kept, marks) {
@@ -85,14 +88,14 @@ fn pass(places: &[Place], flags: &[bool], marks: &mut Vec<bool>) -> bool
 pub(crate) fn none_marked(alloc: Global, protocols: usize) -> Result<Vec<bool>, AllocError>
     ensures { IfOk result (λ marks. marks.items ≡ replicate protocols false) }
 {
-    let marks = vec![in alloc; false; protocols]?;
-    Ok(marks)
+    vec![in alloc; false; protocols]
 }
 
 /// Marks for all protocols, of which there are this many, with one protocol marked.
 fn first_mark(alloc: Global, protocols: usize, p: ProtoId) -> Result<Vec<bool>, AllocError>
     requires { p.rank < protocols }
-    ensures { IfOk result (λ marks. marks.items ≡ slice_set (replicate protocols false) p.rank true) }
+    ensures { IfOk result (λ marks.
+        marks.items ≡ slice_set (replicate protocols false) p.rank true) }
 {
     let mut marks = vec![in alloc; false; protocols]?;
     marks[p.rank as usize] = true;
@@ -110,7 +113,8 @@ pub(crate) fn is_any_marked(marks: &[bool]) -> bool
 pub(crate) fn close(places: &[Place], flags: &[bool], marks: &mut Vec<bool>)
     requires flags { length flags.now ≡ length places.now }
     requires ranks { HaveRanksBelow (length marks.old.items) places.now }
-    ensures { (terms : List Term) → TellLed (kept_at terms places.now flags.now) marks.old.items marks.new.items }
+    ensures { (terms : List Term)
+        → TellLed (kept_at terms places.now flags.now) marks.old.items marks.new.items }
 {
     let mut grows = is_any_marked(marks);
     while grows {
@@ -129,7 +133,8 @@ fn reached(
     requires flags { length flags.now ≡ length places.now }
     requires ranks { HaveRanksBelow protocols places.now }
     requires proto { p.rank < protocols }
-    ensures { IfOk result (λ marks. (terms : List Term) → TellReached (kept_at terms places.now flags.now) p marks.items) }
+    ensures { IfOk result (λ marks. (terms : List Term)
+        → TellReached (kept_at terms places.now flags.now) p marks.items) }
 {
     let mut marks = first_mark(alloc, protocols, p)?;
     close(places, flags, &mut marks);
@@ -156,8 +161,10 @@ fn marked(
 
 /// Whether a requirement says that something conforms to a protocol that is not marked.
 fn is_beyond(marks: &[bool], requirement: &Requirement) -> bool
-    ensures beyond { result ≡ true → (t : TermId) × (q : ProtoId) × (requirement.now ≡ Conf t q) × (IsMarked marks.now q → ⊥) }
-    ensures within { result ≡ false → (t : TermId) (q : ProtoId) → requirement.now ≡ Conf t q → IsMarked marks.now q }
+    ensures beyond { result ≡ true → (t : TermId) × (q : ProtoId)
+        × (requirement.now ≡ Conf t q) × (IsMarked marks.now q → ⊥) }
+    ensures within { result ≡ false → (t : TermId) (q : ProtoId)
+        → requirement.now ≡ Conf t q → IsMarked marks.now q }
 {
     match requirement {
         Requirement::Conf { proto, .. } => !is_marked(marks, *proto),
@@ -166,33 +173,36 @@ fn is_beyond(marks: &[bool], requirement: &Requirement) -> bool
     }
 }
 
-/// The flags of those of which it is asked whether the requirement at a place follows: of those whose flags are set and whose protocols
-/// its own protocol reaches by them. It is None where the requirement is unsaid, or out of reach.
+/// The flags of those of which it is asked whether the requirement at a place follows: of those that are selected and whose protocols its
+/// own protocol reaches by them. It is None where the requirement is unsaid, or out of reach.
 pub(crate) fn asked(
     alloc: Global,
-    setting: &Setting<'_>,
-    places: &[Place],
-    flags: &[bool],
+    selection: &Selection<'_>,
     at: usize,
 ) -> Result<Option<Vec<bool>>, AllocError>
-    requires setting { IsSetting setting.now }
-    requires places { places.now ≡ all_places setting.now.world.now }
-    requires flags { length flags.now ≡ length places.now }
-    requires at { at < length places.now }
+    requires selection { IsSelection selection.now }
+    requires at { at < length selection.now.places.now }
     ensures { IfOk result (λ found. MatchOption found
-        (IsBeyond (text_in setting.now) at flags.now)
-        (λ asked. AreAsked (text_in setting.now) at flags.now asked.items)) }
+        (IsBeyond (text_in selection.now.setting) at selection.now.flags.now)
+        (λ asked.
+        AreAsked (text_in selection.now.setting) at selection.now.flags.now asked.items)) }
 {
-    let unsaid = is_unsaid(alloc, setting, places, flags, at)?;
+    let unsaid = is_unsaid(alloc, selection, at)?;
     if unsaid {
         return Ok(None);
     }
-    let place = &places[at];
-    let protocols = setting.world.protocols() as usize;
-    let marks = reached(alloc, protocols, places, flags, place.proto)?;
+    let place = &selection.places[at];
+    let protocols = selection.setting.world.protocols() as usize;
+    let marks = reached(
+        alloc,
+        protocols,
+        selection.places,
+        selection.flags,
+        place.proto,
+    )?;
     if is_beyond(&marks, &place.requirement) {
         return Ok(None);
     }
-    let asked = marked(alloc, places, flags, &marks)?;
+    let asked = marked(alloc, selection.places, selection.flags, &marks)?;
     Ok(Some(asked))
 }

@@ -74,7 +74,8 @@ fn put_where(
     out: &mut Vec<u8>,
 ) -> Result<(), AllocError>
     requires { All (HasIdsOf table.now) list.now }
-    ensures { OnOk result (out.new.items ≡ out.old.items ++ where_text names.now (map (requirement_of table.now) list.now)) }
+    ensures { OnOk result (out.new.items
+        ≡ out.old.items ++ where_text names.now (map (requirement_of table.now) list.now)) }
 {
     match list {
         [] => Ok(()),
@@ -115,7 +116,8 @@ fn put_line(
     out: &mut Vec<u8>,
 ) -> Result<(), AllocError>
     requires { All (HasIdsOf table.now) list.now }
-    ensures { OnOk result (out.new.items ≡ out.old.items ++ protocol_line names.now p (map (requirement_of table.now) list.now)) }
+    ensures { OnOk result (out.new.items
+        ≡ out.old.items ++ protocol_line names.now p (map (requirement_of table.now) list.now)) }
 {
     put_name(names, p, out)?;
     append_bytes(out, b": <Self")?;
@@ -134,8 +136,8 @@ fn put_numbered(
 ) -> Result<(), AllocError>
     requires text { IsTextOver table.now world.now }
     requires proto { p.rank < length world.now.lexicon.protocols }
-    ensures { OnOk result (out.new.items ≡ out.old.items
-        ++ protocol_line world.now.lexicon p (kept_of (world_by table.now world.now) p numbers.now)) }
+    ensures { OnOk result (out.new.items ≡ out.old.items ++ protocol_line world.now.lexicon p
+        (kept_of (world_by table.now world.now) p numbers.now)) }
 {
     let list = numbered(alloc, world.bare_requirements(p), numbers)?;
     put_line(alloc, world.lexicon(), table, p, &list, out)
@@ -151,7 +153,8 @@ fn put_family(
 ) -> Result<(), AllocError>
     requires text { IsTextOver table.now world.now }
     requires protocols { length family.now.kept ≡ length world.now.lexicon.protocols }
-    ensures { OnOk result (out.new.items ≡ out.old.items ++ family_text (world_by table.now world.now) family.now.kept) }
+    ensures { OnOk result (out.new.items
+        ≡ out.old.items ++ family_text (world_by table.now world.now) family.now.kept) }
 {
     let lists = family.kept.items();
     for k in 0..world.protocols() {
@@ -163,7 +166,7 @@ fn put_family(
 }
 
 /// Appends a line for each protocol, in written order, with its requirement signature: its name, `: <Self`, then ` where ` and the
-/// requirements that it keeps where there are any, with `Self` for the generic parameter, and `>`. For want of memory `out` is as before.
+/// requirements that it keeps where there are any, with `Self` for the generic parameter, and `>`. If memory runs out, `out` is unchanged.
 pub fn family_text(
     alloc: Global,
     world: &World,
@@ -173,7 +176,8 @@ pub fn family_text(
 ) -> Result<(), AllocError>
     requires text { IsTextOver table.now world.now }
     requires protocols { length family.now.kept ≡ length world.now.lexicon.protocols }
-    ensures ok { OnOk result (out.new.items ≡ out.old.items ++ family_text (world_by table.now world.now) family.now.kept) }
+    ensures ok { OnOk result (out.new.items
+        ≡ out.old.items ++ family_text (world_by table.now world.now) family.now.kept) }
     ensures err { OnErr result (out.new.items ≡ out.old.items) }
 {
     let mut text = Vec::new(alloc);

@@ -48,8 +48,8 @@ use Rattle.swreq_top.specs.Run.{IsAnswerable, Run, known_text}
 use Rattle.swreq_words.specs.Form.{Says}
 use Rattle.swreq_reply.specs.Told.{IsMinimisedFor}
 use Rattle.swreq_reqsig.specs.Families.{owned}
-use Rattle.swreq_reqsig.specs.Told.{HasGone}
-use Rattle.swreq_reqsig.specs.Told.HasGone.{further, start}
+use Rattle.swreq_reqsig.specs.Told.{WasReduced}
+use Rattle.swreq_reqsig.specs.Told.WasReduced.{further, start}
 use Rattle.swreq_reply.specs.declared.content.Content.{Content}
 use Rattle.swreq_reply.specs.declared.content.Content.TheVariants.{Answers, Calls, Judgements, Signatures}
 use Rattle.swreq_reply.specs.Contents.{content_of}
@@ -145,7 +145,7 @@ module _ (w : TextWorld) (limits : Limits) where
   unrefused (protocols_refused Memory real come) = real refl
   unrefused (protocols_built rules come rest told_is) = elim rest [ ]
 
--- ---- what is told behind the check
+-- ---- what is told after the check
 
 none_minimised : (c : Content) (w : TextWorld) (g : SignatureOver PlacedRequirement) → IsMinimisedFor c (emptied w) g → ⊥
 none_minimised (Answers s) w g (f, has, is) = no_member (AsksSignature f) has
@@ -153,7 +153,7 @@ none_minimised Signatures w g has = no_member g has
 none_minimised _ w g asked = asked
 
 -- one goes through no more requirements than there are
-gone_within : {limits : Limits} {w : TextWorld} {n : ℕ} {flags : List Bool} {told : List Event} → HasGone limits w n flags told
+gone_within : {limits : Limits} {w : TextWorld} {n : ℕ} {flags : List Bool} {told : List Event} → WasReduced limits w n flags told
     → n ≤ length (owned w)
 gone_within (start e f untold) = omega (arith, e)
 gone_within (further h m e) = omega (arith, gone_within h)

@@ -4,8 +4,7 @@ use std::alloc::Global;
 use std::process::Abort;
 use std::test::Fail;
 
-/// What a text is made of: a front, a piece so many times, and another one so many times; then there are the status and what is printed
-/// of it.
+/// What a text is made of: a front, and two pieces, each with how many times it stands; then the status and what is printed of it.
 type Row = (
     &'static str,
     (&'static str, usize),

@@ -9,7 +9,7 @@ use swreq_watch::Quiet;
 /// Words that are refused, and words for which nothing is read, with the status and the first byte of what is printed.
 const UNREAD: &[(&str, &str, u8)] = &[("fly", "2", b'u'), ("gen 3 --max-rules 1", "3", b'e')];
 
-/// A run with these words gives this status, as it is written, prints a text that begins so, and leaves the source as it was.
+/// A run with these words gives this status, as it is written, prints a text that begins so, and leaves the source unchanged.
 fn reads_nothing(
     rt: &impl Abort,
     alloc: Global,

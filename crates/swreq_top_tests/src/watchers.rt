@@ -32,7 +32,7 @@ fn a_watcher_without_memory_ends_the_run(rt: HostRuntime) -> Result<(), Fail> {
 /// A text with a call.
 const CALLED: &[u8] = b"protocol P { }\nfunc f<T: P>()\nfunc g<U: P>()\n%%\nf: g(T)\n";
 
-/// The same with a second part that stands for no calls.
+/// A text whose second part stands for no calls.
 const MISCALLED: &[u8] = b"protocol P { }\nfunc f<T: P>()\nfunc g<U: P>()\n%%\nf: g(\n";
 
 /// A list whose rules are too long without both `T : M` and `T : N`, of which either says that `T.A` is `T`: else `T.A == T.A.B` follows from
@@ -44,11 +44,22 @@ protocol P { associatedtype A: P associatedtype B: P where A.B == B.A }
 func f<T: M & N & P>() where T.B == T, T: AnyObject
 ";
 
+/// Two protocols, of which the second requires a layout that follows from the first.
+const LAYOUT_AGAIN: &[u8] = b"protocol Q: AnyObject { }\nprotocol P: Q, AnyObject { }\n";
+
+/// Two protocols that require a layout of their own.
+const LAYOUTS: &[u8] = b"protocol Q: AnyObject { }\nprotocol P: AnyObject { }\n";
+
 /// For the words of a run its text, the status, how many completions a watcher is told to start, and how many rules to be born.
 ///
 /// - The protocol N has a round without its requirement, with 3 rules, and one with it, with 5. Where the requirement is written twice, the
 ///   second is asked by the same two rounds, and the first is unsaid.
-/// - The protocol P has a round, with 1 rule. Each function has one without its requirement, with none, and one with it, with 1.
+/// - The protocols of `LAYOUT_AGAIN` have rounds with 2 and 5 rules. Whether `Self : AnyObject` of P follows is asked by rounds of the
+///   other two requirements, with 2 and 5 rules. It follows and is left out, and each of the others is then unsaid.
+/// - The protocols of `LAYOUTS` have rounds with 2 and 4 rules. Neither layout is unsaid, since the other is of `Self` too. The protocol of
+///   the other is out of reach, so each is asked by one round without requirements, with 2 rules, and stays.
+/// - The protocol P of `CALLED` has a round, with 1 rule. Each function has one without its requirement, with none, and one with it,
+///   with 1.
 /// - The protocols of `EITHER` have rounds with 11, 17 and 18 rules, and the function with none, 7 and 8. Minimising grows the rules of
 ///   `T == T.B` by those of `T : P` and `T : AnyObject`, and passes the limit. So for each of `T : M` and `T : N` the machine of the others
 ///   is built, by rounds with none, 6 and 7.
@@ -61,6 +72,8 @@ const TOLD: &[(&str, &[u8], &str, u32, u32)] = &[
         4,
         16,
     ),
+    ("requirements", LAYOUT_AGAIN, "0", 4, 14),
+    ("requirements", LAYOUTS, "0", 4, 10),
     ("calls", CALLED, "0", 5, 3),
     ("calls", MISCALLED, "1", 5, 3),
     (

@@ -1,4 +1,4 @@
-use Rattle.std.proofs.Common.{arith, length, refl}
+use Rattle.std.proofs.Common.{◌≡◌, ◌++◌, ◌∷◌, [], arith, length, refl, rules}
 use Rattle.swreq_valid.proofs.OfProtocols.{proto_within}
 use Rattle.swreq_reqsig.specs.Families.{flag_lists}
 use Rattle.swreq_reqsig.proofs.InLists.{lists_done, one_list}
@@ -11,9 +11,10 @@ pub loop-k-preserved : goal.loop-k-preserved
 loop-k-preserved c =
     let w = c.args.world.now in
     let list = c.bare_requirements-count.result.now in
-    one_list w w.lexicon.written_order c.loop-k.k (length list) c.proto_at-p.result list c.loop-k.rest.now c.first.result.now
-    c.behind-rest.result.now c.loop-k.lists.items c.put_flags.new.lists.items (flag_lists w c.args.flags.now) c.proto_at-p.ensures
-    c.bare_requirements-count.ensures refl c.first.ensures c.behind-rest.ensures c.in_ok-put_flags.ensures c.loop-k.invariant
+    let longer : c.push.new.self.items ≡ c.loop-k.lists.items ++ c.take_flags.result.now ∷ [] = search rules in
+    one_list w w.lexicon.written_order c.loop-k.k (length list) c.proto_at-p.result list c.loop-k.rest.now c.take_flags.result.now
+    c.drop_flags-rest.result.now c.loop-k.lists.items c.push.new.self.items (flag_lists w c.args.flags.now) c.proto_at-p.ensures
+    c.bare_requirements-count.ensures refl c.take_flags.ensures c.drop_flags-rest.ensures longer c.loop-k.invariant
 
 pub returns : goal.returns
 returns c =

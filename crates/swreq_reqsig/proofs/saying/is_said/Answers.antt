@@ -8,10 +8,12 @@ returns-then-is_said_in c = ((λ t. (c.is_said_in.ensures.0 c.if-is_said_in.true
 
 pub returns-then-not-is_any_marked : goal.returns-then-not-is_any_marked
 returns-then-not-is_any_marked c =
-    let s = c.args.spoken.now in
-    let in_list = λ (z : List ℕ). IsSaidIn s.outlines.now s.flags.now z (length z) c.args.kind c.args.name c.args.marks.now in (
+    let f = c.args.selection.now in
+    let in_list = λ (z : List ℕ). IsSaidIn f.setting.outlines.now f.flags.now z (length z) c.args.kind c.args.name c.args.marks.now in
+    let found = said_by_list f.setting.outlines.now f.flags.now f.setting.named.now c.requires.setting.named c.args.kind c.args.name
+    c.args.marks.now in (
       (λ t. absurd (let z : false ≡ true = t in cc)),
-      λ said. absurd (elim (said_by_list s.outlines.now s.flags.now s.named.now c.requires.named c.args.kind c.args.name c.args.marks.now said) [
+      λ said. absurd (elim (found said) [
         | inl i ↦ (let has = c.is_said_in.ensures.1 (subst in_list (sym c.places_of.ensures.places) i) in
             let z : false ≡ true = sym c.if-is_said_in.false ∙ has in cc)
         | inr (i, (q, m)) ↦ c.is_any_marked.ensures c.if-not-is_any_marked.true q m
@@ -20,10 +22,12 @@ returns-then-not-is_any_marked c =
 
 pub returns : goal.returns
 returns c =
-    let s = c.args.spoken.now in
-    let in_list = λ (z : List ℕ). IsSaidIn s.outlines.now s.flags.now z (length z) c.args.kind c.args.name c.args.marks.now in (
+    let f = c.args.selection.now in
+    let in_list = λ (z : List ℕ). IsSaidIn f.setting.outlines.now f.flags.now z (length z) c.args.kind c.args.name c.args.marks.now in
+    let found = said_by_list f.setting.outlines.now f.flags.now f.setting.named.now c.requires.setting.named c.args.kind c.args.name
+    c.args.marks.now in (
       (λ t. (c.is_said_in-2.ensures.0 t).says),
-      λ said. elim (said_by_list s.outlines.now s.flags.now s.named.now c.requires.named c.args.kind c.args.name c.args.marks.now said) [
+      λ said. elim (found said) [
         | inl i ↦ absurd (let has = c.is_said_in.ensures.1 (subst in_list (sym c.places_of.ensures.places) i) in
             let z : false ≡ true = sym c.if-is_said_in.false ∙ has in cc)
         | inr (i, some) ↦ c.is_said_in-2.ensures.1 (subst in_list (sym c.places_of-2.ensures.places) i)

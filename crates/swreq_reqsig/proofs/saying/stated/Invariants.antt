@@ -3,4 +3,4 @@ use Rattle.swreq_reqsig.proofs.saying.stated.Given as goal
 
 abbrev pub invariant-loop-at : goal.invariant-loop-at
 invariant-loop-at l =
-    AreSaidIn l.spoken.outlines.now l.spoken.flags.now l.places l.at l.fn.name l.fn.protocols l.marks.items
+    AreSaidIn l.selection.setting.outlines.now l.selection.flags.now l.places l.at l.fn.name l.fn.protocols l.marks.items

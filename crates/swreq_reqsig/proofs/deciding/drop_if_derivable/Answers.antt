@@ -1,7 +1,7 @@
 use Rattle.std.proofs.Common.{◌∙◌, ap, arith, false, length, sym}
 use Rattle.std.proofs.lemmas.List.{length-set}
 use Rattle.swreq_reqsig.proofs.Signatures.{flag_within, flags_count, met_by, place_there}
-use Rattle.swreq_reqsig.proofs.deciding.decide.Goals as goal
+use Rattle.swreq_reqsig.proofs.deciding.drop_if_derivable.Goals as goal
 
 pub index_mut-requires : goal.index_mut-requires
 index_mut-requires g c =
@@ -11,26 +11,27 @@ index_mut-requires g c =
     let o = c.args.flags.now.ok in
     omega (arith, l, o)
 
-pub follows_by_reach-requires-clause-flags : goal.follows_by_reach-requires-clause-flags
-follows_by_reach-requires-clause-flags g c =
+pub is_derivable_without-requires-clause-flags : goal.is_derivable_without-requires-clause-flags
+is_derivable_without-requires-clause-flags g c =
     let s = c.args.setting.now in
     let x = place_there s.world.now c.args.places.now c.args.at c.requires.places c.requires.at in
     ap length c.deref.ensures.value ∙ length-set c.args.flags.now.items c.args.at false
     ∙ flags_count s.world.now s.table.now c.requires.setting.text s.limits c.args.at c.args.flags.now.items x.0 x.2 c.requires.left
     ∙ ap length (sym c.requires.places)
 
-pub index_mut-requires-in-Ok : goal.index_mut-requires-in-Ok
-index_mut-requires-in-Ok g c =
+pub index_mut-requires-2 : goal.index_mut-requires-2
+index_mut-requires-2 g c =
     let s = c.args.setting.now in
     let x = place_there s.world.now c.args.places.now c.args.at c.requires.places c.requires.at in
     let l = flag_within s.world.now s.table.now c.requires.setting.text s.limits c.args.at c.args.flags.now.items x.0 x.2 c.requires.left in
     let o = c.args.flags.now.ok in
     omega (arith, l, o)
 
-pub returns-in-Ok-clause-met : goal.returns-in-Ok-clause-met
-returns-in-Ok-clause-met g c =
+pub returns-clause-met : goal.returns-clause-met
+returns-clause-met g c =
     let s = c.args.setting.now in
     let x = place_there s.world.now c.args.places.now c.args.at c.requires.places c.requires.at in
     met_by s.world.now s.table.now c.requires.setting.text s.limits c.args.at c.args.flags.now.items x.0 x.2 c.requires.left
-    c.requires.setting.well_formed c.deref.result.now c.in-Ok.derivable c.deref.ensures.value (c.in-Ok.ensures.answer x.0 x.1)
-    (g.W.Watch.told c.args.watch.now) (g.W.Watch.told c.follows_by_reach.new.watch) c.in-Ok.ensures.settled
+    c.requires.setting.well_formed c.deref.result.now c.in_ok-derivable.derivable c.deref.ensures.value
+    (c.in_ok-derivable.ensures.answer x.0 x.1)
+    (g.W.Watch.told c.args.watch.now) (g.W.Watch.told c.is_derivable_without.new.watch) c.in_ok-derivable.ensures.settled

@@ -1,0 +1,36 @@
+-- What is selected of the requirements, as the code asks for it.
+use Rattle.std.proofs.Common.{◌≡◌, ◌∙◌, ◌↔◌, ap, length, sym, subst, Bool, IsTrue, List, Option}
+use Rattle.std.proofs.lemmas.List.{length-map}
+use Rattle.swreq_param.specs.declared.ids.NameId.{NameId}
+use Rattle.swreq_param.specs.declared.ids.ProtoId.{ProtoId}
+use Rattle.swreq_reqsig.specs.declared.outlines.Kind.{Kind}
+use Rattle.swreq_reqsig.specs.declared.outlines.Outline.{Outline}
+use Rattle.swreq_reqsig.specs.declared.selection.Selection.{Selection}
+use Rattle.swreq_reqsig.specs.Families.{owned}
+use Rattle.swreq_reqsig.specs.Marks.{IsMarked}
+use Rattle.swreq_reqsig.specs.Outlines.{IsSaidAt, outline_of}
+use Rattle.swreq_reqsig.specs.Saying.{SaysConforms}
+use Rattle.swreq_reqsig.specs.Selections.{IsSelection, lexicon_in, selected_in}
+use Rattle.swreq_reqsig.specs.Settings.{text_in}
+use Rattle.swreq_reqsig.proofs.Placing.{places_count}
+use Rattle.swreq_reqsig.proofs.Spoken.{Says, says}
+
+module _ (s : Selection) (is : IsSelection s) where
+  -- there is an outline for each place
+  pub outlines_count : length s.places.now ≡ length s.setting.outlines.now
+  outlines_count =
+      ap length is.places ∙ places_count s.setting.world.now s.setting.table.now
+      ∙ sym (length-map (owned (text_in s.setting)) (outline_of (lexicon_in s))) ∙ ap length (sym is.setting.outlines)
+
+  -- where those protocols are marked to which a type parameter with the last name conforms
+  module _ (a : Option NameId) (v marks : List Bool) (same : marks ≡ v)
+      (tell : (q : ProtoId) → IsMarked v q ↔ SaysConforms (lexicon_in s) (selected_in s) a q) where
+    marks_tell : (q : ProtoId) → IsMarked marks q ↔ SaysConforms (lexicon_in s) (selected_in s) a q
+    marks_tell q = subst (λ (z : List Bool). IsMarked z q ↔ SaysConforms (lexicon_in s) (selected_in s) a q) (sym same) (tell q)
+
+    pub says_so : (kind : Kind) (b : Bool) → IsTrue b ↔ IsSaidAt s.setting.outlines.now s.flags.now kind a marks
+        → IsTrue b ↔ Says (lexicon_in s) (selected_in s) a kind
+    says_so kind b h =
+        let law = says (lexicon_in s) (owned (text_in s.setting)) s.flags.now a marks marks_tell kind in
+        let k = subst (λ (z : List Outline). IsTrue b ↔ IsSaidAt z s.flags.now kind a marks) is.setting.outlines h in
+        ((λ t. law.0 (k.0 t)), λ d. k.1 (law.1 d))
