@@ -3,6 +3,9 @@ ghost use Rattle.std.specs.Prelude.{◌≡◌};
 ghost use Rattle.swreq_calling.specs.declared.failing.Failed.TheVariants.{Memory};
 
 use std::alloc::AllocError;
+use swreq_decl::ParseErr;
+use swreq_resolve::NameErr;
+use swreq_valid::Refused;
 
 /// Why a text gets no answers.
 #[derive(Clone, Copy, Debug, PartialEq, Eq)]
@@ -36,5 +39,32 @@ impl From<AllocError> for Failed {
 
     fn from(_e: AllocError) -> Failed {
         Failed::Memory
+    }
+}
+
+impl From<ParseErr> for Failed {
+    fn from(e: ParseErr) -> Failed {
+        match e {
+            ParseErr::Memory => Failed::Memory,
+            _ => Failed::Grammar,
+        }
+    }
+}
+
+impl From<NameErr> for Failed {
+    fn from(e: NameErr) -> Failed {
+        match e {
+            NameErr::Memory => Failed::Memory,
+            _ => Failed::Names,
+        }
+    }
+}
+
+impl From<Refused> for Failed {
+    fn from(e: Refused) -> Failed {
+        match e {
+            Refused::Memory => Failed::Memory,
+            _ => Failed::Rules,
+        }
     }
 }

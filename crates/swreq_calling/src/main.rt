@@ -4,7 +4,6 @@
 
 mod asking;
 mod failing;
-mod machines;
 
 use crate::asking::answers;
 use crate::failing::Failed;

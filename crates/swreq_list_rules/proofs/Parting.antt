@@ -69,7 +69,7 @@ module _ {X : Type 0} (xs : List X) (k : ℕ) (d : X) (l : k < length xs) where
     ]
   ]
 
-  -- the same of what they say
+  -- what the members of a list say, where one of them is taken out
   module _ {Y : Type 0} (g : X → Y) where
     pub said_before : (y : Y) → Contains (map g (remove xs k)) y → Contains (map g xs) y
     said_before y h =

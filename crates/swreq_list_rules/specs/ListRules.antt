@@ -26,7 +26,7 @@ pub record AreRulesOfList (s : Setting) (list : List TermRequirement) (found : L
   pub rules : AreListRules (symbols_in s) (facts_in s) (params_in s) list found
   pub in_text : IsInText (symbols_in s) (source_in s list)
 
--- The rules are those of the list, and of its members just those wait that are not usable.
+-- The rules are those of the list, and of its members exactly those wait that are not usable.
 pub record AreOfList (s : Setting) (list : List TermRequirement) (r : ListRulesView) : Type 0 where
   pub rules : AreRulesOfList s list r.rules
   pub known : AreKnownIn s r.waiting

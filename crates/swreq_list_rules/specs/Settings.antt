@@ -21,7 +21,7 @@ use Rattle.swreq_list_rules.specs.declared.setting.Setting.{Setting}
 abbrev pub text_in : Setting → TextWorld
 text_in s = world_by s.table.now s.world.now
 
--- its symbols
+-- the symbols of the text
 abbrev pub symbols_in : Setting → Symbols
 symbols_in s = symbols_of s.world.now.lexicon
 

@@ -4,7 +4,6 @@ ghost use Rattle.swreq_derive.specs.Derivation.{Derivable, TermRequirement};
 ghost use Rattle.swreq_derive.specs.Derivation.TermStatement.{Requires};
 ghost use Rattle.swreq_derive.specs.Facts.{requirement_of};
 ghost use Rattle.swreq_symbols.specs.Known.{IsRequirementIn};
-ghost use Rattle.swreq_symbols.specs.Vanishing.{IsLeastBy, Links};
 ghost use Rattle.swreq_list_rules.specs.ListRules.{AreRulesOfList, AreShownBy};
 ghost use Rattle.swreq_list_rules.specs.Settings.{IsSetting, facts_in, source_in};
 
@@ -13,8 +12,7 @@ use std::alloc::{AllocError, Global};
 use swreq_complete::CompleteRules;
 use swreq_derive::Requirement;
 use swreq_symbols::{Over, equation};
-use swreq_valid::is_usable;
-use swreq_word::{Symbol, Word, are_same};
+use swreq_valid::{are_linked, is_usable};
 
 /// Whether the rules show that the type parameters of a requirement are valid.
 pub(crate) fn has_valid_sides(
@@ -29,30 +27,6 @@ pub(crate) fn has_valid_sides(
 {
     let over = Over::Signature(setting.params);
     is_usable(alloc, setting.world, setting.table, rules, over, r)
-}
-
-/// The least word that the rules link to a word.
-fn least(alloc: Global, rules: &CompleteRules<'_>, word: &Word) -> Result<Vec<Symbol>, AllocError>
-    ensures linked { IfOk result (λ v. Links rules.now word.now v.items) }
-    ensures least { IfOk result (λ v. IsLeastBy rules.now v.items) }
-{
-    let mut least = Vec::from_slice(alloc, word.symbols())?;
-    rules.reduce(&mut least);
-    Ok(least)
-}
-
-/// Whether the rules link two words.
-fn are_linked(
-    alloc: Global,
-    rules: &CompleteRules<'_>,
-    u: &Word,
-    v: &Word,
-) -> Result<bool, AllocError>
-    ensures { IfOk result (λ b. IsTrue b ↔ Links rules.now u.now v.now) }
-{
-    let left = least(alloc, rules, u)?;
-    let right = least(alloc, rules, v)?;
-    Ok(are_same(&left, &right))
 }
 
 /// Whether a requirement is derivable from a list with these rules: whether its type parameters are valid, and the rules link the two sides of

@@ -51,7 +51,7 @@ impl<'b> ListRules<'b> {
         })
     }
 
-    /// The same rules once more. What of them is not borrowed is copied.
+    /// The same rules, which borrow from these. What is not borrowed is copied.
     pub fn over<'a>(&'a self, alloc: Global) -> Result<ListRules<'a>, AllocError>
         ensures { IfOk result (λ same. same ≡ self.now) }
     {

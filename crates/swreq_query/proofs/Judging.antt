@@ -12,7 +12,7 @@ use Rattle.swreq_valid.specs.declared.having.Property.TheVariants.{Protocol, Lay
 use Rattle.swreq_query.specs.Answers.{IsAnswer, IsSide, asked}
 use Rattle.swreq_query.specs.Answers.Answer.{Invalid, Yes, No}
 use Rattle.swreq_query.specs.Asked.{answer_of, asks, verdict_of}
-use Rattle.swreq_valid.specs.Having.{TellsIfHas, has}
+use Rattle.swreq_valid.specs.Having.{TellsIfEqual, TellsIfHas, has}
 
 is_side : (f : FuncId) (t : Term) (property : Property) → IsSide (asks f t property) t
 is_side f t (Protocol p) = refl
@@ -46,18 +46,24 @@ module _ (derivable : TermStatement → Type 0) (f : FuncId) where
   property_answer t property (Some false) h = property_no t property h.0 (iff_false h.1 refl)
 
   module _ (t u : Term) where
-    pub left_invalid : (derivable (IsValid t) → ⊥) → IsAnswer derivable (AsksEquals f t u) Invalid
+    left_invalid : (derivable (IsValid t) → ⊥) → IsAnswer derivable (AsksEquals f t u) Invalid
     left_invalid n = (t, inl refl, n)
 
-    pub right_invalid : (derivable (IsValid u) → ⊥) → IsAnswer derivable (AsksEquals f t u) Invalid
+    right_invalid : (derivable (IsValid u) → ⊥) → IsAnswer derivable (AsksEquals f t u) Invalid
     right_invalid n = (u, inr refl, n)
 
     valid_sides : derivable (IsValid t) → derivable (IsValid u) → (s : Term) → IsSide (AsksEquals f t u) s → derivable (IsValid s)
     valid_sides v w s (inl e) = subst (λ z. derivable (IsValid z)) (sym e) v
     valid_sides v w s (inr e) = subst (λ z. derivable (IsValid z)) (sym e) w
 
-    pub equality_yes : derivable (IsValid t) → derivable (IsValid u) → derivable (Requires (Equals t u)) → IsAnswer derivable (AsksEquals f t u) Yes
+    equality_yes : derivable (IsValid t) → derivable (IsValid u) → derivable (Requires (Equals t u)) → IsAnswer derivable (AsksEquals f t u) Yes
     equality_yes v w h = (valid_sides v w, (Equals t u, refl, h))
 
-    pub equality_no : derivable (IsValid t) → derivable (IsValid u) → (derivable (Requires (Equals t u)) → ⊥) → IsAnswer derivable (AsksEquals f t u) No
+    equality_no : derivable (IsValid t) → derivable (IsValid u) → (derivable (Requires (Equals t u)) → ⊥) → IsAnswer derivable (AsksEquals f t u) No
     equality_no v w n = (valid_sides v w, (Equals t u, refl, n))
+
+    pub equality_answer : (r : Option Bool) → TellsIfEqual derivable t u r → IsAnswer derivable (AsksEquals f t u) (answer_of (verdict_of r))
+    equality_answer None (inl n) = left_invalid n
+    equality_answer None (inr n) = right_invalid n
+    equality_answer (Some true) (v, w, h) = equality_yes v w (h.0 refl)
+    equality_answer (Some false) (v, w, h) = equality_no v w (iff_false h refl)

@@ -29,7 +29,7 @@ IsQueryIn terms w q = HasQueryIdsOf terms q × IsQueryOf (world_by terms w) (que
 abbrev pub IsOfTypes : TermQuery → Type 0
 IsOfTypes q = (f : FuncId) → q ≡ AsksSignature f → ⊥
 
--- It asks for a requirement.
+-- The query asks for a requirement.
 abbrev pub AsksRequirement : TermQuery → Type 0
 AsksRequirement q = (r : TermRequirement) × (asked q ≡ Some r)
 
@@ -39,7 +39,7 @@ IsRoomFor q room = (s : Term) → IsSide q s → 4 * (member_count s + 2) ≤ ro
 
 -- ---- what comes of it
 
--- The new text is the old one with the line of the answer behind it.
+-- The new text is the old one with the line of the answer after it.
 abbrev pub AppendsAnswer : LexiconView → (TermStatement → Type 0) → TermQuery → Text → Text → Type 0
 AppendsAnswer x derivable q old new = (line : Text) × IsAnswerLine x derivable q line × (new ≡ old ++ line)
 
@@ -48,7 +48,7 @@ answer_of verdicts.Invalid = Invalid
 answer_of verdicts.Yes = Yes
 answer_of verdicts.No = No
 
--- None where a side is not valid, and else whether the requirement is derivable
+-- None where a side is not valid, and otherwise whether the requirement is derivable
 abbrev pub verdict_of : Option Bool → Verdict
 verdict_of None = verdicts.Invalid
 verdict_of (Some true) = verdicts.Yes

@@ -23,7 +23,7 @@ use swreq_world::World;
 
 /// Appends the line that answers a query of a requirement or a type, from every list of which m is the machine.
 ///
-/// The map is that of the rules of m, and the scratch has room for each side. For want of memory `out` is as before.
+/// The map is that of the rules of m, and the scratch has room for each side. If memory runs out, `out` is unchanged.
 pub fn answer(
     alloc: Global,
     world: &World,

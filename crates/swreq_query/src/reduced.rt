@@ -5,10 +5,10 @@ ghost use Rattle.swreq_param.specs.Terms.{member_count, with_steps};
 ghost use Rattle.swreq_param.specs.Terms.Term.{Generic};
 ghost use Rattle.swreq_derive.specs.Derivation.{TermRequirement};
 ghost use Rattle.swreq_print.specs.Types.{type_text};
-ghost use Rattle.swreq_symbols.specs.Known.{IsTextOver, IsTypeIn};
+ghost use Rattle.swreq_symbols.specs.Known.{IsTypeIn};
+ghost use Rattle.swreq_symbols.specs.Texts.{BelongTogether, world_of};
 ghost use Rattle.swreq_valid.specs.Asked.{IsDerivable};
 ghost use Rattle.swreq_valid.specs.Machines.{IsMachineOf};
-ghost use Rattle.swreq_world.specs.ByTable.{world_by};
 ghost use Rattle.swreq_lowering.specs.Queries.TermQuery.{AsksReduced};
 ghost use Rattle.swreq_lowering.specs.declared.ids.FuncId.{FuncId};
 ghost use Rattle.swreq_query.specs.Asked.{AppendsAnswer};
@@ -48,16 +48,16 @@ pub(crate) fn reduced_line(
     scratch: &mut Scratch,
     out: &mut Vec<u8>,
 ) -> Result<(), AllocError>
-    requires text { IsTextOver text.now.table.now text.now.world.now }
+    requires text { BelongTogether text.now }
     requires t { IsTypeIn text.now.table.now text.now.world.now.lexicon t }
     requires room { 4 * (member_count (term_at text.now.table.now t) + 2) ≤ scratch.old.room }
-    ensures ok { OnOk result ((f : FuncId) (list : List TermRequirement) → IsMachineOf (world_by text.now.table.now text.now.world.now) list machine.now
-        → AppendsAnswer text.now.world.now.lexicon (IsDerivable (world_by text.now.table.now text.now.world.now) machine.now list) (AsksReduced f (term_at text.now.table.now t)) out.old.items out.new.items) }
+    ensures ok { OnOk result ((f : FuncId) (list : List TermRequirement) → IsMachineOf (world_of text.now) list machine.now
+        → AppendsAnswer text.now.world.now.lexicon (IsDerivable (world_of text.now) machine.now list)
+        (AsksReduced f (term_at text.now.table.now t)) out.old.items out.new.items) }
     ensures err { OnErr result (out.new.items ≡ out.old.items) }
     ensures room { scratch.new.room ≡ scratch.old.room }
 {
-    if machine.is_valid(text.world, text.table, t, scratch) {
-        machine.reduced(text.world, text.table, t, scratch);
+    if machine.reduce(text, t, scratch) {
         type_line(
             alloc,
             text.world.lexicon(),

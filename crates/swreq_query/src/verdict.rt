@@ -6,6 +6,7 @@ ghost use Rattle.swreq_derive.specs.Derivation.{TermRequirement};
 ghost use Rattle.swreq_map.specs.Follows.{IsMapOf};
 ghost use Rattle.swreq_lexicon.specs.Views.{LexiconView};
 ghost use Rattle.swreq_symbols.specs.Known.{IsTextOver, IsTypeIn};
+ghost use Rattle.swreq_symbols.specs.Texts.{BelongTogether, world_of};
 ghost use Rattle.swreq_valid.specs.Asked.{IsDerivable};
 ghost use Rattle.swreq_valid.specs.Having.{IsBelow};
 ghost use Rattle.swreq_valid.specs.Machines.{IsMachineOf};
@@ -68,13 +69,14 @@ fn judge_property(
     property: Property,
     scratch: &mut Scratch,
 ) -> Verdict
-    requires text { IsTextOver text.now.table.now text.now.world.now }
+    requires text { BelongTogether text.now }
     requires t { IsTypeIn text.now.table.now text.now.world.now.lexicon t }
     requires map { IsMapOf (last_rules machine.now.rounds) map.now }
     requires property { IsBelow map.now.protocols property }
     requires room { 4 * (member_count (term_at text.now.table.now t) + 2) ≤ scratch.old.room }
-    ensures answer { (f : FuncId) (list : List TermRequirement) → IsMachineOf (world_by text.now.table.now text.now.world.now) list machine.now
-        → IsAnswer (IsDerivable (world_by text.now.table.now text.now.world.now) machine.now list) (asks f (term_at text.now.table.now t) property) (answer_of result) }
+    ensures answer { (f : FuncId) (list : List TermRequirement) → IsMachineOf (world_of text.now) list machine.now
+        → IsAnswer (IsDerivable (world_of text.now) machine.now list)
+        (asks f (term_at text.now.table.now t) property) (answer_of result) }
     ensures room { scratch.new.room ≡ scratch.old.room }
 {
     verdict_of(machine.has(text, map, t, property, scratch))
@@ -82,33 +84,23 @@ fn judge_property(
 
 /// Whether a and b are valid and equal.
 fn judge_equality(
-    world: &World,
-    table: &ParamTable,
+    text: &Text<'_>,
     machine: &Machine,
     a: TermId,
     b: TermId,
     scratch: &mut Scratch,
 ) -> Verdict
-    requires text { IsTextOver table.now world.now }
-    requires a { IsTypeIn table.now world.now.lexicon a }
-    requires b { IsTypeIn table.now world.now.lexicon b }
-    requires room_a { 4 * (member_count (term_at table.now a) + 2) ≤ scratch.old.room }
-    requires room_b { 4 * (member_count (term_at table.now b) + 2) ≤ scratch.old.room }
-    ensures answer { (f : FuncId) (list : List TermRequirement) → IsMachineOf (world_by table.now world.now) list machine.now
-        → IsAnswer (IsDerivable (world_by table.now world.now) machine.now list) (AsksEquals f (term_at table.now a) (term_at table.now b)) (answer_of result) }
+    requires text { BelongTogether text.now }
+    requires a { IsTypeIn text.now.table.now text.now.world.now.lexicon a }
+    requires b { IsTypeIn text.now.table.now text.now.world.now.lexicon b }
+    requires room_a { 4 * (member_count (term_at text.now.table.now a) + 2) ≤ scratch.old.room }
+    requires room_b { 4 * (member_count (term_at text.now.table.now b) + 2) ≤ scratch.old.room }
+    ensures answer { (f : FuncId) (list : List TermRequirement) → IsMachineOf (world_of text.now) list machine.now
+        → IsAnswer (IsDerivable (world_of text.now) machine.now list)
+        (AsksEquals f (term_at text.now.table.now a) (term_at text.now.table.now b)) (answer_of result) }
     ensures room { scratch.new.room ≡ scratch.old.room }
 {
-    if !machine.is_valid(world, table, a, scratch) {
-        return Verdict::Invalid;
-    }
-    if !machine.is_valid(world, table, b, scratch) {
-        return Verdict::Invalid;
-    }
-    if machine.equal(world, table, a, b, scratch) {
-        Verdict::Yes
-    } else {
-        Verdict::No
-    }
+    verdict_of(machine.are_equal(text, a, b, scratch))
 }
 
 /// The verdict on a query of a requirement, from every list of which m is the machine.
@@ -145,7 +137,7 @@ pub fn judge(
             Property::Layout,
             scratch,
         ),
-        Query::Same { a, b, .. } => judge_equality(world, table, machine, a, b, scratch),
+        Query::Same { a, b, .. } => judge_equality(&text, machine, a, b, scratch),
         Query::Signature { .. } | Query::Reduced { .. } => unreachable!(),
     }
 }

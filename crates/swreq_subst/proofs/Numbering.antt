@@ -82,7 +82,7 @@ module _ (f : TermFacts) (from : Source) (params : Params) (args : List Term) (r
       subst (AreFailingUpTo f from params args rs (suc k)) (sym (e ∙ ap (λ z. ns ++ z ∷ []) same))
       (next_fails k ns r h there (λ d. let z = is.1 d in cc))
 
--- The same numbers, where what they are judged by is the same.
+-- Requirements that fail have the same numbers, where parameters, types and requirements are equal.
 pub same_failing : (f : TermFacts) (written : List TermRequirement) {ps qs params others : Params} {args types : List Term} {rs list : List TermRequirement}
     → ps ≡ qs → params ≡ others → args ≡ types → rs ≡ list → (ns : List ℕ)
     → AreFailing f (Written (generic_params ps) written) params args rs ns → AreFailing f (Written (generic_params qs) written) others types list ns

@@ -22,6 +22,6 @@ argument_of params args g = slice_index_or args (place_of params g) self
 abbrev pub with_arguments : Params → List Term → Term → Term
 with_arguments params args u = substitute (argument_of params args) u
 
--- the same in the sides of a requirement
+-- a requirement with the types of a call put in for the generic parameters of its sides
 abbrev pub requirement_with : Params → List Term → TermRequirement → TermRequirement
 requirement_with params args r = substitute_in (argument_of params args) r

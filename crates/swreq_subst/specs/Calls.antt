@@ -49,15 +49,15 @@ pub record IsMachineOn (w : TextWorld) (f : FuncId) (m : MachineView) : Type 0 w
 
 -- ---- by what is derivable
 
--- It is there, and valid.
+-- The type is there, and valid.
 abbrev pub IsValidThere : (TermStatement → Type 0) → List Term → Option TermId → Type 0
 IsValidThere derivable terms None = ⊥
 IsValidThere derivable terms (Some t) = derivable (IsValid (term_at terms t))
 
--- Each of them is there, and valid.
+-- Each of the types is there, and valid.
 abbrev pub AreAllValid : (TermStatement → Type 0) → List Term → List (Option TermId) → Type 0
 AreAllValid derivable terms args = All (IsValidThere derivable terms) args
 
--- One of them is not there, or not valid.
+-- One of the types is not there, or not valid.
 abbrev pub IsOneInvalid : (TermStatement → Type 0) → List Term → List (Option TermId) → Type 0
 IsOneInvalid derivable terms args = (a : Option TermId) × Contains args a × (IsValidThere derivable terms a → ⊥)

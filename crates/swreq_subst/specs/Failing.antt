@@ -21,7 +21,7 @@ module _ (f : TermFacts) (from : Source) (params : Params) (args : List Term) wh
   abbrev pub FailsAt : List TermRequirement → ℕ → Type 0
   FailsAt rs n = (r : TermRequirement) × HasNumber n rs r × (Holds r → ⊥)
 
-  -- Among the first requirements, so many, those with these numbers fail, and all others hold. The numbers are ascending.
+  -- Among the first `count` requirements, those with these numbers fail, and all others hold. The numbers are ascending.
   pub record AreFailingUpTo (rs : List TermRequirement) (count : ℕ) (ns : List ℕ) : Type 0 where
     pub fail : (n : ℕ) → Contains ns n → (n ≤ count) × FailsAt rs n
     pub others : (n : ℕ) (r : TermRequirement) → n ≤ count → HasNumber n rs r → Contains ns n ⊎ Holds r
@@ -37,6 +37,6 @@ AreFailingWith w c ts ns =
     (c.args ≡ map (λ (t : Term). Some t) ts)
     × AreFailing (facts_of w) (source_of (signature_at w c.f)) (signature_at w c.g).params ts (written_list (signature_at w c.g)) ns
 
--- So they are where each type of the call is there.
+-- Where each type of the call is there, these are exactly the numbers of the failing requirements of the callee.
 abbrev pub AreFailingIn : TextWorld → TermCall → List ℕ → Type 0
 AreFailingIn w c ns = (ts : List Term) × AreFailingWith w c ts ns

@@ -17,7 +17,7 @@ use Rattle.swreq_subst.specs.Failing.{AreFailingWith}
 abbrev pub text_at : LexiconView → List TermRequirement → ℕ → Text
 text_at x rs n = option_map_or (requirement_text x) (slice_get rs (n - 1)) []
 
--- `yes` where none fails, and else `no: ` and the failing ones in order, as the callee's list has them
+-- `yes` where none fails, and otherwise `no: ` and the failing ones in order, as the callee's list has them
 abbrev pub verdict_text : LexiconView → List TermRequirement → List ℕ → Text
 verdict_text x rs [] = codes "yes\n"
 verdict_text x rs (n ∷ ns) = codes "no: " ++ (joined (codes ", ") (map (text_at x rs) (n ∷ ns)) ++ codes "\n")
@@ -34,13 +34,13 @@ HasInvalid w c = (a : Option Term) × Contains c.args a × IsInvalid w c a
 abbrev pub AreValid : TextWorld → TermCall → List Term → Type 0
 AreValid w c ts = (t : Term) → Contains ts t → Derivable (facts_of w) (source_of (signature_at w c.f)) (IsValid t)
 
--- The line answers the call: it is `invalid` where a type is not derivable, and else that of the failing requirements of the callee.
+-- The line answers the call: it is `invalid` where a type is not derivable, and otherwise that of the failing requirements of the callee.
 abbrev pub IsLineOf : TextWorld → TermCall → Text → Type 0
 IsLineOf w c line =
     (HasInvalid w c × (line ≡ codes "invalid\n"))
     ⊎ ((ts : List Term) × (ns : List ℕ) × AreFailingWith w c ts ns × AreValid w c ts
     × (line ≡ verdict_text w.lexicon (written_list (signature_at w c.g)) ns))
 
--- The new text is the old one with the line of the call behind it.
+-- The new text is the old one with the line of the call after it.
 abbrev pub AppendsLine : TextWorld → TermCall → Text → Text → Type 0
 AppendsLine w c old new = (line : Text) × IsLineOf w c line × (new ≡ old ++ line)

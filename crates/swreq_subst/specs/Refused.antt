@@ -26,7 +26,7 @@ module _ (w : IdWorld) (text : Bytes) where
   abbrev pub IsCalled : Option Span → Span → FuncId → Type 0
   IsCalled outer name f = IsNamedAt w (option_map (word text) outer) (word text name) f
 
-  -- It is a struct, and has the name that is written.
+  -- The signature is a struct, and has the name that is written.
   abbrev pub IsStructCalled : Span → FuncId → Type 0
   IsStructCalled name f = IsCalled None name f × (is_struct (signature_at w f).signature ≡ true)
 

@@ -67,7 +67,7 @@ module _ {R Q : Type 0} (w : WorldOver R Q) (text : Bytes) where
   abbrev pub HasUnknown : List StepDecl → Type 0
   HasUnknown ds = (y : StepDecl) × Contains ds y × IsUnknown y
 
-  -- Without a name that the world lacks, the type is a type parameter; with one it is none.
+  -- Where the world has each name of the type, it is a type parameter; where it lacks one, it is None.
   abbrev pub SaysArgument : FuncId → Option Term → TypeDecl → Type 0
   SaysArgument f (Some u) t = SaysType f u t
   SaysArgument f None t = HasUnknown t.steps

@@ -19,11 +19,11 @@ ghost use Rattle.swreq_subst.specs.Calls.{AreThere, IsCallIn, IsMachineOn, call_
 ghost use Rattle.swreq_subst.specs.Failing.{AreFailing, AreFailingIn};
 
 use crate::arguments::requirement_with;
-use crate::asking::is_derivable;
 use crate::calls::Call;
 use std::alloc::{AllocError, Global};
 use swreq_derive::{Params, Requirement};
 use swreq_param::{ParamTable, TermId};
+use swreq_symbols::Text;
 use swreq_valid::Machine;
 use swreq_world::World;
 
@@ -49,7 +49,11 @@ fn holds(by: &Judging<'_>, table: &mut ParamTable, r: Requirement) -> Result<boo
     ensures extends { Extends table.old table.new }
 {
     let requirement = requirement_with(by.alloc, table, by.params, by.args, r)?;
-    is_derivable(by.alloc, by.world, table, by.machine, requirement)
+    let text = Text {
+        world: by.world,
+        table,
+    };
+    by.machine.derives(by.alloc, &text, requirement)
 }
 
 /// The types of a call.

@@ -78,7 +78,7 @@ pub fn arguments_stand_in_order()
     ensures count { (params : Params) → length (generic_params params) ≡ param_count params }
 {}
 
-/// None fails exactly where each requirement of the callee, with the types put in, is derivable from the caller's list.
+/// None fails if and only if each requirement of the callee, with the types put in, is derivable from the caller's list.
 pub fn none_fails_where_all_hold()
     ensures { (f : TermFacts) (from : Source) (params : Params) (args : List Term) (rs : List TermRequirement) (ns : List ℕ)
         → AreFailing f from params args rs ns → (ns ≡ []) ↔ ((r : TermRequirement) → Contains rs r → Holds f from params args r) }

@@ -2,7 +2,6 @@
 #![tactic(auto)]
 
 mod arguments;
-mod asking;
 mod calls;
 mod failures;
 pub mod laws;

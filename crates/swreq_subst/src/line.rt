@@ -1,10 +1,11 @@
 //! The line that answers a call.
 ghost use Rattle.std.specs.Prelude.{◌≡◌, ◌↔◌, ◌++◌, ◌<◌, ◌≤◌, List, All, IsTrue, IfOk, OnOk, OnErr, MatchBool, length, map};
-ghost use Rattle.swreq_param.specs.Tables.{Extends};
+ghost use Rattle.swreq_param.specs.Tables.{Extends, term_at};
 ghost use Rattle.swreq_derive.specs.Derivation.{TermRequirement};
+ghost use Rattle.swreq_derive.specs.Derivation.TermStatement.{IsValid};
 ghost use Rattle.swreq_derive.specs.Facts.{requirement_of};
 ghost use Rattle.swreq_lowering.specs.ByTable.{HasIdsOf};
-ghost use Rattle.swreq_symbols.specs.Known.{IsTextOver};
+ghost use Rattle.swreq_symbols.specs.Known.{IsTextOver, IsTypeIn};
 ghost use Rattle.swreq_valid.specs.Asked.{IsDerivable};
 ghost use Rattle.swreq_valid.specs.Machines.{IsMachineOf};
 ghost use Rattle.swreq_world.specs.ByTable.{world_by};
@@ -12,7 +13,6 @@ ghost use Rattle.swreq_world.specs.Short.{IsShort};
 ghost use Rattle.swreq_subst.specs.Calls.{AreAllValid, IsArgumentIn, IsCallIn, IsMachineOn, IsOneInvalid, IsValidThere, call_by};
 ghost use Rattle.swreq_subst.specs.Lines.{AppendsLine, text_at, verdict_text};
 
-use crate::asking::is_valid;
 use crate::calls::Call;
 use crate::failures::failing;
 use std::alloc::{AllocError, Global};
@@ -21,8 +21,26 @@ use swreq_lexicon::Lexicon;
 use swreq_param::{ParamTable, TermId};
 use swreq_print::requirement_text;
 use swreq_text::{Print, append_bytes, put_joined};
-use swreq_valid::Machine;
+use swreq_valid::{Machine, Scratch};
 use swreq_world::World;
+
+/// Whether t is derivable from the list of the machine.
+fn is_valid(
+    alloc: Global,
+    world: &World,
+    table: &ParamTable,
+    machine: &Machine,
+    t: TermId,
+) -> Result<bool, AllocError>
+    requires text { IsTextOver table.now world.now }
+    requires t { IsTypeIn table.now world.now.lexicon t }
+    ensures { IfOk result (λ b. (list : List TermRequirement) → IsMachineOf (world_by table.now world.now) list machine.now
+        → IsTrue b ↔ IsDerivable (world_by table.now world.now) machine.now list (IsValid (term_at table.now t))) }
+{
+    let mut room = Scratch::for_type(alloc, table, t)?;
+    let valid = machine.is_valid(world, table, t, &mut room);
+    Ok(valid)
+}
 
 /// Whether a type is there, and derivable from the list of the machine.
 fn is_valid_there(
@@ -87,7 +105,7 @@ impl Print<u32> for Numbered<'_> {
     }
 }
 
-/// Writes `yes` where there are no numbers, and else `no: ` and the requirements with these numbers, joined by `, `; and a line feed.
+/// Writes `yes` where there are no numbers, and otherwise `no: ` and the requirements with these numbers, joined by `, `; and a line feed.
 fn put_verdict(
     alloc: Global,
     names: &Lexicon,
@@ -120,9 +138,8 @@ fn put_verdict(
     }
 }
 
-/// Appends the line that answers a call: `invalid` where a type is not derivable from the caller's list; else `yes` where no
-/// requirement of the callee fails; else `no: ` and the failing ones, as the callee's list has them. For want of memory `out` is as
-/// before.
+/// Appends the line that answers a call: `invalid` where a type is not derivable from the caller's list; else `yes` where no requirement of
+/// the callee fails; else `no: ` and the failing ones, as the callee's list has them. If memory runs out, `out` is unchanged.
 ///
 /// The machine is that of the caller. On every answer the table begins with the one that was given.
 pub fn call_text(

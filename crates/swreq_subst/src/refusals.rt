@@ -17,7 +17,7 @@ use swreq_names::{Declared, Signature, word};
 use swreq_resolve::{Fault, Refusal, resolve_type};
 use swreq_world::World;
 
-/// The first of what is refused so far and this one.
+/// The first of what was refused before and this one.
 fn earlier(best: Option<Refusal>, here: Refusal) -> Option<Refusal>
     ensures { result ≡ order.earlier best here }
 {
@@ -27,7 +27,7 @@ fn earlier(best: Option<Refusal>, here: Refusal) -> Option<Refusal>
     }
 }
 
-/// The first of what is refused so far and, where the fault is there, of the name at this offset.
+/// The first of what was refused before and, where the fault is there, of the name at this offset.
 fn noted(best: Option<Refusal>, is_there: bool, fault: Fault, at: u32) -> Option<Refusal>
     ensures { result ≡ least best (when is_there fault at) }
 {
@@ -37,7 +37,7 @@ fn noted(best: Option<Refusal>, is_there: bool, fault: Fault, at: u32) -> Option
     earlier(best, Refusal { fault, at })
 }
 
-/// A name of a signature, after the name of a struct.
+/// Refuses the name of a signature after the name of a struct, where there is no such struct or no such function in it.
 fn check_nested(
     d: &Declared,
     text: &[u8],
@@ -56,7 +56,7 @@ fn check_nested(
     }
 }
 
-/// The name of a signature.
+/// Refuses the name of a signature, where there is no such signature.
 fn check_name(
     world: &World,
     text: &[u8],
@@ -76,7 +76,7 @@ fn check_name(
     }
 }
 
-/// The signature of this name.
+/// The signature that a call names, or None where no signature has the name. `outer` is the name of the struct around it.
 fn signature_called(
     world: &World,
     text: &[u8],
@@ -92,7 +92,7 @@ fn signature_called(
     }
 }
 
-/// Its id.
+/// The id of the signature that a call names, or None where no signature has the name.
 pub(crate) fn func_called(
     world: &World,
     text: &[u8],
@@ -107,14 +107,14 @@ pub(crate) fn func_called(
     }
 }
 
-/// How many generic parameters there are.
+/// The number of generic parameters: those of the struct around a signature, and its own.
 fn param_count(params: Params) -> usize
     ensures { result ≡ param_count params }
 {
     params.outer as usize + params.inner as usize
 }
 
-/// The number of the types of a call.
+/// Refuses a callee whose generic parameters are not as many as the types of the call.
 fn check_count(world: &World, text: &[u8], c: &CallDecl, best: Option<Refusal>) -> Option<Refusal>
     requires { HaveIds world.now }
     ensures { result ≡ least best (of_count world.now text.now (func_called world.now text.now c.now.callee_outer c.now.callee) c.now) }
@@ -128,7 +128,7 @@ fn check_count(world: &World, text: &[u8], c: &CallDecl, best: Option<Refusal>) 
     }
 }
 
-/// A type on a signature.
+/// Refuses a type whose names do not resolve in the signature.
 fn check_type(
     d: &Declared,
     signature: Signature,
@@ -144,7 +144,7 @@ fn check_type(
     }
 }
 
-/// Types on a signature.
+/// Refuses types whose names do not resolve in the signature.
 fn check_types_on(
     d: &Declared,
     signature: Signature,
@@ -159,7 +159,7 @@ fn check_types_on(
         .fold(best, |b, t| check_type(d, signature, text, t, b))
 }
 
-/// The types of a call, which are looked at only where the caller is a signature.
+/// Refuses names in the types of a call. They are looked at only where the caller is a signature.
 #[tactic(auto, using(swreq_resolve::proofs::Walks::walked))]
 fn check_types(world: &World, text: &[u8], c: &CallDecl, best: Option<Refusal>) -> Option<Refusal>
     ensures { result ≡ least best (of_types world.now text.now

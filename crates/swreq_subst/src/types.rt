@@ -71,7 +71,7 @@ fn steps_of(
     Ok(Some(found))
 }
 
-/// The type parameter that a type on the signature f is, or None where one of its names is none of the world.
+/// The type parameter that a type on the signature f is, or None where one of its names is not a name of the world.
 pub(crate) fn type_of(
     alloc: Global,
     world: &World,

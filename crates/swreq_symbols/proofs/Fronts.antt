@@ -45,7 +45,7 @@ of_text_without x (suc n) (Member t s) h = of_text_without x n t h.0
 
 -- ---- what stands for one
 
--- where its last members are gone, so many, another one is there
+-- without its last n members a type parameter is no generic one, where it has more than n
 pub not_generic : (n m : ℕ) (t u : Term) → u ≡ without n t → n < m → m ≤ member_count t → u ≡ Generic (head u) → ⊥
 not_generic n m t u e l k g =
     let all = count_without n t in

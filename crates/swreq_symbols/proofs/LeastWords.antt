@@ -1,4 +1,4 @@
--- Parts of least words, and the associated type that is first behind a word.
+-- Parts of least words, and the associated type that is first after a word.
 use Rattle.std.proofs.Common.{◌≡◌, inl, inr, sym, subst, List, ◌++◌, arith}
 use Rattle.swreq_param.specs.declared.ids.AssocId.{AssocId}
 use Rattle.swreq_param.specs.declared.ids.NameId.{NameId}

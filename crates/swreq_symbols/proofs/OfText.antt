@@ -1,9 +1,9 @@
 -- A world over ids, and the table that has them: what it says over type parameters, and that its requirements are of the table and of the text.
-use Rattle.std.proofs.Common.{◌≡◌, ◌∙◌, All, sym, ap, subst, ◌<◌, arith, List, [], length, map, Contains, inl, inr}
+use Rattle.std.proofs.Common.{◌≡◌, ◌∙◌, ℕ, All, sym, ap, subst, ◌<◌, arith, List, [], get_or, length, map, Contains, inl, inr}
 use Rattle.std.proofs.Math.ListN.{get_or-map}
 use Rattle.std.proofs.lemmas.Bool.{cases_lt}
 use Rattle.std.proofs.lemmas.List.{get_or_past, length-map}
-use Rattle.std.proofs.lemmas.List.Elements.{All-contains, All-get_or}
+use Rattle.std.proofs.lemmas.List.Elements.{All-contains, All-get_or, Contains-get_or}
 use Rattle.std.proofs.lemmas.Simd.{map-map}
 use mathlib.Core.Path.{fun_ext}
 use Rattle.swreq_orders.proofs.Members.{no_member, contains_map, contains_of_map}
@@ -16,11 +16,12 @@ use Rattle.swreq_derive.specs.declared.requirements.Requirement.TheVariants.{Con
 use Rattle.swreq_derive.specs.Facts.{AreFactsOf, generic_params, requirement_of, term_facts, term_source, IsRequirementOver}
 use Rattle.swreq_lexicon.specs.Lexicons.{associated_types}
 use Rattle.swreq_lowering.specs.declared.ids.FuncId.{FuncId}
+use Rattle.swreq_lowering.specs.declared.ids.Query.{Query}
 use Rattle.swreq_lowering.specs.declared.ids.Written.{Written}
-use Rattle.swreq_lowering.specs.ByTable.{AreOf, HasIdsOf, placed, placed_by}
+use Rattle.swreq_lowering.specs.ByTable.{AreOf, HasIdsOf, HasQueryIdsOf, placed, placed_by, query_by}
 use Rattle.swreq_lowering.specs.Requirements.{PlacedRequirement}
 use Rattle.swreq_world.specs.ByTable.{signature_by, world_by}
-use Rattle.swreq_world.specs.Closed.{HasOwn, IsOfProtocol, IsOfSignature}
+use Rattle.swreq_world.specs.Closed.{HasOwn, IsOfProtocol, IsOfSignature, IsQueryOf}
 use Rattle.swreq_world.specs.FactsAt.{facts_at, facts_of, source_of}
 use Rattle.swreq_world.specs.Worlds.{IdWorld, SignatureOver, no_signature, requirements_of, signature_at}
 use Rattle.swreq_symbols.specs.Known.{IsRequirementIn, IsTextOver}
@@ -98,3 +99,18 @@ module _ (w : IdWorld) (terms : List Term) where
       protocols = λ p r within c. (let q = contains_of_map (λ (z : Written). z.requirement) (requirements_of w p) r c in
           of_facts f r (subst (IsRequirementIn terms w.lexicon) (sym q.2) (protocol_written p q.0 q.1)));
     }
+
+    -- ---- queries
+
+    query_known : (q : Query) → Contains w.queries q → HasQueryIdsOf terms q × IsQueryOf (world_by terms w) (query_by terms q)
+    query_known q c = (
+      All-contains (HasQueryIdsOf terms) w.queries q text.table.queries c,
+      All-contains (IsQueryOf (world_by terms w)) (map (query_by terms) w.queries) (query_by terms q) text.closed.queries
+          (contains_map (query_by terms) w.queries q c),
+    )
+
+    -- a query of the text
+    pub query_at : (list : List Query) (k : ℕ) (d : Query) → list ≡ w.queries → k < length list
+        → HasQueryIdsOf terms (get_or list k d) × IsQueryOf (world_by terms w) (query_by terms (get_or list k d))
+    query_at list k d e l =
+        query_known (get_or list k d) (subst (λ (qs : List Query). Contains qs (get_or list k d)) e (Contains-get_or list k d l))

@@ -51,7 +51,7 @@ module _ (w : TextWorld) (s : Source) (rules : List Rule) where
   shows_vanish : (t : Term) (p : ProtoId) → ShowsConformance m s (Links rules) t p → Vanishes rules (word_of m s t) (Proto p.rank)
   shows_vanish t p h = subst (λ z. Links rules z (word_of m s t)) (sym (spell-append m s t [] (Proto p.rank ∷ []))) h
 
-  -- a member is valid where its base is and the step is there behind the base's word
+  -- a member is valid where its base is and the step is there after the base's word
   member_valid : (t : Term) (x : Step) → Valid t → HasStep w.lexicon rules (word_of m s t) x → Valid (Member t x)
   member_valid t (Name a) v (d, (p, h, k)) = (v, (p, d, h, vanish_shows t p k))
   member_valid t (Bound d) v (a, (p, h, k)) = (v, (p, a, h, vanish_shows t p k))
@@ -64,7 +64,7 @@ module _ (w : TextWorld) (s : Source) (rules : List Rule) where
   valid_step t (Name a) (v, (p, d, h, k)) = (d, (p, h, shows_vanish t p k))
   valid_step t (Bound d) (v, (p, a, h, k)) = (a, (p, h, shows_vanish t p k))
 
-  -- a member is valid where its base is and the step is there behind a word that is linked to the base's
+  -- a member is valid where its base is and the step is there after a word that is linked to the base's
   pub goes_on : (t u : Term) (x : Step) (v : Word) → t ≡ Member u x → Valid (without 1 t) → Links rules (word_of m s (without 1 t)) v
       → HasStep w.lexicon rules v x → Valid t
   goes_on t u x v e k l h =

@@ -3,7 +3,7 @@ use Rattle.std.specs.Prelude.{ℕ, zero, suc}
 use Rattle.swreq_param.specs.Terms.{Term}
 use Rattle.swreq_param.specs.Terms.Term.{Generic, Member}
 
--- T without its last members, so many
+-- T without its last n members
 abbrev pub without : ℕ → Term → Term
 without zero t = t
 without (suc n) (Generic g) = Generic g

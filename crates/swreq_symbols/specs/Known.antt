@@ -7,14 +7,8 @@ use Rattle.swreq_derive.specs.declared.requirements.Requirement.{Requirement}
 use Rattle.swreq_derive.specs.Facts.{requirement_of}
 use Rattle.swreq_lexicon.specs.Views.{LexiconView}
 use Rattle.swreq_lowering.specs.ByTable.{HasIdsOf}
-use Rattle.swreq_world.specs.ByTable.{IsOverTable, world_by}
-use Rattle.swreq_world.specs.Closed.{IsClosed, IsRequirementOf, IsTermOf}
-use Rattle.swreq_world.specs.Worlds.{IdWorld}
-
--- The ids of the world are of the table, and all that is written in it, as the table has it, is of the world.
-pub record IsTextOver (terms : List Term) (w : IdWorld) : Type 0 where
-  pub table : IsOverTable terms w
-  pub closed : IsClosed (world_by terms w)
+use Rattle.swreq_world.specs.Closed.{IsRequirementOf, IsTermOf}
+pub use Rattle.swreq_world.specs.TextOver.{IsTextOver}
 
 -- The id is of the table, and the members of its type parameter are of the text.
 abbrev pub IsTypeIn : List Term → LexiconView → TermId → Type 0

@@ -4,3 +4,4 @@ pub mod Overs
 pub mod Vanishing
 pub mod Fronts
 pub mod Readings
+pub mod Texts

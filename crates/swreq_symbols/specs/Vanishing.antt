@@ -27,16 +27,16 @@ IsLeastBy rules = IsLeast (Links rules)
 abbrev pub DeclaresType : LexiconView → ProtoId → NameId → AssocId → Type 0
 DeclaresType x p a d = Contains (associated_types x.associated) (record { proto = p; name = a; assoc = d })
 
--- d is an associated type A of a protocol whose symbol vanishes behind the word.
+-- d is an associated type A of a protocol whose symbol vanishes after the word.
 abbrev pub IsGivenBehind : LexiconView → List Rule → Word → NameId → AssocId → Type 0
 IsGivenBehind x rules w a d = (p : ProtoId) × DeclaresType x p a d × Vanishes rules w (Proto p.rank)
 
--- It is the first such associated type.
+-- d is the first associated type A of a protocol whose symbol vanishes after the word.
 pub record IsFirstBehind (x : LexiconView) (rules : List Rule) (w : Word) (a : NameId) (d : AssocId) : Type 0 where
   pub given : IsGivenBehind x rules w a d
   pub first : (e : AssocId) → IsGivenBehind x rules w a e → d.rank ≤ e.rank
 
--- Behind the word an associated type with the name is given, or that associated type.
+-- After the word an associated type with the name is given, or that associated type.
 abbrev pub HasStep : LexiconView → List Rule → Word → Step → Type 0
 HasStep x rules w (Name a) = (d : AssocId) × IsGivenBehind x rules w a d
 HasStep x rules w (Bound d) = (a : NameId) × IsGivenBehind x rules w a d

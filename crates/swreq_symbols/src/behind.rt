@@ -1,4 +1,4 @@
-//! The first associated type with a name whose protocol vanishes behind a word, without memory.
+//! The first associated type with a name whose protocol vanishes after a word, without memory.
 ghost use Rattle.std.specs.Prelude.{◌≡◌, ◌↔◌, ◌+◌, ◌≤◌, ◌<◌, length, vec_capacity, IsTrue, MatchOption};
 ghost use Rattle.swreq_param.specs.declared.ids.AssocId.{AssocId};
 ghost use Rattle.swreq_symbols.specs.Vanishing.{IsFirstBehind, IsGivenBehind, IsLeastBy};
@@ -9,7 +9,7 @@ use swreq_param::{AssocId, NameId};
 use swreq_word::Symbol;
 use swreq_world::World;
 
-/// Whether it is an associated type with this name, and its protocol vanishes behind the word.
+/// Whether it is an associated type with this name, and its protocol vanishes after the word.
 fn is_given(
     world: &World,
     rules: &CompleteRules<'_>,
@@ -39,7 +39,7 @@ fn associated(world: &World) -> u32
     world.lexicon().associated()
 }
 
-/// The first associated type with this name whose protocol vanishes behind the word, or None where there is none.
+/// The first associated type with this name whose protocol vanishes after the word, or None where there is none.
 pub fn first_behind(
     world: &World,
     rules: &CompleteRules<'_>,

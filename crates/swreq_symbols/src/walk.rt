@@ -35,7 +35,7 @@ fn put(v: &mut Vec<Symbol>, x: Symbol)
     if let Err(_) = v.push(x) {}
 }
 
-/// Whether some associated type has this name, and its protocol vanishes behind the word.
+/// Whether some associated type has this name, and its protocol vanishes after the word.
 fn has_name(
     world: &World,
     rules: &CompleteRules<'_>,
@@ -54,7 +54,7 @@ fn has_name(
     }
 }
 
-/// Whether the protocol of the associated type vanishes behind the word.
+/// Whether the protocol of the associated type vanishes after the word.
 fn has_assoc(
     world: &World,
     rules: &CompleteRules<'_>,
@@ -109,7 +109,7 @@ fn begins(rules: &CompleteRules<'_>, over: Over, g: ParamId, word: &mut Vec<Symb
     over.has(g)
 }
 
-/// The type parameter without its last members, so many.
+/// The type parameter without its last `count` members.
 fn without(table: &ParamTable, t: TermId, count: usize) -> TermId
     requires t { IsOf table.now t }
     requires count { count ≤ member_count (term_at table.now t) }
@@ -158,8 +158,8 @@ fn add_member(
     }
 }
 
-/// Whether the rules show that a type parameter is valid which without its last members, so many, they show valid, with this least word.
-/// Where they do, the word becomes that of the type parameter.
+/// Whether the rules show that a type parameter is valid. Without its last `count` members they show it valid, with this least word. If
+/// they show it, the word becomes that of the type parameter.
 ///
 /// The first half of these members comes first, and then the other. So to find where each of them stands takes no memory, and few steps
 /// along a long type parameter.

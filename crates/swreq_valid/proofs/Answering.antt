@@ -99,13 +99,6 @@ module _ (w : TextWorld) (closed : IsClosed w) (machine : MachineView) (list : L
         d.1 (derivable_shown t v, subst (λ z. Links rules z (word_of m s t)) (sym (spell-append m s t [] (Layout ∷ []))) ((by_sides (IsAnyObject t) v).0 e)),
   )
 
-  -- where a side is not shown valid no equality is derivable
-  pub not_left : (t u : Term) → (Shown t → ⊥) → IsDerivable w machine list (Requires (Equals t u)) → ⊥
-  not_left t u n e = n (derivable_shown t (valid_sides f s (Equals t u) e).0)
-
-  pub not_right : (t u : Term) → (Shown u → ⊥) → IsDerivable w machine list (Requires (Equals t u)) → ⊥
-  not_right t u n e = n (derivable_shown u (valid_sides f s (Equals t u) e).1)
-
   -- the least words of the two sides tell
   pub equal_answer : (t u : Term) (a b : Word) (r : Bool) → Shown t → Shown u → IsLeastBy rules a → IsLeastBy rules b
       → Links rules (word_of m s t) a → Links rules (word_of m s u) b → Decides r (a ≡ b) → Decides r (IsDerivable w machine list (Requires (Equals t u)))
@@ -114,7 +107,7 @@ module _ (w : TextWorld) (closed : IsClosed w) (machine : MachineView) (list : L
       let links = linked_by_least rules (word_of m s t) (word_of m s u) a b r p q l n d in
       ((λ e. law.1 (links.0 e)), λ e. links.1 (law.0 e))
 
--- what the test behind the least word tells
+-- what the test after the least word tells
 pub behind_answer : (w : TextWorld) (machine : MachineView) (t : Term) (x : Symbol) (v seen : Word) (r : Bool)
     → ShowsValid (symbols_of w.lexicon) (facts_of w) (source_over (Signature machine.params)) (Links (last_rules machine.rounds)) t
     → Links (last_rules machine.rounds) (word_of (symbols_of w.lexicon) (source_over (Signature machine.params)) t) v → seen ≡ v

@@ -59,7 +59,7 @@ module _ (limits : Limits) (plan : Plan) where
       record { reached = l.ends.1.ended.reached; kept = λ k rule b s e. l.ends.1.kept k rule b e } in
       record { used = used; first = l.first; before = l.before; round = l.round; part = inr (rules, l.due, l.ends.0, within, l.told_is) }
 
-  -- where memory is wanting after the last round
+  -- where memory runs out after the last round
   pub memory_at_end : (rules : List Rule) (old new : Option (List Event)) → Answers limits plan old new (Ok rules) → Answers limits plan old new (Err failed.Memory)
   memory_at_end rules old new a = (a.0, comes_to_end a.1.0 rules a.0 a.1.1, a.2)
 

@@ -41,7 +41,7 @@ all_at p [] h k x e = absurd cc
 all_at p (y ∷ xs) h zero x e = let is : y ≡ x = cc in ap p (sym is) ∙ (and_parts (p y) (list_all p xs) h).0
 all_at p (y ∷ xs) h (suc k) x e = all_at p xs (and_parts (p y) (list_all p xs) h).1 k x e
 
--- ---- more equations behind
+-- ---- more equations after these
 
 -- all rules of the trace are born of equations
 abbrev AreGiven : List Rule → Type 0

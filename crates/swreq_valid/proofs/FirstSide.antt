@@ -98,7 +98,7 @@ module _ (P : Side → Type 0) {A : Type 0} (of : List A → List Side) (part : 
   fails_here xs k d found at l f h n =
       part_fails P (of xs) (part (get_or xs k d)) (of (drop (k + 1) xs)) at (subst (SoFar P (of xs)) (cut xs k d l) f) (subst (Found P (part (get_or xs k d))) n h)
 
-  -- the same where the item is told by its place
+  -- as `holds_here`, where the item is found at its place
   pub holds_at : (xs : List A) (k : ℕ) (x : A) (found : Option ℕ) → slice_get xs k ≡ Some x → SoFar P (of xs) (of (drop k xs)) → Found P (part x) found
       → found ≡ None → SoFar P (of xs) (of (drop (k + 1) xs))
   holds_at xs k x found e f h n =

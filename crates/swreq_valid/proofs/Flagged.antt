@@ -16,7 +16,7 @@ module _ {A : Type 0} where
   chosen_unset (x ∷ xs) zero = refl
   chosen_unset (x ∷ xs) (suc n) = chosen_unset xs n
 
-  -- flags that tell of P choose just those of which P holds
+  -- flags that tell of P choose exactly those of which P holds
   pub tells_selects : {P : A → Type 0} (xs : List A) (bs : List Bool) → Tells P xs bs → Selects P xs (chosen xs bs)
   tells_selects [] [] t = none
   tells_selects [] (b ∷ bs) t = absurd t
@@ -156,7 +156,7 @@ module _ {A : Type 0} where
       (((λ k. h x (first_member x (chosen xs bs))), λ k. refl), told_among P ys to xs bs t.1 (λ y c. h y (later_member x y (chosen xs bs) c)))
   told_among P ys to (x ∷ xs) (false ∷ bs) t h = (((λ k. absurd (true≢false (sym k))), λ k. t.0.1 (to x k)), told_among P ys to xs bs t.1 h)
 
-  -- flags that tell of a property are set for just the chosen ones
+  -- flags that tell of a property are set for exactly the chosen ones
   pub by_item : (P : A → Type 0) (xs : List A) (bs : List Bool) → Tells P xs bs → Tells (Contains (chosen xs bs)) xs bs
   by_item P xs bs t = told_among P (chosen xs bs) (λ x h. chosen_told P xs bs t x h) xs bs t (λ x h. h)
 

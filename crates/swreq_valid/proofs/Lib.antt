@@ -24,3 +24,4 @@ pub mod Early
 pub mod Naming
 pub mod OneList
 pub mod Retold
+pub mod OfSignatures

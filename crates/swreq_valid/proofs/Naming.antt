@@ -34,7 +34,7 @@ module _ (x : LexiconView) (p : ProtoId) where
   abbrev pub AreAll : (all v : List (Word × Word)) → ℕ → Type 0
   AreAll all v k = v ++ named_from p k (drop k ms) ≡ all
 
-  -- So far the names below r are put last.
+  -- The names below r are put last.
   abbrev pub AreNamedTo : (all v : List (Word × Word)) → ℕ → Type 0
   AreNamedTo all v r = (done : ℕ) × AreNamesPast r done × AreAll all v done
 
@@ -78,7 +78,7 @@ module _ (x : LexiconView) (ids : AreIds x) (p : ProtoId) where
       ap (λ (q : ProtoId). let d : ProtocolName = record { proto = q; name = s.name } in d) e
       ∙ ap (λ (n : ℕ). let d : ProtocolName = record { proto = p; name = record { rank = n } } in d) f
 
-  -- a name that is none of P
+  -- a name that is not a member name of P
   pub name_absent : (a : NameId) (done : ℕ) → (Contains x.symbols (pair p a) → ⊥) → AreNamesPast x p a.rank done → AreNamesPast x p (a.rank + 1) done
   name_absent a done absent h = record {
     before = λ k s own l. omega (arith, h.before k s own l);

@@ -51,7 +51,7 @@ module _ (w : TextWorld) (closed : IsClosed w) (machine : MachineView) (list : L
   abbrev C : Word → Word → Type 0
   C u v = AreCongruent m f L u v
 
-  -- behind a word that is as good as that of T, the symbols of just those protocols vanish to which T conforms
+  -- after a word that is as good as that of T, the symbols of exactly those protocols vanish to which T conforms
   module _ (u : Word) (t : Term) (behind : (z : Word) → C (u ++ z) (spell m L t z)) (v : Derivable f L (IsValid t)) where
     alone : C u (spell m L t [])
     alone = subst (λ z. C z (spell m L t [])) (append-nil u) (behind [])

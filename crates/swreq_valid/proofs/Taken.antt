@@ -15,7 +15,7 @@ use Rattle.swreq_valid.specs.declared.underway.Underway.{Underway}
 use Rattle.swreq_valid.specs.Underway.{FailsWith, IsDueNow, IsPart, IsTaken, TurnsTo, first_of, used_by}
 
 module _ (limits : Limits) (plan : Plan) (u : Underway) (due : IsDueNow limits plan u) (old new : Option (List Event)) where
-  -- the completion ended, and memory was wanting then
+  -- the completion ended, and then memory ran out
   pub ended_part : (rules : List Rule) → Ends limits plan (used_by limits plan u) rules → IsPart limits plan u (events (length plan.base) rules)
   ended_part rules end =
       inr (rules, due, end.0, record { reached = end.1.ended.reached; kept = λ k rule lo l e. end.1.kept k rule lo e }, refl)
@@ -30,7 +30,7 @@ module _ (limits : Limits) (plan : Plan) (u : Underway) (due : IsDueNow limits p
   limit_taken passed stop grew (Err Memory) h =
       (events (length plan.base) passed.trace, inr (passed.trace, due, stop.0, stop.1.within, refl), grew)
 
-  -- memory was wanting on the way
+  -- memory ran out on the way
   pub memory_taken : TellsEvents limits plan.base (given plan (used_by limits plan u)) old new (Err Memory) → IsTaken limits plan u old new (Err Memory)
   memory_taken (inl g) = ([], inl refl, g)
   memory_taken (inr (trace, b, w, g)) = (events (length plan.base) trace, inr (trace, due, b, w, refl), g)

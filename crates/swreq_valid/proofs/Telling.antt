@@ -1,8 +1,13 @@
--- From what vanishes behind the word of a type parameter to the properties that it has.
-use Rattle.std.proofs.Common.{◌≡◌, ◌↔◌, subst, ℕ, Bool, IsTrue, List, Option, Some, None, MatchOption}
+-- From what is shown of the words of type parameters to what is answered of them.
+use Rattle.std.proofs.Common.{◌≡◌, ◌↔◌, inl, inr, subst, ℕ, Bool, IsTrue, List, Option, Some, None, MatchOption}
 use Rattle.swreq_param.specs.Terms.{Term}
 use Rattle.swreq_derive.specs.Derivation.{TermRequirement}
+use Rattle.swreq_derive.specs.Derivation.Source.{Written}
+use Rattle.swreq_derive.specs.Derivation.TermRequirement.{Equals}
 use Rattle.swreq_derive.specs.Derivation.TermStatement.{Requires}
+use Rattle.swreq_derive.specs.Facts.{generic_params}
+use Rattle.swreq_symbols.specs.Meaning.{facts_of}
+use Rattle.swreq_derive.proofs.Substitution.{valid_sides}
 use Rattle.swreq_map.specs.Properties.{IsProperty}
 use Rattle.swreq_word.specs.declared.symbols.Symbol.{Symbol}
 use Rattle.swreq_world.specs.Closed.{IsClosed}
@@ -10,7 +15,7 @@ use Rattle.swreq_world.specs.Worlds.{TextWorld}
 use Rattle.swreq_valid.specs.declared.having.Property.{Property}
 use Rattle.swreq_valid.specs.declared.having.Property.TheVariants.{Protocol, Layout}
 use Rattle.swreq_valid.specs.Asked.{IsBehind, IsDerivable, IsShownBy}
-use Rattle.swreq_valid.specs.Having.{IsBelow, TellsIfHas, has, symbol_of}
+use Rattle.swreq_valid.specs.Having.{IsBelow, TellsIfEqual, TellsIfHas, has, symbol_of}
 use Rattle.swreq_valid.specs.Machines.{IsMachineOf, MachineView}
 use Rattle.swreq_valid.proofs.Answering.{conforms_answer, derivable_shown, layout_answer, shown_derivable}
 
@@ -32,3 +37,9 @@ module _ (w : TextWorld) (closed : IsClosed w) (m : MachineView) (list : List Te
     shown_derivable w closed m list is t h.0,
     has_answer property b (subst (λ z. IsTrue b ↔ IsBehind w m t z) e h.1),
   )
+
+-- where a side is not valid, no equality is derivable
+pub none_equal : (w : TextWorld) (m : MachineView) (list : List TermRequirement) (t u : Term) → TellsIfEqual (IsDerivable w m list) t u None
+    → IsDerivable w m list (Requires (Equals t u)) → ⊥
+none_equal w m list t u (inl n) e = n (valid_sides (facts_of w) (Written (generic_params m.params) list) (Equals t u) e).0
+none_equal w m list t u (inr n) e = n (valid_sides (facts_of w) (Written (generic_params m.params) list) (Equals t u) e).1

@@ -9,7 +9,7 @@ use Rattle.swreq_complete.specs.declared.limit.Failed.TheVariants.{Memory}
 use Rattle.swreq_complete.specs.Events.{events}
 use Rattle.swreq_valid.specs.Rounds.{RoundView, last_rules}
 
--- what the completion of a round told over a base of so many rules: of a short round nothing
+-- what the completion of a round told over a base of this many rules: of a short round nothing
 abbrev pub told_events : ℕ → Option (List Rule) → List Event
 told_events base None = []
 told_events base (Some trace) = events base trace
@@ -26,7 +26,7 @@ events_of base (r ∷ rounds) = round_events base r ++ events_of base rounds
 abbrev pub IsFront : ℕ → List Rule → List Event → Type 0
 IsFront base rules part = (part ≡ []) ⊎ ((n : ℕ) × (base ≤ n) × (part ≡ events base (take n rules)))
 
--- The watcher was told such a front.
+-- The watcher was told none of the events of a round, or those of a front of its rules.
 abbrev pub TellsFront : ℕ → List Rule → Option (List Event) → Option (List Event) → Type 0
 TellsFront base rules old new = (part : List Event) × IsFront base rules part × GrewBy old new part
 
@@ -35,11 +35,11 @@ abbrev pub IsFrontOf : ℕ → Option (List Rule) → List Event → Type 0
 IsFrontOf base None part = part ≡ []
 IsFrontOf base (Some trace) part = IsFront base trace part
 
--- The watcher was told such a front.
+-- The watcher was told a front of what the completion of a round told.
 abbrev pub TellsRound : ℕ → RoundView → Option (List Event) → Option (List Event) → Type 0
 TellsRound base r old new = (part : List Event) × IsFrontOf base r.told part × GrewBy old new part
 
--- the rules of the last round, or want of memory
+-- the rules of the last round, or that memory ran out
 abbrev pub rules_again : List RoundView → Result (Unit {0}) AllocError → Result (List Rule) Failed
 rules_again rounds (Ok done) = Ok (last_rules rounds)
 rules_again rounds (Err e) = Err Memory

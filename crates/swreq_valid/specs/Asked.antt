@@ -44,7 +44,7 @@ word_in w m t = word_of (symbols_of w.lexicon) (source_over (Signature m.params)
 abbrev pub IsLeastWord : TextWorld → MachineView → Term → Word → Type 0
 IsLeastWord w m t u = IsLeastBy (last_rules m.rounds) u × Links (last_rules m.rounds) (word_in w m t) u
 
--- The rules show that T is valid, and the symbol vanishes behind its word.
+-- The rules show that T is valid, and the symbol vanishes after its word.
 abbrev pub IsBehind : TextWorld → MachineView → Term → Symbol → Type 0
 IsBehind w m t x = IsShownBy w m t × Vanishes (last_rules m.rounds) (word_in w m t) x
 

@@ -31,7 +31,7 @@ IsBuilt limits plan f sides (Err Memory) told = Unit {0}
 abbrev pub IsForMemory : Result (List Rule) Refused → Type 0
 IsForMemory answer = answer ≡ Err Memory
 
--- It comes to this, and the watcher was told what is told: in all, or for want of memory so far as the rounds came.
+-- It comes to this, and the watcher was told what is told: all of it, or, if memory ran out, what the rounds told until then.
 abbrev pub Builds : Limits → Plan → TermFacts → List Side → Option (List Event) → Option (List Event) → Result (List Rule) Refused → Type 0
 Builds limits plan f sides old new (Ok rules) = (told : List Event) × IsBuilt limits plan f sides (Ok rules) told × GrewBy old new told
 Builds limits plan f sides old new (Err (Limit which trace)) =
@@ -40,22 +40,22 @@ Builds limits plan f sides old new (Err (NotATypeParameter at)) =
     (told : List Event) × IsBuilt limits plan f sides (Err (NotATypeParameter at)) told × GrewBy old new told
 Builds limits plan f sides old new (Err Memory) = (told : List Event) × ComesTo limits plan told × GrewBy old new told
 
--- But for want of memory it comes to nothing else.
+-- Unless memory runs out, it comes to nothing else.
 abbrev pub IsOnlyBuilt : Limits → Plan → TermFacts → List Side → Result (List Rule) Refused → Type 0
 IsOnlyBuilt limits plan f sides answer = (other : Result (List Rule) Refused) (told : List Event) → IsBuilt limits plan f sides other told
     → (answer ≡ other) ⊎ (IsForMemory answer ⊎ IsForMemory other)
 
--- the answer with the rules of the last round
+-- the rules of the last round of the machine, or why there is none
 abbrev pub built_rules : Result MachineView Refused → Result (List Rule) Refused
 built_rules (Ok m) = Ok (last_rules m.rounds)
 built_rules (Err refused) = Err refused
 
--- the same of the rules of the protocols
+-- the rules of the last round of the protocols, or why there are none
 abbrev pub protocol_rules : Result ProtocolsView Refused → Result (List Rule) Refused
 protocol_rules (Ok p) = Ok (last_rules p.rounds)
 protocol_rules (Err refused) = Err refused
 
--- The rules are answered where P holds of each side, and else the place of the first side of which it does not.
+-- The rules are answered where P holds of each side, and otherwise the place of the first side of which it does not.
 abbrev pub Judges : (Side → Type 0) → List Side → List Rule → Result (List Rule) Refused → Type 0
 Judges P sides rules (Ok answer) = (answer ≡ rules) × HoldsOfEach P sides
 Judges P sides rules (Err (Limit which trace)) = ⊥

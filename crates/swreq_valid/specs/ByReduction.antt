@@ -25,7 +25,7 @@ ReducesConformance x rules over t p = ShowsConformance (symbols_of x) (source_ov
 abbrev pub IsGivenOf : LexiconView → List Rule → Over → Term → NameId → AssocId → Type 0
 IsGivenOf x rules over t a d = (p : ProtoId) × DeclaresType x p a d × ReducesConformance x rules over t p
 
--- Such an associated type has the name, or is the one that the step names.
+-- An associated type that is given has the name, or is the one that the step names.
 abbrev pub HasStepOf : LexiconView → List Rule → Over → Term → Step → Type 0
 HasStepOf x rules over t (Name a) = (d : AssocId) × IsGivenOf x rules over t a d
 HasStepOf x rules over t (Bound d) = (a : NameId) × IsGivenOf x rules over t a d

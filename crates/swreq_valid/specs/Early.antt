@@ -23,7 +23,7 @@ is_of_equation (Pair i j at) = false
 abbrev pub is_given : Rule → Bool
 is_given rule = is_of_equation rule.birth
 
--- It is a limit, and all rules of its trace are born of equations.
+-- The failure is a limit, and all rules of its trace are born of equations.
 abbrev pub IsLimitAmong : Failed → Type 0
 IsLimitAmong (Limit which trace) = IsTrue (list_all is_given trace)
 IsLimitAmong Memory = ⊥

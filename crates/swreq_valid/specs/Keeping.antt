@@ -59,7 +59,7 @@ flag_with flags (suc n) = slice_index_or flags n false
 abbrev pub flag_at : List (List Bool) → ProtoId → ℕ → Bool
 flag_at flags p n = flag_with (slice_index_or flags p.rank []) n
 
--- It is the requirement of P with this number, from 1.
+-- This is the requirement of P with this number, from 1.
 abbrev pub HasNumber : TextWorld → ProtoId → ℕ → TermRequirement → Type 0
 HasNumber w p zero r = ⊥
 HasNumber w p (suc n) r = slice_get ((facts_of w).of_protocol p) n ≡ Some r

@@ -10,8 +10,8 @@ use Rattle.swreq_correspondence.specs.Symbols.{IsRank, Word, name_of}
 use Rattle.swreq_symbols.specs.Meaning.{symbols_of}
 use Rattle.swreq_symbols.specs.Vanishing.{IsFirstBehind}
 
--- The word begins with a word of type T, behind which stands `rest`: with a generic parameter, and a member symbol for each member. That is
--- the bound member with the first associated type of that name whose protocol vanishes behind the word before it.
+-- The word is a word of type T and then `rest`. The word of type T is a generic parameter, and a member symbol for each member, which is
+-- the bound member with the first associated type of that name whose protocol vanishes after the word before it.
 abbrev pub BeginsBy : LexiconView → List Rule → Term → Word → Word → Type 0
 BeginsBy x rules (Generic g) rest u = u ≡ Param g.depth g.index ∷ rest
 BeginsBy x rules (Member t (Bound d)) rest u =

@@ -15,3 +15,4 @@ pub mod Again
 pub mod ByReduction
 pub mod Courses
 pub mod Underway
+pub mod OfSignatures

@@ -51,6 +51,6 @@ protocols_of w = protocols_plan (symbols_of w.lexicon) (facts_of w)
 abbrev pub list_of : TextWorld → List Rule → Params → List TermRequirement → Plan
 list_of w rules params list = list_plan (symbols_of w.lexicon) (facts_of w) rules (generic_params params) list
 
--- the same over the ids of a table
+-- the rounds of a list over the ids of a table, over the rules of the protocols
 abbrev pub machine_plan : List Term → IdWorld → List Rule → Params → List Requirement → Plan
 machine_plan terms w rules params list = list_of (world_by terms w) rules params (listed terms list)

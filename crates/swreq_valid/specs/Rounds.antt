@@ -15,15 +15,15 @@ pub record RoundView : Type 0 where
   pub told : Option (List Rule)
   pub rules : List Rule
 
--- It ended with these rules.
+-- A round that ended with these rules.
 abbrev pub ended_round : List Bool → List Rule → RoundView
 ended_round used rules = record { used = used; told = Some rules; rules = rules }
 
--- It passed a limit with this trace, and its short round has these rules.
+-- A round that passed a limit with this trace, and whose short round has these rules.
 abbrev pub stopped_round : List Bool → List Rule → List Rule → RoundView
 stopped_round used trace rules = record { used = used; told = Some trace; rules = rules }
 
--- It is a short round with these rules, and was not completed.
+-- A short round with these rules, which was not completed.
 abbrev pub short_round : List Bool → List Rule → RoundView
 short_round used rules = record { used = used; told = None; rules = rules }
 

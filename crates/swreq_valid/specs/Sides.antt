@@ -58,11 +58,11 @@ list_sides terms params written = sides (WrittenList (generic_params params) (li
 abbrev pub IsValidSide : TermFacts → Side → Type 0
 IsValidSide f s = Derivable f s.source (IsValid s.term)
 
--- The rules show it valid.
+-- The rules show the side valid.
 abbrev pub IsShownSide : Symbols → TermFacts → List Rule → Side → Type 0
 IsShownSide m f rules s = ShowsValid m f s.source (Links rules) s.term
 
--- the same of a world
+-- The rules show the side valid, over a text.
 abbrev pub IsShownIn : TextWorld → List Rule → Side → Type 0
 IsShownIn w rules = IsShownSide (symbols_of w.lexicon) (facts_of w) rules
 

@@ -19,7 +19,7 @@ use Rattle.swreq_valid.specs.declared.underway.Underway.{Underway}
 use Rattle.swreq_valid.specs.Flags.{Tells, chosen, unset}
 use Rattle.swreq_valid.specs.Rounds.{AreRoundsFrom, RoundView, last_rules}
 
--- A flag is set for just the requirements that are among the chosen ones, also for one that is written twice.
+-- A flag is set for exactly the requirements that are among the chosen ones, also for one that is written twice.
 abbrev pub AreByItem : List Item → List Bool → Type 0
 AreByItem all used = Tells (Contains (chosen all used)) all used
 
@@ -38,11 +38,11 @@ module _ (limits : Limits) (plan : Plan) where
     pub flags : AreByItem plan.all u.used.items
     pub round : IsRound limits plan (used_by u) (first_of u.first) told
 
-  -- It is completed.
+  -- The round under way is completed.
   abbrev pub IsDueNow : Underway → Type 0
   IsDueNow u = IsDue limits plan (used_by u) (first_of u.first)
 
-  -- It comes to this, and tells this.
+  -- The round under way comes to this, and tells this.
   abbrev pub ComesTo : Underway → List Event → Next → Type 0
   ComesTo u told next = Turns limits plan (used_by u) (first_of u.first) told next
 
@@ -56,7 +56,7 @@ module _ (limits : Limits) (plan : Plan) where
     pub lead : (others : List RoundView) → AreRoundsFrom limits plan v.used.items (first_of v.first) others
         → AreRoundsFrom limits plan u.used.items (first_of u.first) (round ∷ others)
 
-  -- It was the last of these rounds.
+  -- The round under way was the last of these rounds.
   pub record IsLastOf (u : Underway) (rounds : List RoundView) (told : List Event) : Type 0 where
     pub turns : ComesTo u told (ended (Ok (last_rules rounds)))
     pub round : RoundView
@@ -67,7 +67,7 @@ module _ (limits : Limits) (plan : Plan) where
   TurnsTo u told (Goes v) = GoesTo u v told
   TurnsTo u told (Lasts rounds) = IsLastOf u rounds told
 
-  -- It comes to a limit, or memory is wanting.
+  -- The round under way comes to a limit, or memory runs out.
   abbrev pub FailsWith : Underway → List Event → Failed → Type 0
   FailsWith u told (Limit which trace) = ComesTo u told (ended (Err (Limit which trace)))
   FailsWith u told Memory = Unit {0}
@@ -77,7 +77,7 @@ module _ (limits : Limits) (plan : Plan) where
   IsPart u part = (part ≡ []) ⊎ ((trace : List Rule) × IsDueNow u × BeginsWith plan.base trace
       × IsWithin limits (length plan.base) (given plan (used_by u)) trace × (part ≡ events (length plan.base) trace))
 
-  -- It comes to this, and the watcher was told what it tells, or for want of memory a part of it.
+  -- The round under way comes to this, and the watcher was told what it tells, or a part of that if memory ran out.
   abbrev pub IsTaken : Underway → Option (List Event) → Option (List Event) → Result turn.Turn Failed → Type 0
   IsTaken u old new (Ok t) = (told : List Event) × TurnsTo u told t × GrewBy old new told
   IsTaken u old new (Err (Limit which trace)) = (told : List Event) × FailsWith u told (Limit which trace) × GrewBy old new told

@@ -29,7 +29,7 @@ fn tell_birth<W: Watch>(rule: &Rule, watch: &mut W) -> Result<(), AllocError>
     watch.tell(&event)
 }
 
-/// Tells the events of a round with these rules, over the first so many.
+/// Tells the events of a round: the start over the first `base` rules, and the birth of each rule after them.
 fn tell_round<W: Watch>(
     base: u32,
     rules: &CompleteRules<'_>,
@@ -46,7 +46,7 @@ fn tell_round<W: Watch>(
     Ok(())
 }
 
-/// Tells the events of a trace, over the first so many rules.
+/// Tells the events of a trace: the start over the first `base` rules, and the birth of each rule after them.
 fn tell_trace<W: Watch>(base: u32, trace: &[Rule], watch: &mut W) -> Result<(), AllocError>
     ensures ok { OnOk result (GrewBy (W.told watch.old) (W.told watch.new) (events base trace.now)) }
     ensures err { OnErr result (TellsFront base trace.now (W.told watch.old) (W.told watch.new)) }
@@ -79,7 +79,7 @@ fn count_of(protocols: &Protocols) -> u32
 }
 
 impl<'b> Machine<'b> {
-    /// Tells the watcher the events of its rounds once more, where they are rounds over the rules of these protocols: just what it was
+    /// Tells the watcher the events of its rounds once more, where they are rounds over the rules of these protocols: exactly what it was
     /// told when they ran.
     pub fn tell_again<W: Watch>(
         &self,

@@ -1,21 +1,26 @@
-//! The answers of a machine, without memory.
-ghost use Rattle.std.specs.Prelude.{◌≡◌, ◌↔◌, ◌+◌, ◌*◌, ◌≤◌, IsTrue, List, vec_capacity, vec_len};
+//! The answers of a machine, which take no memory but for the room of a scratch.
+ghost use Rattle.std.specs.Prelude.{◌≡◌, ◌↔◌, ◌+◌, ◌*◌, ◌≤◌, IfOk, IsTrue, List, vec_capacity, vec_len};
 ghost use Rattle.std.specs.Bool.{OnTrue};
 ghost use Rattle.swreq_param.specs.Tables.{term_at};
 ghost use Rattle.swreq_param.specs.Terms.{member_count};
 ghost use Rattle.swreq_derive.specs.Derivation.{TermRequirement};
 ghost use Rattle.swreq_derive.specs.Derivation.TermRequirement.{Conforms, Equals, IsAnyObject};
 ghost use Rattle.swreq_derive.specs.Derivation.TermStatement.{IsValid, Requires};
-ghost use Rattle.swreq_symbols.specs.Known.{IsTextOver, IsTypeIn};
+ghost use Rattle.swreq_derive.specs.Facts.{requirement_of};
+ghost use Rattle.swreq_symbols.specs.Known.{IsRequirementIn, IsTextOver, IsTypeIn};
+ghost use Rattle.swreq_symbols.specs.Texts.{BelongTogether, world_of};
 ghost use Rattle.swreq_world.specs.ByTable.{world_by};
 ghost use Rattle.swreq_valid.specs.Asked.{IsBehind, IsDerivable, IsLeastWord, IsShownBy};
+ghost use Rattle.swreq_valid.specs.Having.{TellsIfEqual};
 ghost use Rattle.swreq_valid.specs.Machines.{IsMachineOf};
 
 use crate::machine::Machine;
 use crate::scratch::Scratch;
+use std::alloc::{AllocError, Global};
+use swreq_derive::Requirement;
 use swreq_map::vanishes;
 use swreq_param::{ParamTable, ProtoId, TermId};
-use swreq_symbols::{Over, Reading, least_word};
+use swreq_symbols::{Over, Reading, Text, least_word};
 use swreq_word::Symbol;
 use swreq_world::World;
 
@@ -66,7 +71,7 @@ impl Machine<'_> {
         self.walk(world, table, t, &mut scratch.word, &mut scratch.test)
     }
 
-    /// Whether t is valid, and this symbol vanishes behind its word.
+    /// Whether t is valid, and this symbol vanishes after its word.
     fn is_behind(
         &self,
         world: &World,
@@ -125,6 +130,45 @@ impl Machine<'_> {
         self.is_behind(world, table, t, Symbol::Layout, scratch)
     }
 
+    /// Whether a and b are equal; None exactly where one of them is not valid.
+    pub fn are_equal(
+        &self,
+        text: &Text<'_>,
+        a: TermId,
+        b: TermId,
+        scratch: &mut Scratch,
+    ) -> Option<bool>
+        requires text { BelongTogether text.now }
+        requires a { IsTypeIn text.now.table.now text.now.world.now.lexicon a }
+        requires b { IsTypeIn text.now.table.now text.now.world.now.lexicon b }
+        requires room_a { 4 * (member_count (term_at text.now.table.now a) + 2) ≤ scratch.old.room }
+        requires room_b { 4 * (member_count (term_at text.now.table.now b) + 2) ≤ scratch.old.room }
+        ensures answer { (list : List TermRequirement) → IsMachineOf (world_of text.now) list self.now
+            → TellsIfEqual (IsDerivable (world_of text.now) self.now list) (term_at text.now.table.now a)
+            (term_at text.now.table.now b) result }
+        ensures room { scratch.new.room ≡ scratch.old.room }
+    {
+        if !self.walk(
+            text.world,
+            text.table,
+            a,
+            &mut scratch.word,
+            &mut scratch.test,
+        ) {
+            return None;
+        }
+        if !self.walk(
+            text.world,
+            text.table,
+            b,
+            &mut scratch.other,
+            &mut scratch.test,
+        ) {
+            return None;
+        }
+        Some(scratch.word == scratch.other)
+    }
+
     /// Whether `[a == b]` is derivable from the list of the machine.
     pub fn equal(
         &self,
@@ -144,12 +188,38 @@ impl Machine<'_> {
             (term_at table.now b))) }
         ensures room { scratch.new.room ≡ scratch.old.room }
     {
-        if !self.walk(world, table, a, &mut scratch.word, &mut scratch.test) {
-            return false;
+        let text = Text { world, table };
+        match self.are_equal(&text, a, b, scratch) {
+            Some(equal) => equal,
+            None => false,
         }
-        if !self.walk(world, table, b, &mut scratch.other, &mut scratch.test) {
-            return false;
+    }
+
+    /// Whether a requirement is derivable from the list of the machine. The room that this takes is made here.
+    pub fn derives(
+        &self,
+        alloc: Global,
+        text: &Text<'_>,
+        r: Requirement,
+    ) -> Result<bool, AllocError>
+        requires text { BelongTogether text.now }
+        requires r { IsRequirementIn text.now.table.now text.now.world.now.lexicon r }
+        ensures { IfOk result (λ b. (list : List TermRequirement) → IsMachineOf (world_of text.now) list self.now
+            → IsTrue b ↔ IsDerivable (world_of text.now) self.now list (Requires (requirement_of text.now.table.now r))) }
+    {
+        match r {
+            Requirement::Conf { subject, proto } => {
+                let mut s = Scratch::for_type(alloc, text.table, subject)?;
+                Ok(self.conforms(text.world, text.table, subject, proto, &mut s))
+            }
+            Requirement::Layout { subject } => {
+                let mut s = Scratch::for_type(alloc, text.table, subject)?;
+                Ok(self.any_object(text.world, text.table, subject, &mut s))
+            }
+            Requirement::Same { left, right } => {
+                let mut s = Scratch::for_types(alloc, text.table, left, right)?;
+                Ok(self.equal(text.world, text.table, left, right, &mut s))
+            }
         }
-        scratch.word == scratch.other
     }
 }

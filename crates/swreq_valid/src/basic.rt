@@ -44,7 +44,7 @@ fn named(alloc: Global, p: ProtoId, a: NameId, rank: u64) -> Result<(Word, Word)
     Ok((left, right))
 }
 
-/// Puts the equation of the member name of the protocol last, if it is one.
+/// Puts the equation of a member name of the protocol last, if this name is one.
 fn add_name(
     alloc: Global,
     world: &World,

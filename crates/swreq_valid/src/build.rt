@@ -109,8 +109,8 @@ fn judge_machine<'b>(
 impl Protocols {
     /// The rules of the protocols of a text.
     ///
-    /// It is `Refused::Limit` exactly where the rounds stop at a limit, with the limit that was passed first and the trace of that round,
-    /// and `Refused::NotATypeParameter` exactly where they do not and a side of a requirement is no type parameter, at the first such
+    /// It is `Refused::Limit` if and only if the rounds stop at a limit, with the limit that was passed first and the trace of that round,
+    /// and `Refused::NotATypeParameter` if and only if they do not and a side of a requirement is no type parameter, at the first such
     /// side, protocols in written order. The watcher is told the events of the rounds.
     pub fn build<W: Watch>(
         alloc: Global,
@@ -139,8 +139,8 @@ impl Protocols {
 impl Protocols {
     /// The rules of the protocols by the kept requirements alone, over the symbols and the basic equations of the whole text.
     ///
-    /// It is `Failed::Limit` exactly where the rounds stop at a limit, with the limit that was passed first and the trace of that round. The
-    /// watcher is told the events of the rounds.
+    /// It is `Failed::Limit` if and only if the rounds stop at a limit, with the limit that was passed first and the trace of that round.
+    /// The watcher is told the events of the rounds.
     pub fn build_kept<W: Watch>(
         alloc: Global,
         world: &World,
@@ -170,8 +170,8 @@ impl Protocols {
 impl<'b> Machine<'b> {
     /// The machine of a written list, over the rules of the protocols.
     ///
-    /// It is `Refused::Limit` exactly where the rounds of the list stop at a limit, with the limit that was passed first and the trace of
-    /// that round, and `Refused::NotATypeParameter` exactly where they do not and a side is no type parameter, at the first such side. The
+    /// It is `Refused::Limit` if and only if the rounds of the list stop at a limit, with the limit that was passed first and the trace of
+    /// that round, and `Refused::NotATypeParameter` if and only if they do not and a side is no type parameter, at the first such side. The
     /// watcher is told the events of the rounds.
     pub fn build<W: Watch>(
         alloc: Global,

@@ -29,7 +29,7 @@ pub enum Property {
 }
 
 impl Property {
-    /// The symbol that vanishes behind the words of the type parameters that have it.
+    /// The symbol that vanishes after the words of the type parameters that have it.
     fn symbol(self) -> Symbol
         ensures { result ≡ symbol_of self }
     {
@@ -41,7 +41,7 @@ impl Property {
 }
 
 impl Machine<'_> {
-    /// Whether a property's symbol vanishes behind the word of t, by the map of the rules; None exactly where t is not valid.
+    /// Whether a property's symbol vanishes after the word of t, by the map of the rules; None if and only if t is not valid.
     fn vanishing(
         &self,
         text: &Text<'_>,
@@ -74,7 +74,7 @@ impl Machine<'_> {
         }
     }
 
-    /// Whether t has a property, by the property map of the rules of the machine; None exactly where t is not valid.
+    /// Whether t has a property, by the property map of the rules of the machine; None if and only if t is not valid.
     pub fn has(
         &self,
         text: &Text<'_>,

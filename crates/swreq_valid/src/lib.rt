@@ -10,7 +10,9 @@ mod course;
 mod having;
 mod kept;
 pub mod laws;
+mod linked;
 mod machine;
+mod of_signature;
 mod protocols;
 mod reduced;
 mod refused;
@@ -25,6 +27,7 @@ mod wanted;
 
 pub use having::Property;
 pub use kept::Kept;
+pub use linked::are_linked;
 pub use machine::{Machine, core};
 pub use protocols::Protocols;
 pub use refused::Refused;

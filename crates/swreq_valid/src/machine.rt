@@ -87,7 +87,7 @@ fn in_signature(
 
 /// The machine of the usable part of a list, over the rules of the protocols.
 ///
-/// `Failed::Limit` comes exactly where the rounds of the list stop at a limit, with the limit that was passed first and the trace of that
+/// `Failed::Limit` comes if and only if the rounds of the list stop at a limit, with the limit that was passed first and the trace of that
 /// round.
 pub fn core<'b, W: Watch>(
     alloc: Global,

@@ -13,6 +13,7 @@ ghost use Rattle.swreq_correspondence.specs.Symbols.{IsRank, name_of};
 ghost use Rattle.swreq_world.specs.ByTable.{world_by};
 ghost use Rattle.swreq_symbols.specs.Known.{IsTextOver, IsTypeIn};
 ghost use Rattle.swreq_symbols.specs.Meaning.{symbols_of};
+ghost use Rattle.swreq_symbols.specs.Texts.{BelongTogether, world_of};
 ghost use Rattle.swreq_symbols.specs.Vanishing.{IsFirstBehind, IsLeastBy};
 ghost use Rattle.swreq_valid.specs.Asked.{IsDerivable, IsLeastOf, IsReducedIn};
 ghost use Rattle.swreq_valid.specs.LeastTypes.{BeginsBy};
@@ -22,11 +23,11 @@ use crate::machine::Machine;
 use crate::scratch::Scratch;
 use swreq_complete::CompleteRules;
 use swreq_param::{NameId, ParamId, ParamTable, Step, TermId};
-use swreq_symbols::{first_behind, name_at};
+use swreq_symbols::{Text, first_behind, name_at};
 use swreq_word::Symbol;
 use swreq_world::World;
 
-/// The name of a member symbol, or None where it is none.
+/// The name of a member symbol, or None where the symbol is not one.
 fn member_name(world: &World, x: Symbol) -> Option<NameId>
     ensures { MatchOption result
         ((k : ℕ) → x ≡ MemberSymbol k → IsRank (symbols_of world.now.lexicon) k → ⊥)
@@ -72,7 +73,7 @@ fn add_step(
     }
 }
 
-/// Adds the step of the first associated type with this name whose protocol vanishes behind the word, if there is one.
+/// Adds the step of the first associated type with this name whose protocol vanishes after the word, if there is one.
 fn add_first(
     world: &World,
     rules: &CompleteRules<'_>,
@@ -132,6 +133,44 @@ fn head_of(word: &[Symbol]) -> ParamId
 }
 
 impl Machine<'_> {
+    /// Whether t is valid. Where it is, its reduced type and the least word congruent to its word are left in the scratch.
+    pub fn reduce(&self, text: &Text<'_>, t: TermId, scratch: &mut Scratch) -> bool
+        requires text { BelongTogether text.now }
+        requires t { IsTypeIn text.now.table.now text.now.world.now.lexicon t }
+        requires room { 4 * (member_count (term_at text.now.table.now t) + 2) ≤ scratch.old.room }
+        ensures valid { (list : List TermRequirement) → IsMachineOf (world_of text.now) list self.now
+            → IsTrue result ↔ IsDerivable (world_of text.now) self.now list (IsValid (term_at text.now.table.now t)) }
+        ensures reduced { (list : List TermRequirement) → IsMachineOf (world_of text.now) list self.now
+            → IsDerivable (world_of text.now) self.now list (IsValid (term_at text.now.table.now t))
+            → IsReducedIn (world_of text.now) self.now list (term_at text.now.table.now t)
+            (with_steps (Generic scratch.new.head) scratch.new.steps) }
+        ensures word { (list : List TermRequirement) → IsMachineOf (world_of text.now) list self.now
+            → IsDerivable (world_of text.now) self.now list (IsValid (term_at text.now.table.now t))
+            → IsLeastOf (world_of text.now) self.now list (term_at text.now.table.now t) scratch.new.word }
+        ensures room { scratch.new.room ≡ scratch.old.room }
+    {
+        let rules = self.rules();
+        let _complete = rules.count();
+        let valid = self.walk(
+            text.world,
+            text.table,
+            t,
+            &mut scratch.word,
+            &mut scratch.test,
+        );
+        if valid {
+            scratch.head = head_of(&scratch.word);
+            read_steps(
+                text.world,
+                rules,
+                &scratch.word,
+                &mut scratch.steps,
+                &mut scratch.test,
+            );
+        }
+        valid
+    }
+
     /// Leaves the reduced type of a valid t, and the least word congruent to its word, in the scratch.
     pub fn reduced(&self, world: &World, table: &ParamTable, t: TermId, scratch: &mut Scratch)
         requires text { IsTextOver table.now world.now }
@@ -145,17 +184,7 @@ impl Machine<'_> {
             → IsLeastOf (world_by table.now world.now) self.now list (term_at table.now t) scratch.new.word }
         ensures room { scratch.new.room ≡ scratch.old.room }
     {
-        let rules = self.rules();
-        let _complete = rules.count();
-        if self.walk(world, table, t, &mut scratch.word, &mut scratch.test) {
-            scratch.head = head_of(&scratch.word);
-            read_steps(
-                world,
-                rules,
-                &scratch.word,
-                &mut scratch.steps,
-                &mut scratch.test,
-            );
-        }
+        let text = Text { world, table };
+        let _valid = self.reduce(&text, t, scratch);
     }
 }

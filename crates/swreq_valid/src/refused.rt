@@ -11,7 +11,7 @@ pub enum Refused {
     Limit { which: Which, trace: Seq<Rule> },
     /// The first side that is no type parameter stands at this offset.
     NotATypeParameter { at: u32 },
-    /// Memory was wanting.
+    /// Memory ran out.
     Memory,
 }
 

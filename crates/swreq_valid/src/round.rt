@@ -64,7 +64,7 @@ impl<'b> Round<'b> {
         self.used.items()
     }
 
-    /// What became of it.
+    /// What became of the round.
     pub fn course(&self) -> &Course<'b>
         ensures told { told_by result.now ≡ self.now.told }
         ensures rules { rules_by result.now ≡ self.now.rules }

@@ -36,7 +36,7 @@ use swreq_watch::Watch;
 use swreq_word::Word;
 use swreq_world::World;
 
-/// The same equations once more.
+/// Copies of the equations, in order.
 fn copies(alloc: Global, equations: &[(Word, Word)]) -> Result<Vec<(Word, Word)>, AllocError>
     ensures { IfOk result (λ v. v.items ≡ equations.now) }
 {

@@ -1,9 +1,11 @@
 //! Room for the answers of machines.
-ghost use Rattle.std.specs.Prelude.{◌≡◌, IfOk};
+ghost use Rattle.std.specs.Prelude.{◌≡◌, ◌+◌, ◌*◌, ◌≤◌, IfOk};
+ghost use Rattle.swreq_param.specs.Tables.{IsOf, term_at};
+ghost use Rattle.swreq_param.specs.Terms.{member_count};
 
 use std::alloc::{AllocError, Global};
 use std::marker::Model;
-use swreq_param::{ParamId, Step};
+use swreq_param::{ParamId, ParamTable, Step, TermId};
 use swreq_word::Symbol;
 
 /// Room for the words of the answers of machines, which take no memory, and the reduced type that the last of them left.
@@ -30,7 +32,7 @@ impl Model for Scratch {
 }
 
 impl Scratch {
-    /// Room for words of so many symbols.
+    /// Room for words of this many symbols.
     pub fn with_room(alloc: Global, symbols: usize) -> Result<Scratch, AllocError>
         ensures { IfOk result (λ s. s.room ≡ symbols) }
     {
@@ -47,6 +49,34 @@ impl Scratch {
             steps,
             room: symbols,
         })
+    }
+
+    /// Room for a type parameter of the table.
+    pub fn for_type(alloc: Global, table: &ParamTable, t: TermId) -> Result<Scratch, AllocError>
+        requires { IsOf table.now t }
+        ensures { IfOk result (λ s. 4 * (member_count (term_at table.now t) + 2) ≤ s.room) }
+    {
+        let longer = table.members(t).checked_add(2).ok_or(AllocError)?;
+        let room = longer.checked_mul(4).ok_or(AllocError)?;
+        Scratch::with_room(alloc, room)
+    }
+
+    /// Room for each of two type parameters of the table.
+    pub fn for_types(
+        alloc: Global,
+        table: &ParamTable,
+        a: TermId,
+        b: TermId,
+    ) -> Result<Scratch, AllocError>
+        requires a { IsOf table.now a }
+        requires b { IsOf table.now b }
+        ensures a { IfOk result (λ s. 4 * (member_count (term_at table.now a) + 2) ≤ s.room) }
+        ensures b { IfOk result (λ s. 4 * (member_count (term_at table.now b) + 2) ≤ s.room) }
+    {
+        let longest = table.members(a).max(table.members(b));
+        let longer = longest.checked_add(2).ok_or(AllocError)?;
+        let room = longer.checked_mul(4).ok_or(AllocError)?;
+        Scratch::with_room(alloc, room)
     }
 
     /// The room that it was made with.

@@ -47,7 +47,7 @@ fn is_limit_among(failed: &Failed) -> bool
     }
 }
 
-/// Whether completing these equations passes a limit before it comes to a pair. It may be false where memory is wanting.
+/// Whether completing these equations passes a limit before it comes to a pair. It may be false if memory runs out.
 fn stops_among(alloc: Global, equations: &[(Word, Word)], limits: Limits) -> bool
     requires { AreInRange limits }
     ensures { IsTrue result → StopsAmong limits equations.now }
@@ -107,8 +107,9 @@ fn stop_among<W: Watch>(
     }
 }
 
-/// How the rounds of the protocols fail in the first round, where so many basic equations pass a limit before a pair. It is None where
-/// they are few, or are not seen to pass one; then the watcher was told nothing. Not all of the equations are written out.
+/// How the rounds of the protocols fail in the first round, where their many basic equations pass a limit before any pair is settled. It is
+/// None where there are few of them, or where they are not seen to pass one; then the watcher was told nothing. Not all of the equations
+/// are written out.
 pub(crate) fn limit_of_basic<W: Watch>(
     alloc: Global,
     world: &World,

@@ -72,7 +72,7 @@ module _ (w : TextWorld) where
   IsQueryOf (AsksAnyObject f t) = IsSignature f × IsAskedOf f t
   IsQueryOf (AsksEquals f t u) = IsSignature f × IsAskedOf f t × IsAskedOf f u
 
--- A protocol inherits another exactly where a chain of written conformances of the bare `Self`, one or more, leads there.
+-- A protocol inherits another if and only if a chain of written conformances of the bare `Self`, one or more, leads there.
 abbrev pub IsInheritanceWritten : TextWorld → Type 0
 IsInheritanceWritten w =
     (p q : ProtoId) → IsProtocol w.lexicon p → IsProtocol w.lexicon q → IsTrue (inherits w.lexicon p q) ↔ LeadsOnTo (facts_of w) p q

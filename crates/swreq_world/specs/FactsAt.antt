@@ -23,7 +23,7 @@ written_list g = map (λ (r : PlacedRequirement). r.requirement) g.requirements
 abbrev pub source_of : SignatureOver PlacedRequirement → Source
 source_of g = Written (generic_params g.params) (written_list g)
 
--- both over ids
+-- the facts of the text and the list of a signature, over ids
 abbrev pub facts_at : IdWorld → FuncId → IdFacts
 facts_at w f = record {
   protocols = length w.lexicon.protocols;

@@ -14,6 +14,7 @@ pub mod Inheritance
 pub mod Made
 pub mod Ready
 pub mod Closed
+pub mod TextOver
 pub mod ReadBack
 pub mod Short
 pub mod Additions

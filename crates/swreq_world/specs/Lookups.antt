@@ -36,7 +36,7 @@ outer_name w (Some g) = Some (signature_at w g).name
 
 -- ---- what has a name
 
--- The signature at this place has this name, and is a function of the struct of the other name, or without that name is none of a struct.
+-- The signature at this place has this name. It is a function of the struct of the other name, or, without that name, in no struct.
 abbrev pub IsNamedAt : {R Q : Type 0} → WorldOver R Q → Option (List ℕ) → List ℕ → FuncId → Type 0
 IsNamedAt w outer name f = (f.place < length w.signatures) × ((signature_at w f).name ≡ name) × (outer_name w (signature_at w f).outer ≡ outer)
 

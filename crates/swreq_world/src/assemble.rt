@@ -9,8 +9,11 @@ ghost use Rattle.swreq_resolve.specs.declared.refusal.NameErr.TheVariants.{Memor
 ghost use Rattle.swreq_lexicon.specs.Texts.{IsLexiconOf};
 ghost use Rattle.swreq_lowering.specs.Short.{HasShortLists};
 ghost use Rattle.swreq_world.specs.ByTable.{world_by, IsOverTable};
+ghost use Rattle.swreq_world.specs.Short.{IsShort};
+ghost use Rattle.swreq_world.specs.TextOver.{IsTextOver};
 ghost use Rattle.swreq_world.specs.WorldOf.{IsWorldOf};
 
+use crate::laws::{worlds_are_closed, worlds_are_short};
 use crate::making::lists_of;
 use crate::world::World;
 use std::alloc::{AllocError, Global};
@@ -66,8 +69,8 @@ fn with_names(
 }
 
 impl World {
-    /// The world of the skeleton that stands for a text of at most 1,048,576 bytes. Ok exactly where its names resolve and no
-    /// protocol inherits itself, and then the table has each type parameter of the text.
+    /// The world of the skeleton that stands for a text of at most 1,048,576 bytes. Ok if and only if its names resolve and no
+    /// protocol inherits itself, and then the table has each type parameter of the text, and all that is written is of the world.
     ///
     /// Where they do not, the refusal is of the name with the least offset among those that are refused. `Cycle` comes only
     /// where no name is refused, at the name of the first protocol in written order that inherits itself. On
@@ -82,12 +85,16 @@ impl World {
         requires stands { StandsFor text.now s.now }
         ensures world { IfOk result (λ w. IsWorldOf text.now s.now (world_by table.new w)) }
         ensures over { IfOk result (IsOverTable table.new) }
+        ensures text { IfOk result (IsTextOver table.new) }
+        ensures short { IfOk result IsShort }
         ensures extends { Extends table.old table.new }
         ensures ok { IsOk result → Resolve text.now s.now }
         ensures resolves { Resolve text.now s.now → IsOk result ⊎ (result ≡ Err Memory) }
         ensures refused { IfErr result (λ e. RefusesSkeleton text.now s.now e ⊎ (e ≡ Memory)) }
         ensures refuses { (e : NameErr) → RefusesSkeleton text.now s.now e → (result ≡ Err e) ⊎ (result ≡ Err Memory) }
     {
+        worlds_are_closed(text);
+        worlds_are_short(text);
         match resolve_names(alloc, text, s) {
             Ok(names) => match with_names(alloc, text, s, names, table) {
                 Ok(world) => Ok(world),

@@ -55,7 +55,7 @@ fn are_together(a: &Entry, b: &Entry) -> bool
     }
 }
 
-/// The list with these requirements in place of so many at its end.
+/// The list with these requirements in place of its last `less`.
 fn with_end(
     mut list: Vec<Requirement>,
     less: usize,

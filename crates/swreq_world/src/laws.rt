@@ -70,7 +70,7 @@ pub fn protocols_require_of_self()
         → All (All (λ r. IsOverSelf r.requirement)) w.requirements }
 {}
 
-/// Where the names of a text resolve, a protocol inherits another exactly where a chain of written conformances of the bare `Self`,
+/// Where the names of a text resolve, a protocol inherits another if and only if a chain of written conformances of the bare `Self`,
 /// one or more, leads there.
 pub fn inheritance_is_what_is_written()
     ensures { (text : List ℕ) (s : Skeleton) (w : TextWorld) → IsWorldOf text s w → Resolve text s

@@ -45,7 +45,7 @@ fn add_functions(from: usize, to: usize, order: &mut Vec<Signature>) -> Result<(
     Ok(())
 }
 
-/// The functions of a struct.
+/// Puts the functions of a struct last.
 fn add_nested(outer: usize, count: usize, order: &mut Vec<Signature>) -> Result<(), AllocError>
     ensures { OnOk result (order.new.items ≡ order.old.items ++ nested_from outer 0 count) }
 {
@@ -57,7 +57,7 @@ fn add_nested(outer: usize, count: usize, order: &mut Vec<Signature>) -> Result<
     Ok(())
 }
 
-/// A struct, and its functions.
+/// Puts a struct last, and then its functions.
 fn add_struct(place: usize, s: &StructDecl, order: &mut Vec<Signature>) -> Result<(), AllocError>
     ensures { OnOk result (order.new.items ≡ order.old.items ++ with_nested place s.now) }
 {

@@ -14,7 +14,7 @@ use swreq_decl::QueryDecl;
 use swreq_lowering::{Query, Words, asked_signature, query};
 use swreq_param::ParamTable;
 
-/// A query.
+/// What a written query asks, over the ids of the table.
 fn query_of(
     table: &mut ParamTable,
     words: &Words<'_>,

@@ -111,7 +111,7 @@ impl World {
         self.lexicon.depth(p)
     }
 
-    /// The associated type of a name that a protocol declares, or None exactly where it declares none.
+    /// The associated type of a name that a protocol declares, or None if and only if it declares none.
     pub fn declares(&self, p: ProtoId, a: NameId) -> Option<AssocId>
         ensures { MatchOption result
             (Contains self.now.lexicon.associated (pair p a) → ⊥)
@@ -135,7 +135,7 @@ impl World {
         self.lexicon.has_member(p, a)
     }
 
-    /// The rank of the member symbol `[P:A]`, or None exactly where A is no member name of P.
+    /// The rank of the member symbol `[P:A]`, or None if and only if A is no member name of P.
     pub fn member_rank(&self, p: ProtoId, a: NameId) -> Option<u64>
         ensures { MatchOption result
             (Contains self.now.lexicon.symbols (pair p a) → ⊥)
@@ -273,7 +273,7 @@ impl World {
         matches!(self.entry(f).signature, Signature::Struct(_))
     }
 
-    /// The name of the struct around a signature, or None exactly where it is no function of a struct.
+    /// The name of the struct around a signature, or None if and only if it is no function of a struct.
     pub fn func_outer(&self, f: FuncId) -> Option<&[u8]>
         requires { f.place < length self.now.signatures }
         ensures { MatchOption result
@@ -294,7 +294,7 @@ impl World {
         self.lexicon.proto_at(k)
     }
 
-    /// The protocol with this name, or None exactly where there is none.
+    /// The protocol with this name, or None if and only if there is none.
     pub fn find_proto(&self, name: &[u8]) -> Option<ProtoId>
         ensures { MatchOption result
             (Contains self.now.lexicon.protocols name.now → ⊥)
@@ -303,7 +303,7 @@ impl World {
         self.lexicon.find_proto(name)
     }
 
-    /// The name with these bytes, or None exactly where there is none.
+    /// The name with these bytes, or None if and only if there is none.
     pub fn find_name(&self, name: &[u8]) -> Option<NameId>
         ensures { MatchOption result
             (Contains self.now.lexicon.names name.now → ⊥)
@@ -312,8 +312,8 @@ impl World {
         self.lexicon.find_name(name)
     }
 
-    /// The function of the struct `outer` with this name, or without `outer` the struct or function at the top. None exactly
-    /// where there is none.
+    /// The function of the struct `outer` with this name, or without `outer` the struct or function at the top. None if and only if there
+    /// is none.
     pub fn find_func(&self, outer: Option<&[u8]>, name: &[u8]) -> Option<FuncId>
         ensures { result ≡ func_named self.now (option_map (λ o. o.now) outer.entry) name.now }
     {
@@ -323,7 +323,7 @@ impl World {
         }
     }
 
-    /// The generic parameter of a signature that a name refers to, or None exactly where it refers to none.
+    /// The generic parameter of a signature that a name refers to, or None if and only if it refers to none.
     pub fn find_param(&self, f: FuncId, name: &[u8]) -> Option<ParamId>
         requires { f.place < length self.now.signatures }
         ensures { result ≡ param_of_signature self.now f name.now }
@@ -360,7 +360,7 @@ impl World {
         }
     }
 
-    /// A signature.
+    /// What is kept of the signature at this place.
     fn entry(&self, f: FuncId) -> &Entry
         requires { f.place < length self.now.signatures }
         ensures signature { result.now.signature ≡ (signature_at self.now f).signature }

@@ -1,7 +1,7 @@
 use Rattle.std.proofs.Common.{subst, sym}
 use Rattle.swreq_param.specs.Tables.{term_at}
 use Rattle.swreq_valid.specs.Asked.{IsDerivable}
-use Rattle.swreq_world.specs.ByTable.{world_by}
+use Rattle.swreq_symbols.specs.Texts.{world_of}
 use Rattle.swreq_query.specs.Answers.{IsAnswer}
 use Rattle.swreq_query.specs.Asked.{answer_of, asks}
 use Rattle.swreq_query.proofs.Judging.{property_answer}
@@ -9,8 +9,9 @@ use Rattle.swreq_query.proofs.verdict.judge_property.Goals as goal
 
 pub returns-clause-answer : goal.returns-clause-answer
 returns-clause-answer c = λ f list is. subst
-    (λ v. IsAnswer (IsDerivable (world_by c.args.text.now.table.now c.args.text.now.world.now) c.args.machine.now list) (asks f (term_at c.args.text.now.table.now c.args.t) c.args.property)
-    (answer_of v))
+    (λ v. IsAnswer (IsDerivable (world_of c.args.text.now) c.args.machine.now list)
+    (asks f (term_at c.args.text.now.table.now c.args.t) c.args.property) (answer_of v))
     (sym c.verdict_of.ensures)
-    (property_answer (IsDerivable (world_by c.args.text.now.table.now c.args.text.now.world.now) c.args.machine.now list) f (term_at c.args.text.now.table.now c.args.t) c.args.property
+    (property_answer (IsDerivable (world_of c.args.text.now) c.args.machine.now list) f
+    (term_at c.args.text.now.table.now c.args.t) c.args.property
     c.has.result (c.has.ensures.answer list is))

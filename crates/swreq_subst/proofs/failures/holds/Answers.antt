@@ -11,12 +11,12 @@ use Rattle.swreq_symbols.proofs.Growing.{text_stays, world_stays}
 use Rattle.swreq_subst.proofs.Replacing.{requirement_of_text}
 use Rattle.swreq_subst.proofs.failures.holds.Goals as goal
 
-pub is_derivable-requires-clause-text : goal.is_derivable-requires-clause-text
-is_derivable-requires-clause-text c =
+pub derives-requires-clause-text : goal.derives-requires-clause-text
+derives-requires-clause-text c =
     text_stays c.args.table.now c.requirement_with.new.table c.requirement_with.ensures.extends c.args.by.now.world.now c.requires.text
 
-pub is_derivable-requires-clause-r : goal.is_derivable-requires-clause-r
-is_derivable-requires-clause-r c =
+pub derives-requires-clause-r : goal.derives-requires-clause-r
+derives-requires-clause-r c =
     let old = c.args.table.now in
     let by = c.args.by.now in
     let x = by.world.now.lexicon in (
@@ -31,7 +31,7 @@ returns-clause-holds c =
     let m = c.args.by.now.machine.now in
     let w = c.args.by.now.world.now in
     let same = world_stays old new c.requirement_with.ensures.extends w c.requires.text.table in
-    let here = subst (λ (v : TextWorld). IfOk c.is_derivable.result (λ b. (list : List TermRequirement) → IsMachineOf v list m → IsTrue b ↔ IsDerivable v m list (Requires (requirement_of new c.in_ok-requirement.requirement))))
-    same c.is_derivable.ensures in
-    subst (λ (r : TermRequirement). IfOk c.is_derivable.result (λ b. (list : List TermRequirement) → IsMachineOf (world_by old w) list m → IsTrue b ↔ IsDerivable (world_by old w) m list (Requires r)))
+    let here = subst (λ (v : TextWorld). IfOk c.derives.result (λ b. (list : List TermRequirement) → IsMachineOf v list m → IsTrue b ↔ IsDerivable v m list (Requires (requirement_of new c.in_ok-requirement.requirement))))
+    same c.derives.ensures in
+    subst (λ (r : TermRequirement). IfOk c.derives.result (λ b. (list : List TermRequirement) → IsMachineOf (world_by old w) list m → IsTrue b ↔ IsDerivable (world_by old w) m list (Requires r)))
     c.in_ok-requirement.ensures.stands here

@@ -1,4 +1,5 @@
 use Rattle.std.proofs.Common.{⊎_elim, inl, inr, refl}
+use Rattle.swreq_world.specs.ByTable.{world_by}
 use Rattle.swreq_world.proofs.world.World.resolve.Goals as goal
 
 pub with_names-requires : goal.with_names-requires
@@ -9,6 +10,18 @@ returns-in-Ok-with_names-clause-world c = c.in-Ok-with_names.ensures.world
 
 pub returns-in-Ok-with_names-clause-over : goal.returns-in-Ok-with_names-clause-over
 returns-in-Ok-with_names-clause-over c = c.in-Ok-with_names.ensures.over
+
+pub returns-in-Ok-with_names-clause-text : goal.returns-in-Ok-with_names-clause-text
+returns-in-Ok-with_names-clause-text c = record {
+  table = c.in-Ok-with_names.ensures.over;
+  closed = c.worlds_are_closed.ensures.closed c.args.s.now (world_by c.with_names.new.table c.in-Ok-with_names.world) c.requires.stands
+      c.in-Ok-with_names.ensures.world (c.in-Ok.ensures.ok refl);
+}
+
+pub returns-in-Ok-with_names-clause-short : goal.returns-in-Ok-with_names-clause-short
+returns-in-Ok-with_names-clause-short c =
+    c.worlds_are_short.ensures.by_table c.requires.limit c.with_names.new.table c.args.s.now c.in-Ok-with_names.world c.requires.stands
+    c.in-Ok-with_names.ensures.world
 
 pub returns-in-Ok-with_names-clause-ok : goal.returns-in-Ok-with_names-clause-ok
 returns-in-Ok-with_names-clause-ok c h = c.in-Ok.ensures.ok refl

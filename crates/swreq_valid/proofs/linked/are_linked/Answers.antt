@@ -1,7 +1,7 @@
 use Rattle.std.proofs.Common.{◌≡◌, subst}
 use Rattle.std.specs.Bool.{Decides}
 use Rattle.swreq_valid.proofs.Answering.{linked_by_least}
-use Rattle.swreq_list_rules.proofs.derivable.are_linked.Goals as goal
+use Rattle.swreq_valid.proofs.linked.are_linked.Goals as goal
 
 pub returns : goal.returns
 returns c =

@@ -1,0 +1,63 @@
+//! The machine of a signature.
+ghost use Rattle.std.specs.Prelude.{◌≡◌, ◌<◌, IfOk, length};
+ghost use Rattle.swreq_complete.specs.Limits.{AreInRange};
+ghost use Rattle.swreq_symbols.specs.Meaning.{facts_of};
+ghost use Rattle.swreq_symbols.specs.Texts.{BelongTogether, world_of};
+ghost use Rattle.swreq_world.specs.FactsAt.{written_list};
+ghost use Rattle.swreq_world.specs.Worlds.{signature_at};
+ghost use Rattle.swreq_valid.specs.Built.{Builds, IsOnlyBuilt, built_rules};
+ghost use Rattle.swreq_valid.specs.Machines.{AreRulesOf, IsMachineOf};
+ghost use Rattle.swreq_valid.specs.OfSignatures.{signature_plan, signature_sides};
+ghost use Rattle.swreq_valid.specs.Rounds.{AreRounds, last_rules};
+
+use crate::machine::Machine;
+use crate::protocols::Protocols;
+use crate::refused::Refused;
+use std::alloc::Global;
+use swreq_complete::Limits;
+use swreq_symbols::Text;
+use swreq_watch::Watch;
+use swreq_world::FuncId;
+
+impl<'b> Machine<'b> {
+    /// The machine of a signature of a text, over the rules of its protocols.
+    ///
+    /// It is refused as `Machine::build` refuses the list of the signature, and the watcher is told the events of the rounds.
+    pub fn of_signature<W: Watch>(
+        alloc: Global,
+        text: &Text<'_>,
+        protocols: &'b Protocols,
+        f: FuncId,
+        limits: Limits,
+        watch: &mut W,
+    ) -> Result<Machine<'b>, Refused>
+        requires text { BelongTogether text.now }
+        requires protocols { AreRulesOf (world_of text.now) (last_rules protocols.now.rounds) }
+        requires f { f.place < length text.now.world.now.signatures }
+        requires limits { AreInRange limits }
+        ensures answer { Builds limits
+            (signature_plan (world_of text.now) (last_rules protocols.entry.now.rounds) (signature_at (world_of text.now) f))
+            (facts_of (world_of text.now)) (signature_sides (signature_at (world_of text.now) f))
+            (W.told watch.old) (W.told watch.new) (built_rules result) }
+        ensures only { IsOnlyBuilt limits
+            (signature_plan (world_of text.now) (last_rules protocols.entry.now.rounds) (signature_at (world_of text.now) f))
+            (facts_of (world_of text.now)) (signature_sides (signature_at (world_of text.now) f)) (built_rules result) }
+        ensures rounds { IfOk result (λ m. AreRounds limits
+            (signature_plan (world_of text.now) (last_rules protocols.entry.now.rounds) (signature_at (world_of text.now) f)) m.rounds) }
+        ensures machine { IfOk result (IsMachineOf (world_of text.now)
+            (written_list (signature_at (world_of text.now) f))) }
+        ensures params { IfOk result (λ m. m.params ≡ (signature_at (world_of text.now) f).params) }
+    {
+        let list = text.world.signature(alloc, f)?;
+        Machine::build(
+            alloc,
+            text.world,
+            text.table,
+            protocols,
+            text.world.params(f),
+            &list,
+            limits,
+            watch,
+        )
+    }
+}
