@@ -9,6 +9,7 @@ use std::fmt::Write;
 use std::process::Abort;
 use std::test::Fail;
 use swreq_complete::{CompleteRules, Failed, Limits, Which, extend};
+use swreq_rule::Rule;
 use swreq_samples::{counts, tally_at};
 use swreq_watch::{Counter, Event, Quiet, Recorder, Watch};
 use swreq_word::Word;
@@ -166,16 +167,21 @@ fn a_completion_tells_the_rules_born_up_to_its_limits(rt: HostRuntime) -> Result
     Ok(())
 }
 
+/// The rules, each after a comma.
+fn put_each(rules: &[Rule], out: &mut String) -> Result<(), Fail> {
+    for rule in rules {
+        out.push_str(", ")?;
+        put_rule(out, rule)?;
+    }
+    Ok(())
+}
+
 /// How many rules are born in the completion of the equations, and the reduced ones.
 fn put_reduced_of(alloc: Global, text: &str, out: &mut String) -> Result<(), Fail> {
     let mut counter = Counter::new();
     let rules = ended(alloc, CompleteRules::empty(alloc), text, &mut counter)?;
     write!(out, "{} born", counter.born())?;
-    for rule in &rules.canonical(alloc)? {
-        out.push_str(", ")?;
-        put_rule(out, rule)?;
-    }
-    Ok(())
+    put_each(&rules.canonical(alloc)?, out)
 }
 
 const REDUCED: &str = "5 born, B>A 3, CA>A 2.3.1, DA>AD 1.1.1, DD>A 1";
@@ -214,6 +220,29 @@ fn put_ways(
     Ok(())
 }
 
+/// The way of these letters by rules that are borrowed.
+fn put_ways_over(
+    alloc: Global,
+    rules: &CompleteRules<'_>,
+    letters: &str,
+    out: &mut String,
+) -> Result<(), Fail> {
+    let over = rules.over(alloc)?;
+    put_ways(alloc, &over, letters, out)
+}
+
+/// The way of these letters by the rules that complete borrowed ones by the equations.
+fn put_ways_on(
+    alloc: Global,
+    base: &CompleteRules<'_>,
+    text: &str,
+    letters: &str,
+    out: &mut String,
+) -> Result<(), Fail> {
+    let rules = ended(alloc, base.over(alloc)?, text, &mut Quiet)?;
+    put_ways_over(alloc, &rules, letters, out)
+}
+
 /// The way of these letters by the rules that complete the base by the equations, over a base that is itself over another.
 fn put_ways_of(
     alloc: Global,
@@ -223,8 +252,7 @@ fn put_ways_of(
     out: &mut String,
 ) -> Result<(), Fail> {
     let base = ended(alloc, CompleteRules::empty(alloc), base, &mut Quiet)?;
-    let rules = ended(alloc, base.over(alloc)?, text, &mut Quiet)?;
-    put_ways(alloc, &rules.over(alloc)?, letters, out)
+    put_ways_on(alloc, &base, text, letters, out)
 }
 
 #[test]

@@ -1,13 +1,13 @@
 //! How the tests write words, rules and paths.
 //!
-//! A word is written by a letter for each symbol, as `LETTERS` has them. A rule or an equation is `AB=C`. A step is `A+2B` where it goes
+//! A word is written by a letter for each symbol, as `symbol_of` has them. A rule or an equation is `AB=C`. A step is `A+2B` where it goes
 //! forth by rule 2 between the words `A` and `B`, and `A-2B` where it goes back. Numbers of rules count from 1. A rule is born of an
 //! equation, by its number, or at a place `1.2.0`: two rules, and where the left side of the second begins in that of the first.
 
 use std::alloc::{AllocError, Global};
 use std::fmt::Write;
 use std::test::Fail;
-use swreq_path::Path;
+use swreq_path::{Path, RewriteStep};
 use swreq_rule::{Birth, Rule, RuleList};
 use swreq_samples::rule;
 use swreq_word::{Symbol, Word};
@@ -15,29 +15,48 @@ use swreq_word::{Symbol, Word};
 /// A protocol N with a member A that conforms to N.
 pub(crate) const PROTOCOL: &str = "NN=N NA=a NAN=NA";
 
-/// Protocols, members, generic parameters, names, and the layout.
-const LETTERS: &[(char, Symbol)] = &[
-    ('N', Symbol::Proto(0)),
-    ('M', Symbol::Proto(1)),
-    ('a', Symbol::Member(0)),
-    ('T', Symbol::Param(0, 0)),
-    ('U', Symbol::Param(0, 1)),
-    ('V', Symbol::Param(0, 2)),
-    ('A', Symbol::Name(0)),
-    ('B', Symbol::Name(1)),
-    ('C', Symbol::Name(2)),
-    ('D', Symbol::Name(3)),
-    ('L', Symbol::Layout),
-];
+/// The symbol of a letter: a protocol, a member, a generic parameter, a name, or the layout.
+fn symbol_of(letter: char) -> Option<Symbol> {
+    match letter {
+        'N' => Some(Symbol::Proto(0)),
+        'M' => Some(Symbol::Proto(1)),
+        'a' => Some(Symbol::Member(0)),
+        'T' => Some(Symbol::Param(0, 0)),
+        'U' => Some(Symbol::Param(0, 1)),
+        'V' => Some(Symbol::Param(0, 2)),
+        'A' => Some(Symbol::Name(0)),
+        'B' => Some(Symbol::Name(1)),
+        'C' => Some(Symbol::Name(2)),
+        'D' => Some(Symbol::Name(3)),
+        'L' => Some(Symbol::Layout),
+        _ => None,
+    }
+}
+
+/// The letter of a symbol, or a question mark where it has none.
+fn letter_of(symbol: Symbol) -> char {
+    match symbol {
+        Symbol::Proto(0) => 'N',
+        Symbol::Proto(1) => 'M',
+        Symbol::Member(0) => 'a',
+        Symbol::Param(0, 0) => 'T',
+        Symbol::Param(0, 1) => 'U',
+        Symbol::Param(0, 2) => 'V',
+        Symbol::Name(0) => 'A',
+        Symbol::Name(1) => 'B',
+        Symbol::Name(2) => 'C',
+        Symbol::Name(3) => 'D',
+        Symbol::Layout => 'L',
+        _ => '?',
+    }
+}
 
 /// The word of these letters.
 pub(crate) fn word(alloc: Global, letters: &str) -> Result<Vec<Symbol>, AllocError> {
     let mut word = Vec::new(alloc);
     for letter in letters.chars() {
-        for (of, symbol) in LETTERS {
-            if *of == letter {
-                word.push(*symbol)?;
-            }
+        if let Some(symbol) = symbol_of(letter) {
+            word.push(symbol)?;
         }
     }
     Ok(word)
@@ -45,11 +64,7 @@ pub(crate) fn word(alloc: Global, letters: &str) -> Result<Vec<Symbol>, AllocErr
 
 pub(crate) fn put_word(out: &mut String, symbols: &[Symbol]) -> Result<(), AllocError> {
     for symbol in symbols {
-        for (letter, of) in LETTERS {
-            if of == symbol {
-                out.push(*letter)?;
-            }
-        }
+        out.push(letter_of(*symbol))?;
     }
     Ok(())
 }
@@ -88,15 +103,20 @@ pub(crate) fn put_rule(out: &mut String, rule: &Rule) -> Result<(), Fail> {
     Ok(())
 }
 
+/// A step, after a blank.
+fn put_step(out: &mut String, step: &RewriteStep) -> Result<(), Fail> {
+    let sign = if step.forward { '+' } else { '-' };
+    out.push(' ')?;
+    put_word(out, step.before.symbols())?;
+    write!(out, "{sign}{}", step.rule)?;
+    Ok(put_word(out, step.after.symbols())?)
+}
+
 /// The word at which the path begins, and its steps.
 pub(crate) fn put_path(out: &mut String, path: &Path) -> Result<(), Fail> {
     put_word(out, path.source())?;
     for step in path.steps.items() {
-        let sign = if step.forward { '+' } else { '-' };
-        out.push(' ')?;
-        put_word(out, step.before.symbols())?;
-        write!(out, "{sign}{}", step.rule)?;
-        put_word(out, step.after.symbols())?;
+        put_step(out, step)?;
     }
     Ok(())
 }
