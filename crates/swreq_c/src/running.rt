@@ -29,7 +29,7 @@ pub(crate) fn run_over(alloc: Global, words: &[u8], text: &[u8]) -> Result<Ran, 
     let mut source = Handed { left: text };
     let mut sink = Kept::nothing(alloc);
     let status = run(alloc, &words, &mut source, &mut sink, &mut Quiet);
-    // A write fails for want of memory alone.
+    // A write fails only if memory runs out.
     if status == WRITE_FAULT {
         return Err(AllocError);
     }

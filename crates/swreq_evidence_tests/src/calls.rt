@@ -12,7 +12,7 @@ use swreq_subst::resolve_calls;
 use swreq_text::Seq;
 use swreq_world::World;
 
-/// A call of f by what is named last, with so many types that are named first, in `V f k`.
+/// A call of f by what is named last, with `count` types that are named first, in `V f k`.
 fn backwards(alloc: Global, count: usize) -> Result<CallDecl, AllocError> {
     let mut args = Vec::new(alloc);
     for _ in 0..count {

@@ -83,7 +83,7 @@ module _ (m : Symbols) (terms : List Term) (o : Origin) where
       let same : made.round ≡ round = same_Some _ _ (sym made.there ∙ e) in
       (v, at, made.rules ∙ ap (λ (z : RoundView). z.rules) same, made.few)
 
-  -- so its rules are few
+  -- the rules of a round are few
   pub few_rules : (vs : List System) → AreSystemsOf m terms o vs → (k : ℕ) (round : RoundView) → slice_get o.course.rounds k ≡ Some round
       → length round.rules < 2 ^ 32 - 1
   few_rules vs h k round e =

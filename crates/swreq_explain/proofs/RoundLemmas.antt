@@ -76,8 +76,8 @@ abbrev pub IsReachedRound : Plan → RoundView → Type 0
 IsReachedRound plan round =
     BeginsWith plan.base round.rules × IsReached (length plan.base) (given plan (chosen plan.all round.used)) round.rules
 
--- After the round these flags are set: those of what its rules show where it ended, and else those that it had and those of what reduction
--- by its rules shows.
+-- After the round these flags are set: those of what its rules show where it ended, and otherwise those that it had and those of what
+-- reduction by its rules shows.
 abbrev pub LeavesFlags : Limits → Plan → RoundView → List Bool → Type 0
 LeavesFlags limits plan round flags =
     (Ends limits plan (chosen plan.all round.used) round.rules × Tells (AreShown plan round.rules) plan.all flags)

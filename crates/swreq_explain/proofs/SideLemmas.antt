@@ -50,7 +50,7 @@ module _ (d : Desk) (x : Side) (t : Term) where
   pub read_ids : (s : Sheet) (r : ReadAs) → IsReadAt d x t s r → AreEqualIds s r.itself r.word
   read_ids s r h = (h.itself_of, h.word_of, read_equal s r h)
 
-  -- what lines allow behind its word they allow behind that as which the word is read
+  -- what lines allow after its word they allow after the type parameter that the word is read as
   pub vanished : (s : Sheet) (r : ReadAs) (y : Symbol) (longer : List Symbol) → IsReadAt d x t s r → longer ≡ x.word.now ++ y ∷ []
       → SaysWord (ground_at d) s t longer → SaysSymbol (ground_at d) s (term_at s.table r.word) y
   vanished s r y longer h e w =

@@ -35,7 +35,7 @@ protocols_origin w rounds = record {
   course = record { all = numbered_in w w.lexicon.written_order; rounds = rounds; first = 0 };
 }
 
--- Those of a list begin with the rules of the last round of the protocols.
+-- The rounds of a list begin with the rules of the last round of the protocols.
 abbrev pub list_origin : IdWorld → FuncId → ProtocolsView → MachineView → Origin
 list_origin w f p m = record {
   base = length (last_rules p.rounds);

@@ -21,13 +21,13 @@ named_by d = record { proto = d.proto; name = d.name }
 abbrev pub parent : ProtoId → ℕ → ProtoId → Parent
 parent p n q = record { heir = p; number = n; proto = q }
 
--- The written inheritance of the protocols with ranks below p, and of the first requirements of p, so many.
+-- The written inheritance of the protocols with ranks below p, and of the first n requirements of p.
 pub record AreParentsUpTo (f : TermFacts) (p n : ℕ) (parents : List Parent) : Type 0 where
   pub written : (e : Parent) → Contains parents e → HasNumber e.number (f.of_protocol e.heir) (Conforms self e.proto)
   pub all : (q o : ProtoId) (k : ℕ) → (q.rank < p) ⊎ ((q.rank ≡ p) × (k ≤ n)) → HasNumber k (f.of_protocol q) (Conforms self o)
       → Contains parents (parent q k o)
 
--- the same of all protocols, so many
+-- the written inheritance of the first `count` protocols
 abbrev pub AreParentsOf : TermFacts → ℕ → List Parent → Type 0
 AreParentsOf f count parents = AreParentsUpTo f count 0 parents
 

@@ -31,7 +31,7 @@ abbrev pub numbered_from : Option ProtoId → ℕ → List Requirement → List 
 numbered_from owner n [] = []
 numbered_from owner n (r ∷ rs) = record { owner = owner; number = n; requirement = r } ∷ numbered_from owner (suc n) rs
 
--- those of these protocols, each counted from 1
+-- the requirements of these protocols, in order, each counted from 1
 abbrev pub numbered_in : IdWorld → List ProtoId → List Numbered
 numbered_in w [] = []
 numbered_in w (p ∷ ps) = numbered_from (Some p) 1 (bare (requirements_of w p)) ++ numbered_in w ps

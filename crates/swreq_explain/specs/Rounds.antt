@@ -47,7 +47,7 @@ pub record IsSystemOf (m : Symbols) (terms : List Term) (o : Origin) (k : ℕ) (
   pub few : length v.rules < 2 ^ 32 - 1
   pub given : AreGiven m terms o k (chosen o.course.all round.used) v.given
 
--- They are the systems of the first rounds, so many, in order.
+-- They are the systems of the first `count` rounds, in order.
 pub record AreFirstSystems (m : Symbols) (terms : List Term) (o : Origin) (count : ℕ) (vs : List System) : Type 0 where
   pub count_is : length vs ≡ count
   pub each : (k : ℕ) (v : System) → slice_get vs k ≡ Some v → IsSystemOf m terms o k v

@@ -22,7 +22,7 @@ ground_at d = d.book.now.ground
 abbrev pub rules_of : Desk → List Rule
 rules_of d = rules_at d.book.now d.system
 
--- The system is of the book, and the type parameter behind which words are read is of the sheet.
+-- The system is of the book, and the type parameter after which words are read is of the sheet.
 pub record IsReady (d : Desk) (s : Sheet) : Type 0 where
   pub system : HasSystem d.book.now d.system
   pub sheet : IsSheet s
@@ -32,11 +32,11 @@ pub record IsReady (d : Desk) (s : Sheet) : Type 0 where
 abbrev pub IsSide : Desk → Side → Type 0
 IsSide d x = IsShown (ground_at d) None (rules_of d) (as_term x.param.now) x.word.now
 
--- By the rules the word of the type parameter, and that word with the symbol behind it, reduce to one.
+-- By the rules the word of the type parameter, and that word with the symbol after it, reduce to one.
 abbrev pub Vanishes : Desk → Side → Symbol → List Symbol → Type 0
 Vanishes d x y longer = (longer ≡ x.word.now ++ y ∷ []) × ReduceAlike (rules_of d) x.word.now longer
 
--- A line states that the type parameter equals that as which its word is read behind T, and these are their ids.
+-- A line states that the type parameter equals the one that its word is read as after T, and these are the ids of the two.
 pub record IsReadAt (d : Desk) (x : Side) (t : Term) (s : Sheet) (r : ReadAs) : Type 0 where
   pub itself_of : IsOf s.table r.itself
   pub word_of : IsOf s.table r.word

@@ -13,7 +13,7 @@ pub record Course : Type 0 where
 abbrev pub course_of : Makings → Course
 course_of m = record { all = m.all.now; rounds = m.rounds.now; first = m.first }
 
--- Each round has so many flags.
+-- Each round has this many flags.
 abbrev pub HaveFlags : ℕ → List RoundView → Type 0
 HaveFlags count rounds = (k : ℕ) (round : RoundView) → slice_get rounds k ≡ Some round → length round.used ≡ count
 
@@ -21,7 +21,7 @@ HaveFlags count rounds = (k : ℕ) (round : RoundView) → slice_get rounds k �
 abbrev pub Uses : List RoundView → ℕ → ℕ → Type 0
 Uses rounds k place = (round : RoundView) × (slice_get rounds k ≡ Some round) × (slice_get round.used place ≡ Some true)
 
--- It is the first round that does.
+-- The round k is the first that uses the requirement at this place.
 pub record UsesFirst (rounds : List RoundView) (k place : ℕ) : Type 0 where
   pub uses : Uses rounds k place
   pub none_before : (i : ℕ) → i < k → Uses rounds i place → ⊥

@@ -9,7 +9,7 @@ use Rattle.swreq_sheet.specs.Sheets.{AreIdsIn, Basis}
 use Rattle.swreq_unfold.specs.declared.book.Book.{Book}
 use Rattle.swreq_unfold.specs.Systems.{FitsBook}
 
--- It is what the facts say over the table.
+-- The basis is what the facts say over the table.
 pub record IsBasisOver (terms : List Term) (m : IdFacts) (b : Basis) : Type 0 where
   pub facts : b.facts ≡ term_facts terms m
   pub params : b.params ≡ generic_params m.params

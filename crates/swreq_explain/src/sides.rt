@@ -13,7 +13,7 @@ use swreq_unfold::{Book, Scope, read_type};
 use swreq_word::Symbol;
 
 /// By what requirements of a list are stated: the rules of a system of the book. Words of a list begin with generic parameters, so it does
-/// not matter behind which type parameter they are read.
+/// not matter after which type parameter they are read.
 #[derive(Clone, Copy)]
 pub(crate) struct Desk<'a> {
     pub alloc: Global,
@@ -29,14 +29,14 @@ pub(crate) struct Side<'a> {
     pub word: &'a [Symbol],
 }
 
-/// The id of a type parameter, and of that as which its word is read.
+/// The id of a type parameter, and the id of the type parameter that its word is read as.
 #[derive(Clone, Copy)]
 pub(crate) struct ReadAs {
     pub itself: TermId,
     pub word: TermId,
 }
 
-/// Lines state that the type parameter equals that as which its word is read.
+/// Lines state that the type parameter equals the one that its word is read as.
 pub(crate) fn read_side(
     desk: Desk<'_>,
     sheet: &mut Sheet,

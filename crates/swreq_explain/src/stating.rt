@@ -18,7 +18,7 @@ use swreq_sheet::{Sheet, are_one, same_conf, same_layout, symm, trans};
 use swreq_unfold::{Owned, link};
 use swreq_word::Symbol;
 
-/// States that the type parameter conforms to the protocol, whose symbol vanishes behind its word.
+/// States that the type parameter conforms to the protocol, whose symbol vanishes after its word.
 pub(crate) fn conform(
     desk: Desk<'_>,
     sheet: &mut Sheet,
@@ -39,7 +39,7 @@ pub(crate) fn conform(
     Ok(())
 }
 
-/// States that the type parameter is an object, where the symbol of that vanishes behind its word.
+/// States that the type parameter is an object, where the symbol of that vanishes after its word.
 pub(crate) fn be_object(
     desk: Desk<'_>,
     sheet: &mut Sheet,

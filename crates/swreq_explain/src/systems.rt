@@ -23,7 +23,7 @@ use swreq_unfold::{Book, Equation, System};
 use swreq_valid::{Machine, Protocols};
 use swreq_world::World;
 
-/// The system of a round that begins with so many rules, which are those of the system at `below`, and whose basic equations are given.
+/// The system of a round whose first `base` rules are those of the system at `below`, with these basic equations.
 fn system_of(
     makings: Makings<'_>,
     basic: Vec<Equation>,
@@ -69,7 +69,7 @@ fn protocols_systems(makings: Makings<'_>) -> Result<Vec<System>, AllocError>
     Ok(systems)
 }
 
-/// Puts the systems of the rounds of a list last, which begin with so many rules, those of the system at `below`.
+/// Puts the systems of the rounds of a list last. The first `base` rules of each are those of the system at `below`.
 fn add_list_systems(
     makings: Makings<'_>,
     base: usize,

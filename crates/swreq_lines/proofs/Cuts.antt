@@ -102,7 +102,7 @@ module _ (byte : ℕ) where
 
   -- ---- pieces
 
-  -- The text is a piece without the byte, and the byte with what stands behind it, or the piece alone.
+  -- The text is a piece without the byte, and the byte with what follows it, or the piece alone.
   pub record IsPiece (t piece rest : Text) : Type 0 where
     pub without : IsWithout byte piece
     pub whole : (t ≡ piece ++ (byte ∷ rest)) ⊎ ((t ≡ piece) × (rest ≡ []))

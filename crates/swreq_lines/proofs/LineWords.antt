@@ -9,7 +9,7 @@ use Rattle.swreq_lines.proofs.Cuts.{without_append}
 use Rattle.swreq_lines.proofs.Digits.{number_without}
 use Rattle.swreq_lines.proofs.ReadNumbers.{ReadsTo}
 
--- What stands behind the number.
+-- What follows the number.
 pub behind_number : (n : ℕ) (text first behind_first second behind_second number behind_number rest : Text) → IsShort n
     → ReadsTo 32 text first behind_first → ReadsTo 32 behind_first second behind_second → ReadsTo 32 behind_second number behind_number
     → text ≡ codes "  " ++ (decimal n ++ (codes ". " ++ rest)) → behind_number ≡ rest
@@ -19,7 +19,7 @@ behind_number n text first behind_first second behind_second number after rest s
     let word = without_append 32 (decimal n) (codes ".") (number_without 32 refl n short) refl in
     (three (decimal n ++ codes ".") (32 ∷ rest) word refl (j.1 ∙ sym (append_assoc (decimal n) (codes ".") (32 ∷ rest)))).1
 
--- Premises stand behind a space.
+-- Premises follow a space.
 pub premises_end : (ns : List ℕ) → Ends 32 (premises_text ns)
 premises_end [] = tt
 premises_end (n ∷ ns) = refl

@@ -17,7 +17,7 @@ use Rattle.swreq_lines.proofs.Digits.{number_without}
 use Rattle.swreq_lines.proofs.Names.{name_without, protocol_without}
 use Rattle.swreq_lines.proofs.ReadNumbers.{ReadsTo}
 
--- The first three words of a text, and what stands behind each.
+-- The first three words of a text, and what follows each.
 pub record Words (text name behind_name first behind_first second behind_second : Text) : Type 0 where
   pub one : ReadsTo 32 text name behind_name
   pub two : ReadsTo 32 behind_name first behind_first
@@ -32,7 +32,7 @@ module _ (x : LexiconView) (names : TellsApart x) (text name behind_name first b
   abbrev found : DerivRule
   found = rule_named (rules_with p a n m) name
 
-  -- It is this rule, and the text goes on behind it.
+  -- It is this rule, and the text goes on after it.
   pub record IsRead (r : DerivRule) : Type 0 where
     pub rule : found ≡ r
     pub rest : behind_fields (fields_of found) behind_name behind_first behind_second ≡ behind tail

@@ -101,7 +101,7 @@ module _ (x : LexiconView) where
             (omega (arith, c, number, l)) (ap (λ z. slice_get z k) (sym all) ∙ e);
       }
 
-  -- So it is with each refusal of that line.
+  -- a refusal of that line is one of the text
   pub refused_at : (terms : List Term) (text rest piece after : Text) (ls : List Line) (n : ℕ) (e : LinesErr) → AreSoFar terms text rest ls → n < 2 ^ 32
       → lines rest ≡ piece ∷ lines after → n ≡ length ls + 1 → IsRefusedAt x n piece e → IsRefused x text e
   refused_at terms text rest piece after ls n (Syntax m) s small next number h =

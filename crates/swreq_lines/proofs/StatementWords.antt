@@ -1,4 +1,4 @@
--- Statements as they are read: a type parameter, a mark, and what stands behind the mark.
+-- Statements as they are read: a type parameter, a mark, and what follows the mark.
 use Rattle.std.proofs.Common.{◌≡◌, ◌∙◌, ◌++◌, ◌∷◌, refl, sym, arith, codes, append_assoc, Option, Some, None}
 use Rattle.std.specs.Prelude.{IfSome}
 use Rattle.swreq_derive.specs.Derivation.{TermStatement}
@@ -45,7 +45,7 @@ module _ (x : LexiconView) (names : TellsApart x) where
   subject (Requires (IsAnyObject t)) = t
   subject (Requires (Equals t u)) = t
 
-  -- The word behind it, and what stands behind that word.
+  -- The word after it, and what follows that word.
   abbrev pub IsMarked : Text → Text → Text → TermStatement → Type 0
   IsMarked mark rest tail (IsValid t) = (mark ≡ codes "by") × (rest ≡ tail)
   IsMarked mark rest tail (Requires (Conforms t p)) = (mark ≡ codes ":") × IsProtocol x p × (rest ≡ protocol_name x p ++ by_text tail)
@@ -58,7 +58,7 @@ module _ (x : LexiconView) (names : TellsApart x) where
     pub marked : IsMarked mark rest tail st
 
   module _ (text piece behind_piece mark rest tail : Text) (first : ReadsTo 32 text piece behind_piece) (second : ReadsTo 32 behind_piece mark rest) where
-    -- the subject, a mark without a space, and what stands behind it
+    -- the subject, a mark without a space, and what follows it
     parts : (t : Term) (m after : Text) → IsReadableType x t → IsWithout 32 m → text ≡ type_text x t ++ (32 ∷ (m ++ (32 ∷ after)))
         → (piece ≡ type_text x t) × (mark ≡ m) × (rest ≡ after)
     parts t m after h w e =

@@ -32,7 +32,7 @@ use Rattle.swreq_lines.proofs.ReadNumbers.{ReadsTo}
 
 -- ---- generic parameters
 
--- The two numbers behind the underscores.
+-- The two numbers after the underscores.
 pub numbers_of_param : (g : ParamId) (text tau behind_tau depth index : Text) → HasNumbers g → ReadsTo 95 text tau behind_tau → ReadsTo 95 behind_tau depth index
     → text ≡ param_text g → (depth ≡ decimal g.depth) × (index ≡ decimal g.index)
 numbers_of_param g text tau behind_tau depth index h first second e =
@@ -159,7 +159,7 @@ module _ (x : LexiconView) (names : TellsApart x) where
 
   -- ---- type parameters
 
-  -- The generic parameter, and the steps behind the first dot.
+  -- The generic parameter, and the steps after the first dot.
   pub parts_of_type : (t : Term) (text param steps : Text) → IsReadableType x t → ReadsTo 46 text param steps → text ≡ type_text x t
       → (param ≡ param_text (head t)) × (steps ≡ behind (steps_text x (steps_of t)))
   parts_of_type t text param steps h reads e =

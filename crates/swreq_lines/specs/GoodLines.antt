@@ -67,7 +67,7 @@ pub record IsFirstNotGood (x : LexiconView) (text : Text) (n : ℕ) : Type 0 whe
   pub bad : IsGood x n bytes → ⊥
   pub before : (k : ℕ) (good : Text) → k + 1 < n → slice_get (lines text) k ≡ Some good → IsGood x (k + 1) good
 
--- Syntax names the first line that is not good; of want of memory nothing is said.
+-- Syntax names the first line that is not good; nothing is said of Memory.
 abbrev pub IsRefused : LexiconView → Text → LinesErr → Type 0
 IsRefused x text (Syntax n) = IsFirstNotGood x text n
 IsRefused x text Memory = Unit {0}

@@ -111,7 +111,7 @@ abbrev pub texts_from : LexiconView → ℕ → List TermLine → List Text
 texts_from x n [] = []
 texts_from x n (l ∷ ls) = line_text x n l ∷ texts_from x (suc n) ls
 
--- the same, each with its line feed
+-- the texts of lines that are numbered from n on, each with its line feed
 abbrev pub lines_from : LexiconView → ℕ → List TermLine → Text
 lines_from x n [] = []
 lines_from x n (l ∷ ls) = line_text x n l ++ (codes "\n" ++ lines_from x (suc n) ls)

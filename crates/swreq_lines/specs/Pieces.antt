@@ -12,7 +12,7 @@ abbrev pub Ends : ℕ → Text → Type 0
 Ends byte [] = Unit {0}
 Ends byte (c ∷ t) = c ≡ byte
 
--- what stands behind the first byte
+-- what follows the first byte
 abbrev pub behind : Text → Text
 behind [] = []
 behind (c ∷ t) = t

@@ -61,7 +61,7 @@ abbrev pub rule_named : List DerivRule → Text → DerivRule
 rule_named [] name = Rule.Generic
 rule_named (r ∷ rules) name = if bytes_eq (rule_name r) name then r else rule_named rules name
 
--- of the texts behind no, one and two words, the one behind these fields
+-- of the texts after no, one and two words, the one after these fields
 abbrev pub by_count : Option ProtoId → Option NameId → Option ℕ → Text → Text → Text → Text
 by_count None None None none one two = none
 by_count None None (Some n) none one two = one
@@ -75,7 +75,7 @@ behind_fields f none one two = by_count f.protocol f.name f.number none one two
 
 -- ---- statements
 
--- the word behind `:` of a requirement of this form
+-- the word after `:` of a requirement of this form
 abbrev pub property_text : LexiconView → Option ProtoId → Text
 property_text x None = codes "AnyObject"
 property_text x (Some p) = protocol_name x p

@@ -1,7 +1,7 @@
 //! Lines of derivations as text.
 //!
 //! `lines_text` writes them, and `read_lines` reads them again. The reader takes from a line what it would say if it were good, tests
-//! that this is of the text, and compares what would be printed of it with the line: so a line is read exactly where it is good.
+//! that this is of the text, and compares what would be printed of it with the line: so a line is read if and only if it is good.
 #![tactic(auto)]
 
 mod interning;

@@ -21,7 +21,7 @@ use swreq_parts::first_line;
 pub enum LinesErr {
     /// The first line that is not good, counted from 1.
     Syntax { line: u32 },
-    /// Memory was wanting.
+    /// Memory ran out.
     Memory,
 }
 
@@ -57,7 +57,7 @@ fn put(lines: &mut Vec<Line>, line: Line) -> Result<(), LinesErr>
 }
 
 /// The lines of a derivation, numbered from 1, whose texts are all lines of the text up to its end, in order. The last line may lack
-/// its line feed. It is `LinesErr::Syntax` exactly where some line is not good, with the first such line.
+/// its line feed. It is `LinesErr::Syntax` if and only if some line is not good, with the first such line.
 ///
 /// Type parameters come into the table, which begins with the old one on every answer.
 pub fn read_lines(

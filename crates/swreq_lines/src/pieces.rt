@@ -11,7 +11,7 @@ fn find(text: &[u8], byte: u8) -> Option<usize>
     text.iter().position(|c| *c == byte)
 }
 
-/// A piece of a text, and what stands behind the byte that ends it.
+/// A piece of a text, and what follows the byte that ends it.
 #[derive(Clone, Copy)]
 pub(crate) struct Piece<'a> {
     pub piece: &'a [u8],

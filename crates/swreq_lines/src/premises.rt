@@ -10,7 +10,7 @@ use crate::numbers::read_number;
 use crate::pieces::{next_piece, next_word};
 use std::alloc::{AllocError, Global};
 
-/// The numbers behind the word `from`, with a comma and a space between each two.
+/// The numbers after the word `from`, with a comma and a space between each two.
 pub(crate) fn read_premises(alloc: Global, text: &[u8]) -> Result<Vec<usize>, AllocError>
     ensures { (ns : List ℕ) → AllByRecursion IsShort ns → text.now ≡ behind (premises_text ns) → IfOk result (λ v. v.items ≡ ns) }
 {

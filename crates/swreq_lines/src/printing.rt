@@ -90,7 +90,7 @@ fn put_rule(names: &Lexicon, rule: DerivRule, out: &mut Vec<u8>) -> Result<(), A
     put_number(fields.number, out)
 }
 
-/// What prints numbers.
+/// Prints a number in decimal.
 #[derive(Drop)]
 struct Numbers;
 

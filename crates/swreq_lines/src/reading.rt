@@ -81,7 +81,7 @@ fn is_text_of(
     Ok(printed.as_slice() == text)
 }
 
-/// The line with this number whose text it is, or None exactly where the text is not good.
+/// The line with this number whose text it is, or None if and only if the text is not good.
 pub(crate) fn read_line(
     alloc: Global,
     names: &Lexicon,

@@ -122,14 +122,14 @@ fn named(rules: &[DerivRule], name: &[u8]) -> DerivRule
     DerivRule::Generic
 }
 
-/// A rule, and the text behind it.
+/// A rule, and the text after it.
 #[derive(Clone, Copy)]
 pub(crate) struct ReadRule<'a> {
     pub rule: DerivRule,
     pub rest: &'a [u8],
 }
 
-/// Of the texts behind no, one and two words, the one behind these fields.
+/// Of the texts after no, one and two words, the one after these fields.
 fn behind_fields<'a>(fields: Fields, none: &'a [u8], one: &'a [u8], two: &'a [u8]) -> &'a [u8]
     ensures { result.now ≡ behind_fields fields none.now one.now two.now }
 {
@@ -140,7 +140,7 @@ fn behind_fields<'a>(fields: Fields, none: &'a [u8], one: &'a [u8], two: &'a [u8
     }
 }
 
-/// The rule with which a text begins, and the text behind the space that ends it.
+/// The rule with which a text begins, and the text after the space that ends it.
 pub(crate) fn read_rule<'a>(names: &Lexicon, text: &'a [u8]) -> ReadRule<'a>
     requires { TellsApart names.now }
     ensures { (r : DerivRule) (tail : Text) → HasReadableFields names.now (fields_of r) → Ends 32 tail → text.now ≡ rule_text names.now r ++ tail

@@ -35,14 +35,14 @@ pub(crate) enum WrittenStatement {
     Equals(TypeParam, TypeParam),
 }
 
-/// A statement, and the text behind the word `by`.
+/// A statement, and the text after the word `by`.
 #[derive(Drop)]
 pub(crate) struct Stated<'a> {
     pub statement: WrittenStatement,
     pub rest: &'a [u8],
 }
 
-/// The requirement on a type parameter with this word behind `:`.
+/// The requirement on a type parameter with this word after `:`.
 fn property(names: &Lexicon, t: TypeParam, word: &[u8]) -> WrittenStatement
     requires { TellsApart names.now }
     ensures { (p : Option ProtoId) → IfSome p (IsProtocol names.now) → word.now ≡ property_text names.now p
@@ -55,7 +55,7 @@ fn property(names: &Lexicon, t: TypeParam, word: &[u8]) -> WrittenStatement
     }
 }
 
-/// The statement on a type parameter of which this is the text behind `:`.
+/// The statement on a type parameter of which this is the text after `:`.
 fn behind_colon<'a>(names: &Lexicon, t: TypeParam, text: &'a [u8]) -> Stated<'a>
     requires { TellsApart names.now }
     ensures { (p : Option ProtoId) (rest : Text) → IfSome p (IsProtocol names.now) → text.now ≡ property_text names.now p ++ (codes " by " ++ rest)
@@ -69,7 +69,7 @@ fn behind_colon<'a>(names: &Lexicon, t: TypeParam, text: &'a [u8]) -> Stated<'a>
     }
 }
 
-/// The statement on a type parameter of which this is the text behind `==`.
+/// The statement on a type parameter of which this is the text after `==`.
 fn behind_equals<'a>(
     alloc: Global,
     names: &Lexicon,

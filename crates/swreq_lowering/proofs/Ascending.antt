@@ -127,7 +127,7 @@ begin_both (n ∷ ns) ms (t ∷ xs) ys (inr h) k = inr (begin_both (n ∷ ns) ms
 record Places {A : Type 0} (g : Line A) (f : A → List ℕ) : Type 0 where
   begin : (ts : Tokens) (v : A) → Matches number g ts v → Begin (f v) ts
 
--- The same of what a text of the line makes of a value: tokens begin at the places behind those of the value.
+-- Of a line that makes a value from a value: tokens begin at the places that it adds after those of the value.
 record PlacesOf {A B : Type 0} (h : Line (A → B)) (m : A → List ℕ) (f : B → List ℕ) : Type 0 where
   begin : (ts : Tokens) (k : A → B) → Matches number h ts k → (v : A) → (ns : List ℕ) × (m v ++ ns ≡ f (k v)) × Begin ns ts
 
@@ -295,12 +295,12 @@ item_line = at_before bare_item_line
 
 -- ---- in order
 
--- all of the places are behind this one
+-- all of the places are after this one
 abbrev pub Above : ℕ → List ℕ → Type 0
 Above n [] = Unit {0}
 Above n (m ∷ ms) = (n < m) × Above n ms
 
--- each place is behind those before it
+-- each place is after those before it
 abbrev pub Ascend : List ℕ → Type 0
 Ascend [] = Unit {0}
 Ascend (n ∷ ns) = Above n ns × Ascend ns

@@ -81,7 +81,7 @@ Tokens = List (Token Terminal)
 record Bounds {A : Type 0} (g : Line A) (size : A → ℕ) : Type 0 where
   bound : (ts : Tokens) (v : A) → Matches number g ts v → size v ≤ length ts
 
--- The same of what a text of the line makes of a value.
+-- Of a line that makes a value from a value: what it makes counts no more than the value and the tokens together.
 record BoundsOf {A B : Type 0} (h : Line (A → B)) (m : A → ℕ) (size : B → ℕ) : Type 0 where
   bound : (ts : Tokens) (f : A → B) → Matches number h ts f → (v : A) → size (f v) ≤ m v + length ts
 

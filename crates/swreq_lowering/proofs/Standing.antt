@@ -122,7 +122,7 @@ module _ (w : WordsView) (whole : List (Context × Constraint)) where
         (λ k d l j e m. let r = g.stand k d l in let q = h.stand j e m in (r.0, q.0, r.2, q.2, ascend_apart ns ms a r.0 q.0 r.1 q.1));
   }
 
-  -- one requirement and more, whose places are behind its own
+  -- one requirement and more, whose places are after its own
   goes_cons : (n : ℕ) (ns : List ℕ) (r : PlacedRequirement) (rs : List PlacedRequirement) → EndsAt w whole r n → Goes ns rs → Goes (n ∷ ns) (r ∷ rs)
   goes_cons n ns r rs h g = goes_append (n ∷ []) ns (r ∷ []) rs one g
     where

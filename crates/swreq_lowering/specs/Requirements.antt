@@ -72,7 +72,7 @@ module _ (w : WordsView) where
     abbrev pub argument : Term → ℕ → Span → TypeDecl → PlacedRequirement
     argument t at a u = equality (member_named w t a) at (type_in w context u) u.head.start
 
-    -- those of these primary names and these arguments
+    -- the equalities of these arguments with these primary associated types, in order
     abbrev pub arguments : Term → ℕ → List Span → List TypeDecl → List PlacedRequirement
     arguments t at [] us = []
     arguments t at (a ∷ names) [] = []

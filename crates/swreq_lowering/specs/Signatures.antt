@@ -41,7 +41,7 @@ abbrev pub depth_within : List ParamDecl → ℕ
 depth_within [] = 0
 depth_within (g ∷ gs) = 1
 
--- A signature's own generic parameters have depth 1 where it is a function of a struct that has generic parameters, and else depth 0.
+-- A signature's own generic parameters have depth 1 where it is a function of a struct that has generic parameters, and otherwise depth 0.
 abbrev pub own_depth : Skeleton → Signature → ℕ
 own_depth s g = depth_within (outer_param_decls s g)
 

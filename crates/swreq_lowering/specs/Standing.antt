@@ -40,7 +40,7 @@ of_struct i s = of_signature (Struct i) s.params s.clause
 abbrev pub of_function : ℕ → FunctionDecl → List (Context × Constraint)
 of_function i f = of_signature (Function i) f.params f.clause
 
--- those of the struct, and then its own
+-- the constraints of a function in a struct: those of the struct, and then its own
 abbrev pub of_nested : ℕ → StructDecl → ℕ → FunctionDecl → List (Context × Constraint)
 of_nested i s j f = of_struct i s ++ of_signature (Nested i j) f.params f.clause
 

@@ -45,8 +45,8 @@ param_id depth (Own k) = record { depth = depth; index = k }
 abbrev pub param_named : WordsView → Signature → List ℕ → Option ParamId
 param_named w g name = option_map (param_id (own_depth w.skeleton g)) (param_of (declared w) g name)
 
--- The first word of a type in a signature is one of its generic parameters. Where it is none it stands for τ_0_0; where the names of a text resolve, it
--- is one.
+-- The first word of a type in a signature: one of its generic parameters, or τ_0_0 where it is not one. Where the names of a text resolve,
+-- it is one.
 abbrev pub signature_head : WordsView → Signature → Span → Term
 signature_head w g s = Generic (unwrap_or (param_named w g (word w.text s)) self_param)
 

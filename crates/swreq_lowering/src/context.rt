@@ -1,4 +1,4 @@
-// In what types are read.
+// Where types are written.
 use swreq_names::Signature;
 
 /// Where a type is written, which tells what its first word stands for.

@@ -96,7 +96,7 @@ fn counts(outer: &[ParamDecl], own: &[ParamDecl]) -> Params
 }
 
 /// The generic parameters of a signature. Those of a struct have depth 0. Those of its functions have depth 1 where the struct
-/// has some, and else depth 0.
+/// has some, and otherwise depth 0.
 pub fn params_of(s: &Skeleton, signature: Signature) -> Params
     requires outer { length (outer_param_decls s.now signature) < 2 ^ 32 }
     requires own { length (own_param_decls s.now signature) < 2 ^ 32 }

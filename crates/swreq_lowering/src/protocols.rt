@@ -16,7 +16,7 @@ use std::alloc::{AllocError, Global};
 use swreq_decl::{AssocDecl, ProtocolDecl};
 use swreq_param::{ParamTable, Step};
 
-/// An associated type.
+/// Adds the requirements that an associated type states.
 #[tactic(auto, using(swreq_param::proofs::Growing::onward))]
 fn add_member(
     table: &mut ParamTable,

@@ -195,7 +195,7 @@ fn add_subject(
     add_bounds(table, words, context, on, bounds, into)
 }
 
-/// A written requirement.
+/// Adds the requirements that are meant by a written one.
 fn add_requirement(
     table: &mut ParamTable,
     words: &Words<'_>,
@@ -215,7 +215,7 @@ fn add_requirement(
     }
 }
 
-/// A where clause.
+/// Adds the requirements of a where clause.
 #[tactic(auto, using(swreq_param::proofs::Growing::onward))]
 pub fn add_clause(
     table: &mut ParamTable,

@@ -35,7 +35,7 @@ fn lines_of_family(
     Ok(out)
 }
 
-/// The same of a world whose protocols are built.
+/// The lines of the family of a world, or why there is none.
 fn lines_of_world(
     alloc: Global,
     world: &World,
@@ -52,7 +52,7 @@ fn lines_of_world(
     }
 }
 
-/// The same of a text, where a completion may have so many rules.
+/// The lines of the family of a text, where a completion may have `max_rules` rules, or why there is none.
 fn lines_within(alloc: Global, text: &[u8], max_rules: u32) -> Result<Vec<u8>, Fail> {
     let limits = limits_of(max_rules)?;
     let mut table = ParamTable::new(alloc);

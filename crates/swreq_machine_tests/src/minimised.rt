@@ -74,7 +74,7 @@ fn kept_of(
     }
 }
 
-/// The same of a world.
+/// How many requirements minimising keeps of the list of the first signature of a world, or why it fails.
 fn kept_of_first(
     alloc: Global,
     world: &World,
@@ -94,7 +94,7 @@ fn kept_of_first(
     }
 }
 
-/// The same of a text, where minimising may have so many rules.
+/// How many requirements minimising keeps of the list of the first signature of a text, where a completion may have `max_rules` rules.
 fn kept_within(
     alloc: Global,
     text: &str,
@@ -129,7 +129,8 @@ const TEXTS: &[(&str, u32, &str)] = &[
     (IMPLIED, 8, "2"),
 ];
 
-/// Of each list that minimising meets the rules grow from those of another one. So no list is completed from its begin, and nothing is told.
+/// The rules of each list that minimising meets grow from those of another list. So no list is completed from its beginning, and nothing is
+/// told.
 #[test]
 fn minimising_keeps_its_own_limit_and_spares_completions(rt: HostRuntime) -> Result<(), Fail> {
     for (text, max_rules, wanted) in TEXTS {

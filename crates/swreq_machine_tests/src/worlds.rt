@@ -20,7 +20,7 @@ pub(crate) const LIMITS: Limits = Limits {
     max_length: 64,
 };
 
-/// The limits with so many rules.
+/// The limits with this many rules.
 pub(crate) fn limits_of(max_rules: u32) -> Result<Limits, Fail>
     ensures { IfOk result AreInRange }
 {

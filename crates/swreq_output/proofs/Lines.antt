@@ -49,7 +49,7 @@ line_appended P terms w f of_machine params list alike read minimised same holds
       subst (λ (p : Params). P (signature_text w.lexicon (generic_params p) list ++ codes "\n")) (read ∙ sym (params_are terms w f)) holds,
     )
 
--- the same, by what the code reads
+-- the line, by what the code reads
 pub line_read : (P : List ℕ → Type 0) (terms new_terms : List Term) (w : IdWorld) (f : FuncId) (of_machine params : Params)
     (rs shown : List Requirement)
     → of_machine ≡ (signature_at (world_by terms w) f).params → params ≡ (signature_at w f).params → shown ≡ rs

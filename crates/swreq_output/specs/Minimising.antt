@@ -23,6 +23,7 @@ module _ (limits : Limits) (w : TextWorld) (rules : List Rule) where
   abbrev pub MinimisingTells : SignatureOver PlacedRequirement → List Event → Type 0
   MinimisingTells g told = AreParts limits (list_of w rules g.params) (IsMet w g) told
 
-  -- It fails so, and tells this: by a limit that the rounds of one such list pass, with its trace, or for want of memory.
+  -- Minimising the signature fails in this way, and tells this: by a limit that the rounds of one such list pass, with its trace, or
+  -- because memory runs out.
   abbrev pub MinimisingFails : SignatureOver PlacedRequirement → Failed → List Event → Type 0
   MinimisingFails g failed told = FailsBy limits (list_of w rules g.params) (IsMet w g) failed told

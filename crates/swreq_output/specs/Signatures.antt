@@ -17,13 +17,13 @@ use Rattle.swreq_print.specs.Signatures.{signature_text}
 abbrev pub full_name : TextWorld → SignatureOver PlacedRequirement → Text
 full_name w g = option_map_or (λ outer. outer ++ codes ".") (outer_name w g.outer) [] ++ g.name
 
--- The line is the text of the minimised list of the signature, from which one derives just what one derives from the written list.
+-- The line is the text of the minimised list of the signature, from which one derives exactly what one derives from the written list.
 pub record IsMinimisedLine (w : TextWorld) (g : SignatureOver PlacedRequirement) (line : Text) : Type 0 where
   pub list : List TermRequirement
   pub minimised : IsMinimised (facts_of w) (generic_params g.params) (written_list g) list
   pub same : AreEquivalent (facts_of w) (generic_params g.params) (written_list g) list
   pub line_is : line ≡ signature_text w.lexicon (generic_params g.params) list ++ codes "\n"
 
--- It stands behind the name of the signature.
+-- It follows the name of the signature.
 abbrev pub IsNamedLine : TextWorld → SignatureOver PlacedRequirement → Text → Type 0
 IsNamedLine w g line = (minimised : Text) × IsMinimisedLine w g minimised × (line ≡ full_name w g ++ (codes ": " ++ minimised))

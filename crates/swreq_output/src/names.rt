@@ -12,7 +12,7 @@ use swreq_param::ParamTable;
 use swreq_text::append_bytes;
 use swreq_world::{FuncId, World};
 
-/// Writes `S.` for a function of a struct S, and else nothing.
+/// Writes `S.` for a function of a struct S, and otherwise nothing.
 #[tactic(auto, using(swreq_text::proofs::Parts::none_grew, swreq_text::proofs::Parts::grew_next))]
 fn put_outer(world: &World, f: FuncId, out: &mut Vec<u8>) -> Result<(), AllocError>
     requires { f.place < length world.now.signatures }

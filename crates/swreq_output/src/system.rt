@@ -20,7 +20,7 @@ use swreq_text::{append_bytes, append_number};
 use swreq_valid::Machine;
 use swreq_world::{FuncId, World};
 
-/// Writes the line above so many rules of a signature.
+/// Writes the line above this many rules of a signature.
 #[tactic(auto, using(swreq_text::proofs::Parts::none_grew, swreq_text::proofs::Parts::grew_first, swreq_text::proofs::Parts::grew_next))]
 fn put_head(
     world: &World,

@@ -58,13 +58,13 @@ unfolding first_of
 no_comma [] t n e = empty_not 44 t e
 no_comma (c ∷ x) t n e = n (ap (first_of 0) e)
 
--- The text of a thing, before what may stand behind it, says which thing it is.
+-- The text of a thing, before what may follow it, says which thing it is.
 abbrev pub IsRead : {A : Type 0} → (A → Text) → (A → Type 0) → (Text → Type 0) → Type 0
 IsRead {A} text IsOf Ends = (a b : A) (x y : Text) → IsOf a → IsOf b → Ends x → Ends y → text a ++ x ≡ text b ++ y → (a ≡ b) × (x ≡ y)
 
 module _ {A : Type 0} (text : A → Text) (IsOf : A → Type 0) (Ends : Text → Type 0) (read : IsRead text IsOf Ends)
     (comma : (t : Text) → Ends (44 ∷ t)) where
-  -- the texts behind the first one
+  -- the texts after the first one
   abbrev more_texts : List A → Text
   more_texts xs = followed (codes ", ") (map text xs)
 

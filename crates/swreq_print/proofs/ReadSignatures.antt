@@ -17,7 +17,7 @@ use Rattle.swreq_print.proofs.Digits.{in_number}
 use Rattle.swreq_print.proofs.ReadTypes.{EndsType, stops_name, param_read, protocol_read, type_read}
 
 module _ (x : LexiconView) (names : TellsApart x) where
-  -- the subject, and what stands behind it
+  -- the subject, and what follows it
   subject : (t u : Term) (a b v w : Text) → IsReadableType x t → IsReadableType x u → (type_text x t ++ (32 ∷ a)) ++ v ≡ (type_text x u ++ (32 ∷ b)) ++ w
       → (t ≡ u) × (a ++ v ≡ b ++ w)
   unfolding rest_of

@@ -43,9 +43,9 @@ param_read g h x y (ld, li) (le, lj) sx sy eq =
     let n = decimal_read g.index h.index x y (omega arith) (omega arith) sx sy (ap rest_of m.1) in
     ((λ i. record { depth = m.0 i; index = n.0 i }), n.1)
 
--- ---- what may stand behind a type parameter
+-- ---- what may follow a type parameter
 
--- the same as in names, or a dot
+-- a byte of a name, or a dot
 abbrev pub in_type : ℕ → Bool
 in_type c = if c == 46 then true else in_name c
 

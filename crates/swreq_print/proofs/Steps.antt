@@ -20,7 +20,7 @@ pub steps_of_text : (x : LexiconView) (t : Term) (steps : List Step) → IsTermO
 steps_of_text x t [] h = (h, tt)
 steps_of_text x t (s ∷ steps) h = let more = steps_of_text x (Member t s) steps h in (more.0.0, (more.0.1, more.1))
 
--- the same of all its steps
+-- the text of a type parameter is that of its generic parameter, and then that of its steps
 pub by_steps : (x : LexiconView) (t : Term) → type_text x t ≡ param_text (head t) ++ steps_text x (steps_of t)
 by_steps x t = ap (type_text x) (sym (as_steps t)) ∙ type_by_steps x Signature (Generic (head t)) (steps_of t)
 

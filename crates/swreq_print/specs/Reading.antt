@@ -18,7 +18,7 @@ use Rattle.swreq_print.specs.Names.{Text, protocol_name, name_text, pair_at}
 abbrev pub IsAssociated : LexiconView → AssocId → Type 0
 IsAssociated x d = d.rank < length x.associated
 
--- Its protocol and its name are of the text.
+-- The protocol and the name are of the text.
 abbrev pub IsPair : LexiconView → ProtocolName → Type 0
 IsPair x d = IsProtocol x d.proto × IsName x d.name
 
@@ -28,7 +28,7 @@ IsPair x d = IsProtocol x d.proto × IsName x d.name
 abbrev pub in_name : ℕ → Bool
 in_name c = not (c == 32 || (c == 44 || (c == 46 || (c == 58 || (c == 61 || (c == 62 || (c == 91 || c == 93)))))))
 
--- It is not empty, and has such bytes alone.
+-- The text is not empty, and all its bytes may stand in a name.
 pub record IsProper (t : Text) : Type 0 where
   pub first : ℕ
   pub rest : Text
@@ -47,7 +47,7 @@ pub record TellsApart (x : LexiconView) : Type 0 where
 
 -- ---- signatures
 
--- Its numbers have 32 bits.
+-- The numbers of the generic parameter have 32 bits.
 abbrev pub HasNumbers : ParamId → Type 0
 HasNumbers g = (g.depth < 2 ^ 32) × (g.index < 2 ^ 32)
 

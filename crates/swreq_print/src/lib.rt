@@ -1,6 +1,6 @@
 //! The texts that are printed, as bytes: type parameters, requirements, signatures, rules and traces.
 //!
-//! Names come from the lexicon of the text. Each public call appends its text to `out`, and leaves `out` as it was for want of memory.
+//! Names come from the lexicon of the text. Each public call appends its text to `out`, and leaves `out` unchanged if memory runs out.
 #![tactic(auto)]
 
 pub mod laws;

@@ -111,7 +111,7 @@ fn listed(alloc: Global, params: Params) -> Result<Vec<ParamId>, AllocError>
     Ok(all)
 }
 
-/// What prints generic parameters.
+/// Prints a generic parameter, as `τ_0_0`.
 #[derive(Drop)]
 struct Generics;
 

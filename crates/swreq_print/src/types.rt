@@ -121,7 +121,7 @@ pub fn steps_text(
 }
 
 /// Appends a type parameter of the table, as `τ_0_0.[P]A.B`: its generic parameter `τ_d_i` of depth d and index i, and for
-/// each member a dot and its name, behind the protocol in brackets where it is bound.
+/// each member a dot and its name, after the protocol in brackets where it is bound.
 pub fn type_text(
     alloc: Global,
     names: &Lexicon,

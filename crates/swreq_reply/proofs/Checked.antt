@@ -118,7 +118,7 @@ module _ (limits : Limits) (w : TextWorld) where
 
 -- ---- what is told
 
--- Behind the old list such events were told.
+-- After the old list such events were told.
 abbrev pub Tells : (List Event → Type 0) → Option (List Event) → Option (List Event) → Type 0
 Tells Are old new = (told : List Event) × Are told × GrewBy old new told
 

@@ -109,7 +109,7 @@ answered_by terms s f m is q a asks has =
     subst (λ (g : FuncId). IsAnswer (Derivable (facts_of w) (source_of (signature_at w g))) q a) (sym asks)
     (subst (λ (p : Params). IsAnswer (Derivable (facts_of w) (Written (generic_params p) (written_list (signature_at w f)))) q a) is.params has)
 
--- nothing stands behind the answer to a query of a type
+-- nothing follows the answer to a query of a type
 pub none_behind : (w : TextWorld) (b : Backing) (q : TermQuery) (f : FuncId) (t : Term) (a : Answer) → q ≡ AsksReduced f t → HasAnswer w true a q
     → Backs w b q a []
 none_behind w b q f t Yes asks h = absurd (none-some h.1.0 (sym (ap asked asks) ∙ h.1.1))

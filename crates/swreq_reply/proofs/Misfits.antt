@@ -23,7 +23,7 @@ module _ (x : LexiconView) (count : ℕ) where
       (line, rest, is, after, ap₂ ◌∷◌ (sym same.0) longer)
 
   module _ (ls : List Text) where
-    -- what is stuck with so many lines before it does not begin with more
+    -- what is stuck with this many lines before it does not begin with more
     earlier : (n k : ℕ) (p : IsFirstMisfit x count ls n) (q : IsFirstMisfit x count ls k) → length p.before < length q.before → ⊥
     earlier n k p q l =
         let (line, rest, is, after, longer) = front p.before p.rest q.before q.rest (sym p.split ∙ q.split) l in

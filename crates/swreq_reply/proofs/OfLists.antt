@@ -66,7 +66,7 @@ module _ (terms : List Term) (w : IdWorld) (f : FuncId) (params : Params) (list 
   pub list_written : IsTextOver terms w → f.place < length w.signatures → AreWritten terms w.lexicon list
   list_written text l r c = signature_written w terms text f l r (rw list_is at c)
 
-  -- built anew the list of a signature that has passed comes to rules again, or there is no memory
+  -- where the list of a signature that has passed is built again, it comes to rules again, or memory runs out
   pub only_memory : (limits : Limits) (base : List Rule) (told : List Event)
       → SignaturesCome limits (world_by terms w) base (world_by terms w).signatures None told → f.place < length w.signatures
       → (e : Refused) → IsOnlyBuilt limits (machine_plan terms w base params (bare list)) (facts_of (world_by terms w))
@@ -102,7 +102,7 @@ IsMachineBy w s m p rs =
     IsListWellFormed (facts_of w) (WrittenList (generic_params p) rs) × IsMachineOf w rs m × (m.params ≡ p)
     × AreRounds s.limits (list_of w (last_rules s.protocols.now.rounds) m.params rs) m.rounds
 
--- It is that of a signature where it is so of its list.
+-- The machine is one of the generic parameters and the list of the signature.
 abbrev pub IsMachineAt : TextWorld → Setting → FuncId → MachineView → Type 0
 IsMachineAt w s f m = IsMachineBy w s m (signature_at w f).params (written_list (signature_at w f))
 

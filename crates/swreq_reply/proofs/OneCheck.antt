@@ -1,4 +1,4 @@
--- A check comes out in one way.
+-- A check has one outcome.
 use Rattle.std.proofs.Common.{◌≡◌, ◌≢◌, inl, inr, refl, subst, List, Option, None, Result, Ok, Err}
 use Rattle.swreq_derive.specs.Derivation.{TermFacts}
 use Rattle.swreq_rule.specs.declared.rules.Rule.{Rule}
@@ -19,7 +19,7 @@ use Rattle.swreq_reply.specs.Machines.SignaturesCome.{all, next, stopped}
 abbrev Answer : Type 0
 Answer = Result (List Rule) Refused
 
--- The answer is not for want of memory.
+-- The answer is not that memory ran out.
 abbrev IsReal : Answer → Type 0
 IsReal (Ok rules) = Unit {0}
 IsReal (Err refused) = refused ≢ Memory
@@ -29,7 +29,7 @@ module _ (limits : Limits) (plan : Plan) (f : TermFacts) (sides : List Side) whe
   untold (Err Memory) told h real = absurd (real refl)
   untold a told h real = (told, h, refl)
 
-  -- Two such answers of a list are one.
+  -- Two answers of a list, if memory did not run out, are one.
   one_answer : (a b : Answer) (t u : List Event) → IsBuilt limits plan f sides a t → IsBuilt limits plan f sides b u → IsReal a → IsReal b
       → a ≡ b
   one_answer a b t u h k real too = elim (only_built limits plan f sides a None None (untold a t h real) b u k) [

@@ -1,4 +1,4 @@
--- What a command prints of a world is one, but for the derivations behind its answers.
+-- What a command prints of a world is one, but for the derivations after its answers.
 use Rattle.std.proofs.Common.{◌≡◌, ◌≢◌, ◌⊎◌, ◌∙◌, arith, false, inl, inr, refl, sym, ap, ap₂, subst, ℕ, suc, List, [], ◌∷◌, ◌++◌, codes}
 use Rattle.std.specs.List.{concat}
 use Rattle.swreq_decl.specs.declared.skeleton.Skeleton.{Skeleton}

@@ -116,7 +116,7 @@ source_within {c} {input} {p} are = by (reads c) are.divided
     by inputs.TwoParts d = omega (arith, ap length (sym are.whole ∙ d.whole), length-append p.source d.behind, are.within)
     by _ (e, f) = omega (arith, ap length (e ∙ are.whole), are.within)
 
--- and so is what stands behind it
+-- the second part is no longer than the input
 pub second_within : {c : Command} {input : List ℕ} {p : Parts} → AreParts c input p → length p.second ≤ length p.input
 second_within {c} {input} {p} are = by (reads c) are.divided
   where
@@ -146,14 +146,14 @@ module _ (line : CommandLine) (p : Parts) where
   family_end w (Err (failed.Limit which trace)) = Some (stopped_with line w.lexicon which trace)
   family_end w answer = None
 
-  -- So it ends behind a check that refuses nothing: a family may pass a limit, and the second part may be refused.
+  -- How the input ends after a check that refuses nothing: a family may pass a limit, and the second part may be refused.
   abbrev EndsBehind : TextWorld → Content → Option Outcome → Type 0
   EndsBehind w Families end = (answer : Result Family Failed) × (told : List Event) × IsFamilyOutcome (limits_of line) w answer told
       × (answer ≢ Err failed.Memory) × (end ≡ family_end w answer)
   EndsBehind w Calls end = EndsBy (RefusesSecond w p) refused_with (HasCalls w p) end
   EndsBehind w c end = end ≡ None
 
-  -- So it ends with a check that comes out so.
+  -- How the input ends with a check that comes out so.
   abbrev EndsChecked : TextWorld → Content → Option Refused → Option Outcome → Type 0
   EndsChecked w c (Some r) end = end ≡ Some (machine_outcome line w.lexicon r)
   EndsChecked w c None end = EndsBehind w c end
@@ -164,18 +164,18 @@ module _ (line : CommandLine) (p : Parts) where
   abbrev Fits : TextWorld → Type 0
   Fits w = (ss : List TermSection) × AreSections w.lexicon (length w.queries) (lines p.second) ss
 
-  -- So it ends with this world: by its second part alone, or by a check.
+  -- How the input ends with this world: by its second part alone, or by a check.
   abbrev EndsIn : TextWorld → Content → Option Outcome → Type 0
   EndsIn w Judgements end = EndsBy (IsMisfit w) (λ n. refused_with (refusals.DerivationSyntax n)) (Fits w) end
   EndsIn w c end = (r : Option Refused) × (told : List Event) × IsChecked (limits_of line) w r told × EndsChecked w c r end
 
-  -- So it ends where its source is read so: unread, or by its names, or with its world.
+  -- How the input ends where its source is read in this way: unread, or by its names, or with its world.
   abbrev EndsRead : Result Skeleton ParseErr → Option Outcome → Type 0
   EndsRead (Err e) end = end ≡ Some (refused_with (refusal_of e))
   EndsRead (Ok s) end = ((e : NameErr) × RefusesSkeleton p.source s e × (end ≡ Some (refused_with (name_refusal e))))
       ⊎ (Resolve p.source s × ((w : TextWorld) × IsWorldOf p.source s w × EndsIn w (content_of line.command) end))
 
-  -- So it ends with these parts.
+  -- How the input ends with these parts.
   abbrev EndsWith : Option Outcome → Type 0
   EndsWith end = (r : Result Skeleton ParseErr) × IsReadAs p.source r × EndsRead r end
 
@@ -206,7 +206,7 @@ module _ (line : CommandLine) (input : List ℕ) where
   abbrev printed : Content
   printed = content_of line.command
 
-  -- It ends so: it is too long, or lacks its second part, or has parts with which it ends so.
+  -- How an input ends: it is too long, or lacks its second part, or has parts and ends as they do.
   data Ends (end : Option Outcome) : Type 0 where
     long : 1048576 < length input → end ≡ Some (refused_with refusals.TooLarge) → Ends end
     undivided : length input ≤ 1048576 → reads line.command ≡ inputs.TwoParts → (Contains (lines input) divider → ⊥)
@@ -335,7 +335,7 @@ long_refused line input more {o} r = by (refused_ends line input r)
     by (undivided within two none is) = absurd (omega (arith, more, within))
     by (divided p are end) = absurd (omega (arith, more, are.within))
 
--- and so is one that lacks its second part
+-- an input that lacks its second part is refused for that alone
 pub undivided_refused : (line : CommandLine) (input : List ℕ) → reads line.command ≡ inputs.TwoParts → (Contains (lines input) divider → ⊥)
     → length input ≤ 1048576 → {o : Outcome} {told : List Event} → IsRefused line input o told → o ≡ refused_with refusals.MissingPart
 undivided_refused line input two none within {o} r = by (refused_ends line input r)

@@ -79,7 +79,7 @@ unread text parsed within lex syntax unsupported (grammar.Syntax at) is real = (
 unread text parsed within lex syntax unsupported (grammar.Unsupported at kind) is real = (within, (unsupported at kind).0 is)
 unread text parsed within lex syntax unsupported grammar.Memory is real = absurd (real refl)
 
--- so is one whose names are refused
+-- a text whose names are refused has no world, and this refusal
 pub unresolved : (text : List ℕ) (skeleton : Skeleton) (e : NameErr) → length text ≤ 1048576 → StandsFor text skeleton
     → RefusesSkeleton text skeleton e ⊎ (e ≡ names.Memory) → e ≢ names.Memory → HasNoWorld text (name_refusal e)
 unresolved text skeleton e within stands (inr none) real = absurd (real none)
@@ -98,7 +98,7 @@ prints_pieces Judgements j f k = absurd (j refl)
 prints_pieces Calls j f k = absurd (k refl)
 prints_pieces c j f k = tt
 
--- and minimising tells all that is told behind the check
+-- and minimising tells all that is told after the check
 minimising_tells : (limits : Limits) (w : TextWorld) (c : Content) (rules : List Rule) (told : List Event) → PrintsPieces c
     → MinimisingAllTells limits w c rules told → TellsBehind limits w c rules told
 minimising_tells limits w Families rules told prints tells = absurd prints
@@ -189,14 +189,14 @@ module _ {r : Request} (request : IsRequest r) where
         replies (line_of r) (parts_of r).input old new told grew (inr (checks, (w, has, inl (check_tells (limits_in r) w checked)))) result h
         (λ o (real, is). is_refused (unchecked w refused checks has checked is))
 
-    -- ---- behind the check, which comes to these rules of the protocols
+    -- ---- after the check, which comes to these rules of the protocols
 
     module _ {rules : List Rule} (passed : HavePassed (limits_in r) w rules) where
-      -- Whatever the check tells, of that and these events this is so.
+      -- Whatever the check tells, P holds of that with these events after it.
       abbrev After : List Event → (List Event → Type 0) → Type 0
       After more P = (first : List Event) → IsBuiltOver (limits_in r) w rules first → P (first ++ more)
 
-      -- what is told behind the check is a part of what the input tells, and an outcome is the verdict with which it is told
+      -- what is told after the check is a part of what the input tells, and an outcome is the verdict with which it is told
       finishes : (old new : Option (List Event)) (more : List Event) → GrewBy old new more → After more (TellsPart (line_of r) (parts_of r).input)
           → {P : Outcome → Type 0} (result : Result Outcome AllocError) → IfOk result P
           → ((o : Outcome) → P o → After more (IsVerdict (line_of r) (parts_of r).input o))
@@ -204,7 +204,7 @@ module _ {r : Request} (request : IsRequest r) where
       finishes old new more grew part (Ok o) h verdict = (more, verdict o h, grew)
       finishes old new more grew part (Err e) h verdict = (more, part, grew)
 
-      -- minimising ends for want of memory
+      -- minimising ends because memory runs out
       part_of : ChecksMachines (line_of r).command → (cause : Failed) (more : List Event)
           → MinimisingEndsIn (limits_in r) w (printed_of r) rules cause more → After more (TellsPart (line_of r) (parts_of r).input)
       part_of checks cause more part first built =
@@ -225,14 +225,14 @@ module _ {r : Request} (request : IsRequest r) where
             ),
           )
 
-      -- nothing is told behind the check
+      -- nothing is told after the check
       pub finishes_alone : ChecksMachines (line_of r).command → (old : Option (List Event)) {P : Outcome → Type 0} (result : Result Outcome AllocError)
           → IfOk result P → ((o : Outcome) → P o → After [] (IsVerdict (line_of r) (parts_of r).input o))
           → Finishes (line_of r) (parts_of r).input w rules old old result
       finishes_alone checks old result h verdict =
           finishes old old [] (grew_none old) (part_of checks failed.Memory [] (inl nothing)) result h verdict
 
-      -- the check, and what is told behind it
+      -- the check, and what is told after it
       abbrev passes : ChecksMachines (line_of r).command → (more : List Event) → After more (PassesCheck (line_of r) (parts_of r).input)
       passes checks more first built = record {
         checks = checks;

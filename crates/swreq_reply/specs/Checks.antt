@@ -23,7 +23,7 @@ use Rattle.swreq_reply.specs.Made.{AreMade, IsPiece}
 use Rattle.swreq_reply.specs.Wanted.{count_of, maker}
 use Rattle.swreq_reply.specs.Told.{CheckTells, SignaturesTell}
 
--- how it comes out, without what it gives
+-- how a check comes out, without what it gives
 abbrev pub ending : {A : Type 0} → Result A Refused → Result (Unit {0}) Refused
 ending (Ok x) = Ok tt
 ending (Err refused) = Err refused
@@ -40,7 +40,7 @@ module _ (limits : Limits) (w : TextWorld) where
     pub passed : HavePassed (last_rules checked.protocols.rounds)
     pub pieces : AreMade (IsPiece w c) (maker ids c) (count_of ids c) (length ids.signatures) checked.pieces.items
 
-  -- The check of one signature comes out so, and the watcher was told what it tells, or for want of memory a part.
+  -- The check of one signature comes to this, and the watcher was told what it tells, or a part of that if memory runs out.
   abbrev pub ChecksOne : List Rule → SignatureOver PlacedRequirement → Option (List Event) → Option (List Event) → Result (Unit {0}) Refused → Type 0
   ChecksOne rules g old new (Ok done) =
       (told : List Event) × ((own : List Rule) × SignatureComes limits w rules g (Ok own) told) × GrewBy old new told
@@ -50,18 +50,18 @@ module _ (limits : Limits) (w : TextWorld) where
       × GrewBy old new told
   ChecksOne rules g old new (Err e) = (told : List Event) × SignatureComes limits w rules g (Err e) told × GrewBy old new told
 
-  -- So does that of all signatures.
+  -- The checks of all signatures come to this, and the watcher was told what they tell, or a part of that if memory runs out.
   abbrev pub ChecksAll : List Rule → Option (List Event) → Option (List Event) → Result (Unit {0}) Refused → Type 0
   ChecksAll rules old new (Ok done) = (told : List Event) × SignaturesCome limits w rules w.signatures None told × GrewBy old new told
   ChecksAll rules old new (Err Memory) = (told : List Event) × SignaturesTell limits w rules w.signatures told × GrewBy old new told
   ChecksAll rules old new (Err e) = (told : List Event) × SignaturesCome limits w rules w.signatures (Some e) told × GrewBy old new told
 
-  -- And so does that of the text.
+  -- The check of the text comes to this, and the watcher was told what it tells, or a part of that if memory runs out.
   abbrev pub Checks : Option (List Event) → Option (List Event) → Result Checked Refused → Type 0
   Checks old new (Ok checked) = (told : List Event) × IsBuiltOver limits w (last_rules checked.protocols.rounds) told × GrewBy old new told
   Checks old new (Err Memory) = (told : List Event) × CheckTells limits w told × GrewBy old new told
   Checks old new (Err e) = (told : List Event) × IsChecked limits w (Some e) told × GrewBy old new told
 
--- So does that of the signature at f, over the rules of the protocols that were checked.
+-- The check of the signature at f comes to this, over the rules of the protocols that were checked.
 abbrev pub ChecksAt : List Term → Setting → FuncId → Option (List Event) → Option (List Event) → Result (Unit {0}) Refused → Type 0
 ChecksAt terms s f = ChecksOne s.limits (world_in terms s) (last_rules s.protocols.now.rounds) (signature_at (world_in terms s) f)

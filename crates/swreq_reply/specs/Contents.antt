@@ -20,7 +20,7 @@ content_of command.Paths = Answers (Each Path)
 content_of command.Calls = Calls
 content_of command.Requirements = Families
 
--- what stands behind a `yes`
+-- what follows a `yes`
 abbrev pub backed_by : Shown → Backing
 backed_by (Each b) = b
 backed_by (Counts n) = Nothing
@@ -29,11 +29,11 @@ abbrev pub backing_of : Content → Backing
 backing_of (Answers s) = backed_by s
 backing_of _ = Nothing
 
--- They are the answers to queries.
+-- Answers to queries are printed.
 abbrev pub AreAnswers : Content → Type 0
 AreAnswers c = (s : Shown) × (c ≡ Answers s)
 
--- They are reduced rewriting systems.
+-- Reduced rewriting systems are printed.
 abbrev pub AreSystems : Content → Type 0
 AreSystems c = c ≡ Systems
 

@@ -1,4 +1,4 @@
--- Lines behind a `yes`, as they stand in a second part.
+-- Lines after a `yes`, as they stand in a second part.
 use Rattle.std.specs.Prelude.{◌≡◌, ◌∷◌}
 use Rattle.swreq_parts.specs.Lines.{lines}
 use Rattle.swreq_print.specs.Names.{Text}

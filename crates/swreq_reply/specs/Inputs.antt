@@ -7,7 +7,7 @@ use Rattle.swreq_words.specs.declared.command.Input.{Input}
 use Rattle.swreq_words.specs.declared.command.Input.TheVariants.{Nothing, OnePart, TwoParts}
 use Rattle.swreq_words.specs.Commands as commands
 
--- an input, the source text in it, and what stands behind the line that divides it
+-- an input, the source text in it, and what follows the line that divides it
 pub record Parts : Type 0 where
   pub input : Text
   pub source : Text

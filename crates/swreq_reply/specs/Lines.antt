@@ -13,7 +13,7 @@ pub data AreLines {A : Type 0} (IsLine : A → Text → Type 0) : List A → Lis
 abbrev pub AreLinesIn : {A : Type 0} → (A → Text → Type 0) → List A → Text → Type 0
 AreLinesIn IsLine xs text = (lines : List Text) × AreLines IsLine xs lines × (text ≡ concat lines)
 
--- So many of these have the property.
+-- This many of these have the property.
 pub data Counted {A : Type 0} (Has : A → Type 0) : List A → ℕ → Type 0 where
   nothing : Counted Has [] 0
   one : {x : A} {xs : List A} {n : ℕ} → Has x → Counted Has xs n → Counted Has (x ∷ xs) (suc n)

@@ -18,7 +18,8 @@ module _ (limits : Limits) (w : TextWorld) where
   abbrev pub ProtocolsCome : (answer : Result (List Rule) Refused) → List Event → Type 0
   ProtocolsCome = IsBuilt limits (protocols_of w) (facts_of w) (protocol_sides w)
 
-  -- So do those of a signature, over the rules of the protocols.
+  -- The rounds of a signature, over the rules of the protocols, come to rules that show each of its sides, or to a refusal, and tell these
+  -- events.
   abbrev pub SignatureComes : List Rule → SignatureOver PlacedRequirement → (answer : Result (List Rule) Refused) → List Event → Type 0
   SignatureComes rules g = IsBuilt limits (list_of w rules g.params (written_list g)) (facts_of w) (sides (source_of g) g.requirements)
 

@@ -24,17 +24,18 @@ module _ (w : TextWorld) where
   IsPiece Judgements k piece = Unit {0}
   IsPiece Calls k piece = Unit {0}
 
--- There are so many places, none of them filled.
+-- There are `count` places, none of them filled.
 abbrev pub AreNone : ℕ → Vec (Option Text) Global → Type 0
 AreNone count pieces = (length pieces.items ≡ count) × ((k : ℕ) → get_or pieces.items k None ≡ None)
 
--- What stands at its place is the piece there, and the places are filled whose pieces the machines of the first signatures make, so many.
+-- What stands at its place is the piece there, and the places are filled whose pieces are made by the machines of the first `signatures`
+-- signatures.
 pub record AreMade (Is : ℕ → Text → Type 0) (made_by : ℕ → Option FuncId) (count signatures : ℕ) (pieces : List (Option Text)) : Type 0 where
   pub counted : length pieces ≡ count
   pub right : (k : ℕ) (piece : Text) → get_or pieces k None ≡ Some piece → Is k piece
   pub filled : (k : ℕ) (f : FuncId) → k < count → made_by k ≡ Some f → f.place < signatures → (piece : Text) × (get_or pieces k None ≡ Some piece)
 
--- Of the next signature the first of these places are filled too, so many.
+-- The first `next` of these places are filled too.
 pub record AreMadeTo (Is : ℕ → Text → Type 0) (made_by : ℕ → Option FuncId) (count signatures : ℕ) (places : List ℕ) (next : ℕ)
     (pieces : List (Option Text)) : Type 0 where
   pub before : AreMade Is made_by count signatures pieces
@@ -43,11 +44,11 @@ pub record AreMadeTo (Is : ℕ → Text → Type 0) (made_by : ℕ → Option Fu
 module _ (w : TextWorld) where
   -- ---- minimised lists
 
-  -- It is the line of the signature's minimised list, or that is not wanted.
+  -- This is the line of the signature's minimised list, or None where that is not wanted.
   abbrev pub IsLineKept : (ℕ → Bool) → FuncId → Option Text → Type 0
   IsLineKept wants f (Some line) = IsMinimisedLine w (signature_at w f) line
   IsLineKept wants f None = wants f.place ≡ false
 
-  -- These are those of the signatures, in order, as far as they go.
+  -- Each of these is the line of the minimised list of the signature at its place, or None where that is not wanted.
   abbrev pub AreLinesKept : (ℕ → Bool) → List (Option Text) → Type 0
   AreLinesKept wants all = (k : ℕ) (entry : Option Text) → slice_get all k ≡ Some entry → IsLineKept wants (record { place = k }) entry

@@ -61,7 +61,7 @@ abbrev pub counts_text : (n yes_count no_count invalid_count : ℕ) → Text
 counts_text n yes_count no_count invalid_count = sizes_text n ++ verdicts_text yes_count no_count invalid_count
 
 module _ (w : TextWorld) where
-  -- ---- what stands behind a yes
+  -- ---- what follows a yes
 
   -- The lines of a derivation by the book's rules from the written list, which the checker of derivations accepts, and which ends in what
   -- the query asks.
@@ -81,7 +81,7 @@ module _ (w : TextWorld) where
   BacksYes Path (AsksConforms f t p) text = IsPathLine f t p text
   BacksYes Path _ text = text ≡ []
 
-  -- Behind a `yes` stands what backs it, and behind other answers nothing.
+  -- What backs a `yes` follows it, and nothing follows other answers.
   abbrev pub Backs : Backing → TermQuery → Answer → Text → Type 0
   Backs b q Invalid text = text ≡ []
   Backs b q Yes text = BacksYes b q text

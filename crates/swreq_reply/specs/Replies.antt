@@ -14,14 +14,14 @@ use Rattle.swreq_reply.specs.Machines.{IsBuiltOver}
 use Rattle.swreq_reply.specs.Told.{CheckTells, FamiliesPartTell, MinimisingPartTells}
 use Rattle.swreq_reply.specs.Verdict.{ChecksMachines, HasWorld, IsRefused, IsVerdict, limits_of}
 
--- So far as this an input tells where memory runs out: nothing, or, of a command that checks machines, a part of what the check of its text
--- tells, or that and a part of what is told behind it.
+-- What an input may have told when memory runs out: nothing, or, of a command that checks machines, a part of what the check of its text
+-- tells, or that and a part of what is told after it.
 abbrev pub TellsPart : CommandLine → Text → List Event → Type 0
 TellsPart line input told = (told ≡ []) ⊎ (ChecksMachines line.command × ((w : TextWorld) × HasWorld line input w
     × (CheckTells (limits_of line) w told ⊎ (MinimisingPartTells (limits_of line) w (content_of line.command) told
     ⊎ ((content_of line.command ≡ Families) × FamiliesPartTell (limits_of line) w told)))))
 
--- The watcher was told so far.
+-- The watcher was told what an input may have told when memory runs out.
 abbrev pub WasToldPart : CommandLine → Text → Option (List Event) → Option (List Event) → Type 0
 WasToldPart line input old new = (told : List Event) × TellsPart line input told × GrewBy old new told
 
@@ -33,16 +33,16 @@ IsVerdictAlone line input o = IsVerdict line input o []
 abbrev pub IsToldVerdict : CommandLine → Text → Option (List Event) → Option (List Event) → Outcome → Type 0
 IsToldVerdict line input old new o = (told : List Event) × IsVerdict line input o told × GrewBy old new told
 
--- Where the input is refused, it is so.
+-- If the input is refused, this is the outcome of the refusal.
 abbrev pub IsOnlyRefusal : CommandLine → Text → Outcome → Type 0
 IsOnlyRefusal line input o = (p : Outcome) (told : List Event) → IsRefused line input p told → o ≡ p
 
--- A verdict, with what is told with it; for want of memory a part of that.
+-- A verdict, with what is told with it; if memory runs out, a part of that.
 abbrev pub Replies : CommandLine → Text → Option (List Event) → Option (List Event) → Result Outcome AllocError → Type 0
 Replies line input old new (Ok o) = IsToldVerdict line input old new o
 Replies line input old new (Err e) = WasToldPart line input old new
 
--- After a check of this world that came to these rules of the protocols: a verdict, and for want of memory a part of what is told.
+-- After a check of this world that came to these rules of the protocols: a verdict; if memory runs out, a part of what is told.
 abbrev pub Finishes : CommandLine → Text → TextWorld → List Rule → Option (List Event) → Option (List Event) → Result Outcome AllocError → Type 0
 Finishes line input w rules old new (Ok o) =
     (more : List Event) × ((first : List Event) → IsBuiltOver (limits_of line) w rules first → IsVerdict line input o (first ++ more)) × GrewBy old new more

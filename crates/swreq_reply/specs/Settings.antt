@@ -57,7 +57,7 @@ pub record IsMachineFor (terms : List Term) (s : Setting) (f : FuncId) (m : Mach
 abbrev pub IsKeptFor : List Term → Setting → Kept → Type 0
 IsKeptFor terms s kept = IsMachineFor terms s kept.f kept.machine
 
--- So is that which is kept, if one is.
+-- If a machine is kept, it is that of the signature with which it is kept.
 abbrev pub IsLast : List Term → Setting → Option Kept → Type 0
 IsLast terms s None = Unit {0}
 IsLast terms s (Some kept) = IsKeptFor terms s kept
@@ -96,7 +96,7 @@ pub record AreMeansFor (terms : List Term) (s : Setting) (m : Means) : Type 0 wh
   pub map : IsMapFor s m.own.machine.now m.map.now
   pub book : HasBook terms s m.own.f (option_copied m.book)
 
--- The pieces that the machines of the first signatures make stand at their places, so many.
+-- The pieces that the machines of the first `signatures` signatures make stand at their places.
 abbrev pub AreMadeIn : List Term → Setting → ℕ → List (Option Text) → Type 0
 AreMadeIn terms s signatures pieces =
     AreMade (IsPiece (world_in terms s) s.content) (maker s.world.now s.content) (count_of s.world.now s.content) signatures pieces

@@ -53,7 +53,7 @@ use Rattle.swreq_reply.specs.Told.{MinimisingAllFails, TellsBehind}
 abbrev pub limits_of : CommandLine → Limits
 limits_of line = record { max_rules = line.max_rules; max_length = line.max_length }
 
--- The input that is answered: the generated text of `gen`, and else that of the source.
+-- The input that is answered: the generated text of `gen`, and otherwise that of the source.
 abbrev pub answered_text : Command → Text → Text
 answered_text (command.Gen n) text = generated n
 answered_text _ text = text
@@ -135,12 +135,12 @@ module _ (line : CommandLine) (input : Text) where
   -- The input is refused. It is looked at in this order: how long it is, its parts, its source text, the machines of the protocols and then
   -- of the signatures in written order, its second part. With it these events are told.
   pub data IsRefused (o : Outcome) (told : List Event) : Type 0 where
-    -- It is too long.
+    -- The input is too long.
     too_long : 1048576 < length input → o ≡ refused_with refusals.TooLarge → told ≡ [] → IsRefused o told
     -- The command reads a second part, and it has none.
     in_one_part : length input ≤ 1048576 → reads line.command ≡ TwoParts → (Contains (lines input) divider → ⊥)
         → o ≡ refused_with refusals.MissingPart → told ≡ [] → IsRefused o told
-    -- Its source text has no world.
+    -- The source text has no world.
     without_world : (p : Parts) → AreParts line.command input p → (refusal : RefusalKind) → HasNoWorld p.source refusal
         → o ≡ refused_with refusal → told ≡ [] → IsRefused o told
     -- The check of its machines refuses it: a side of a requirement is no type parameter, or a round of the protocols or of a signature passes
@@ -155,7 +155,7 @@ module _ (line : CommandLine) (input : Text) where
     past_a_limit_of_families : (which : Which) (trace : List Rule) (c : PassesCheck told) → content_of line.command ≡ Families
         → IsFamilyOutcome (limits_of line) c.world (Err (failed.Limit which trace)) c.more → o ≡ stopped_with line c.world.lexicon which trace
         → IsRefused o told
-    -- The second part stands for no calls, or a name of its calls is refused. Behind the check nothing is told.
+    -- The second part stands for no calls, or a name of its calls is refused. After the check nothing is told.
     bad_calls : (refusal : RefusalKind) (c : PassesCheck told) → content_of line.command ≡ Calls → RefusesSecond c.world c.has_world.parts refusal
         → c.more ≡ [] → o ≡ refused_with refusal → IsRefused o told
 

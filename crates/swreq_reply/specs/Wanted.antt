@@ -27,7 +27,7 @@ function_of (queries.Conf f t p) = f
 function_of (queries.Layout f t) = f
 function_of (queries.Same f t u) = f
 
--- The members of each side are at most so many.
+-- The members of each side are at most this many.
 abbrev pub HasShortSides : TermQuery → ℕ → Type 0
 HasShortSides q most = (s : Term) → IsSide q s → member_count s ≤ most
 
@@ -64,7 +64,7 @@ module _ (w : IdWorld) where
   maker Judgements k = None
   maker Calls k = None
 
--- Of each signature, so many, these are the places before the last one whose pieces its machine makes.
+-- Of each of the first `count` signatures, these are the places before the last one whose pieces its machine makes.
 pub record ArePlaces (made_by : ℕ → Option FuncId) (count last : ℕ) (places : List (Vec ℕ Global)) : Type 0 where
   pub counted : length places ≡ count
   pub each : (f : FuncId) (d : Vec ℕ Global) (k : ℕ) → f.place < count
@@ -80,7 +80,7 @@ list_asked (queries.Conf f t p) = None
 list_asked (queries.Layout f t) = None
 list_asked (queries.Same f t u) = None
 
--- it is the signature at this place
+-- the signature is the one at this place
 abbrev pub is_at : ℕ → Option FuncId → Bool
 is_at k (Some f) = nat_eq f.place k
 is_at k None = false
@@ -98,7 +98,7 @@ wants_list Families qs k = false
 wants_list Judgements qs k = false
 wants_list Calls qs k = false
 
--- These are so many flags, one of each place, set where it is wanted.
+-- These are `count` flags, one of each place, set where it is wanted.
 pub record AreFlags (wants : ℕ → Bool) (count : ℕ) (flags : List Bool) : Type 0 where
   pub counted : length flags ≡ count
   pub set : (k : ℕ) → k < count → get_or flags k false ≡ wants k

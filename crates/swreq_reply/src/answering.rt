@@ -126,7 +126,7 @@ fn put_backing(
     }
 }
 
-/// Appends what stands behind this answer to a query.
+/// Appends what follows this answer to a query.
 fn put_behind(
     s: &Setting<'_>,
     table: &mut ParamTable,

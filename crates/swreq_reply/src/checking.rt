@@ -124,7 +124,7 @@ fn check_inside<'a, W: Watch>(
     Ok(kept)
 }
 
-/// Checks another signature. Its machine is kept where it is a struct, and else the one before.
+/// Checks another signature. Its machine is kept where it is a struct, and otherwise the one before.
 fn check_beside<'a, W: Watch>(
     s: &Setting<'a>,
     table: &mut ParamTable,

@@ -6,7 +6,7 @@ ghost use Rattle.swreq_reply.specs.Contents.{backed_by, backing_of, content_of};
 
 use swreq_words::Command;
 
-/// What stands behind a `yes`.
+/// What follows a `yes`.
 #[derive(Clone, Copy, Debug, PartialEq, Eq)]
 pub enum Backing {
     /// Nothing.
@@ -20,9 +20,9 @@ pub enum Backing {
 /// How the answers to the queries of a text are printed.
 #[derive(Clone, Copy, Debug, PartialEq, Eq)]
 pub enum Shown {
-    /// Each of them, and behind a `yes` what backs it.
+    /// Each of them, and after a `yes` what backs it.
     Each {
-        /// What stands behind a `yes`.
+        /// What follows a `yes`.
         backing: Backing,
     },
     /// How many there are of each verdict, and the last one.
@@ -40,7 +40,7 @@ pub enum Content {
         /// How they are printed.
         shown: Shown,
     },
-    /// The minimised list of each signature, behind its name.
+    /// The minimised list of each signature, after its name.
     Signatures,
     /// The reduced rewriting system of each signature.
     Systems,
@@ -52,7 +52,7 @@ pub enum Content {
     Calls,
 }
 
-/// Each answer, with this behind a `yes`.
+/// Each answer, with this after a `yes`.
 fn each(backing: Backing) -> Content
     ensures { result ≡ Answers (Each backing) }
 {
@@ -80,7 +80,7 @@ pub(crate) fn content_of(command: Command) -> Content
     }
 }
 
-/// What stands behind a `yes` that is shown so.
+/// What follows a `yes` that is shown so.
 fn backed_by(shown: Shown) -> Backing
     ensures { result ≡ backed_by shown }
 {
@@ -90,7 +90,7 @@ fn backed_by(shown: Shown) -> Backing
     }
 }
 
-/// What stands behind a `yes` of this content.
+/// What follows a `yes` of this content.
 pub(crate) fn backing_of(content: Content) -> Backing
     ensures { result ≡ backing_of content }
 {

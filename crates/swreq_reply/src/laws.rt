@@ -59,7 +59,7 @@ pub fn verify_tells_nothing()
     ensures part { (line : CommandLine) (input : Text) (told : List Event) → line.command ≡ Verify → TellsPart line input told → told ≡ [] }
 {}
 
-/// What `explain` prints after a `yes`, `verify` calls `ok` under the same query: behind a line `yes` it is a section, and of each section
+/// What `explain` prints after a `yes`, `verify` calls `ok` under the same query: after a line `yes` it is a section, and of each section
 /// that is laid so `ok` is said. A second part has at most 1,048,576 bytes.
 pub fn explained_is_ok(text: &[u8])
     ensures section { (w : TextWorld) (q : TermQuery) (behind : Text) → IsWorldOfText text.now w → Contains w.queries q

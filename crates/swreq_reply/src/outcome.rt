@@ -72,8 +72,8 @@ pub struct Outcome {
 /// An input is refused, with its line and status 1, where it is too long, lacks the second part that the command reads, is not in the
 /// language, its names do not resolve, a protocol inherits itself, or a side of a requirement is no type parameter, and then where its
 /// second part does not fit, or stands for no calls, or a name of these is refused; with status 3 where a completion passes a limit before
-/// that, in minimising, or in finding requirement signatures; `--trace` puts the lines of the trace behind it. Other inputs have status 0
-/// and what the command prints. The watcher is told the events of the rounds. Err is want of memory alone.
+/// that, in minimising, or in finding requirement signatures; `--trace` puts the lines of the trace after it. Other inputs have status 0
+/// and what the command prints. The watcher is told the events of the rounds. Err says that memory ran out.
 pub fn reply<W: Watch>(
     alloc: Global,
     line: &CommandLine,
@@ -264,7 +264,7 @@ fn unchecked(r: &Request<'_>, world: &World, e: &Refused) -> Result<Outcome, All
     }
 }
 
-/// What is answered behind the check, where nothing refuses the source text.
+/// What is answered after the check, where nothing refuses the source text.
 fn finish<W: Watch>(
     r: &Request<'_>,
     world: &World,

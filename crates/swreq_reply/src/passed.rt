@@ -32,7 +32,7 @@ fn want_of_memory(_refused: &Refused) -> AllocError
     AllocError
 }
 
-/// The machine of a signature, built anew, which is told to nobody.
+/// The machine of a signature, built again. No watcher is told of it.
 pub(crate) fn machine_of<'b>(
     p: &Passed<'b>,
     table: &ParamTable,

@@ -33,11 +33,11 @@ pub(crate) struct MadePieces<'a> {
     pub table: &'a ParamTable,
     pub content: Content,
     pub pieces: &'a [Option<Seq<u8>>],
-    /// Of each signature.
+    /// The line of the minimised list of each signature, by place, or None where it is not wanted.
     pub lists: &'a [Option<Seq<u8>>],
 }
 
-/// What stands at this place.
+/// The bytes of the piece at this place, or no bytes where there is no piece.
 fn text_at<'a>(pieces: &'a [Option<Seq<u8>>], k: usize) -> &'a [u8]
     requires { k < length pieces.now }
     ensures { result.now ≡ text_at pieces.now k }

@@ -11,7 +11,7 @@ use std::alloc::Global;
 use swreq_parts::parts;
 use swreq_words::{Command, CommandLine, Input};
 
-/// An input, the source text in it, and what stands behind the line that divides it.
+/// An input, the source text in it, and what follows the line that divides it.
 #[derive(Clone, Copy)]
 pub(crate) struct Divided<'a> {
     pub input: &'a [u8],

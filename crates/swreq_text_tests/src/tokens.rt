@@ -22,7 +22,7 @@ fn described(rt: &impl Abort, alloc: Global, text: &[u8], from: u32) -> Result<S
 
 /// Texts, each with an offset, and the tokens from there on or the refusal.
 const TOKENS: &[(&[u8], u32, &str)] = &[
-    // From the front, and from behind it.
+    // From the front, and from a later place.
     (b"a b", 0, "Name 0-1 Name 2-3 "),
     (b"a b", 1, "Name 2-3 "),
     (b"a b", 3, ""),

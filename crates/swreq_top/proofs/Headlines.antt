@@ -153,7 +153,7 @@ module _ (w : TextWorld) (has : HasPassed w) where
   only_yes q r asks (Reduced u) rest behind (sides, (f, t, is, some)) e = absurd (none-some r (sym (ap asked is) ∙ asks))
   only_yes q r asks _ rest behind h e = absurd (cc)
 
-  -- so the piece of a query is that of a `yes` exactly where its requirement is implied
+  -- so the piece of a query is that of a `yes` if and only if its requirement is implied
   yes_where_implied : (b : Backing) (q : TermQuery) (piece : Text) → IsQueryOf w q → IsLineOf w false b q piece
       → IsYesWhereImplied w b q piece
   yes_where_implied b q piece of line = if_some (asked q) (λ r asks. both r asks (by_types q line r asks))
@@ -172,7 +172,7 @@ module _ (w : TextWorld) (has : HasPassed w) where
             (rest, rw same at backs, e ∙ ap (λ (z : Answer). answer_line w.lexicon z ++ rest) same),
       )
 
-  -- and where paths are printed, a path stands behind it
+  -- and where paths are printed, a path follows it
   path_where_implied : (q : TermQuery) (piece : Text) → IsQueryOf w q → IsLineOf w false Path q piece → HasPathWhereImplied w q piece
   path_where_implied (AsksConforms f t p) piece of line = (yes_where_implied Path (AsksConforms f t p) piece of line).1
   path_where_implied _ piece of line = tt

@@ -44,12 +44,12 @@ module _ (w : TextWorld) where
   abbrev pub IsImplied : TermQuery → TermStatement → Type 0
   IsImplied q = BookDerivable (facts_of w) (source_of (signature_at w (signature_of q)))
 
-  -- The piece is the line `yes`, and behind it what backs it: where derivations are printed one that the checker accepts and that ends
+  -- The piece is the line `yes`, and after it what backs it: where derivations are printed one that the checker accepts and that ends
   -- in what is asked, and where paths are printed the one that is given for a conformance.
   abbrev pub IsYes : Backing → TermQuery → Text → Type 0
   IsYes b q piece = (behind : Text) × BacksYes w b q behind × (piece ≡ codes "yes\n" ++ behind)
 
-  -- The piece of a query for a requirement is that of a `yes` exactly where the requirement is implied.
+  -- The piece of a query for a requirement is that of a `yes` if and only if the requirement is implied.
   abbrev pub IsYesWhereImplied : Backing → TermQuery → Text → Type 0
   IsYesWhereImplied b q piece = IfSome (asked q) (λ r. IsYes b q piece ↔ IsImplied q (Requires r))
 
@@ -82,8 +82,8 @@ module _ (w : TextWorld) where
   abbrev pub AreAlike : (g h : SignatureOver PlacedRequirement) → Type 0
   AreAlike g h = (g.params ≡ h.params) × AreEquivalent (facts_of w) (generic_params g.params) (written_list g) (written_list h)
 
-  -- In these lines the k-th prints this of the signature: it answers a query for it, or stands behind its name. The answer to the last
-  -- query stands behind its counts.
+  -- In these lines the k-th prints this of the signature: it answers a query for it, or follows its name. The answer to the last query
+  -- comes after the line of counts.
   abbrev pub PrintsOf : Content → List Text → ℕ → SignatureOver PlacedRequirement → Text → Type 0
   PrintsOf (Answers (Each b)) lines k g line =
       (f : FuncId) × (slice_get w.queries k ≡ Some (AsksSignature f)) × (g ≡ signature_at w f) × (slice_get lines k ≡ Some line)
@@ -94,7 +94,7 @@ module _ (w : TextWorld) where
       (slice_get w.signatures k ≡ Some g) × (slice_get lines k ≡ Some (full_name w g ++ (codes ": " ++ line)))
   PrintsOf _ lines k g line = ⊥
 
-  -- ---- what stands behind a yes
+  -- ---- what follows a yes
 
   -- Where the requirement that a query asks is implied, its piece is the line `yes` and a derivation of the requirement, in lines that the
   -- checker of derivations accepts.

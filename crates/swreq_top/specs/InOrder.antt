@@ -41,7 +41,8 @@ module _ (line : CommandLine) (w : TextWorld) where
     of_families : content_of line.command ≡ Families → IsFamilyOutcome (limits_of line) w (Err (Limit which trace)) told
         → PassesALimit which trace told
 
--- The second part is one for the command: of `verify` so many sections as there are queries, and of `calls` calls of which no name is refused.
+-- The second part is one for the command: of `verify` as many sections as there are queries, and of `calls` calls of which no name is
+-- refused.
 abbrev pub IsSecondFor : Content → TextWorld → Parts → Type 0
 IsSecondFor Judgements w p = (ss : List TermSection) × AreSections w.lexicon (length w.queries) (lines p.second) ss
 IsSecondFor Calls w p = HasCalls w p

@@ -42,7 +42,7 @@ AreWrong words = (line : CommandLine) → Says words line → ⊥
 abbrev pub IsGen : Command → Type 0
 IsGen c = (n : ℕ) × (c ≡ command.Gen n)
 
--- The words say such a command.
+-- The words say a command that reads no source.
 abbrev pub SayGen : List Text → Type 0
 SayGen words = (line : CommandLine) × Says words line × IsGen line.command
 
@@ -130,7 +130,7 @@ module _ (r : Run) where
     cut_off : (status : ℕ) (bytes : Text) → HasToPrint status bytes → AppendsPart r.before.taken r.after.taken bytes → WriteFailed
         → r.status ≡ 5 → IsEnd
 
-  -- The text is refused so.
+  -- The text is refused with this outcome.
   abbrev pub IsRefusedRun : Outcome → Type 0
   IsRefusedRun o = (line : CommandLine) × Says r.words line × ((text : Text) × (known_text line.command r.before.left ≡ Some text)
       × ((told : List Event) × IsRefused line text o told))

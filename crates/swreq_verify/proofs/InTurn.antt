@@ -55,7 +55,7 @@ get_set (a ∷ xs) (suc k) (suc i) x y e = elim (get_set xs k i x y e) [
 ]
 
 module _ (w : TextWorld) (ss : List TermSection) where
-  -- So many judgements are kept, and those on the queries that had their turns before this one are right.
+  -- There is a judgement for each query, and those on the queries that had their turns before this one are right.
   pub record AreJudgedBefore (turns : List Turn) (js : List Judgement) (n : ℕ) : Type 0 where
     pub count : length js ≡ length w.queries
     pub each : (m : ℕ) (t : Turn) (j : Judgement) → m < n → slice_get turns m ≡ Some t → slice_get js t.query ≡ Some j → IsSaidAt w ss t.query j

@@ -15,7 +15,7 @@ use Rattle.swreq_verify.specs.SecondParts.{AreSections, IsFirstMisfit, IsSection
 use Rattle.swreq_verify.proofs.Sectioned.{each_append, flat, flat-push, length-texts_from, no_section, too_many}
 use Rattle.swreq_verify.proofs.Staying.{each_stays, sections_stay}
 
--- These sections are read of the text, over the table; so many lines are theirs, and the rest is left.
+-- These sections are read of the text, over the table; this many lines are theirs, and the rest is left.
 pub record IsLaid (x : LexiconView) (count : ℕ) (text : Text) (terms : List Term) (ss : List Section) (before : ℕ)
     (rest : Text) : Type 0 where
   pub each : AllByRecursion (IsSectionOver x terms) ss

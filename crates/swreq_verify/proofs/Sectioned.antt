@@ -1,4 +1,4 @@
--- The lines of sections: where one section ends, and which lines begin so many.
+-- The lines of sections: where one section ends, and which lines are the first ones of this many sections.
 use Rattle.std.proofs.Common.{◌≡◌, ◌∙◌, refl, sym, ap, subst, ℕ, suc, ◌+◌, ◌-◌, ◌<◌, ◌≤◌, arith, List, [], ◌∷◌, ◌++◌, inl, inr, length, zero, append_assoc, length-append}
 use Rattle.std.specs.Prelude.{replicate}
 use Rattle.std.specs.List.{AllByRecursion, flat_map}
@@ -22,7 +22,7 @@ each_replicate P (suc n) a h = (h, each_replicate P n a h)
 
 -- ---- where lines that begin with a space end
 
--- behind two runs of such lines the same is left
+-- after two runs of such lines the same is left
 same_rest : (b c t u : List Text) → AllByRecursion IsUnder b → AllByRecursion IsUnder c → AreHeaded t → AreHeaded u → b ++ t ≡ c ++ u
     → t ≡ u
 same_rest [] [] t u hb hc ht hu e = e
@@ -57,7 +57,7 @@ module _ (x : LexiconView) where
   length-texts_from n [] = refl
   length-texts_from n (l ∷ ls) = ap suc (length-texts_from (suc n) ls)
 
-  -- a line that begins with a space, behind lines of a derivation, is its next one
+  -- a line that begins with a space, after lines of a derivation, is its next one
   next_text : (n : ℕ) (ds es : List TermLine) (line : Text) (more t : List Text) → Readable es → IsUnder line → AreHeaded t
       → texts_from x n ds ++ (line ∷ more) ≡ texts_from x n es ++ t
       → (l : TermLine) × IsReadableLine x l × (line ≡ line_text x (length ds + n) l)
@@ -107,7 +107,7 @@ module _ (x : LexiconView) where
   abbrev empty : TermSection
   empty = record { heading = []; derivation = [] }
 
-  -- lines of sections that are not too many begin so many
+  -- the lines of at most `count` sections are the first ones of `count` sections
   begins : (count : ℕ) (ss : List TermSection) → Each ss → length ss ≤ count → Begin x count (flat ss)
   begins count ss h few =
       let fill = replicate (count - length ss) empty in
@@ -159,7 +159,7 @@ module _ (x : LexiconView) where
       by [] h e = cc
       by (u ∷ us) h e = let same : line ≡ u.heading = cc in under (subst IsHeading (sym same) h.0.heading)
 
-  -- behind a heading and lines of a derivation a line begins with a space, and is no next one
+  -- after a heading and lines of a derivation a line begins with a space, and is no next one
   bad_under : (count : ℕ) (ss : List TermSection) (heading : Text) (ds : List TermLine) (line : Text) → Each ss → IsHeading heading
       → IsUnder line
       → ((l : TermLine) → IsReadableLine x l → line ≡ line_text x (length ds + 1) l → ⊥)

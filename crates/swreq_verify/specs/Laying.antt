@@ -32,19 +32,19 @@ section_of terms s = record { heading = s.heading.now; derivation = map (line_of
 abbrev pub HasDerivationIds : LexiconView → List Term → Section → Type 0
 HasDerivationIds x terms s = (l : Line) → Contains s.derivation.items l → HasLineIds x terms l
 
--- They are, and it is a section of the text.
+-- The ids of the derivation's lines are of the text and of the table, and it is a section of the text.
 pub record IsSectionOver (x : LexiconView) (terms : List Term) (s : Section) : Type 0 where
   pub ids : HasDerivationIds x terms s
   pub section : IsSection x (section_of terms s)
 
 -- ---- the section at the front of lines
 
--- The lines are those of the section, and behind it the rest, which begins with a heading if it has a line.
+-- The lines are those of the section, and after it the rest, which begins with a heading if it has a line.
 pub record IsFront (x : LexiconView) (lines : List Text) (s : TermSection) (rest : List Text) : Type 0 where
   pub lines_are : lines ≡ section_lines x s ++ rest
   pub headed : AreHeaded rest
 
--- Behind a heading and these lines of a derivation stands one that begins with a space and is no next line of a derivation.
+-- After a heading and these lines of a derivation stands one that begins with a space and is no next line of a derivation.
 pub record IsBadUnder (x : LexiconView) (lines : List Text) (before : ℕ) : Type 0 where
   pub heading : Text
   pub derivation : List TermLine
@@ -57,7 +57,7 @@ pub record IsBadUnder (x : LexiconView) (lines : List Text) (before : ℕ) : Typ
   pub under : IsUnder line
   pub bad : (l : TermLine) → IsReadableLine x l → line ≡ line_text x (length derivation + 1) l → ⊥
 
--- No section stands at the front: so many lines fit, and the next one does not, or there is none.
+-- No section stands at the front: this many lines fit, and the next one does not, or there is none.
 abbrev pub IsNoSection : LexiconView → List Text → ℕ → Type 0
 IsNoSection x [] before = before ≡ 0
 IsNoSection x (line ∷ rest) before = (IsUnder line × (before ≡ 0)) ⊎ IsBadUnder x (line ∷ rest) before

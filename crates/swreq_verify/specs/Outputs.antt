@@ -40,10 +40,10 @@ pub record IsOutput (w : TextWorld) (second out : Text) : Type 0 where
   pub judged : AreJudged w sections judgements
   pub printed : out ≡ judgement_lines judgements
 
--- The new text is the old one with the lines of judgements on the sections behind it.
+-- The new text is the old one with the lines of judgements on the sections after it.
 abbrev pub AppendsJudgements : TextWorld → List TermSection → Text → Text → Type 0
 AppendsJudgements w ss old new = (js : List Judgement) × AreJudged w ss js × (new ≡ old ++ judgement_lines js)
 
--- The new text is the old one with an output behind it.
+-- The new text is the old one with an output after it.
 abbrev pub AppendsOutput : TextWorld → Text → Text → Text → Type 0
 AppendsOutput w second old new = (out : Text) × IsOutput w second out × (new ≡ old ++ out)

@@ -32,7 +32,7 @@ pub record IsSection (x : LexiconView) (s : TermSection) : Type 0 where
 abbrev pub section_lines : LexiconView → TermSection → List Text
 section_lines x s = s.heading ∷ texts_from x 1 s.derivation
 
--- The lines are those of so many sections, one after the other.
+-- The lines are those of `count` sections, one after the other.
 pub record AreSections (x : LexiconView) (count : ℕ) (lines : List Text) (ss : List TermSection) : Type 0 where
   pub counted : length ss ≡ count
   pub each : AllByRecursion (IsSection x) ss
@@ -40,16 +40,16 @@ pub record AreSections (x : LexiconView) (count : ℕ) (lines : List Text) (ss :
 
 -- ---- lines that do not fit
 
--- So many sections begin with these lines.
+-- The lines are the first ones of `count` sections.
 abbrev pub Begin : LexiconView → ℕ → List Text → Type 0
 Begin x count lines = (more : List Text) × (ss : List TermSection) × AreSections x count (lines ++ more) ss
 
--- With the next line no such sections begin. Where there is no next line, these lines are no such sections.
+-- With the next line they are not the first ones of `count` sections. Where there is no next line, they are not those of `count` sections.
 abbrev pub IsStuck : LexiconView → ℕ → List Text → List Text → Type 0
 IsStuck x count before [] = (ss : List TermSection) → AreSections x count before ss → ⊥
 IsStuck x count before (line ∷ rest) = Begin x count (before ++ line ∷ []) → ⊥
 
--- The line with this number, counted from 1, is the first that does not fit so many sections. Where lines are missing, it is the number
+-- The line with this number, counted from 1, is the first that does not fit `count` sections. Where lines are missing, it is the number
 -- after the last one.
 pub record IsFirstMisfit (x : LexiconView) (count : ℕ) (lines : List Text) (n : ℕ) : Type 0 where
   pub before : List Text

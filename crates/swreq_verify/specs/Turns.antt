@@ -6,7 +6,7 @@ use Rattle.swreq_verify.specs.declared.turns.Turn.{Turn}
 abbrev pub HasTurn : List Turn → ℕ → Type 0
 HasTurn turns k = (t : Turn) × Contains turns t × (t.query ≡ k)
 
--- So many queries have turns, and no others.
+-- The first `count` queries have turns, and no others.
 pub record AreTurns (turns : List Turn) (count : ℕ) : Type 0 where
   pub within : (t : Turn) → Contains turns t → t.query < count
   pub all : (k : ℕ) → k < count → HasTurn turns k

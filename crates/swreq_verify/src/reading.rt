@@ -23,14 +23,14 @@ pub(crate) struct Section<'a> {
     pub derivation: Vec<Line>,
 }
 
-/// A section, and what stands behind it.
+/// A section, and what follows it.
 #[derive(Drop)]
 struct Next<'a> {
     section: Section<'a>,
     rest: &'a [u8],
 }
 
-/// The refusal of a line, with so many lines before those that were read.
+/// The refusal of a line, where `before` lines stand before those that were read: its number goes up by this many.
 fn behind(before: u32, e: LinesErr) -> LinesErr
     requires { (n : ℕ) → e ≡ Syntax n → before + n < 2 ^ 32 }
     ensures { (n : ℕ) → result ≡ Syntax n → (m : ℕ) × (e ≡ Syntax m) × (n ≡ before + m) }
@@ -43,7 +43,7 @@ fn behind(before: u32, e: LinesErr) -> LinesErr
     }
 }
 
-/// The derivation at the front of what stands under a heading, with so many lines before the heading.
+/// The section of a heading and of the derivation at the front of what stands under it. `before` lines stand before the heading.
 fn read_under<'a>(
     alloc: Global,
     names: &Lexicon,
@@ -77,8 +77,8 @@ fn read_under<'a>(
     }
 }
 
-/// The section at the front of a text, with so many lines before it. It is `LinesErr::Syntax` exactly where no section stands there, with
-/// the number of the first line that does not fit.
+/// The section at the front of a text, before which `before` lines stand. It is `LinesErr::Syntax` if and only if no section stands there,
+/// with the number of the first line that does not fit.
 fn next_section<'a>(
     alloc: Global,
     names: &Lexicon,
@@ -117,7 +117,7 @@ fn put<'a>(sections: &mut Vec<Section<'a>>, section: Section<'a>) -> Result<(), 
     }
 }
 
-/// The sections of a text, of which there are to be so many. It is `LinesErr::Syntax` exactly where the text is not made of so many
+/// The sections of a text, of which there are to be `count`. It is `LinesErr::Syntax` if and only if the text is not made of `count`
 /// sections, with the first line that does not fit.
 ///
 /// Type parameters come into the table, which begins with the old one on every answer.

@@ -17,7 +17,7 @@ pub(crate) fn is_heading(line: &[u8]) -> bool
     }
 }
 
-/// The lines at the front of a text that begin with a space, and what stands behind them.
+/// The lines at the front of a text that begin with a space, and what follows them.
 #[derive(Clone, Copy)]
 pub(crate) struct Body<'a> {
     pub under: &'a [u8],

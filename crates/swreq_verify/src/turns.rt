@@ -9,7 +9,7 @@ use crate::asking::question_of;
 use std::alloc::{AllocError, Global};
 use swreq_lowering::Query;
 
-/// A query, by its place, behind the place of the signature that it asks.
+/// A query, by its place, after the place of the signature that it asks.
 #[derive(Clone, Copy, PartialEq, Eq, PartialOrd, Ord)]
 pub(crate) struct Turn {
     pub signature: u32,

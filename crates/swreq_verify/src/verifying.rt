@@ -43,8 +43,8 @@ fn append_judgements(
 
 /// Lays the second part of an input against the queries of the world, and appends what is said of the derivation under each query.
 ///
-/// It is `LinesErr::Syntax` exactly where the second part does not fit the queries, with the first line that does not fit; where lines are
-/// missing, with the number after the last one. On every error `out` is as before. Type parameters come into the table, which begins with
+/// It is `LinesErr::Syntax` if and only if the second part does not fit the queries, with the first line that does not fit; where lines are
+/// missing, with the number after the last one. On every error `out` is unchanged. Type parameters come into the table, which begins with
 /// the old one on every answer.
 pub fn verify(
     alloc: Global,

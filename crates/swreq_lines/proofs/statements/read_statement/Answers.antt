@@ -14,7 +14,7 @@ use Rattle.swreq_lines.proofs.StatementWords.{IsStated, colon, equals, neither, 
 use Rattle.swreq_lines.proofs.statements.read_statement.Goals as goal
 use Rattle.swreq_lines.proofs.statements.read_statement.Goals.{After-eq}
 
--- The subject is read, and the mark and what stands behind it are those of the statement.
+-- The subject is read, and the mark and what follows it are those of the statement.
 abbrev IsRead : After-eq → TermStatement → Text → Type 0
 IsRead c st rest =
     IsStated c.args.names.now c.requires c.next_word-subject.result.piece.now c.next_word-mark.result.piece.now c.next_word-mark.result.rest.now rest st
