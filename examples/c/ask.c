@@ -26,7 +26,7 @@ struct bytes {
     size_t length;
 };
 
-/* At least so many bytes, and never a null pointer. */
+/* At least this many bytes, and never a null pointer. */
 static void *memory(void *block, size_t length) {
     block = realloc(block, length + 1);
     if (!block) {

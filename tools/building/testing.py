@@ -1,6 +1,6 @@
 """Runs all tests without a proof: every test of every crate, the worked texts and examples of the program, the tools and the documents.
 
-usage: ./test [NAME..]    of these crates, and `worked`, `program`, `tools` or `documents`, alone; all where none is named
+usage: ./test [NAME..]    of these crates, and `worked`, `program`, `tools`, `documents` or `install`, alone; all where none is named
 
 A program that the gate or ./prove has built, and no source is newer, is run; else one that is built unproved. The last line is `N passed, M failed`, and
 the status is 0 if and only if none failed."""
@@ -28,6 +28,7 @@ SCRIPTS: Dict[str, List[str]] = {
     "program": [".ci/program"],
     "tools": [".ci/tools"],
     "documents": [".ci/documents"],
+    "install": [".ci/install"],
 }
 # A line of the toolchain's runner of tests, and the last line of a script that counts.
 RESULT = re.compile(r"^test (\S+) \.\.\. (\w+)", re.M)

@@ -61,6 +61,13 @@ class Toolchain:
             of_kit += crate.of_kit
         return words + self.libraries_as_source(of_kit)
 
+    def program_as_source(self, crates: Crates, root: pathlib.Path, name: str) -> List[str]:
+        """The words that give a program at this path over a crate, and all that the crate stands on, as source."""
+        crate = crates.by_name[name]
+        uses = ["core", "std", *crate.of_kit, *crate.crates]
+        _, *below = self.crate_as_source(crates, name)
+        return [str(root), "--lib", "%s:%s=%s" % (name, ",".join(uses), crate.folder / "src/lib.rt"), *below]
+
     def crate_over_libraries(self, crates: Crates, crate: Crate) -> List[str]:
         """The words that give a crate over the libraries that were built of those below it."""
         words = ["--crate-name", crate.name, crate.root]

@@ -62,7 +62,7 @@ class Entity:
 
     @property
     def name(self) -> str:
-        """Its own name behind those around it."""
+        """Its own name after those around it."""
         return ".".join(self.path)
 
 

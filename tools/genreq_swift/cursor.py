@@ -68,15 +68,15 @@ class Cursor:
         return self.source.error("%s is wanted, and not %s" % (what, found), self.token.start)
 
     def skip_brackets(self) -> None:
-        """Goes behind the bracket that closes the one here."""
+        """Goes past the bracket that closes the one here."""
         self._jump(self.source.after_brackets(self.token.start))
 
     def skip_braces(self) -> None:
-        """The same for `{`, where brackets of other kinds are not looked at."""
+        """Goes past the `}` that closes the `{` here. Brackets of other kinds are not looked at."""
         self._jump(self.source.after_braces(self.token.start))
 
     def behind_braces(self) -> "Callable[[], None]":
-        """What goes behind the `}` that closes the `{` here, from wherever the cursor is by then."""
+        """What goes past the `}` that closes the `{` here, from wherever the cursor is by then."""
         start, is_open = self.token.start, self._open_here
 
         def go() -> None:
@@ -109,7 +109,7 @@ class Cursor:
         return token
 
     def _behind(self, directive: Token) -> int:
-        """Where to read on at a directive: in the branch that is taken, or behind the last one."""
+        """Where to read on at a directive: in the branch that is taken, or after the last one."""
         if directive.text == "#if":
             self._open += 1
             return self._branch(directive)
@@ -121,7 +121,7 @@ class Cursor:
         return directive.end
 
     def _branch(self, directive: Token) -> int:
-        """Where the first branch begins whose condition is true, or behind `#endif`."""
+        """Where the first branch begins whose condition is true, or after `#endif`."""
         while True:
             if directive.text == "#endif":
                 self._open -= 1

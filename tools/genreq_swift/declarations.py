@@ -140,7 +140,7 @@ class DeclarationReader(TypeReader):
         return declaration
 
     def _unmodified(self) -> Optional[DeclarationSyntax]:
-        """The same behind its attributes and modifiers."""
+        """The declaration here, after its attributes and modifiers, or None where none begins."""
         cursor = self.cursor
         if cursor.token.kind is TokenKind.NAME:
             word = cursor.token.text
@@ -232,7 +232,7 @@ class DeclarationReader(TypeReader):
         return members, self.cursor.want("}").end
 
     def _whole_members(self) -> Tuple[Tuple[DeclarationSyntax, ...], int]:
-        """The same, where nothing may be left out. Where something cannot be read, goes behind the braces."""
+        """What is declared in braces, where nothing may be left out. Where something cannot be read, goes past the braces."""
         if not self.cursor.at("{"):
             raise self.cursor.wanted("'{'")
         go_behind = self.cursor.behind_braces()

@@ -36,7 +36,7 @@ class Lists:
 
 
 def shown(derivation: Sequence[str], lists: Lists, names: OwnNames, parameters: Sequence[GenericParameter]) -> List[str]:
-    """The lines of a derivation in own names, and behind each in parentheses the place of the requirement that it uses."""
+    """The lines of a derivation in own names, and after each in parentheses the place of the requirement that it uses."""
     lines = []
     for line in derivation:
         used = lists.used(line)

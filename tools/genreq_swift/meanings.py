@@ -50,7 +50,7 @@ def has_parameters(meaning: Meaning) -> bool:
 
 
 def is_larger(meaning: Meaning, most: int) -> bool:
-    """Whether a type has more than so many parts."""
+    """Whether a type has more than this many parts."""
     waiting = [meaning]
     while waiting and most >= 0:
         most -= 1
@@ -59,7 +59,7 @@ def is_larger(meaning: Meaning, most: int) -> bool:
 
 
 class StatementKind(Enum):
-    """What a statement states. The value is what stands between or behind its sides."""
+    """What a statement states. The value is what stands between or after its sides."""
 
     CONFORMANCE = ":"
     LAYOUT = ": AnyObject"

@@ -51,7 +51,7 @@ class GenericParameter:
 
     `name` is its own name: `Self` in a protocol and its extensions, `some_1` and so on for those that stand for `some P`. In a protocol the
     label of `Self` is `Self`, and in a signature a name. `depth` and `index` are those of the compiler, so that it prints τ_depth_index.
-    `place` is where it is declared. One that stands for a concrete type (`--concrete`) is behind the others, with the type's name.
+    `place` is where it is declared. One that stands for a concrete type (`--concrete`) comes after the others, with the type's name.
     """
 
     name: str
@@ -187,7 +187,7 @@ def status_of(omissions: Tuple[Omission, ...], parameters: Tuple[GenericParamete
 
 
 def status_line(omissions: Tuple[Omission, ...], parameters: Tuple[GenericParameter, ...]) -> str:
-    """The value of a status, behind which `: CAUSE at PLACE` stands for the first cause that makes a declaration incomplete."""
+    """The value of a status, with `: CAUSE at PLACE` after it for the first cause that makes a declaration incomplete."""
     status = status_of(omissions, parameters)
     if status is not Status.INCOMPLETE:
         return status.value
@@ -215,7 +215,7 @@ class DeclarationKind(Enum):
 class Signature:
     """The generic signature of a declaration that has generic parameters or a where clause of its own.
 
-    `name` is its own name behind those around it, as `Sequence.map`; that of an extension is what it extends. `place` is that of its own
+    `name` is its own name after those around it, as `Sequence.map`; that of an extension is what it extends. `place` is that of its own
     name, or of the word `init` or `subscript`, or of the extended type. `last_line` is the line on which the declaration ends.
     `parameters` has those of the declarations around it first.
     """
@@ -236,7 +236,7 @@ class Signature:
 
     @property
     def status_line(self) -> str:
-        """The same in a line, with the first cause."""
+        """How much of it is there, in a line, with the first cause."""
         return status_line(self.omissions, self.parameters)
 
 
@@ -287,7 +287,7 @@ class Protocol:
 
     @property
     def status_line(self) -> str:
-        """The same in a line, with the first cause."""
+        """How much of it is there, in a line, with the first cause."""
         return status_line(self.omissions, self.parameters)
 
 

@@ -132,7 +132,7 @@ class Names:
         return self._by_module.get(module, {}).get(name) or self.top(name, source)
 
     def referred(self, written: Type, context: Context, depth: int = 0) -> Optional[Member]:
-        """The type or protocol to which a name refers, as seen from around a declaration, behind all aliases."""
+        """The type or protocol to which a name refers, as seen from around a declaration, with all aliases followed."""
         if isinstance(written, CompoundType) and written.shape in (Shape.TUPLE, Shape.EXISTENTIAL) and len(written.parts) == 1:
             return self.referred(written.parts[0], context, depth)
         if not isinstance(written, NamedType) or depth > _DEEPEST_ALIAS:

@@ -47,7 +47,7 @@ def protocol_part(protocol: Protocol, without: FrozenSet[int] = frozenset()) -> 
 
 
 def clauses(subject: TypeParameter, requirements: Sequence[Requirement]) -> str:
-    """An inheritance clause and a where clause. Behind the first that is no bound of the subject all stand in the where clause."""
+    """An inheritance clause and a where clause. From the first that is no bound of the subject on, all stand in the where clause."""
     front = 0
     while front < len(requirements) and requirements[front].subject == subject and requirements[front].kind is not RequirementKind.SAME_TYPE:
         front += 1

@@ -48,7 +48,7 @@ class Limits:
         return ("--max-rules", str(self.rules), "--max-length", str(self.length))
 
     def for_functions(self, count: int) -> "Limits":
-        """The limits with time for so many functions."""
+        """The limits with time for this many functions."""
         return replace(self, seconds=self.seconds + SECONDS_EACH * count) if self.seconds else self
 
 
@@ -129,6 +129,10 @@ def default_program() -> Path:
     return Path(named) if named else Path(__file__).resolve().parent.parent.parent / "genreq"
 
 
+# By this variable ./genreq is told that it need not say once more that the program is not proved.
+SAID = "GENREQ_SAID"
+
+
 @dataclass(frozen=True)
 class Program:
     """A program that answers as genreq does."""
@@ -153,6 +157,7 @@ class Program:
     def _run(self, words: Sequence[str], text: bytes, seconds: Optional[float]) -> Ended:
         try:
             done = subprocess.run([str(self.path), *words], input=text, stdout=subprocess.PIPE, timeout=seconds, check=False)
+            os.environ[SAID] = "yes"
         except OSError as error:
             raise ProgramFailed("%s: %s" % (self.path, error.strerror)) from error
         output = done.stdout.decode("utf-8", "replace")

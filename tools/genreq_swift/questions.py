@@ -1,7 +1,7 @@
 """Asks genreq of many functions over the same protocols, and goes on where a text is refused.
 
 genreq refuses a whole text for one protocol or function. Here that one is left out and told, with what needs it, and the rest is answered. What
-passes a limit is asked again with greater ones. Functions that have no room in one text stand in several, each behind the same protocols.
+passes a limit is asked again with greater ones. Functions that have no room in one text stand in several, each after the same protocols.
 """
 from dataclasses import dataclass
 from typing import Dict, Iterable, List, Optional, Sequence, Set, Tuple
@@ -264,7 +264,7 @@ class Questions:
         return admitted
 
     def _fitting(self, functions: Sequence[Part], found: Answered) -> Tuple[List[Part], List[Part]]:
-        """The functions that have room behind the protocols, and the rest. One that alone has no room is told."""
+        """The functions that have room after the protocols, and the rest. One that alone has no room is told."""
         front, rest = fitting(functions, TEXT_LIMIT - len(written(self.protocols)))
         if rest and not front:
             found.left_out.append(LeftOut(rest[0].label, False, "text longer than %d bytes" % TEXT_LIMIT))

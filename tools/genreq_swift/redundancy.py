@@ -71,7 +71,7 @@ class Attempt:
     spare: Tuple[int, ...]
 
     def part(self, label: str, with_sides: bool = True) -> Part:
-        """The function, with the unit's requirements as its first queries, and behind them the waiting sides."""
+        """The function, with the unit's requirements as its first queries, and after them the waiting sides."""
         signature = self.unit.declaration
         assert isinstance(signature, Signature)
         queries = [requirement.labelled for requirement in self.unit.requirements]

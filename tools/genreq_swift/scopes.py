@@ -16,7 +16,7 @@ _INFERRING = frozenset(
     (DeclarationKind.FUNCTION, DeclarationKind.INITIALISER, DeclarationKind.SUBSCRIPT, DeclarationKind.TYPEALIAS)
 )
 
-_MOST_NEEDS = 500  # behind so many, conditions of conformances are not followed
+_MOST_NEEDS = 500  # after this many, conditions of conformances are not followed
 
 
 class Scopes(RequirementMeanings):

@@ -223,7 +223,7 @@ class SignatureMaker:
 
 
 def _name(context: Context) -> str:
-    """The name of a declaration behind those around it."""
+    """The name of a declaration after those around it."""
     if context.entity is not None:
         return context.entity.name
     if context.parent is not None:

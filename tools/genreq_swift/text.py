@@ -18,7 +18,7 @@ class Text:
 
 
 def text_of(protocols: Sequence[Protocol], signatures: Sequence[Signature]) -> Text:
-    """The text with these protocols and signatures, one behind the other."""
+    """The text with these protocols and signatures, one after the other."""
     parts = [protocol_part(protocol) for protocol in protocols] + [function_part(signature) for signature in signatures]
     offsets: List[int] = []
     length = 0

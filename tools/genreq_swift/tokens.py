@@ -122,7 +122,7 @@ class Source:
         return Token(kind, word, start, end, broken, spaced)
 
     def operator(self, offset: int) -> Optional[Token]:
-        """The operator that begins at a place, as a declaration names it: a `<` behind it that is followed by a name begins generic parameters."""
+        """The operator that begins at a place, as a declaration names it. A last `<` with a name after it begins generic parameters."""
         found = _OPERATOR.match(self.text, offset)
         if found is None:
             return None
@@ -134,11 +134,11 @@ class Source:
     # Ways past.
 
     def after_braces(self, offset: int) -> int:
-        """Behind the `}` that closes the `{` at a place."""
+        """The end of the `}` that closes the `{` at a place."""
         return self._after(offset, _BRACE, "{", "}")
 
     def after_brackets(self, offset: int) -> int:
-        """Behind the bracket that closes the one at a place."""
+        """The end of the bracket that closes the one at a place."""
         return self._after(offset, _BRACKET, "([{", ")]}")
 
     def _after(self, offset: int, stop: "re.Pattern[str]", opening: str, closing: str) -> int:
@@ -175,7 +175,7 @@ class Source:
                 depth -= 1
 
     def _past(self, at: int) -> int:
-        """Behind the comment, literal or quoted name that begins at a place, or behind the one character there."""
+        """The end of the comment, literal or quoted name that begins at a place, or of the one character there."""
         text = self.text
         if text.startswith("//", at):
             return _LINE_REST.match(text, at).end()
@@ -196,7 +196,7 @@ class Source:
         raise self.error("the comment is not closed", offset)
 
     def _after_literal(self, at: int) -> Optional[int]:
-        """Behind the string or regular expression that begins at a `"`, `#` or `/`, or nothing where none begins there."""
+        """The end of the string or regular expression that begins at a `"`, `#` or `/`, or None where none begins there."""
         text = self.text
         if text[at] == '"':
             plain = _PLAIN_STRING.match(text, at)

@@ -30,7 +30,7 @@ def shown(signature: Signature) -> str:
 
 
 def signatures(text: str, beside: str = "") -> List[str]:
-    """The signatures of a text, each behind its name."""
+    """The signatures of a text, each after its name."""
     return ["%s %s" % (signature.name, shown(signature)) for signature in reading(text, beside).signatures]
 
 

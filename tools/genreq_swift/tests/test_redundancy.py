@@ -21,7 +21,7 @@ class Lying(Program):
 
 
 def warnings(text, why=False, program=None, concrete=False):
-    """The lines of the lint, of declarations behind the protocols above."""
+    """The lines of the lint, of declarations after the protocols above."""
     found = reading(PROTOCOLS + text, concrete=concrete)
     findings, left_out = findings_of(found, program or Program(default_program()))
     assert not left_out

@@ -1,0 +1,1 @@
+"""The manual page of genreq, made from the pages of the repository."""
