@@ -13,14 +13,15 @@ use Rattle.swreq_lowering.specs.Requirements.{PlacedRequirement}
 use Rattle.swreq_world.specs.Closed.{IsClosed}
 use Rattle.swreq_world.specs.Worlds.{SignatureOver, TextWorld, no_signature, signature_at}
 use Rattle.swreq_symbols.specs.Meaning.{facts_of}
-use Rattle.swreq_valid.specs.Built.{IsBuilt, Builds}
-use Rattle.swreq_valid.specs.Machines.{list_of, protocols_of}
-use Rattle.swreq_valid.specs.Sides.{Side, protocol_sides, sides}
+use Rattle.swreq_valid.specs.Built.{Builds, IsBuilt, IsOnlyBuilt}
+use Rattle.swreq_valid.specs.Machines.{protocols_of}
+use Rattle.swreq_valid.specs.OfSignatures.{signature_plan, signature_sides}
+use Rattle.swreq_valid.specs.Sides.{Side, protocol_sides}
 use Rattle.swreq_valid.specs.declared.refused.Refused.{Refused}
 use Rattle.swreq_valid.specs.declared.refused.Refused.TheVariants.{Limit, NotATypeParameter, Memory}
 use Rattle.swreq_complete.specs.declared.limit.Limits.{Limits}
 use Rattle.swreq_complete.specs.declared.limit.Which.{Which}
-use Rattle.swreq_world.specs.FactsAt.{source_of, written_list}
+use Rattle.swreq_world.specs.FactsAt.{source_of}
 use Rattle.swreq_reqsig.proofs.WellFormed.{list_formed, protocols_formed}
 use Rattle.swreq_reply.specs.Machines.{IsBuiltOver, IsChecked, SignatureComes, SignaturesCome}
 use Rattle.swreq_reply.specs.Machines.IsChecked.{protocols_built, protocols_refused}
@@ -64,6 +65,14 @@ module _ (limits : Limits) (w : TextWorld) (rules : List Rule) where
     | inl i ↦ (own, first, rw i one)
     | inr k ↦ each_comes rest g k
   ]
+
+  -- where the machine of such a signature is built again, it comes to rules again, or memory runs out
+  pub only_memory : {gs : Signatures} {told : List Event} → SignaturesCome limits w rules gs None told
+      → (g : SignatureOver PlacedRequirement) → Contains gs g → (e : Refused)
+      → IsOnlyBuilt limits (signature_plan w rules g) (facts_of w) (signature_sides g) (Err e) → e ≡ Memory
+  only_memory come g c e only =
+      let (own, told, comes) = each_comes come g c in
+      elim (only (Ok own) told comes) [ inl same ↦ cc | inr (inl lost) ↦ cc | inr (inr lost) ↦ cc ]
 
 -- ---- a check that is done tells all that it tells
 
@@ -131,7 +140,7 @@ told_on old mid new (a, h, grew) (b, k, more) both = (a ++ b, both a b h k, grew
 
 -- where building its machine is refused, the signature is
 pub one_refused : (limits : Limits) (w : TextWorld) (base : List Rule) (g : SignatureOver PlacedRequirement) (old new : Option (List Event))
-    → (e : Refused) → Builds limits (list_of w base g.params (written_list g)) (facts_of w) (sides (source_of g) g.requirements) old new (Err e)
+    → (e : Refused) → Builds limits (signature_plan w base g) (facts_of w) (signature_sides g) old new (Err e)
     → ChecksOne limits w base g old new (Err e)
 one_refused limits w base g old new Memory b = (b.0, inl b.1, b.2)
 one_refused limits w base g old new e b = b

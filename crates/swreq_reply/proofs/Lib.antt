@@ -4,7 +4,6 @@ pub mod Flags
 pub mod Lines
 pub mod Misfits
 pub mod OfCalls
-pub mod OfLists
 pub mod OneCheck
 pub mod OneOutput
 pub mod OneRefusal

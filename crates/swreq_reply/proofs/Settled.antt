@@ -13,9 +13,12 @@ use Rattle.swreq_orders.proofs.Elements.{get_map}
 use Rattle.swreq_print.specs.Names.{Text}
 use Rattle.swreq_symbols.specs.Meaning.{facts_of}
 use Rattle.swreq_symbols.proofs.Growing.{text_stays, world_stays}
-use Rattle.swreq_valid.specs.Machines.{AreRulesOf, MachineView, protocols_of}
+use Rattle.swreq_valid.specs.Machines.{AreRulesOf, IsMachineOf, MachineView, protocols_of}
+use Rattle.swreq_valid.specs.OfSignatures.{signature_plan, signature_sides}
 use Rattle.swreq_valid.specs.Rounds.{AreRounds, last_rules}
-use Rattle.swreq_world.specs.Worlds.{TextWorld}
+use Rattle.swreq_valid.specs.Sides.{HoldsOfEach, IsValidSide}
+use Rattle.swreq_world.specs.FactsAt.{written_list}
+use Rattle.swreq_world.specs.Worlds.{TextWorld, signature_at}
 use Rattle.swreq_reply.specs.declared.setting.Means.{Means}
 use Rattle.swreq_reply.specs.declared.setting.Setting.{Setting}
 use Rattle.swreq_explain.specs.Books.{IsBookFor}
@@ -24,7 +27,6 @@ use Rattle.swreq_reply.specs.Contents.{AreAnswers, backed_by, backing_of}
 use Rattle.swreq_reply.specs.Outputs.{IsLineOf, signature_of}
 use Rattle.swreq_reply.specs.Settings.{AreMadeIn, AreMeansFor, IsMachineFor, IsPlaceFor, IsReady, world_in}
 use Rattle.swreq_reply.specs.Wanted.{count_of, machine_asked, machine_asked_at, maker}
-use Rattle.swreq_reply.proofs.OfLists.{IsMachineAt, is_at, is_for}
 
 module _ (old new : List Term) (s : Setting) (more : Extends old new) (ready : IsReady old s) where
   pub world_on : world_in new s ≡ world_in old s
@@ -46,7 +48,13 @@ module _ (old new : List Term) (s : Setting) (more : Extends old new) (ready : I
   }
 
   pub machine_on : (f : FuncId) (m : MachineView) → IsMachineFor old s f m → IsMachineFor new s f m
-  machine_on f m h = is_for new s f m h.signature (on (λ w. IsMachineAt w s f m) (is_at old s f m h))
+  machine_on f m h = record {
+    signature = h.signature;
+    valid = on (λ w. HoldsOfEach (IsValidSide (facts_of w)) (signature_sides (signature_at w f))) h.valid;
+    machine = on (λ w. IsMachineOf w (written_list (signature_at w f)) m) h.machine;
+    params = on (λ w. m.params ≡ (signature_at w f).params) h.params;
+    rounds = on (λ w. AreRounds s.limits (signature_plan w (last_rules s.protocols.now.rounds) (signature_at w f)) m.rounds) h.rounds;
+  }
 
   pub means_on : (m : Means) → AreMeansFor old s m → AreMeansFor new s m
   means_on m h = record {

@@ -9,11 +9,11 @@ use Rattle.swreq_watch.specs.Told.{GrewBy}
 use Rattle.swreq_lowering.specs.declared.ids.FuncId.{FuncId}
 use Rattle.swreq_lowering.specs.Requirements.{PlacedRequirement}
 use Rattle.swreq_world.specs.Worlds.{IdWorld, SignatureOver, TextWorld, signature_at}
-use Rattle.swreq_valid.specs.Machines.{AreRulesOf, list_of}
+use Rattle.swreq_valid.specs.Machines.{AreRulesOf}
+use Rattle.swreq_valid.specs.OfSignatures.{signature_plan}
 use Rattle.swreq_valid.specs.Rounds.{last_rules}
 use Rattle.swreq_valid.specs.declared.refused.Refused.{Refused}
 use Rattle.swreq_valid.specs.declared.refused.Refused.TheVariants.{Memory}
-use Rattle.swreq_world.specs.FactsAt.{written_list}
 use Rattle.swreq_reply.specs.declared.checking.Checked.{Checked}
 use Rattle.swreq_reply.specs.Machines.{IsBuiltOver, IsChecked, SignatureComes, SignaturesCome}
 use Rattle.swreq_reply.specs.declared.content.Content.{Content}
@@ -46,7 +46,7 @@ module _ (limits : Limits) (w : TextWorld) where
       (told : List Event) × ((own : List Rule) × SignatureComes limits w rules g (Ok own) told) × GrewBy old new told
   ChecksOne rules g old new (Err Memory) =
       (told : List Event)
-      × (ComesTo limits (list_of w rules g.params (written_list g)) told ⊎ ((own : List Rule) × SignatureComes limits w rules g (Ok own) told))
+      × (ComesTo limits (signature_plan w rules g) told ⊎ ((own : List Rule) × SignatureComes limits w rules g (Ok own) told))
       × GrewBy old new told
   ChecksOne rules g old new (Err e) = (told : List Event) × SignatureComes limits w rules g (Err e) told × GrewBy old new told
 

@@ -9,9 +9,9 @@ use Rattle.swreq_symbols.specs.Meaning.{facts_of}
 use Rattle.swreq_valid.specs.declared.refused.Refused.{Refused}
 use Rattle.swreq_valid.specs.declared.refused.Refused.TheVariants.{Memory}
 use Rattle.swreq_valid.specs.Built.{IsBuilt}
-use Rattle.swreq_valid.specs.Machines.{list_of, protocols_of}
-use Rattle.swreq_valid.specs.Sides.{protocol_sides, sides}
-use Rattle.swreq_world.specs.FactsAt.{source_of, written_list}
+use Rattle.swreq_valid.specs.Machines.{protocols_of}
+use Rattle.swreq_valid.specs.OfSignatures.{signature_plan, signature_sides}
+use Rattle.swreq_valid.specs.Sides.{protocol_sides}
 
 module _ (limits : Limits) (w : TextWorld) where
   -- The rounds of the protocols come to rules that show each side of their requirements, or to a refusal, and tell these events.
@@ -21,7 +21,7 @@ module _ (limits : Limits) (w : TextWorld) where
   -- The rounds of a signature, over the rules of the protocols, come to rules that show each of its sides, or to a refusal, and tell these
   -- events.
   abbrev pub SignatureComes : List Rule → SignatureOver PlacedRequirement → (answer : Result (List Rule) Refused) → List Event → Type 0
-  SignatureComes rules g = IsBuilt limits (list_of w rules g.params (written_list g)) (facts_of w) (sides (source_of g) g.requirements)
+  SignatureComes rules g = IsBuilt limits (signature_plan w rules g) (facts_of w) (signature_sides g)
 
   -- The signatures, in order: all of them come to rules, or the first that does not is refused so. They tell the events of all up to it.
   pub data SignaturesCome (rules : List Rule) : List (SignatureOver PlacedRequirement) → Option Refused → List Event → Type 0 where

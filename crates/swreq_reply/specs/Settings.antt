@@ -2,17 +2,19 @@
 use Rattle.std.specs.Prelude.{◌≡◌, ◌<◌, ℕ, List, Option, Some, None, Contains, get_or, length}
 use Rattle.std.specs.Option.{option_copied}
 use Rattle.swreq_param.specs.Terms.{Term}
-use Rattle.swreq_derive.specs.WellFormed.{AreProtocolsWellFormed, IsListWellFormed}
+use Rattle.swreq_derive.specs.WellFormed.{AreProtocolsWellFormed}
 use Rattle.swreq_complete.specs.Limits.{AreInRange}
 use Rattle.swreq_lowering.specs.declared.ids.FuncId.{FuncId}
 use Rattle.swreq_world.specs.ByTable.{world_by}
-use Rattle.swreq_world.specs.FactsAt.{source_of, written_list}
+use Rattle.swreq_world.specs.FactsAt.{written_list}
 use Rattle.swreq_world.specs.Short.{IsShort}
 use Rattle.swreq_world.specs.Worlds.{IdWorld, TextWorld, signature_at}
 use Rattle.swreq_symbols.specs.Known.{IsTextOver}
 use Rattle.swreq_symbols.specs.Meaning.{facts_of}
-use Rattle.swreq_valid.specs.Machines.{AreRulesOf, IsMachineOf, MachineView, list_of, protocols_of}
+use Rattle.swreq_valid.specs.Machines.{AreRulesOf, IsMachineOf, MachineView, protocols_of}
+use Rattle.swreq_valid.specs.OfSignatures.{signature_plan, signature_sides}
 use Rattle.swreq_valid.specs.Rounds.{AreRounds, last_rules}
+use Rattle.swreq_valid.specs.Sides.{HoldsOfEach, IsValidSide}
 use Rattle.swreq_reply.specs.declared.checking.Asked.{Asked}
 use Rattle.swreq_reply.specs.declared.content.Backing.TheVariants.{Derivation}
 use Rattle.swreq_reply.specs.declared.setting.Kept.{Kept}
@@ -44,14 +46,15 @@ pub record IsReady (terms : List Term) (s : Setting) : Type 0 where
   pub places : ArePlaces (maker s.world.now s.content) (length s.world.now.signatures) (count_of s.world.now s.content) s.places.now
   pub limits : AreInRange s.limits
 
--- The signature is of the text, its list is well formed, and this is its machine, over the rules of the protocols.
+-- The signature is of the text, each side of its requirements is a type parameter, and this is its machine, over the rules of the
+-- protocols.
 pub record IsMachineFor (terms : List Term) (s : Setting) (f : FuncId) (m : MachineView) : Type 0 where
   pub signature : f.place < length s.world.now.signatures
-  pub formed : IsListWellFormed (facts_of (world_in terms s)) (source_of (signature_at (world_in terms s) f))
+  pub valid : HoldsOfEach (IsValidSide (facts_of (world_in terms s))) (signature_sides (signature_at (world_in terms s) f))
   pub machine : IsMachineOf (world_in terms s) (written_list (signature_at (world_in terms s) f)) m
   pub params : m.params ≡ (signature_at (world_in terms s) f).params
-  pub rounds : AreRounds s.limits (list_of (world_in terms s) (last_rules s.protocols.now.rounds) m.params
-      (written_list (signature_at (world_in terms s) f))) m.rounds
+  pub rounds : AreRounds s.limits
+      (signature_plan (world_in terms s) (last_rules s.protocols.now.rounds) (signature_at (world_in terms s) f)) m.rounds
 
 -- The machine is that of the signature with which it is kept.
 abbrev pub IsKeptFor : List Term → Setting → Kept → Type 0

@@ -12,9 +12,9 @@ use Rattle.swreq_lowering.specs.Queries.TermQuery.{AsksSignature}
 use Rattle.swreq_lowering.specs.Requirements.{PlacedRequirement}
 use Rattle.swreq_lowering.specs.declared.ids.FuncId.{FuncId}
 use Rattle.swreq_world.specs.Worlds.{SignatureOver, TextWorld, signature_at}
-use Rattle.swreq_valid.specs.Machines.{list_of, protocols_of}
+use Rattle.swreq_valid.specs.Machines.{protocols_of}
+use Rattle.swreq_valid.specs.OfSignatures.{signature_plan}
 use Rattle.swreq_output.specs.Minimising.{MinimisingFails, MinimisingTells}
-use Rattle.swreq_world.specs.FactsAt.{written_list}
 use Rattle.swreq_reqsig.specs.Told.{ComesSoFar, WasReduced}
 use Rattle.swreq_reply.specs.Machines.{IsBuiltOver, ProtocolsCome, SignatureComes}
 
@@ -66,7 +66,7 @@ module _ (limits : Limits) (w : TextWorld) where
   pub data SignaturesTell (rules : List Rule) : List (SignatureOver PlacedRequirement) → List Event → Type 0 where
     nothing_yet : {gs : List (SignatureOver PlacedRequirement)} → SignaturesTell rules gs []
     in_first : {g : SignatureOver PlacedRequirement} {gs : List (SignatureOver PlacedRequirement)} {told : List Event}
-        → ComesTo limits (list_of w rules g.params (written_list g)) told → SignaturesTell rules (g ∷ gs) told
+        → ComesTo limits (signature_plan w rules g) told → SignaturesTell rules (g ∷ gs) told
     past_first : {g : SignatureOver PlacedRequirement} {gs : List (SignatureOver PlacedRequirement)} {first more told : List Event}
         (own : List Rule) → SignatureComes limits w rules g (Ok own) first → SignaturesTell rules gs more → told ≡ first ++ more
         → SignaturesTell rules (g ∷ gs) told

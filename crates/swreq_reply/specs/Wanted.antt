@@ -2,14 +2,11 @@
 use Rattle.std.specs.Prelude.{◌≡◌, ◌↔◌, ℕ, ◌<◌, ◌≤◌, Bool, true, false, List, Vec, Option, Some, None, Contains, length, get_or, nat_eq, slice_get}
 use Rattle.std.specs.List.{list_any}
 use Rattle.std.specs.declared.alloc.Global.{Global}
-use Rattle.swreq_param.specs.Terms.{Term, member_count}
 use Rattle.swreq_words.specs.declared.command.Command.{Command}
 use Rattle.swreq_words.specs.declared.command.Command.TheVariants as command
 use Rattle.swreq_lowering.specs.declared.ids.FuncId.{FuncId}
 use Rattle.swreq_lowering.specs.declared.ids.Query.{Query}
 use Rattle.swreq_lowering.specs.declared.ids.Query.TheVariants as queries
-use Rattle.swreq_lowering.specs.Queries.{TermQuery}
-use Rattle.swreq_query.specs.Answers.{IsSide}
 use Rattle.swreq_world.specs.Worlds.{IdWorld}
 use Rattle.swreq_reply.specs.declared.content.Content.{Content}
 use Rattle.swreq_reply.specs.declared.content.Content.TheVariants.{Answers, Signatures, Systems, Calls, Families, Judgements}
@@ -26,10 +23,6 @@ function_of (queries.Reduced f t) = f
 function_of (queries.Conf f t p) = f
 function_of (queries.Layout f t) = f
 function_of (queries.Same f t u) = f
-
--- The members of each side are at most this many.
-abbrev pub HasShortSides : TermQuery → ℕ → Type 0
-HasShortSides q most = (s : Term) → IsSide q s → member_count s ≤ most
 
 -- ---- what machines make
 

@@ -8,11 +8,11 @@ ghost use Rattle.swreq_derive.specs.declared.requirements.Requirement.TheVariant
 ghost use Rattle.swreq_explain.specs.Books.{IsBookFor};
 ghost use Rattle.swreq_query.specs.Answers.Answer.{Yes};
 ghost use Rattle.swreq_query.specs.Asked.{AsksRequirement, IsRoomFor, answer_of};
-ghost use Rattle.swreq_symbols.specs.Known.{IsRequirementIn, IsTextOver};
+ghost use Rattle.swreq_symbols.specs.Known.{IsRequirementIn};
 ghost use Rattle.swreq_symbols.specs.Meaning.{facts_of};
 ghost use Rattle.swreq_world.specs.FactsAt.{source_of};
 ghost use Rattle.swreq_world.specs.Worlds.{signature_at};
-ghost use Rattle.swreq_lowering.specs.ByTable.{query_by};
+ghost use Rattle.swreq_lowering.specs.ByTable.{HasQueryIdsOf, query_by};
 ghost use Rattle.swreq_reply.specs.Contents.{AreAnswers, backing_of};
 ghost use Rattle.swreq_reply.specs.Made.{IsPiece};
 ghost use Rattle.swreq_reply.specs.Outputs.{AnswersByTypes, Backs, BacksYes, HasAnswer, IsDerivationText, IsLineOf, IsPathLine, signature_of};
@@ -20,7 +20,6 @@ ghost use Rattle.swreq_reply.specs.Settings.{AreMadeIn, AreMeansFor, AsksType, H
 
 use crate::content::{Backing, backing_of};
 use crate::setting::{Means, Own, Setting};
-use crate::wanted::members;
 use std::alloc::{AllocError, Global};
 use swreq_confpath::laws::paths_have_texts;
 use swreq_confpath::{path_text, shortest};
@@ -33,22 +32,19 @@ use swreq_query::{Verdict, answer, judge};
 use swreq_text::{Seq, append_bytes};
 use swreq_unfold::Book;
 use swreq_valid::Scratch;
-use swreq_world::World;
 
-/// Room for the type parameters that a query of the text names.
-fn scratch(
-    alloc: Global,
-    world: &World,
-    table: &ParamTable,
-    query: &Query,
-) -> Result<Scratch, AllocError>
-    requires text { IsTextOver table.now world.now }
-    requires query { Contains world.now.queries query.now }
+/// Room for the type parameters that a query names.
+fn scratch(alloc: Global, table: &ParamTable, query: &Query) -> Result<Scratch, AllocError>
+    requires { HasQueryIdsOf table.now query.now }
     ensures { IfOk result (λ s. IsRoomFor (query_by table.now query.now) s.room) }
 {
-    let longest = members(table, query).checked_add(2).ok_or(AllocError)?;
-    let room = longest.checked_mul(4).ok_or(AllocError)?;
-    Scratch::with_room(alloc, room)
+    match *query {
+        Query::Signature { .. } => Scratch::with_room(alloc, 0),
+        Query::Reduced { t, .. } | Query::Conf { t, .. } | Query::Layout { t, .. } => {
+            Scratch::for_type(alloc, table, t)
+        }
+        Query::Same { a, b, .. } => Scratch::for_types(alloc, table, a, b),
+    }
 }
 
 /// Appends the line of the conformance path that is given for `[t : p]`, which is derivable.
@@ -165,7 +161,7 @@ fn requirement_piece(
     ensures piece { IfOk result (AnswersByTypes (world_in table.old s.now) true (backing_of s.now.content) (query_by table.old query.now)) }
     ensures extends { OnOk result (Extends table.old table.new) }
 {
-    let mut scratch = scratch(s.alloc, s.world, table, query)?;
+    let mut scratch = scratch(s.alloc, table, query)?;
     let verdict = judge(
         s.world,
         table,
@@ -193,7 +189,7 @@ fn type_piece(
     requires asks { AsksType (query_by table.now query.now) }
     ensures { IfOk result (AnswersByTypes (world_in table.now s.now) true (backing_of s.now.content) (query_by table.now query.now)) }
 {
-    let mut scratch = scratch(s.alloc, s.world, table, query)?;
+    let mut scratch = scratch(s.alloc, table, query)?;
     let mut piece = Vec::new(s.alloc);
     answer(
         s.alloc,

@@ -18,6 +18,7 @@ use std::alloc::{AllocError, Global};
 use swreq_complete::Limits;
 use swreq_lowering::FuncId;
 use swreq_param::ParamTable;
+use swreq_symbols::Text;
 use swreq_text::Seq;
 use swreq_valid::{Machine, Protocols, Refused};
 use swreq_watch::Watch;
@@ -57,17 +58,11 @@ fn check_anew<'a, W: Watch>(
     ensures pieces { OnOk result (AreMadeIn table.old s.now (f.place + 1) pieces.new.items) }
     ensures extends { OnOk result (Extends table.old table.new) }
 {
-    let list = s.world.signature(s.alloc, f)?;
-    let machine = Machine::build(
-        s.alloc,
-        s.world,
+    let text = Text {
+        world: s.world,
         table,
-        s.protocols,
-        s.world.params(f),
-        &list,
-        s.limits,
-        watch,
-    )?;
+    };
+    let machine = Machine::of_signature(s.alloc, &text, s.protocols, f, s.limits, watch)?;
     let own = Own {
         f,
         machine: &machine,

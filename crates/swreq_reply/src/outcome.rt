@@ -9,7 +9,7 @@ ghost use Rattle.swreq_symbols.specs.Known.{IsTextOver};
 ghost use Rattle.swreq_valid.specs.Rounds.{last_rules};
 ghost use Rattle.swreq_valid.specs.declared.refused.Refused.TheVariants as machines;
 ghost use Rattle.swreq_watch.specs.declared.events.Event.{Event};
-ghost use Rattle.swreq_world.specs.ByTable.{IsOverTable, world_by};
+ghost use Rattle.swreq_world.specs.ByTable.{world_by};
 ghost use Rattle.swreq_world.specs.Short.{IsShort};
 ghost use Rattle.swreq_output.specs.Ended.{IsWorldOfText};
 ghost use Rattle.swreq_reply.specs.declared.content.Content.TheVariants.{Calls, Families, Judgements};
@@ -58,7 +58,6 @@ use swreq_verify::verify;
 use swreq_watch::Watch;
 use swreq_words::{Command, CommandLine};
 use swreq_world::World;
-use swreq_world::laws::{worlds_are_closed, worlds_are_short};
 
 /// A status and what is printed with it.
 #[derive(Debug, Drop, PartialEq, Eq)]
@@ -193,11 +192,10 @@ fn with_world<W: Watch>(
 ) -> Result<Outcome, AllocError>
     requires request { IsRequest r.now }
     requires world { IsWorldOfText (parts_of r.now).source (world_by table.old world.now) }
-    requires over { IsOverTable table.old world.now }
+    requires text { IsTextOver table.old world.now }
+    requires short { IsShort world.now }
     ensures { Replies (line_of r.now) (parts_of r.now).input (W.told watch.old) (W.told watch.new) result }
 {
-    worlds_are_closed(r.parts.source);
-    worlds_are_short(r.parts.source);
     match content_of(r.line.command) {
         Content::Judgements => judged(r, world, table),
         _ => checked(r, world, table, watch),
@@ -275,6 +273,7 @@ fn finish<W: Watch>(
     requires request { IsRequest r.now }
     requires world { IsWorldOfText (parts_of r.now).source (world_by table.old world.now) }
     requires text { IsTextOver table.old world.now }
+    requires short { IsShort world.now }
     requires checks { ChecksMachines (line_of r.now).command }
     requires checked { IsCheckedFor (limits_in r.now) (world_by table.old world.now) world.now (printed_of r.now) checked.now }
     ensures { Finishes (line_of r.now) (parts_of r.now).input (world_by table.old world.now) (last_rules checked.now.protocols.rounds)
@@ -327,12 +326,12 @@ fn called(
     requires request { IsRequest r.now }
     requires world { IsWorldOfText (parts_of r.now).source (world_by table.old world.now) }
     requires text { IsTextOver table.old world.now }
+    requires short { IsShort world.now }
     requires calls { printed_of r.now ≡ Calls }
     requires checked { IsCheckedFor (limits_in r.now) (world_by table.old world.now) world.now (printed_of r.now) checked.now }
     ensures { (told : Option (List Event)) → Finishes (line_of r.now) (parts_of r.now).input (world_by table.old world.now)
         (last_rules checked.now.protocols.rounds) told told result }
 {
-    worlds_are_short(r.parts.source);
     names_have_ids(r.parts.source);
     calls_by_table();
     match read_calls(r.alloc, r.parts.input, second_at(r.parts)) {

@@ -11,6 +11,7 @@ use std::alloc::{AllocError, Global};
 use swreq_complete::Limits;
 use swreq_lowering::FuncId;
 use swreq_param::ParamTable;
+use swreq_symbols::Text;
 use swreq_valid::{Machine, Protocols, Refused};
 use swreq_watch::Quiet;
 use swreq_world::World;
@@ -44,17 +45,11 @@ pub(crate) fn machine_of<'b>(
     ensures machine { IfOk result (IsMachineOf (world_of table.now p.now) (written_list (signature_at (world_of table.now p.now) f))) }
     ensures params { IfOk result (λ m. m.params ≡ (signature_at (world_of table.now p.now) f).params) }
 {
-    let list = p.world.signature(p.alloc, f)?;
-    match Machine::build(
-        p.alloc,
-        p.world,
+    let text = Text {
+        world: p.world,
         table,
-        p.protocols,
-        p.world.params(f),
-        &list,
-        p.limits,
-        &mut Quiet,
-    ) {
+    };
+    match Machine::of_signature(p.alloc, &text, p.protocols, f, p.limits, &mut Quiet) {
         Ok(machine) => Ok(machine),
         Err(refused) => Err(want_of_memory(&refused)),
     }

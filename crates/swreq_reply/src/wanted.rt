@@ -1,12 +1,10 @@
-//! Of which signatures the minimised list is wanted, and what a query names.
+//! Which signature a query asks, and of which signatures the minimised list is wanted.
 ghost use Rattle.std.specs.Prelude.{◌≡◌, ◌<◌, length, Contains, IfOk};
-ghost use Rattle.swreq_lowering.specs.ByTable.{HasQueryIdsOf, query_by};
-ghost use Rattle.swreq_reply.specs.Wanted.{AreFlags, HasShortSides, function_of, is_list_asked, list_asked, wants_list};
+ghost use Rattle.swreq_reply.specs.Wanted.{AreFlags, function_of, is_list_asked, list_asked, wants_list};
 
 use crate::content::Content;
 use std::alloc::{AllocError, Global};
 use swreq_lowering::{FuncId, Query};
-use swreq_param::ParamTable;
 use swreq_world::World;
 
 /// The signature that a query asks.
@@ -68,19 +66,5 @@ pub(crate) fn lists_wanted(
         Content::Systems | Content::Families | Content::Judgements | Content::Calls => {
             flags(alloc, world.functions() as usize, false)
         }
-    }
-}
-
-/// The most members of a type parameter that the query names.
-pub(crate) fn members(table: &ParamTable, query: &Query) -> usize
-    requires { HasQueryIdsOf table.now query.now }
-    ensures { HasShortSides (query_by table.now query.now) result }
-{
-    match *query {
-        Query::Signature { .. } => 0,
-        Query::Reduced { t, .. } | Query::Conf { t, .. } | Query::Layout { t, .. } => {
-            table.members(t)
-        }
-        Query::Same { a, b, .. } => table.members(a).max(table.members(b)),
     }
 }

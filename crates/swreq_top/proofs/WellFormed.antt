@@ -1,10 +1,12 @@
 -- No text that is well formed is refused for a side.
 use Rattle.std.proofs.Common.{sym, subst, inl, inr, ℕ, List, [], ◌∷◌, Contains, Some, map}
 use Rattle.std.proofs.lemmas.List.Elements.{Contains-append_cases, Contains-append_right}
-use Rattle.swreq_orders.proofs.Members.{contains_map, first_member, later_member, no_member}
+use Rattle.swreq_orders.proofs.Members.{contains_map, each_member, first_member, later_member, no_member}
 use Rattle.swreq_param.specs.declared.ids.ProtoId.{ProtoId}
+use Rattle.swreq_derive.specs.Derivation.{Source, TermFacts, TermRequirement}
 use Rattle.swreq_derive.specs.Derivation.Source.{SelfOf}
-use Rattle.swreq_derive.specs.WellFormed.{IsWellFormed}
+use Rattle.swreq_derive.specs.Derivation.TermRequirement.{Equals}
+use Rattle.swreq_derive.specs.WellFormed.{HasValidSides, IsWellFormed}
 use Rattle.swreq_rule.specs.declared.rules.Rule.{Rule}
 use Rattle.swreq_watch.specs.declared.events.Event.{Event}
 use Rattle.swreq_complete.specs.declared.limit.Limits.{Limits}
@@ -12,12 +14,27 @@ use Rattle.swreq_lowering.specs.Requirements.{PlacedRequirement}
 use Rattle.swreq_world.specs.FactsAt.{source_of}
 use Rattle.swreq_world.specs.Worlds.{SignatureOver, TextWorld, requirements_of}
 use Rattle.swreq_symbols.specs.Meaning.{facts_of}
-use Rattle.swreq_valid.specs.Sides.{FailsFirst, HoldsOfEach, IsValidSide, Side, protocol_sides, sides, sides_in}
+use Rattle.swreq_valid.specs.OfSignatures.{signature_sides}
+use Rattle.swreq_valid.specs.Sides.{FailsFirst, HoldsOfEach, IsValidSide, Side, protocol_sides, sides, sides_at, sides_in, sides_of}
 use Rattle.swreq_valid.specs.declared.refused.Refused.TheVariants.{NotATypeParameter}
 use Rattle.swreq_reply.specs.Machines.{IsChecked, SignaturesCome}
 use Rattle.swreq_reply.specs.Machines.IsChecked.{protocols_built, protocols_refused}
 use Rattle.swreq_reply.specs.Machines.SignaturesCome.{next, stopped}
-use Rattle.swreq_reply.proofs.OfLists.{formed_sides}
+
+module _ (f : TermFacts) (s : Source) where
+  sides_hold : (r : TermRequirement) (left right : ℕ) → HasValidSides f s r → HoldsOfEach (IsValidSide f) (sides_at s r left right)
+  sides_hold (Equals t u) left right h = each_member (IsValidSide f) (sides_at s (Equals t u) left right) (h.0, (h.1, tt))
+  sides_hold r left right h = each_member (IsValidSide f) (sides_at s r left right) (h, tt)
+
+  -- the sides of a well formed list are valid
+  formed_sides : (rs : List PlacedRequirement)
+      → ((r : TermRequirement) → Contains (map (λ (q : PlacedRequirement). q.requirement) rs) r → HasValidSides f s r)
+      → HoldsOfEach (IsValidSide f) (sides s rs)
+  formed_sides [] h x c = no_member x c
+  formed_sides (q ∷ rs) h x c = elim (Contains-append_cases (sides_of s q) (sides s rs) x c) [
+    | inl k ↦ sides_hold q.requirement q.left_at q.right_at (h q.requirement (first_member q.requirement _)) x k
+    | inr k ↦ formed_sides rs (λ r d. h r (later_member q.requirement r _ d)) x k
+  ]
 
 module _ (w : TextWorld) (formed : IsWellFormed (facts_of w) (map source_of w.signatures)) where
   valid_protocols : (ps : List ProtoId) → HoldsOfEach (IsValidSide (facts_of w)) (sides_in w ps)
@@ -28,7 +45,7 @@ module _ (w : TextWorld) (formed : IsWellFormed (facts_of w) (map source_of w.si
   ]
 
   valid_list : (g : SignatureOver PlacedRequirement) → Contains w.signatures g
-      → HoldsOfEach (IsValidSide (facts_of w)) (sides (source_of g) g.requirements)
+      → HoldsOfEach (IsValidSide (facts_of w)) (signature_sides g)
   valid_list g c =
       formed_sides (facts_of w) (source_of g) g.requirements (formed.lists (source_of g) (contains_map source_of w.signatures g c))
 
@@ -46,7 +63,7 @@ module _ (w : TextWorld) (formed : IsWellFormed (facts_of w) (map source_of w.si
         → SignaturesCome limits w rules gs (Some (NotATypeParameter at)) told → ⊥
     signatures_pass rules among (next {g} {gs} own one rest e) = signatures_pass rules (λ h c. among h (later_member g h gs c)) rest
     signatures_pass rules among (stopped {g} {gs} refused real come) =
-        none_fails (sides (source_of g) g.requirements) at (valid_list g (among g (first_member g gs))) come.2
+        none_fails (signature_sides g) at (valid_list g (among g (first_member g gs))) come.2
 
     pub never_refused : {told : List Event} → IsChecked limits w (Some (NotATypeParameter at)) told → ⊥
     never_refused (protocols_refused refused real come) = none_fails (protocol_sides w) at (valid_protocols w.lexicon.written_order) come.2

@@ -7,10 +7,11 @@ use Rattle.swreq_complete.specs.declared.limit.Which.{Which}
 use Rattle.swreq_derive.specs.WellFormed.{IsWellFormed}
 use Rattle.swreq_rounds.specs.Rounds.{IsOutcome}
 use Rattle.swreq_lowering.specs.Requirements.{PlacedRequirement}
-use Rattle.swreq_world.specs.FactsAt.{source_of, written_list}
+use Rattle.swreq_world.specs.FactsAt.{source_of}
 use Rattle.swreq_world.specs.Worlds.{SignatureOver, TextWorld}
 use Rattle.swreq_symbols.specs.Meaning.{facts_of}
-use Rattle.swreq_valid.specs.Machines.{list_of, protocols_of}
+use Rattle.swreq_valid.specs.Machines.{protocols_of}
+use Rattle.swreq_valid.specs.OfSignatures.{signature_plan}
 use Rattle.swreq_parts.specs.Lines.{lines}
 use Rattle.swreq_output.specs.Minimising.{MinimisingFails}
 use Rattle.swreq_reqsig.specs.Told.{IsFamilyOutcome}
@@ -32,7 +33,7 @@ module _ (line : CommandLine) (w : TextWorld) where
     -- those of the list of a signature, over the rules of the protocols
     of_signature : (rules : List Rule) (first : List Event) → IsOutcome (limits_of line) (protocols_of w) (Ok rules) first
         → (g : SignatureOver PlacedRequirement) → Contains w.signatures g
-        → IsOutcome (limits_of line) (list_of w rules g.params (written_list g)) (Err (Limit which trace)) told → PassesALimit which trace told
+        → IsOutcome (limits_of line) (signature_plan w rules g) (Err (Limit which trace)) told → PassesALimit which trace told
     -- those of a list that is met in minimising a signature whose minimised list is printed, over the rules of the protocols
     of_minimising : (rules : List Rule) (first : List Event) → IsOutcome (limits_of line) (protocols_of w) (Ok rules) first
         → (g : SignatureOver PlacedRequirement) → IsMinimisedFor (content_of line.command) w g

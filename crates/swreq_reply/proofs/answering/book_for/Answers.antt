@@ -1,15 +1,21 @@
-use Rattle.std.proofs.Common.{refl}
+use Rattle.std.proofs.Common.{◌≡◌, refl}
+use Rattle.swreq_valid.specs.Machines.{IsMachineOf, list_of}
+use Rattle.swreq_valid.specs.Rounds.{AreRounds, last_rules}
+use Rattle.swreq_valid.proofs.OfSignatures.{as_read}
 use Rattle.swreq_reply.specs.Settings.{world_in}
-use Rattle.swreq_reply.proofs.OfLists.{IsMachineBy, as_read, is_at}
 use Rattle.swreq_reply.proofs.answering.book_for.Goals as goal
 
 pub book_of-requires-clause-rounds : goal.book_of-requires-clause-rounds
 book_of-requires-clause-rounds c =
     let s = c.args.s.now in
+    let w = world_in c.args.table.now s in
     let m = c.args.own.now.machine.now in
-    let (formed, machine, params, rounds) = as_read c.args.table.now s.world.now c.args.own.now.f _ _ refl refl
-    (λ p rs qs. IsMachineBy (world_in c.args.table.now s) s m p rs) (is_at c.args.table.now s c.args.own.now.f m c.requires.machine) in record {
-      signature = c.requires.machine.signature;
+    let h = c.requires.machine in
+    let (params, rounds, machine) = as_read c.args.table.now s.world.now c.args.own.now.f _ _ refl refl
+    (λ p rs qs. (m.params ≡ p) × AreRounds s.limits (list_of w (last_rules s.protocols.now.rounds) m.params rs) m.rounds
+    × IsMachineOf w rs m)
+    (h.params, rw h.params h.rounds, h.machine) in record {
+      signature = h.signature;
       params = params;
       protocols = (s.limits, c.requires.ready.rounds);
       list = (s.limits, rounds);

@@ -1,4 +1,21 @@
+use Rattle.swreq_reqsig.proofs.WellFormed.{list_formed}
+use Rattle.swreq_symbols.specs.Meaning.{facts_of}
+use Rattle.swreq_world.specs.FactsAt.{source_of}
+use Rattle.swreq_world.specs.Worlds.{signature_at}
+use Rattle.swreq_reply.specs.Settings.{world_in}
 use Rattle.swreq_reply.proofs.answering.put_path.Goals as goal
+
+pub shortest-requires-clause-machine : goal.shortest-requires-clause-machine
+shortest-requires-clause-machine c =
+    let w = world_in c.args.table.now c.args.s.now in
+    let own = signature_at w c.args.own.now.f in
+    let h = c.requires.machine in record {
+      signature = h.signature;
+      protocols = c.requires.ready.formed;
+      list = λ r has. list_formed (facts_of w) (source_of own) own.requirements h.valid r has;
+      machine = h.machine;
+      params = h.params;
+    }
 
 pub path_text-requires-clause-numbers : goal.path_text-requires-clause-numbers
 path_text-requires-clause-numbers c =

@@ -3,21 +3,6 @@ use Rattle.swreq_reply.specs.Requests.{line_of, parts_of}
 use Rattle.swreq_reply.proofs.Verdicts.{replies_alone}
 use Rattle.swreq_reply.proofs.outcome.with_world.Goals as goal
 
-pub judged-requires-clause-text : goal.judged-requires-clause-text
-judged-requires-clause-text g c =
-    let of = c.requires.world in
-    record { table = c.requires.over; closed = c.worlds_are_closed.ensures.closed of.skeleton _ of.stands of.world of.resolve }
-
-pub checked-requires-clause-text : goal.checked-requires-clause-text
-checked-requires-clause-text g c =
-    let of = c.requires.world in
-    record { table = c.requires.over; closed = c.worlds_are_closed.ensures.closed of.skeleton _ of.stands of.world of.resolve }
-
-pub checked-requires-clause-short : goal.checked-requires-clause-short
-checked-requires-clause-short g c =
-    let of = c.requires.world in
-    c.worlds_are_short.ensures.by_table of.within c.args.table.now of.skeleton c.args.world.now of.stands of.world
-
 pub checked-requires-clause-checks : goal.checked-requires-clause-checks
 checked-requires-clause-checks g c e = c.in_default.not-Judgements (c.content_of.ensures ∙ e)
 

@@ -1,23 +1,17 @@
-use Rattle.std.proofs.Common.{◌≡◌, ◌∙◌}
-use Rattle.swreq_valid.specs.Machines.{IsMachineOf}
-use Rattle.swreq_reply.specs.Passed.{world_of}
-use Rattle.swreq_reply.proofs.OfLists.{as_meant, list_written, only_memory}
+use Rattle.std.proofs.Common.{◌<◌, arith, length, map}
+use Rattle.std.proofs.lemmas.List.{length-map}
+use Rattle.std.proofs.lemmas.List.Elements.{Contains-get_or}
+use Rattle.swreq_world.specs.ByTable.{signature_by}
+use Rattle.swreq_world.specs.Worlds.{no_signature, signature_at}
+use Rattle.swreq_reply.specs.Passed.{rules_of, world_of}
+use Rattle.swreq_reply.proofs.Checked.{only_memory}
 use Rattle.swreq_reply.proofs.passed.machine_of.Goals as goal
-
-pub build-requires-clause-written : goal.build-requires-clause-written
-build-requires-clause-written c =
-    list_written c.args.table.now c.args.p.now.world.now c.args.f _ _ c.params.ensures (c.deref.ensures.value ∙ c.in_ok-list.ensures)
-    c.requires.text c.requires.f
-
-pub returns-in-Ok : goal.returns-in-Ok
-returns-in-Ok c =
-    let meant = as_meant c.args.table.now c.args.p.now.world.now c.args.f _ _ c.params.ensures
-    (c.deref.ensures.value ∙ c.in_ok-list.ensures) in record {
-      machine = meant (λ p rs qs. IsMachineOf (world_of c.args.table.now c.args.p.now) rs c.in-Ok.machine) c.in-Ok.ensures.machine;
-      params = meant (λ p rs qs. c.in-Ok.machine.params ≡ p) c.in-Ok.ensures.params;
-    }
 
 pub want_of_memory-requires : goal.want_of_memory-requires
 want_of_memory-requires c =
-    only_memory c.args.table.now c.args.p.now.world.now c.args.f _ _ c.params.ensures (c.deref.ensures.value ∙ c.in_ok-list.ensures) _ _ _
-    c.requires.passed.passed.built.signatures c.requires.f c.in-Err.refused c.in-Err.ensures.only
+    let w = world_of c.args.table.now c.args.p.now in
+    let ids = c.args.p.now.world.now.signatures in
+    let within : c.args.f.place < length (map (signature_by c.args.table.now) ids) =
+    omega (arith, length-map ids (signature_by c.args.table.now), c.requires.f) in
+    only_memory c.args.p.now.limits w (rules_of c.args.p.now) c.requires.passed.passed.built.signatures (signature_at w c.args.f)
+    (Contains-get_or w.signatures c.args.f.place no_signature within) c.in-Err.refused c.in-Err.ensures.only
