@@ -5,63 +5,56 @@ ghost use Rattle.swreq_calling.specs.declared.failing.Failed.TheVariants.{Memory
 use std::alloc::AllocError;
 use swreq_decl::ParseErr;
 use swreq_resolve::NameErr;
+use swreq_text::ReadErr;
 use swreq_valid::Refused;
 
-/// Why a text gets no answers.
-#[derive(Clone, Copy, Debug, PartialEq, Eq)]
+/// Why a text gets no answers, with the status of the program.
+#[derive(Clone, Copy)]
 pub(crate) enum Failed {
-    /// It could not be read, or is too long.
-    Read,
-    /// It is outside the language.
-    Grammar,
-    /// A name of it does not resolve.
-    Names,
+    /// It is outside the language, or a name of it does not resolve.
+    Text = 1,
     /// A completion passes a limit, or a side of a requirement is no type parameter.
-    Rules,
+    Rules = 3,
+    /// It could not be read, or is too long.
+    Read = 4,
     /// Memory ran out.
-    Memory,
-}
-
-impl Failed {
-    /// The status with which the program ends.
-    pub(crate) fn status(self) -> u8 {
-        match self {
-            Failed::Grammar | Failed::Names => 1,
-            Failed::Rules => 3,
-            Failed::Read => 4,
-            Failed::Memory => 6,
-        }
-    }
+    Memory = 6,
 }
 
 impl From<AllocError> for Failed {
     ghost from_gives = { λ _ e. e ≡ Memory };
 
-    fn from(_e: AllocError) -> Failed {
+    fn from(_: AllocError) -> Self {
         Failed::Memory
     }
 }
 
+impl From<ReadErr> for Failed {
+    fn from(_: ReadErr) -> Self {
+        Failed::Read
+    }
+}
+
 impl From<ParseErr> for Failed {
-    fn from(e: ParseErr) -> Failed {
+    fn from(e: ParseErr) -> Self {
         match e {
             ParseErr::Memory => Failed::Memory,
-            _ => Failed::Grammar,
+            _ => Failed::Text,
         }
     }
 }
 
 impl From<NameErr> for Failed {
-    fn from(e: NameErr) -> Failed {
+    fn from(e: NameErr) -> Self {
         match e {
             NameErr::Memory => Failed::Memory,
-            _ => Failed::Names,
+            _ => Failed::Text,
         }
     }
 }
 
 impl From<Refused> for Failed {
-    fn from(e: Refused) -> Failed {
+    fn from(e: Refused) -> Self {
         match e {
             Refused::Memory => Failed::Memory,
             _ => Failed::Rules,

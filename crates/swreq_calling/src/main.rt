@@ -11,9 +11,6 @@ use std::alloc::Global;
 use std::process::ExitCode;
 use swreq_text::{Source, StdSink, StdSource, read_all, write_all};
 
-/// The most bytes that a text may have.
-const TEXT_LIMIT: u32 = 1_048_576;
-
 fn main(rt: HostRuntime) -> ExitCode {
     let mut src = StdSource::new(rt.stdin());
     let mut out = StdSink::new(rt.stdout());
@@ -22,14 +19,12 @@ fn main(rt: HostRuntime) -> ExitCode {
             Ok(()) => ExitCode::from(0),
             Err(_) => ExitCode::from(5),
         },
-        Err(failed) => ExitCode::from(failed.status()),
+        Err(failed) => ExitCode::from(failed as u8),
     }
 }
 
-/// What is printed of the text that the source has.
+/// What is printed of the text that the source has, which may have at most 1,048,576 bytes.
 fn answered<S: Source>(alloc: Global, src: &mut S) -> Result<Vec<u8>, Failed> {
-    match read_all(alloc, src, TEXT_LIMIT) {
-        Ok(text) => answers(alloc, &text),
-        Err(_) => Err(Failed::Read),
-    }
+    let text = read_all(alloc, src, 1_048_576)?;
+    answers(alloc, &text)
 }
