@@ -1,63 +1,96 @@
 //! What words of the form say.
 
 use std::alloc::{AllocError, Global};
-use std::test::Fail;
-use swreq_words::{UsageErr, read};
+use std::fmt::Write;
+use swreq_words::{CommandLine, UsageErr, read};
 
-/// What is read of the words between single spaces, as a line: the command, what it reads, the two limits and whether there is a trace,
-/// or why they are refused.
-fn said(alloc: Global, text: &str) -> Result<String, AllocError> {
+/// The words between single spaces.
+fn words_of(alloc: Global, text: &str) -> Result<Vec<String>, AllocError> {
     let mut words = Vec::new(alloc);
     for word in text.split(' ') {
         words.push(String::from_str(alloc, word)?)?;
     }
-    match read(alloc, words.as_slice()) {
-        Ok(line) => {
-            let command = line.command;
-            format!(in alloc;
-                "{command:?} {:?} {} {} {:?}",
-                command.input(),
-                line.max_rules,
-                line.max_length,
-                line.trace
-            )
-        }
-        Err(refusal) => format!(in alloc; "{refusal}"),
+    Ok(words)
+}
+
+/// The command, what it reads, the two limits and whether there is a trace.
+fn put_line(out: &mut String, line: &CommandLine) -> Result<(), AllocError> {
+    let command = line.command;
+    write!(out, "{command:?} {:?} ", command.input())?;
+    write!(
+        out,
+        "{} {} {:?}",
+        line.max_rules, line.max_length, line.trace
+    )
+}
+
+/// What is read of the words between single spaces, or why they are refused.
+fn put_said(alloc: Global, text: &str, out: &mut String) -> Result<(), AllocError> {
+    let words = words_of(alloc, text)?;
+    match read(alloc, &words) {
+        Ok(line) => put_line(out, &line),
+        Err(refusal) => write!(out, "{refusal}"),
     }
 }
 
 /// Words, each with what they say.
-const SAID: &str = "\
-answer | Answer OnePart 4000 64 false
-signatures --max-rules 70 --trace | Signatures OnePart 70 64 true
-rules --max-length 255 --max-rules 1 | Rules OnePart 1 255 false
-answer --max-rules=100000 | Answer OnePart 100000 64 false
-answer --max-rules=000001 --max-length=1 | Answer OnePart 1 1 false
-gen 100 | Gen { n: 100 } Nothing 4000 64 false
-gen 007 --trace --max-length 9 | Gen { n: 7 } Nothing 4000 9 true
-gen --max-rules 70 5 --max-length=9 | Gen { n: 5 } Nothing 70 9 false
-gen --trace --max-length=9 1 | Gen { n: 1 } Nothing 4000 9 true
-answer --max-length=064 | Answer OnePart 4000 64 false
-answer --max-rules 04000 | Answer OnePart 4000 64 false
-answer --max-length 64 --max-rules=4000 | Answer OnePart 4000 64 false
-explain --max-rules=7 --trace | Explain OnePart 7 64 true
-verify | Verify TwoParts 4000 64 false
-paths --max-length 9 --max-rules 70 --trace | Paths OnePart 70 9 true
-calls --trace --max-length=9 | Calls TwoParts 4000 9 true
-requirements --max-length=255 | Requirements OnePart 4000 255 false
-gen | wrong words
-";
+const SAID: &[(&str, &str)] = &[
+    ("answer", "Answer OnePart 4000 64 false"),
+    (
+        "signatures --max-rules 70 --trace",
+        "Signatures OnePart 70 64 true",
+    ),
+    (
+        "rules --max-length 255 --max-rules 1",
+        "Rules OnePart 1 255 false",
+    ),
+    (
+        "answer --max-rules=100000",
+        "Answer OnePart 100000 64 false",
+    ),
+    (
+        "answer --max-rules=000001 --max-length=1",
+        "Answer OnePart 1 1 false",
+    ),
+    ("gen 100", "Gen { n: 100 } Nothing 4000 64 false"),
+    (
+        "gen 007 --trace --max-length 9",
+        "Gen { n: 7 } Nothing 4000 9 true",
+    ),
+    (
+        "gen --max-rules 70 5 --max-length=9",
+        "Gen { n: 5 } Nothing 70 9 false",
+    ),
+    (
+        "gen --trace --max-length=9 1",
+        "Gen { n: 1 } Nothing 4000 9 true",
+    ),
+    ("answer --max-length=064", "Answer OnePart 4000 64 false"),
+    ("answer --max-rules 04000", "Answer OnePart 4000 64 false"),
+    (
+        "answer --max-length 64 --max-rules=4000",
+        "Answer OnePart 4000 64 false",
+    ),
+    ("explain --max-rules=7 --trace", "Explain OnePart 7 64 true"),
+    ("verify", "Verify TwoParts 4000 64 false"),
+    (
+        "paths --max-length 9 --max-rules 70 --trace",
+        "Paths OnePart 70 9 true",
+    ),
+    ("calls --trace --max-length=9", "Calls TwoParts 4000 9 true"),
+    (
+        "requirements --max-length=255",
+        "Requirements OnePart 4000 255 false",
+    ),
+    ("gen", "wrong words"),
+];
 
 #[test]
-fn words_of_the_form_say_their_command_line(rt: HostRuntime) -> Result<(), Fail> {
-    for row in SAID.lines() {
-        match row.split_once(" | ") {
-            Some((text, wanted)) => {
-                let line = said(rt.alloc(), text)?;
-                assert_eq!(rt; line.as_str(), wanted, "{text}");
-            }
-            None => return Err("a row without a bar".into()),
-        }
+fn words_of_the_form_say_their_command_line(rt: HostRuntime) -> Result<(), AllocError> {
+    for (text, wanted) in SAID {
+        let mut line = String::new(rt.alloc());
+        put_said(rt.alloc(), text, &mut line)?;
+        assert_eq!(rt; line.as_str(), *wanted);
     }
     let memory = format!(in rt.alloc(); "{}", UsageErr::Memory)?;
     assert_eq!(rt; memory.as_str(), "out of memory");

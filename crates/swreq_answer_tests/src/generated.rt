@@ -1,10 +1,13 @@
 //! Generated texts, byte for byte.
 
-use std::test::Fail;
+ghost use Rattle.std.specs.Prelude.{◌≤◌};
+
+use crate::lines::assert_text;
+use std::alloc::{AllocError, Global};
+use std::process::Abort;
 use swreq_gen::text;
 
-/// Those of 1 to 3, one after the other.
-const TEXTS: &str = "\
+const FIRST: &str = "\
 protocol L1 { associatedtype A1: L1 }
 func f<T: L1, U: L1>() where T.A1 == U.A1 { }
 query f(T.A1 : L1)
@@ -12,6 +15,9 @@ query f(T.A1 == U.A1)
 query f(T.A1 : L1)
 query f(T.A1 : L1)
 query f()
+";
+
+const SECOND: &str = "\
 protocol L1 { associatedtype A1: L2 }
 protocol L2 { associatedtype A2: L1 }
 func f<T: L1, U: L1>() where T.A1 == U.A1 { }
@@ -24,6 +30,9 @@ query f(T.A1.A2 == U.A1.A2)
 query f(T.A1.A2 : L2)
 query f(T.A2 : L1)
 query f()
+";
+
+const THIRD: &str = "\
 protocol L1 { associatedtype A1: L2 }
 protocol L2 { associatedtype A2: L3 }
 protocol L3 { associatedtype A3: L1 }
@@ -43,14 +52,34 @@ query f(T.A3 : L1)
 query f()
 ";
 
-#[test]
-fn the_texts_of_1_to_3_and_the_length_of_that_of_100(rt: HostRuntime) -> Result<(), Fail> {
-    let mut made = Vec::new(rt.alloc());
-    for n in 1..4 {
-        made.extend_from_slice(&text(rt.alloc(), n)?)?;
+/// The generated text of n, for 1 to 3.
+fn wanted(n: u32) -> &'static str {
+    match n {
+        1 => FIRST,
+        2 => SECOND,
+        _ => THIRD,
     }
-    assert_eq!(&rt; made.as_slice(), TEXTS.as_bytes());
-    let longest = text(rt.alloc(), 100)?;
-    assert_eq!(rt; longest.len(), 88_456);
+}
+
+/// Asserts what the generated text of n is, for 1 to 3.
+fn assert_generated(rt: &impl Abort, alloc: Global, n: u32) -> Result<(), AllocError>
+    requires { (1 ≤ n) × (n ≤ 100) }
+{
+    let made = text(alloc, n)?;
+    assert_text(rt, alloc, &made, wanted(n))
+}
+
+/// How long the generated text of 100 is.
+fn longest(alloc: Global) -> Result<usize, AllocError> {
+    let made = text(alloc, 100)?;
+    Ok(made.len())
+}
+
+#[test]
+fn the_texts_of_1_to_3_and_the_length_of_that_of_100(rt: HostRuntime) -> Result<(), AllocError> {
+    for n in 1..4 {
+        assert_generated(&rt, rt.alloc(), n)?;
+    }
+    assert!(rt; longest(rt.alloc())? == 88_456);
     Ok(())
 }

@@ -6,4 +6,6 @@ mod command_lines;
 #[cfg(test)]
 mod generated;
 #[cfg(test)]
+mod lines;
+#[cfg(test)]
 mod read_again;

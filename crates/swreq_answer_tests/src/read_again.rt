@@ -1,10 +1,12 @@
 //! Lines of derivations that are read and printed again.
 
-ghost use Rattle.std.specs.Prelude.{◌≤◌, IfOk, length};
+ghost use Rattle.std.specs.Prelude.{◌≤◌, length};
 ghost use Rattle.swreq_decl.specs.Skeletons.{StandsFor};
 ghost use Rattle.swreq_print.specs.Reading.{TellsApart};
 
+use crate::lines::assert_text;
 use std::alloc::Global;
+use std::process::Abort;
 use std::test::Fail;
 use swreq_decl::Skeleton;
 use swreq_lexicon::Lexicon;
@@ -21,39 +23,6 @@ protocol N { associatedtype Next: N }
 protocol by { associatedtype Next }
 protocol CONF { associatedtype from }
 ";
-
-/// The lexicon of a text.
-fn with_names(alloc: Global, text: &[u8], s: &Skeleton) -> Result<Lexicon, Fail>
-    requires short { length text.now ≤ 1048576 }
-    requires stands { StandsFor text.now s.now }
-    ensures { IfOk result (λ names. TellsApart names) }
-{
-    lists_are_short(text);
-    names_tell_ids_apart(text);
-    match resolve_names(alloc, text, s) {
-        Ok(names) => Ok(Lexicon::of(alloc, text, s, names)?),
-        Err(_) => Err("a refusal of names".into()),
-    }
-}
-
-/// What is printed of the lines that are read.
-fn again(alloc: Global, names: &Lexicon, text: &str) -> Result<String, Fail>
-    requires { TellsApart names.now }
-{
-    let bytes = text.as_bytes();
-    if bytes.len() > 1_048_576 {
-        return Err("a text that is too long".into());
-    }
-    let mut table = ParamTable::new(alloc);
-    match read_lines(alloc, names, &mut table, bytes) {
-        Ok(lines) => {
-            let mut out = Vec::new(alloc);
-            lines_text(alloc, names, &table, &lines, &mut out)?;
-            Ok(String::from_utf8_lossy(alloc, &out)?)
-        }
-        Err(_) => Err("lines that cannot be read".into()),
-    }
-}
 
 /// A line by each rule.
 const EACH_RULE: &str = "  1. τ_0_0 by GENERIC
@@ -75,13 +44,46 @@ const EACH_RULE: &str = "  1. τ_0_0 by GENERIC
   17. τ_1_0.[N]Next == τ_0_0.[N]Next by SAMEDECL N Next from 2, 12
 ";
 
+/// Appends what is printed of the lines that are read.
+fn put_again(alloc: Global, names: &Lexicon, text: &[u8], out: &mut Vec<u8>) -> Result<(), Fail>
+    requires names { TellsApart names.now }
+    requires short { length text.now ≤ 1048576 }
+{
+    let mut table = ParamTable::new(alloc);
+    match read_lines(alloc, names, &mut table, text) {
+        Ok(lines) => Ok(lines_text(alloc, names, &table, &lines, out)?),
+        Err(_) => Err("lines that cannot be read".into()),
+    }
+}
+
+/// Asserts that a line by each rule is read and printed again.
+fn assert_again(rt: &impl Abort, alloc: Global, names: &Lexicon) -> Result<(), Fail>
+    requires { TellsApart names.now }
+{
+    let mut out = Vec::new(alloc);
+    put_again(alloc, names, EACH_RULE.as_bytes(), &mut out)?;
+    Ok(assert_text(rt, alloc, &out, EACH_RULE)?)
+}
+
+/// Asserts that the lines are read and printed again with the names of a text.
+fn assert_with_names(rt: &impl Abort, alloc: Global, text: &[u8], s: &Skeleton) -> Result<(), Fail>
+    requires short { length text.now ≤ 1048576 }
+    requires stands { StandsFor text.now s.now }
+{
+    lists_are_short(text);
+    names_tell_ids_apart(text);
+    match resolve_names(alloc, text, s) {
+        Ok(names) => {
+            let names = Lexicon::of(alloc, text, s, names)?;
+            assert_again(rt, alloc, &names)
+        }
+        Err(_) => Err("a refusal of names".into()),
+    }
+}
+
 /// Each kind of statement, and each rule.
 #[test]
 fn lines_are_read_and_printed_again(rt: HostRuntime) -> Result<(), Fail> {
-    let text = TEXT.as_bytes();
-    let skeleton = skeleton_of(rt.alloc(), text)?;
-    let names = with_names(rt.alloc(), text, &skeleton)?;
-    let found = again(rt.alloc(), &names, EACH_RULE)?;
-    assert_eq!(rt; found.as_str(), EACH_RULE);
-    Ok(())
+    let skeleton = skeleton_of(rt.alloc(), TEXT.as_bytes())?;
+    assert_with_names(&rt, rt.alloc(), TEXT.as_bytes(), &skeleton)
 }

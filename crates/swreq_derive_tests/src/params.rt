@@ -2,8 +2,9 @@
 ghost use Rattle.std.specs.Prelude.{◌≡◌, ◌<◌, length};
 ghost use Rattle.swreq_param.specs.Tables.{IsOf};
 
-use std::alloc::Global;
-use std::test::Fail;
+use std::alloc::{AllocError, Global};
+use std::cmp::Ordering;
+use std::process::Abort;
 use swreq_param::{AssocId, NameId, ParamId, ParamTable, Step, TermId};
 
 const A: Step = Step::Name(NameId { rank: 0 });
@@ -17,59 +18,87 @@ const MEMBERS: &[(usize, Step)] = &[
     (0, Step::Bound(AssocId { rank: 1 })),
 ];
 
-/// The table of three generic parameters and their members.
-fn table_of(alloc: Global) -> Result<ParamTable, Fail> {
-    let mut table = ParamTable::new(alloc);
+/// Puts three generic parameters into the table.
+fn add_params(table: &mut ParamTable) -> Result<(), AllocError> {
     for index in 0..3 {
         table.param(ParamId { depth: 0, index })?;
     }
-    for (place, step) in MEMBERS {
-        if *place >= table.len() {
-            return Err("a member of nothing".into());
-        }
-        table.member(TermId { place: *place }, *step)?;
-    }
-    Ok(table)
+    Ok(())
 }
 
-/// Appends how t compares with the last one, in the table and outside of it.
-fn add_line(
+/// Puts the members into the table, each after its base.
+fn add_members(table: &mut ParamTable) -> Result<(), AllocError> {
+    for (place, step) in MEMBERS {
+        if *place < table.len() {
+            table.member(TermId { place: *place }, *step)?;
+        }
+    }
+    Ok(())
+}
+
+/// Puts the generic parameters and the members into the table.
+fn fill(table: &mut ParamTable) -> Result<(), AllocError> {
+    add_params(table)?;
+    add_members(table)
+}
+
+/// How two type parameters compare outside of the table.
+fn compare_owned(
     alloc: Global,
     table: &ParamTable,
     t: TermId,
-    last: TermId,
-    out: &mut String,
-) -> Result<(), Fail>
+    u: TermId,
+) -> Result<Ordering, AllocError>
     requires t { IsOf table.now t }
-    requires last { IsOf table.now last }
+    requires u { IsOf table.now u }
 {
-    let owned = table.owned(alloc, t)?.cmp(&table.owned(alloc, last)?);
-    write!(out, "{:?} {owned:?}\n", table.compare(t, last))?;
+    let t = table.owned(alloc, t)?;
+    let u = table.owned(alloc, u)?;
+    Ok(t.cmp(&u))
+}
+
+/// How each compares with the last one. Generic parameters come before members, and of three members with one base, those bound to
+/// associated types come in their order, and then the name.
+const ORDERS: [Ordering; 8] = [
+    Ordering::Less,
+    Ordering::Less,
+    Ordering::Less,
+    Ordering::Greater,
+    Ordering::Greater,
+    Ordering::Less,
+    Ordering::Greater,
+    Ordering::Equal,
+];
+
+/// Whether the two compare so in the table and outside of it.
+fn compare_so(
+    alloc: Global,
+    table: &ParamTable,
+    t: TermId,
+    u: TermId,
+    wanted: Ordering,
+) -> Result<bool, AllocError>
+    requires t { IsOf table.now t }
+    requires u { IsOf table.now u }
+{
+    let owned = compare_owned(alloc, table, t, u)?;
+    Ok(owned == wanted && table.compare(t, u) == wanted)
+}
+
+/// Asserts how each compares with the last one.
+fn assert_orders(rt: &impl Abort, alloc: Global, table: &ParamTable) -> Result<(), AllocError> {
+    assert!(rt; table.len() == 8);
+    let last = TermId { place: 7 };
+    for place in 0..8 {
+        let holds = compare_so(alloc, table, TermId { place }, last, ORDERS[place])?;
+        assert!(rt; holds, "{place}");
+    }
     Ok(())
 }
 
-/// Generic parameters come before members, and of three members with one base, those bound to associated types come in their order, and
-/// then the name.
-const LINES: &str = "\
-Less Less
-Less Less
-Less Less
-Greater Greater
-Greater Greater
-Less Less
-Greater Greater
-Equal Equal
-";
-
 #[test]
-fn type_parameters_are_compared(rt: HostRuntime) -> Result<(), Fail> {
-    let table = table_of(rt.alloc())?;
-    let count = table.len();
-    let mut out = String::new(rt.alloc());
-    for place in 0..count {
-        let last = TermId { place: count - 1 };
-        add_line(rt.alloc(), &table, TermId { place }, last, &mut out)?;
-    }
-    assert_eq!(rt; out.as_str(), LINES);
-    Ok(())
+fn type_parameters_are_compared(rt: HostRuntime) -> Result<(), AllocError> {
+    let mut table = ParamTable::new(rt.alloc());
+    fill(&mut table)?;
+    assert_orders(&rt, rt.alloc(), &table)
 }

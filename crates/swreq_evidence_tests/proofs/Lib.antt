@@ -1,1 +1,1 @@
-mod Signatures
+mod Queries

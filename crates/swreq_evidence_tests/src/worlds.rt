@@ -1,6 +1,5 @@
 //! The worlds of texts, and the machines of their signatures.
-ghost use Rattle.std.specs.Prelude.{◌<◌, ◌≤◌, IfOk, length};
-ghost use Rattle.swreq_decl.specs.Skeletons.{StandsFor};
+ghost use Rattle.std.specs.Prelude.{◌<◌, IfOk, length};
 ghost use Rattle.swreq_derive.specs.WellFormed.{AreProtocolsWellFormed};
 ghost use Rattle.swreq_symbols.specs.Known.{IsTextOver};
 ghost use Rattle.swreq_symbols.specs.Meaning.{facts_of};
@@ -14,37 +13,34 @@ ghost use Rattle.swreq_subst.specs.Saying.{HaveIds};
 use std::alloc::Global;
 use std::test::Fail;
 use swreq_complete::Limits;
-use swreq_decl::Skeleton;
 use swreq_param::ParamTable;
+use swreq_reqsig::laws::valid_sides_are_well_formed;
+use swreq_samples::skeleton_of;
 use swreq_subst::laws::names_have_ids;
+use swreq_symbols::Text;
 use swreq_valid::{Machine, Protocols};
 use swreq_watch::Quiet;
-use swreq_world::laws::{worlds_are_closed, worlds_are_short};
 use swreq_world::{FuncId, World};
 
 /// The limits of machines.
-const LIMITS: Limits = Limits {
+pub(crate) const LIMITS: Limits = Limits {
     max_rules: 4000,
     max_length: 64,
 };
 
-/// The world of a text, over the table.
-pub(crate) fn world_over(
-    alloc: Global,
-    text: &[u8],
-    skeleton: &Skeleton,
-    table: &mut ParamTable,
-) -> Result<World, Fail>
-    requires limit { length text.now ≤ 1048576 }
-    requires stands { StandsFor text.now skeleton.now }
+/// The world of a text that is not too long, over the table.
+pub(crate) fn world_of(alloc: Global, text: &str, table: &mut ParamTable) -> Result<World, Fail>
     ensures text { IfOk result (IsTextOver table.new) }
     ensures short { IfOk result IsShort }
     ensures ids { IfOk result HaveIds }
 {
-    worlds_are_closed(text);
-    worlds_are_short(text);
-    names_have_ids(text);
-    match World::resolve(alloc, text, skeleton, table) {
+    let bytes = text.as_bytes();
+    if bytes.len() > 1_048_576 {
+        return Err("a text that is too long".into());
+    }
+    names_have_ids(bytes);
+    let skeleton = skeleton_of(alloc, bytes)?;
+    match World::resolve(alloc, bytes, &skeleton, table) {
         Ok(world) => Ok(world),
         Err(_) => Err("no world".into()),
     }
@@ -60,6 +56,7 @@ pub(crate) fn protocols_of(
     ensures formed { IfOk result (λ _. AreProtocolsWellFormed (facts_of (world_by table.now world.now))) }
     ensures rules { IfOk result (λ p. AreRulesOf (world_by table.now world.now) (last_rules p.rounds)) }
 {
+    valid_sides_are_well_formed();
     match Protocols::build(alloc, world, table, LIMITS, &mut Quiet) {
         Ok(protocols) => Ok(protocols),
         Err(_) => Err("no rules".into()),
@@ -80,17 +77,8 @@ pub(crate) fn machine_of<'b>(
     requires f { f.place < length world.now.signatures }
     ensures { IfOk result (IsMachineFor table.now world.now f) }
 {
-    let list = world.signature(alloc, f)?;
-    match Machine::build(
-        alloc,
-        world,
-        table,
-        protocols,
-        world.params(f),
-        &list,
-        LIMITS,
-        &mut Quiet,
-    ) {
+    let text = Text { world, table };
+    match Machine::of_signature(alloc, &text, protocols, f, LIMITS, &mut Quiet) {
         Ok(machine) => Ok(machine),
         Err(_) => Err("no machine".into()),
     }

@@ -1,14 +1,15 @@
 //! The limits that requirement signatures have of their own.
+ghost use Rattle.std.specs.Prelude.{OnOk};
 ghost use Rattle.swreq_complete.specs.Limits.{AreInRange};
 ghost use Rattle.swreq_derive.specs.WellFormed.{AreProtocolsWellFormed};
 ghost use Rattle.swreq_symbols.specs.Known.{IsTextOver};
 ghost use Rattle.swreq_symbols.specs.Meaning.{facts_of};
 ghost use Rattle.swreq_world.specs.ByTable.{world_by};
 
-use crate::worlds::{LIMITS, limits_of, why_not, world_of};
-use std::alloc::Global;
+use crate::worlds::{LIMITS, limits_of, world_of};
+use std::alloc::{AllocError, Global};
 use std::test::Fail;
-use swreq_complete::Limits;
+use swreq_complete::{Failed, Limits};
 use swreq_param::ParamTable;
 use swreq_reqsig::laws::valid_sides_are_well_formed;
 use swreq_reqsig::{family_text, kept_family};
@@ -16,62 +17,88 @@ use swreq_valid::Protocols;
 use swreq_watch::Quiet;
 use swreq_world::World;
 
-/// The lines of the family of a world whose protocols are well formed, or why there is none.
-fn lines_of_family(
-    alloc: Global,
-    world: &World,
-    table: &ParamTable,
-    limits: Limits,
-) -> Result<Vec<u8>, Fail>
-    requires text { IsTextOver table.now world.now }
-    requires well_formed { AreProtocolsWellFormed (facts_of (world_by table.now world.now)) }
-    requires limits { AreInRange limits }
-{
-    let mut out = Vec::new(alloc);
-    match kept_family(alloc, world, table, limits, &mut Quiet) {
-        Ok(family) => family_text(alloc, world, table, &family, &mut out)?,
-        Err(failed) => out.extend_from_slice(why_not(&failed).as_bytes())?,
-    }
-    Ok(out)
-}
-
-/// The lines of the family of a world, or why there is none.
-fn lines_of_world(
-    alloc: Global,
-    world: &World,
-    table: &ParamTable,
-    limits: Limits,
-) -> Result<Vec<u8>, Fail>
-    requires text { IsTextOver table.now world.now }
-    requires limits { AreInRange limits }
+/// That the protocols of a world are well formed.
+fn are_well_formed(alloc: Global, world: &World, table: &ParamTable) -> Result<(), Fail>
+    requires { IsTextOver table.now world.now }
+    ensures { OnOk result (AreProtocolsWellFormed (facts_of (world_by table.now world.now))) }
 {
     valid_sides_are_well_formed();
     match Protocols::build(alloc, world, table, LIMITS, &mut Quiet) {
-        Ok(_) => lines_of_family(alloc, world, table, limits),
+        Ok(_) => Ok(()),
         Err(_) => Err("no rules".into()),
     }
 }
 
-/// The lines of the family of a text, where a completion may have `max_rules` rules, or why there is none.
-fn lines_within(alloc: Global, text: &[u8], max_rules: u32) -> Result<Vec<u8>, Fail> {
+/// Appends the lines of the family of a world whose protocols are well formed, or why there is none.
+fn put_family(
+    alloc: Global,
+    world: &World,
+    table: &ParamTable,
+    limits: Limits,
+    out: &mut Vec<u8>,
+) -> Result<(), AllocError>
+    requires text { IsTextOver table.now world.now }
+    requires well_formed { AreProtocolsWellFormed (facts_of (world_by table.now world.now)) }
+    requires limits { AreInRange limits }
+{
+    match kept_family(alloc, world, table, limits, &mut Quiet) {
+        Ok(family) => family_text(alloc, world, table, &family, out),
+        Err(Failed::Limit { .. }) => Ok(out.extend_from_slice(b"limit")?),
+        Err(Failed::Memory) => Err(AllocError),
+    }
+}
+
+/// Appends the lines of the family of a world, or why there is none.
+fn put_lines(
+    alloc: Global,
+    world: &World,
+    table: &ParamTable,
+    limits: Limits,
+    out: &mut Vec<u8>,
+) -> Result<(), Fail>
+    requires text { IsTextOver table.now world.now }
+    requires limits { AreInRange limits }
+{
+    are_well_formed(alloc, world, table)?;
+    put_family(alloc, world, table, limits, out)?;
+    Ok(())
+}
+
+/// Appends the lines of the family of a text, over the table, or why there is none.
+fn put_in(
+    alloc: Global,
+    text: &[u8],
+    table: &mut ParamTable,
+    limits: Limits,
+    out: &mut Vec<u8>,
+) -> Result<(), Fail>
+    requires { AreInRange limits }
+{
+    let world = world_of(alloc, text, table)?;
+    put_lines(alloc, &world, table, limits, out)
+}
+
+/// Appends the lines of the family of a text, where a completion may have `max_rules` rules, or why there is none.
+fn put_within(alloc: Global, text: &[u8], max_rules: u32, out: &mut Vec<u8>) -> Result<(), Fail> {
     let limits = limits_of(max_rules)?;
     let mut table = ParamTable::new(alloc);
-    let world = world_of(alloc, text, &mut table)?;
-    lines_of_world(alloc, &world, &table, limits)
+    put_in(alloc, text, &mut table, limits, out)
 }
 
 const TEXT: &[u8] = b"protocol N { associatedtype Next: N, N }";
 
+/// The limit of rules that the family has, and its lines.
+///
 /// Whether the second of two equal requirements follows is asked by the rounds of the first, the last of which bears 5 rules. The first is
 /// then unsaid, and no rounds are run for it.
+const FAMILIES: &[(u32, &[u8])] = &[(5, b"N: <Self where Self.Next : N>\n"), (4, b"limit")];
+
 #[test]
 fn families_keep_their_own_limit(rt: HostRuntime) -> Result<(), Fail> {
-    let kept = lines_within(rt.alloc(), TEXT, 5)?;
-    assert_eq!(&rt;
-        kept.as_slice(),
-        b"N: <Self where Self.Next : N>\n".as_slice()
-    );
-    let passed = lines_within(rt.alloc(), TEXT, 4)?;
-    assert_eq!(&rt; passed.as_slice(), b"limit".as_slice());
+    for (max_rules, lines) in FAMILIES {
+        let mut out = Vec::new(rt.alloc());
+        put_within(rt.alloc(), TEXT, *max_rules, &mut out)?;
+        assert_eq!(&rt; out.as_slice(), *lines, "within {max_rules}");
+    }
     Ok(())
 }

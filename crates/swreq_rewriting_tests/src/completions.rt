@@ -1,65 +1,95 @@
 //! Worked rows of completion, and the calls of complete rules.
 
 ghost use Rattle.swreq_complete.specs.Limits.{AreInRange};
+ghost use Rattle.swreq_path.specs.Paths.{IsPath};
 
-use crate::notation::{PROTOCOL, equations, put_rule, put_word, word};
+use crate::notation::{PROTOCOL, assert_line, equations, put_rule, put_word, word};
 use crate::paths::put_way;
-use std::alloc::Global;
+use std::alloc::{AllocError, Global};
 use std::fmt::Write;
 use std::process::Abort;
-use std::test::Fail;
 use swreq_complete::{CompleteRules, Failed, Limits, Which, extend};
+use swreq_path::Path;
 use swreq_rule::Rule;
-use swreq_samples::{counts, tally_at};
-use swreq_watch::{Counter, Event, Quiet, Recorder, Watch};
-use swreq_word::Word;
+use swreq_samples::{Tally, counts, tally_at};
+use swreq_watch::{Counter, Event, Recorder};
+use swreq_word::{Symbol, Word};
 
 const AMPLE: Limits = Limits {
     max_rules: 4000,
     max_length: 64,
 };
 
-/// The completion of the base by the equations, which is to end.
-fn ended<'b, W: Watch>(
+/// The completion of the base by the equations. One that does not end is an error too.
+fn ended<'b>(
     alloc: Global,
     base: CompleteRules<'b>,
-    text: &str,
-    watch: &mut W,
-) -> Result<CompleteRules<'b>, Fail> {
-    let given = equations(alloc, text)?;
-    match extend(alloc, base, &given, AMPLE, watch) {
+    given: &[(Word, Word)],
+    counter: &mut Counter,
+) -> Result<CompleteRules<'b>, AllocError> {
+    match extend(alloc, base, given, AMPLE, counter) {
         Ok(rules) => Ok(rules),
-        Err(_) => Err("the completion did not end".into()),
+        Err(_) => Err(AllocError),
     }
 }
 
-fn put_events(out: &mut String, events: &[Event]) -> Result<(), Fail> {
+/// The rules that complete these equations.
+fn completed<'b>(
+    alloc: Global,
+    text: &str,
+    counter: &mut Counter,
+) -> Result<CompleteRules<'b>, AllocError> {
+    let given = equations(alloc, text)?;
+    ended(alloc, CompleteRules::empty(alloc), &given, counter)
+}
+
+fn put_event(out: &mut String, event: &Event) -> Result<(), AllocError> {
+    match event {
+        Event::Start { base } => write!(out, "over {base}"),
+        Event::Born { rule } => put_rule(out, rule),
+    }
+}
+
+fn put_events(out: &mut String, events: &[Event]) -> Result<(), AllocError> {
     for event in events {
-        match event {
-            Event::Start { base } => write!(out, "over {base}")?,
-            Event::Born { rule } => {
-                out.push_str(", ")?;
-                put_rule(out, rule)?;
-            }
-        }
+        put_event(out, event)?;
     }
     Ok(())
 }
 
 /// How many rules the answer has, and the limit that was passed.
-fn put_answer(out: &mut String, answer: &Result<CompleteRules, Failed>) -> Result<(), Fail> {
+fn ending_of(
+    answer: &Result<CompleteRules<'_>, Failed>,
+) -> Result<(usize, Option<Which>), AllocError> {
     match answer {
-        Ok(rules) => write!(out, ": {} rules", rules.count())?,
-        Err(Failed::Limit { which, trace }) => {
-            let limit = match which {
-                Which::Rules => "rules",
-                Which::Length => "length",
-            };
-            write!(out, ": {} past the limit of {limit}", trace.items().len())?;
-        }
-        Err(Failed::Memory) => return Err("no memory".into()),
+        Ok(rules) => Ok((rules.count(), None)),
+        Err(Failed::Limit { which, trace }) => Ok((trace.items().len(), Some(*which))),
+        Err(Failed::Memory) => Err(AllocError),
     }
-    Ok(())
+}
+
+/// How the completion of the base by the equations ends.
+fn ending(
+    alloc: Global,
+    base: CompleteRules<'_>,
+    given: &[(Word, Word)],
+    limits: Limits,
+    recorder: &mut Recorder,
+) -> Result<(usize, Option<Which>), AllocError>
+    requires { AreInRange limits }
+{
+    let answer = extend(alloc, base, given, limits, recorder);
+    ending_of(&answer)
+}
+
+fn put_ending(out: &mut String, ending: (usize, Option<Which>)) -> Result<(), AllocError> {
+    let (count, passed) = ending;
+    let how = match passed {
+        None => "rules",
+        Some(Which::Rules) => "past the limit of rules",
+        Some(Which::Length) => "past the limit of length",
+    };
+    write!(out, ": {count} {how}")
 }
 
 /// Rules over a base, the most rules and the greatest length: what is told of their completion, and the answer.
@@ -127,70 +157,112 @@ fn put_told(
     given: &[(Word, Word)],
     limits: Limits,
     out: &mut String,
-) -> Result<(), Fail>
+) -> Result<(), AllocError>
     requires { AreInRange limits }
 {
     let mut recorder = Recorder::new(alloc);
-    let answer = extend(alloc, base, given, limits, &mut recorder);
+    let ending = ending(alloc, base, given, limits, &mut recorder)?;
     put_events(out, recorder.events())?;
-    put_answer(out, &answer)
+    put_ending(out, ending)
 }
 
-/// What completion tells and answers of the equations and the base that are written so.
+/// What is told of the completion of a borrowed base by the equations, and the answer.
+fn put_told_over(
+    alloc: Global,
+    base: &CompleteRules<'_>,
+    given: &[(Word, Word)],
+    limits: Limits,
+    out: &mut String,
+) -> Result<(), AllocError>
+    requires { AreInRange limits }
+{
+    let over = base.over(alloc)?;
+    put_told(alloc, over, given, limits, out)
+}
+
+/// What is told of the completion by the equations, over the rules that complete others.
+fn put_told_on(
+    alloc: Global,
+    base: &str,
+    given: &[(Word, Word)],
+    limits: Limits,
+    out: &mut String,
+) -> Result<(), AllocError>
+    requires { AreInRange limits }
+{
+    let base = completed(alloc, base, &mut Counter::new())?;
+    put_told_over(alloc, &base, given, limits, out)
+}
+
+/// What is told of the completion by the equations and the base that are written so, and the answer.
 fn put_told_of(
-    rt: &impl Abort,
     alloc: Global,
     base: &str,
     text: &str,
-    limits: (u32, u32),
+    limits: Limits,
     out: &mut String,
-) -> Result<(), Fail> {
-    let (max_rules, max_length) = limits;
+) -> Result<(), AllocError>
+    requires { AreInRange limits }
+{
+    let given = equations(alloc, text)?;
+    put_told_on(alloc, base, &given, limits, out)
+}
+
+/// The limits of these numbers.
+fn limits_of(rt: &impl Abort, max_rules: u32, max_length: u32) -> Limits
+    ensures { AreInRange result }
+{
     assert!(rt; 1 <= max_rules && max_rules <= 100000);
     assert!(rt; 1 <= max_length && max_length <= 255);
-    let limits = Limits {
+    Limits {
         max_rules,
         max_length,
-    };
-    let given = equations(alloc, text)?;
-    let base = ended(alloc, CompleteRules::empty(alloc), base, &mut Quiet)?;
-    put_told(alloc, base.over(alloc)?, &given, limits, out)
+    }
 }
 
 #[test]
-fn a_completion_tells_the_rules_born_up_to_its_limits(rt: HostRuntime) -> Result<(), Fail> {
-    for (base, text, limits, wanted) in TOLD {
+fn a_completion_tells_the_rules_born_up_to_its_limits(rt: HostRuntime) -> Result<(), AllocError> {
+    for (base, text, (max_rules, max_length), wanted) in TOLD {
+        let limits = limits_of(&rt, *max_rules, *max_length);
         let mut out = String::new(rt.alloc());
-        put_told_of(&rt, rt.alloc(), base, text, *limits, &mut out)?;
-        assert_eq!(rt; out.as_str(), *wanted);
+        put_told_of(rt.alloc(), base, text, limits, &mut out)?;
+        assert_line(&rt, &out, wanted);
     }
     Ok(())
 }
 
-/// The rules, each after a comma.
-fn put_each(rules: &[Rule], out: &mut String) -> Result<(), Fail> {
+fn put_rules(out: &mut String, rules: &[Rule]) -> Result<(), AllocError> {
     for rule in rules {
-        out.push_str(", ")?;
         put_rule(out, rule)?;
     }
     Ok(())
 }
 
+/// How many rules were born, and the reduced ones.
+fn put_reduced(
+    alloc: Global,
+    rules: &CompleteRules<'_>,
+    born: u64,
+    out: &mut String,
+) -> Result<(), AllocError> {
+    write!(out, "{born} born")?;
+    put_rules(out, &rules.canonical(alloc)?)
+}
+
 /// How many rules are born in the completion of the equations, and the reduced ones.
-fn put_reduced_of(alloc: Global, text: &str, out: &mut String) -> Result<(), Fail> {
+fn put_reduced_of(alloc: Global, text: &str, out: &mut String) -> Result<(), AllocError> {
     let mut counter = Counter::new();
-    let rules = ended(alloc, CompleteRules::empty(alloc), text, &mut counter)?;
-    write!(out, "{} born", counter.born())?;
-    put_each(&rules.canonical(alloc)?, out)
+    let rules = completed(alloc, text, &mut counter)?;
+    put_reduced(alloc, &rules, counter.born(), out)
 }
 
 const REDUCED: &str = "5 born, B>A 3, CA>A 2.3.1, DA>AD 1.1.1, DD>A 1";
 
 #[test]
-fn the_reduced_system_has_no_reducible_side(rt: HostRuntime) -> Result<(), Fail> {
+fn the_reduced_system_has_no_reducible_side(rt: HostRuntime) -> Result<(), AllocError> {
     let mut out = String::new(rt.alloc());
     put_reduced_of(rt.alloc(), "DD=CB CB=A B=A", &mut out)?;
-    assert_eq!(rt; out.as_str(), REDUCED);
+    assert_line(&rt, &out, REDUCED);
     Ok(())
 }
 
@@ -201,23 +273,41 @@ const WAYS: &[(&str, &str, &str, &str)] = &[
     (PROTOCOL, "TN=T", "TANA", "TANA +7NA T+3A T+5 = Taa; Taa"),
 ];
 
+/// A path over the rules.
+fn put_path_over(
+    alloc: Global,
+    rules: &CompleteRules<'_>,
+    path: &Path,
+    out: &mut String,
+) -> Result<(), AllocError>
+    requires { IsPath rules.now path.now }
+{
+    let rules = rules.written_out(alloc)?;
+    put_way(alloc, &rules, path, out)
+}
+
+/// The path of the word.
+fn put_path_of(
+    alloc: Global,
+    rules: &CompleteRules<'_>,
+    w: &[Symbol],
+    out: &mut String,
+) -> Result<(), AllocError> {
+    let path = rules.path(alloc, w)?;
+    put_path_over(alloc, rules, &path, out)
+}
+
 /// The path of the word, and the word that the rules leave.
 fn put_ways(
     alloc: Global,
     rules: &CompleteRules<'_>,
     letters: &str,
     out: &mut String,
-) -> Result<(), Fail> {
+) -> Result<(), AllocError> {
     let mut w = word(alloc, letters)?;
-    put_way(
-        alloc,
-        &rules.written_out(alloc)?,
-        &rules.path(alloc, &w)?,
-        out,
-    )?;
+    put_path_of(alloc, rules, &w, out)?;
     rules.reduce(&mut w);
-    put_word(out, &w)?;
-    Ok(())
+    put_word(out, &w)
 }
 
 /// The way of these letters by rules that are borrowed.
@@ -226,9 +316,19 @@ fn put_ways_over(
     rules: &CompleteRules<'_>,
     letters: &str,
     out: &mut String,
-) -> Result<(), Fail> {
+) -> Result<(), AllocError> {
     let over = rules.over(alloc)?;
     put_ways(alloc, &over, letters, out)
+}
+
+/// The rules that complete borrowed ones by the equations.
+fn extended<'b>(
+    alloc: Global,
+    base: &'b CompleteRules<'_>,
+    text: &str,
+) -> Result<CompleteRules<'b>, AllocError> {
+    let given = equations(alloc, text)?;
+    ended(alloc, base.over(alloc)?, &given, &mut Counter::new())
 }
 
 /// The way of these letters by the rules that complete borrowed ones by the equations.
@@ -238,8 +338,8 @@ fn put_ways_on(
     text: &str,
     letters: &str,
     out: &mut String,
-) -> Result<(), Fail> {
-    let rules = ended(alloc, base.over(alloc)?, text, &mut Quiet)?;
+) -> Result<(), AllocError> {
+    let rules = extended(alloc, base, text)?;
     put_ways_over(alloc, &rules, letters, out)
 }
 
@@ -250,32 +350,40 @@ fn put_ways_of(
     text: &str,
     letters: &str,
     out: &mut String,
-) -> Result<(), Fail> {
-    let base = ended(alloc, CompleteRules::empty(alloc), base, &mut Quiet)?;
+) -> Result<(), AllocError> {
+    let base = completed(alloc, base, &mut Counter::new())?;
     put_ways_on(alloc, &base, text, letters, out)
 }
 
 #[test]
-fn rules_over_others_reduce_to_the_least_word(rt: HostRuntime) -> Result<(), Fail> {
+fn rules_over_others_reduce_to_the_least_word(rt: HostRuntime) -> Result<(), AllocError> {
     for (base, text, letters, wanted) in WAYS {
         let mut out = String::new(rt.alloc());
         put_ways_of(rt.alloc(), base, text, letters, &mut out)?;
-        assert_eq!(rt; out.as_str(), *wanted);
+        assert_line(&rt, &out, wanted);
     }
     Ok(())
 }
 
+/// The watcher that has memory for two events.
+fn forgetful(alloc: Global) -> Result<Tally, AllocError> {
+    tally_at(&counts(alloc)?, 1)
+}
+
+/// Whether the completion of the equations ends before this watcher.
+fn ends(alloc: Global, given: &[(Word, Word)], tally: &mut Tally) -> bool {
+    extend(alloc, CompleteRules::empty(alloc), given, AMPLE, tally).is_ok()
+}
+
 /// Whether the completion of the equations ends, where the watcher has memory for two events.
-fn ends_in_two_events(alloc: Global, text: &str) -> Result<bool, Fail> {
+fn ends_in_two_events(alloc: Global, text: &str) -> Result<bool, AllocError> {
+    let mut tally = forgetful(alloc)?;
     let given = equations(alloc, text)?;
-    let mut tally = tally_at(&counts(alloc)?, 1)?;
-    let base = CompleteRules::empty(alloc);
-    let answer = extend(alloc, base, &given, AMPLE, &mut tally);
-    Ok(answer.is_ok())
+    Ok(ends(alloc, &given, &mut tally))
 }
 
 #[test]
-fn a_watcher_that_finds_no_memory_ends_the_completion(rt: HostRuntime) -> Result<(), Fail> {
+fn a_watcher_that_finds_no_memory_ends_the_completion(rt: HostRuntime) -> Result<(), AllocError> {
     assert!(rt; ends_in_two_events(rt.alloc(), "B=A")?);
     assert!(rt; !ends_in_two_events(rt.alloc(), "B=A C=A")?);
     Ok(())

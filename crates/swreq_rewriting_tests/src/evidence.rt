@@ -4,11 +4,10 @@ ghost use Rattle.std.specs.Prelude.{⊤, IfOk, MatchOption};
 ghost use Rattle.swreq_path.specs.Paths.{IsLoop};
 ghost use Rattle.swreq_homotopy.specs.Evidence.{AreLoops};
 
-use crate::notation::{put_path, rules};
+use crate::notation::{assert_line, put_path, rules};
 use std::alloc::{AllocError, Global};
 use std::fmt::Write;
 use std::process::Abort;
-use std::test::Fail;
 use swreq_homotopy::{Evidence, loop_of_pair, redundant};
 use swreq_pair::is_pair;
 use swreq_path::Loop;
@@ -82,14 +81,27 @@ fn shown(
     redundant(alloc, rules, loops, &kept, &free)
 }
 
-/// The list of the loop alone.
-fn loops_of(alloc: Global, rules: &[Rule], round: Loop) -> Result<Vec<Loop>, AllocError>
-    requires { IsLoop rules.now round }
-    ensures { IfOk result (λ loops. AreLoops rules.now loops.items) }
+/// The rule, and the path without it.
+fn put_evidence(out: &mut String, found: &Evidence) -> Result<(), AllocError> {
+    write!(out, "{}: ", found.rule)?;
+    put_path(out, &found.path)
+}
+
+/// What the loops show of the rules with these marks.
+fn put_found(
+    rt: &impl Abort,
+    alloc: Global,
+    rules: &[Rule],
+    loops: &[Loop],
+    marks: (&str, &str),
+    out: &mut String,
+) -> Result<(), AllocError>
+    requires { AreLoops rules.now loops.now }
 {
-    let mut loops = Vec::new(alloc);
-    loops.push(round)?;
-    Ok(loops)
+    match shown(rt, alloc, rules, loops, marks.0, marks.1)? {
+        Some(found) => put_evidence(out, &found),
+        None => Ok(()),
+    }
 }
 
 /// The loop, and what it shows.
@@ -100,42 +112,53 @@ fn put_loop(
     round: Loop,
     marks: (&str, &str),
     out: &mut String,
-) -> Result<(), Fail>
+) -> Result<(), AllocError>
     requires { IsLoop rules.now round }
 {
     put_path(out, &round.path)?;
     out.push_str("; ")?;
-    let loops = loops_of(alloc, rules, round)?;
-    match shown(rt, alloc, rules, &loops, marks.0, marks.1)? {
-        Some(found) => {
-            write!(out, "{}: ", found.rule)?;
-            put_path(out, &found.path)
-        }
-        None => Ok(()),
+    put_found(rt, alloc, rules, &[round], marks, out)
+}
+
+/// The loop of the pair at the place, and what it shows.
+fn put_shown_over(
+    rt: &impl Abort,
+    alloc: Global,
+    rules: &[Rule],
+    place: Place,
+    marks: (&str, &str),
+    out: &mut String,
+) -> Result<(), AllocError> {
+    match loop_at(rt, alloc, rules, place)? {
+        Some(round) => put_loop(rt, alloc, rules, round, marks, out),
+        None => out.push_str("none"),
     }
 }
 
-/// The loop of a row, and what it shows.
+/// The loop of the pair of the rules that are written so, and what it shows.
 fn put_shown(
     rt: &impl Abort,
     alloc: Global,
-    row: &(&str, (u32, u32, usize), &str, &str, &str),
+    text: &str,
+    place: Place,
+    marks: (&str, &str),
     out: &mut String,
-) -> Result<(), Fail> {
-    let (text, (i, j, at), keep, may, _) = *row;
+) -> Result<(), AllocError> {
     let list = rules(alloc, text)?;
-    match loop_at(rt, alloc, list.rules(), Place { i, j, at })? {
-        Some(round) => put_loop(rt, alloc, list.rules(), round, (keep, may), out),
-        None => Ok(out.push_str("none")?),
-    }
+    put_shown_over(rt, alloc, list.rules(), place, marks, out)
 }
 
 #[test]
-fn a_loop_shows_rules_that_it_uses_bare_and_once(rt: HostRuntime) -> Result<(), Fail> {
-    for row in SHOWN {
+fn a_loop_shows_rules_that_it_uses_bare_and_once(rt: HostRuntime) -> Result<(), AllocError> {
+    for (text, (i, j, at), keep, may, wanted) in SHOWN {
+        let place = Place {
+            i: *i,
+            j: *j,
+            at: *at,
+        };
         let mut out = String::new(rt.alloc());
-        put_shown(&rt, rt.alloc(), row, &mut out)?;
-        assert_eq!(rt; out.as_str(), row.4);
+        put_shown(&rt, rt.alloc(), text, place, (keep, may), &mut out)?;
+        assert_line(&rt, &out, wanted);
     }
     Ok(())
 }

@@ -1,15 +1,15 @@
 //! How the tests write words, rules and paths.
 //!
-//! A word is written by a letter for each symbol, as `symbol_of` has them. A rule or an equation is `AB=C`. A step is `A+2B` where it goes
+//! A word is written by a letter for each symbol, as `symbol_of` has them. A rule or an equation is `AB=C`, and `AB` alone where its right
+//! side is empty. A step is `A+2B` where it goes
 //! forth by rule 2 between the words `A` and `B`, and `A-2B` where it goes back. Numbers of rules count from 1. A rule is born of an
 //! equation, by its number, or at a place `1.2.0`: two rules, and where the left side of the second begins in that of the first.
 
 use std::alloc::{AllocError, Global};
 use std::fmt::Write;
-use std::test::Fail;
+use std::process::Abort;
 use swreq_path::{Path, RewriteStep};
-use swreq_rule::{Birth, Rule, RuleList};
-use swreq_samples::rule;
+use swreq_rule::{Birth, Rule, RuleList, oriented};
 use swreq_word::{Symbol, Word};
 
 /// A protocol N with a member A that conforms to N.
@@ -69,54 +69,77 @@ pub(crate) fn put_word(out: &mut String, symbols: &[Symbol]) -> Result<(), Alloc
     Ok(())
 }
 
+/// The sides of an equation.
+fn sides(alloc: Global, equation: &str) -> Result<(Word, Word), AllocError> {
+    let (left, right) = equation.split_once('=').unwrap_or((equation, ""));
+    let left = word(alloc, left)?;
+    let right = word(alloc, right)?;
+    Ok((Word::new(left), Word::new(right)))
+}
+
 /// These equations.
-pub(crate) fn equations(alloc: Global, text: &str) -> Result<Vec<(Word, Word)>, Fail> {
+pub(crate) fn equations(alloc: Global, text: &str) -> Result<Vec<(Word, Word)>, AllocError> {
     let mut equations = Vec::new(alloc);
     for equation in text.split_whitespace() {
-        let (left, right) = equation.split_once('=').ok_or("no mark")?;
-        let sides = (word(alloc, left)?, word(alloc, right)?);
-        equations.push((Word::new(sides.0), Word::new(sides.1)))?;
+        equations.push(sides(alloc, equation)?)?;
     }
     Ok(equations)
 }
 
+/// Puts the rule of an equation last, unless the sides are the same.
+fn add_rule(alloc: Global, rules: &mut RuleList, equation: &str) -> Result<(), AllocError> {
+    let birth = Birth::Given(rules.rules().len());
+    let (left, right) = sides(alloc, equation)?;
+    match oriented(left, right, birth) {
+        Some(rule) => rules.push(rule).map_err(|_| AllocError),
+        None => Ok(()),
+    }
+}
+
 /// These rules. The birth of each is its place, counted from 0.
-pub(crate) fn rules(alloc: Global, text: &str) -> Result<RuleList, Fail> {
+pub(crate) fn rules(alloc: Global, text: &str) -> Result<RuleList, AllocError> {
     let mut rules = RuleList::new(alloc);
-    for (left, right) in &equations(alloc, text)? {
-        let birth = Birth::Given(rules.rules().len());
-        let rule = rule(alloc, &(left.symbols(), right.symbols()), birth)?;
-        rules.push(rule).map_err(|_| "no memory")?;
+    for equation in text.split_whitespace() {
+        add_rule(alloc, &mut rules, equation)?;
     }
     Ok(rules)
 }
 
-/// The sides of the rule, and its birth.
-pub(crate) fn put_rule(out: &mut String, rule: &Rule) -> Result<(), Fail> {
+fn put_birth(out: &mut String, birth: Birth) -> Result<(), AllocError> {
+    match birth {
+        Birth::Given(number) => write!(out, " {number}"),
+        Birth::Pair(i, j, at) => write!(out, " {i}.{j}.{at}"),
+    }
+}
+
+/// The sides of the rule, and its birth, after a comma.
+pub(crate) fn put_rule(out: &mut String, rule: &Rule) -> Result<(), AllocError> {
+    out.push_str(", ")?;
     put_word(out, rule.left.symbols())?;
     out.push('>')?;
     put_word(out, rule.right.symbols())?;
-    match rule.birth {
-        Birth::Given(number) => write!(out, " {number}")?,
-        Birth::Pair(i, j, at) => write!(out, " {i}.{j}.{at}")?,
-    }
-    Ok(())
+    put_birth(out, rule.birth)
 }
 
 /// A step, after a blank.
-fn put_step(out: &mut String, step: &RewriteStep) -> Result<(), Fail> {
+fn put_step(out: &mut String, step: &RewriteStep) -> Result<(), AllocError> {
     let sign = if step.forward { '+' } else { '-' };
     out.push(' ')?;
     put_word(out, step.before.symbols())?;
     write!(out, "{sign}{}", step.rule)?;
-    Ok(put_word(out, step.after.symbols())?)
+    put_word(out, step.after.symbols())
 }
 
 /// The word at which the path begins, and its steps.
-pub(crate) fn put_path(out: &mut String, path: &Path) -> Result<(), Fail> {
+pub(crate) fn put_path(out: &mut String, path: &Path) -> Result<(), AllocError> {
     put_word(out, path.source())?;
     for step in path.steps.items() {
         put_step(out, step)?;
     }
     Ok(())
+}
+
+/// Asserts that the line is the one that is wanted.
+pub(crate) fn assert_line(rt: &impl Abort, line: &str, wanted: &str) {
+    assert_eq!(rt; line, wanted);
 }

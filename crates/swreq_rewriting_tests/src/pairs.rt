@@ -1,12 +1,12 @@
 //! Worked rows of reduction, and of the pairs of rules.
 
-use crate::notation::{put_word, rules, word};
-use std::alloc::Global;
+use crate::notation::{assert_line, put_word, rules, word};
+use std::alloc::{AllocError, Global};
 use std::fmt::Write;
 use std::process::Abort;
-use std::test::Fail;
 use swreq_pair::{Pair, pairs_of, pairs_up_to};
-use swreq_rule::{Rule, contains, first_redex, overlaps};
+use swreq_rule::{Rule, RuleList, contains, first_redex, overlaps};
+use swreq_word::Symbol;
 
 /// The rules of a protocol N with a member A, and of a generic parameter that conforms to it.
 const CONFORMING: &str = "NN=N Na=a NA=a aN=a aA=aa TN=T TA=Ta";
@@ -32,28 +32,46 @@ const REDUCED: &[(&str, &str, &str)] = &[
     (RULES, "ACDD", "3 at 1, AC"),
 ];
 
-/// The first redex of the word, and the word to which it reduces.
-fn put_reduced(alloc: Global, text: &str, letters: &str, out: &mut String) -> Result<(), Fail> {
-    let list = rules(alloc, text)?;
-    let mut w = word(alloc, letters)?;
-    match first_redex(list.rules(), &w) {
-        Some(redex) => write!(out, "{} at {}", redex.number, redex.at)?,
-        None => {}
+/// The first redex of the word.
+fn put_redex(out: &mut String, rules: &[Rule], w: &[Symbol]) -> Result<(), AllocError> {
+    match first_redex(rules, w) {
+        Some(redex) => write!(out, "{} at {}, ", redex.number, redex.at),
+        None => out.push_str(", "),
     }
-    out.push_str(", ")?;
+}
+
+/// The first redex of the word, and the word to which it reduces by the rules.
+fn put_reduced_by(
+    alloc: Global,
+    list: &RuleList,
+    letters: &str,
+    out: &mut String,
+) -> Result<(), AllocError> {
+    let mut w = word(alloc, letters)?;
+    put_redex(out, list.rules(), &w)?;
     list.reduce(&mut w);
-    put_word(out, &w)?;
-    Ok(())
+    put_word(out, &w)
+}
+
+/// The first redex of the word, and the word to which it reduces.
+fn put_reduced(
+    alloc: Global,
+    text: &str,
+    letters: &str,
+    out: &mut String,
+) -> Result<(), AllocError> {
+    let list = rules(alloc, text)?;
+    put_reduced_by(alloc, &list, letters, out)
 }
 
 #[test]
 fn reduction_takes_the_earliest_place_and_there_the_shortest_left_side(
     rt: HostRuntime,
-) -> Result<(), Fail> {
+) -> Result<(), AllocError> {
     for (text, letters, wanted) in REDUCED {
         let mut out = String::new(rt.alloc());
         put_reduced(rt.alloc(), text, letters, &mut out)?;
-        assert_eq!(rt; out.as_str(), *wanted);
+        assert_line(&rt, &out, wanted);
     }
     Ok(())
 }
@@ -71,12 +89,17 @@ const PLACES: &[(&str, &str, usize, (bool, bool))] = &[
     ("AB", "A", 3, (false, false)),
 ];
 
+/// Whether the second word overlaps the first at the place, and stands in it.
+fn found_at(alloc: Global, l: &str, m: &str, at: usize) -> Result<(bool, bool), AllocError> {
+    let l = word(alloc, l)?;
+    let m = word(alloc, m)?;
+    Ok((overlaps(&l, &m, at), contains(&l, &m, at)))
+}
+
 #[test]
-fn words_overlap_or_stand_in_each_other(rt: HostRuntime) -> Result<(), Fail> {
+fn words_overlap_or_stand_in_each_other(rt: HostRuntime) -> Result<(), AllocError> {
     for (l, m, at, wanted) in PLACES {
-        let l = word(rt.alloc(), l)?;
-        let m = word(rt.alloc(), m)?;
-        assert!(rt; (overlaps(&l, &m, *at), contains(&l, &m, *at)) == *wanted);
+        assert!(rt; found_at(rt.alloc(), l, m, *at)? == *wanted);
     }
     Ok(())
 }
@@ -107,41 +130,69 @@ const CASES: &[(&str, u32, u32, &str)] = &[
     ("AB= BC=", 1, 2, "1.2.1 C=A;"),
 ];
 
-/// The pairs, each before a semicolon.
-fn put_pairs(out: &mut String, pairs: &[Pair]) -> Result<(), Fail> {
+/// The pair, before a semicolon.
+fn put_pair(out: &mut String, pair: &Pair) -> Result<(), AllocError> {
+    write!(out, "{}.{}.{} ", pair.place.i, pair.place.j, pair.place.at)?;
+    put_word(out, pair.left.symbols())?;
+    out.push('=')?;
+    put_word(out, pair.right.symbols())?;
+    out.push(';')
+}
+
+fn put_pairs(out: &mut String, pairs: &[Pair]) -> Result<(), AllocError> {
     for pair in pairs {
-        write!(out, "{}.{}.{} ", pair.place.i, pair.place.j, pair.place.at)?;
-        put_word(out, pair.left.symbols())?;
-        out.push('=')?;
-        put_word(out, pair.right.symbols())?;
-        out.push(';')?;
+        put_pair(out, pair)?;
     }
     Ok(())
 }
 
-fn put_of(
+/// The pairs of the rules with these numbers.
+fn pairs_at(
+    rt: &impl Abort,
+    alloc: Global,
+    rules: &[Rule],
+    i: u32,
+    j: u32,
+) -> Result<Vec<Pair>, AllocError> {
+    assert!(rt; 0 < j && j as usize <= rules.len() && rules.len() <= 1000);
+    if i == 0 {
+        return pairs_up_to(alloc, rules, j);
+    }
+    assert!(rt; i as usize <= rules.len());
+    pairs_of(alloc, rules, i, j)
+}
+
+fn put_pairs_at(
     rt: &impl Abort,
     alloc: Global,
     rules: &[Rule],
     i: u32,
     j: u32,
     out: &mut String,
-) -> Result<(), Fail> {
-    assert!(rt; 0 < j && j as usize <= rules.len() && rules.len() <= 1000);
-    if i == 0 {
-        return put_pairs(out, &pairs_up_to(alloc, rules, j)?);
-    }
-    assert!(rt; i as usize <= rules.len());
-    put_pairs(out, &pairs_of(alloc, rules, i, j)?)
+) -> Result<(), AllocError> {
+    let pairs = pairs_at(rt, alloc, rules, i, j)?;
+    put_pairs(out, &pairs)
+}
+
+/// The pairs of the rules that are written so.
+fn put_pairs_of(
+    rt: &impl Abort,
+    alloc: Global,
+    text: &str,
+    i: u32,
+    j: u32,
+    out: &mut String,
+) -> Result<(), AllocError> {
+    let list = rules(alloc, text)?;
+    put_pairs_at(rt, alloc, list.rules(), i, j, out)
 }
 
 #[test]
-fn left_sides_overlap_or_contain_each_other(rt: HostRuntime) -> Result<(), Fail> {
+fn left_sides_overlap_or_contain_each_other(rt: HostRuntime) -> Result<(), AllocError> {
     for (text, i, j, wanted) in CASES {
-        let list = rules(rt.alloc(), text)?;
         let mut out = String::new(rt.alloc());
-        put_of(&rt, rt.alloc(), list.rules(), *i, *j, &mut out)?;
-        assert_eq!(rt; out.as_str(), *wanted);
+        put_pairs_of(&rt, rt.alloc(), text, *i, *j, &mut out)?;
+        assert_line(&rt, &out, wanted);
     }
     Ok(())
 }

@@ -1,11 +1,11 @@
 //! Worked rows of paths.
 
+ghost use Rattle.std.specs.Prelude.{IfOk};
 ghost use Rattle.swreq_path.specs.Paths.{HasTarget, IsPath};
 
-use crate::notation::{put_path, put_word, rules, word};
-use std::alloc::Global;
+use crate::notation::{assert_line, put_path, put_word, rules, word};
+use std::alloc::{AllocError, Global};
 use std::process::Abort;
-use std::test::Fail;
 use swreq_path::{Path, compose, invert, path_of};
 use swreq_rule::Rule;
 
@@ -21,20 +21,32 @@ const WAYS: &[(&str, &str)] = &[
     ("Ta", "Ta = Ta; Ta = Ta; Ta = Ta; "),
 ];
 
+/// The word to which the path leads.
+fn put_target(
+    alloc: Global,
+    rules: &[Rule],
+    path: &Path,
+    out: &mut String,
+) -> Result<(), AllocError>
+    requires { IsPath rules.now path.now }
+{
+    let target = path.target(alloc, rules)?;
+    put_word(out, target.symbols())
+}
+
 /// The path, and the word to which it leads.
 pub(crate) fn put_way(
     alloc: Global,
     rules: &[Rule],
     path: &Path,
     out: &mut String,
-) -> Result<(), Fail>
+) -> Result<(), AllocError>
     requires { IsPath rules.now path.now }
 {
     put_path(out, path)?;
     out.push_str(" = ")?;
-    put_word(out, path.target(alloc, rules)?.symbols())?;
-    out.push_str("; ")?;
-    Ok(())
+    put_target(alloc, rules, path, out)?;
+    out.push_str("; ")
 }
 
 /// Both paths, one after the other.
@@ -44,20 +56,35 @@ fn put_both(
     forth: &Path,
     back: &Path,
     out: &mut String,
-) -> Result<(), Fail>
+) -> Result<(), AllocError>
     requires first { HasTarget rules.now forth.now back.now.start }
     requires second { IsPath rules.now back.now }
 {
-    put_way(alloc, rules, &compose(alloc, rules, forth, back)?, out)
+    let both = compose(alloc, rules, forth, back)?;
+    put_way(alloc, rules, &both, out)
 }
 
 /// The path back, and both.
-fn put_back(alloc: Global, rules: &[Rule], forth: &Path, out: &mut String) -> Result<(), Fail>
+fn put_back(alloc: Global, rules: &[Rule], forth: &Path, out: &mut String) -> Result<(), AllocError>
     requires { IsPath rules.now forth.now }
 {
     let back = invert(alloc, rules, forth)?;
     put_way(alloc, rules, &back, out)?;
     put_both(alloc, rules, forth, &back, out)
+}
+
+/// The path of the reduction of the word.
+fn forth_of(
+    rt: &impl Abort,
+    alloc: Global,
+    rules: &[Rule],
+    letters: &str,
+) -> Result<Path, AllocError>
+    ensures { IfOk result (IsPath rules.now) }
+{
+    assert!(rt; rules.len() < 1000);
+    let w = word(alloc, letters)?;
+    path_of(alloc, rules, &w)
 }
 
 /// The path of the reduction of the word, the path back, and both.
@@ -67,20 +94,19 @@ fn put_ways(
     rules: &[Rule],
     letters: &str,
     out: &mut String,
-) -> Result<(), Fail> {
-    assert!(rt; rules.len() < 1000);
-    let forth = path_of(alloc, rules, &word(alloc, letters)?)?;
+) -> Result<(), AllocError> {
+    let forth = forth_of(rt, alloc, rules, letters)?;
     put_way(alloc, rules, &forth, out)?;
     put_back(alloc, rules, &forth, out)
 }
 
 #[test]
-fn paths_of_reduction_go_forth_and_back(rt: HostRuntime) -> Result<(), Fail> {
+fn paths_of_reduction_go_forth_and_back(rt: HostRuntime) -> Result<(), AllocError> {
     let list = rules(rt.alloc(), RULES)?;
     for (letters, wanted) in WAYS {
         let mut out = String::new(rt.alloc());
         put_ways(&rt, rt.alloc(), list.rules(), letters, &mut out)?;
-        assert_eq!(rt; out.as_str(), *wanted);
+        assert_line(&rt, &out, wanted);
     }
     Ok(())
 }

@@ -1,10 +1,9 @@
 //! The order of words, the table of words, and the impls of `Word` through their bounds.
 
-use crate::notation::{put_word, word};
+use crate::notation::{assert_line, put_word, word};
 use indexmap::IndexSet;
 use std::alloc::{AllocError, Global};
 use std::fmt::Write;
-use std::test::Fail;
 use swreq_word::{Symbol, Word, WordTable, compare};
 
 /// Words of one symbol go by its kind and then by its number; of two words the shorter one comes first, and of words of one length the
@@ -37,26 +36,46 @@ fn shorter_words_come_before_longer_ones(rt: HostRuntime) {
     }
 }
 
-/// The place that each word takes in a new table, and the word that stands there.
-fn put_table(alloc: Global, words: &str, out: &mut String) -> Result<(), Fail> {
-    let mut table = WordTable::new(alloc);
+/// The place that the word takes in the table, and the word that stands there.
+fn put_interned(
+    alloc: Global,
+    table: &mut WordTable,
+    letters: &str,
+    out: &mut String,
+) -> Result<(), AllocError> {
+    let w = word(alloc, letters)?;
+    let id = table.intern(&w)?;
+    write!(out, "{}:", id.place)?;
+    put_word(out, table.word(id))?;
+    out.push(' ')
+}
+
+/// The places that the words take in the table, and that of a word that it lacks.
+fn put_words(
+    alloc: Global,
+    table: &mut WordTable,
+    words: &str,
+    out: &mut String,
+) -> Result<(), AllocError> {
     for letters in words.split(' ') {
-        let w = word(alloc, letters)?;
-        let id = table.intern(&w)?;
-        write!(out, "{}:", id.place)?;
-        put_word(out, table.word(id))?;
-        out.push(' ')?;
+        put_interned(alloc, table, letters, out)?;
     }
-    let lacking = table.find(&word(alloc, "T")?);
+    let lacking = table.find(&Word::new(word(alloc, "T")?));
     write!(out, "{:?}", lacking.map(|id| id.place))?;
     Ok(())
 }
 
+/// The places that the words take in a new table, and that of a word that it lacks.
+fn put_table(alloc: Global, words: &str, out: &mut String) -> Result<(), AllocError> {
+    let mut table = WordTable::new(alloc);
+    put_words(alloc, &mut table, words, out)
+}
+
 #[test]
-fn words_interned_twice_keep_their_ids(rt: HostRuntime) -> Result<(), Fail> {
+fn words_interned_twice_keep_their_ids(rt: HostRuntime) -> Result<(), AllocError> {
     let mut out = String::new(rt.alloc());
     put_table(rt.alloc(), "NN Na TN NN TN TA Na", &mut out)?;
-    assert_eq!(rt; out.as_str(), "0:NN 1:Na 2:TN 0:NN 2:TN 3:TA 1:Na None");
+    assert_line(&rt, &out, "0:NN 1:Na 2:TN 0:NN 2:TN 3:TA 1:Na None");
     Ok(())
 }
 
@@ -64,18 +83,34 @@ fn smaller<O: Ord + Drop>(a: O, b: O) -> O {
     if a < b { a } else { b }
 }
 
+/// The smaller of two words.
+fn smaller_word(alloc: Global, a: &str, b: &str) -> Result<Word, AllocError> {
+    let a = word(alloc, a)?;
+    let b = word(alloc, b)?;
+    Ok(smaller(Word::new(a), Word::new(b)))
+}
+
 /// The set of the smaller of two words.
 fn set_of_smaller(alloc: Global, a: &str, b: &str) -> Result<IndexSet<Word>, AllocError> {
     let mut words = IndexSet::new(alloc);
-    words.insert(smaller(Word::new(word(alloc, a)?), Word::new(word(alloc, b)?)))?;
+    words.insert(smaller_word(alloc, a, b)?)?;
     Ok(words)
 }
 
+/// Whether the set has a copy of the word.
+fn has(alloc: Global, words: &IndexSet<Word>, letters: &str) -> Result<bool, AllocError> {
+    let w = Word::new(word(alloc, letters)?);
+    Ok(words.contains(&w.clone()?))
+}
+
+/// Whether the set of the smaller of both words has the second one alone.
+fn keeps_second(alloc: Global, a: &str, b: &str) -> Result<bool, AllocError> {
+    let words = set_of_smaller(alloc, a, b)?;
+    Ok(has(alloc, &words, b)? && !has(alloc, &words, a)?)
+}
+
 #[test]
-fn words_compare_and_hash_by_their_symbols(rt: HostRuntime) -> Result<(), Fail> {
-    let words = set_of_smaller(rt.alloc(), "NN", "L")?;
-    let less = Word::new(word(rt.alloc(), "L")?);
-    let greater = Word::new(word(rt.alloc(), "NN")?);
-    assert!(rt; words.contains(&less.clone()?) && !words.contains(&greater));
+fn words_compare_and_hash_by_their_symbols(rt: HostRuntime) -> Result<(), AllocError> {
+    assert!(rt; keeps_second(rt.alloc(), "NN", "L")?);
     Ok(())
 }

@@ -1,4 +1,4 @@
-//! Watchers that count what they are told, and of which one runs out of memory.
+//! Watchers that count what they are told. One of them runs out of memory.
 ghost use Rattle.std.specs.Prelude.{◌<◌};
 ghost use Rattle.swreq_watch.specs.Told.{untold};
 
@@ -7,7 +7,7 @@ use std::cell::Cell;
 use std::rc::Rc;
 use swreq_watch::{Event, Watch};
 
-/// A watcher that counts what it is told into a cell, and has memory for so many events.
+/// A watcher that counts what it is told into a cell, and has memory for `room` events.
 #[derive(Drop)]
 pub struct Tally {
     count: Rc<Cell<u32>>,

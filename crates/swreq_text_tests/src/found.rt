@@ -1,10 +1,12 @@
 //! What is found in a world by its name.
-ghost use Rattle.std.specs.Prelude.{◌≡◌, ◌<◌, length};
+ghost use Rattle.std.specs.Prelude.{◌≡◌, ◌<◌, ◌≤◌, length};
+ghost use Rattle.swreq_decl.specs.Skeletons.{StandsFor};
 
 use std::alloc::Global;
 use std::process::Abort;
 use std::test::Fail;
-use swreq_param::{NameId, ParamTable, ProtoId};
+use swreq_decl::Skeleton;
+use swreq_param::{NameId, ParamId, ParamTable, ProtoId};
 use swreq_samples::skeleton_of;
 use swreq_world::{FuncId, World};
 
@@ -17,73 +19,82 @@ func g<T: P>()
 struct S { func k<U>() }
 ";
 
-/// A line for each word, with the protocol, the name of a member, the signature and the function of S of that name, and the generic
-/// parameter of g. Then there are whether P has the name A and inherits Q, how many protocols it inherits, and which signature of S is
-/// named g.
-const FOUND: &str = "\
-P Some(ProtoId { rank: 0 }) None None None None
-Q Some(ProtoId { rank: 1 }) None None None None
-A None Some(NameId { rank: 0 }) None None None
-f None None Some(FuncId { place: 0 }) None None
-g None None Some(FuncId { place: 1 }) None None
-S None None Some(FuncId { place: 2 }) None None
-k None None None Some(FuncId { place: 3 }) None
-T None None None None Some(ParamId { depth: 0, index: 0 })
-U None None None None None
-true false 0 None
-";
+/// What is found of a word: the protocol, the name of a member, the signature and the function of S of that name, and the generic parameter
+/// of g.
+type Found = (
+    Option<ProtoId>,
+    Option<NameId>,
+    Option<FuncId>,
+    Option<FuncId>,
+    Option<ParamId>,
+);
+
+const P: ProtoId = ProtoId { rank: 0 };
+
+const Q: ProtoId = ProtoId { rank: 1 };
+
+const A: NameId = NameId { rank: 0 };
+
+const F: FuncId = FuncId { place: 0 };
 
 const G: FuncId = FuncId { place: 1 };
 
-/// Appends what has this name.
-fn add_word(world: &World, word: &str, out: &mut String) -> Result<(), Fail>
+const S: FuncId = FuncId { place: 2 };
+
+const K: FuncId = FuncId { place: 3 };
+
+const T: ParamId = ParamId { depth: 0, index: 0 };
+
+const FOUND: &[(&str, Found)] = &[
+    ("P", (Some(P), None, None, None, None)),
+    ("Q", (Some(Q), None, None, None, None)),
+    ("A", (None, Some(A), None, None, None)),
+    ("f", (None, None, Some(F), None, None)),
+    ("g", (None, None, Some(G), None, None)),
+    ("S", (None, None, Some(S), None, None)),
+    ("k", (None, None, None, Some(K), None)),
+    ("T", (None, None, None, None, Some(T))),
+    ("U", (None, None, None, None, None)),
+];
+
+/// Whether this is found of the word.
+fn finds(world: &World, word: &[u8], found: &Found) -> bool
     requires { 1 < length world.now.signatures }
 {
-    let proto = world.find_proto(word.as_bytes());
-    let name = world.find_name(word.as_bytes());
-    let top = world.find_func(None, word.as_bytes());
-    let nested = world.find_func(Some(b"S"), word.as_bytes());
-    let param = world.find_param(G, word.as_bytes());
-    Ok(write!(
-        out,
-        "{word} {proto:?} {name:?} {top:?} {nested:?} {param:?}\n"
-    )?)
+    world.find_proto(word) == found.0
+        && world.find_name(word) == found.1
+        && world.find_func(None, word) == found.2
+        && world.find_func(Some(b"S"), word) == found.3
+        && world.find_param(G, word) == found.4
 }
 
-/// Appends what there is to P.
-fn add_counts(world: &World, out: &mut String) -> Result<(), Fail> {
-    let p = ProtoId { rank: 0 };
-    let has = world.has_member(p, NameId { rank: 0 });
-    let inherits = world.inherits(p, ProtoId { rank: 1 });
-    let depth = world.depth(p);
-    let nested = world.find_func(Some(b"S"), b"g");
-    Ok(write!(out, "{has} {inherits} {depth} {nested:?}\n")?)
-}
-
-fn found(rt: &impl Abort, alloc: Global, world: &World) -> Result<String, Fail> {
+/// Asserts what is found of each word, and that P has the name A, does not inherit Q, and inherits no protocol.
+fn assert_found(rt: &impl Abort, world: &World) {
     assert!(rt; world.functions() == 4);
-    let mut out = String::new(alloc);
-    for word in "P Q A f g S k T U".split(' ') {
-        add_word(world, word, &mut out)?;
+    for (word, found) in FOUND {
+        assert!(rt; finds(world, word.as_bytes(), found), "{word}");
     }
-    add_counts(world, &mut out)?;
-    Ok(out)
+    assert!(rt; world.has_member(P, A) && !world.inherits(P, Q));
+    assert_eq!(rt; world.depth(P), 0);
 }
 
-/// The world of the text, over the table.
-fn world_of(alloc: Global, table: &mut ParamTable) -> Result<World, Fail> {
-    let skeleton = skeleton_of(alloc, TEXT)?;
-    match World::resolve(alloc, TEXT, &skeleton, table) {
-        Ok(world) => Ok(world),
+/// Asserts what is found in the world of the text.
+fn assert_resolved(rt: &impl Abort, alloc: Global, text: &[u8], s: &Skeleton) -> Result<(), Fail>
+    requires short { length text.now ≤ 1048576 }
+    requires stands { StandsFor text.now s.now }
+{
+    let mut table = ParamTable::new(alloc);
+    match World::resolve(alloc, text, s, &mut table) {
+        Ok(world) => {
+            assert_found(rt, &world);
+            Ok(())
+        }
         Err(_) => Err("no world".into()),
     }
 }
 
 #[test]
 fn names_are_found(rt: HostRuntime) -> Result<(), Fail> {
-    let mut table = ParamTable::new(rt.alloc());
-    let world = world_of(rt.alloc(), &mut table)?;
-    let lines = found(&rt, rt.alloc(), &world)?;
-    assert_eq!(rt; lines.as_str(), FOUND);
-    Ok(())
+    let skeleton = skeleton_of(rt.alloc(), TEXT)?;
+    assert_resolved(&rt, rt.alloc(), TEXT, &skeleton)
 }

@@ -2,7 +2,6 @@
 
 use std::alloc::Global;
 use std::process::Abort;
-use std::test::Fail;
 use swreq_decl::{ParseErr, parse};
 use swreq_lex::TEXT_LIMIT;
 
@@ -16,34 +15,31 @@ const WHOLES: &[&str] = &[
 ];
 
 /// Whether the text is of the grammar, or refused at its end.
-fn is_of_the_grammar_or_ends_too_early(
-    rt: &impl Abort,
-    alloc: Global,
-    text: &[u8],
-) -> Result<bool, Fail> {
+fn is_of_the_grammar_or_ends_too_early(rt: &impl Abort, alloc: Global, text: &[u8]) -> bool {
     assert!(rt; text.len() <= TEXT_LIMIT);
     match parse(alloc, text) {
-        Ok(_) => Ok(true),
-        Err(ParseErr::Syntax { at }) => Ok(at as usize == text.len()),
-        Err(_) => Ok(false),
+        Ok(_) => true,
+        Err(ParseErr::Syntax { at }) => at as usize == text.len(),
+        Err(_) => false,
     }
 }
 
-/// Each front of the text before a space is of the grammar, or refused at its end.
-fn has_fronts(rt: &impl Abort, alloc: Global, whole: &[u8]) -> Result<(), Fail> {
+/// Asserts that each front of the text before a space is of the grammar, or refused at its end.
+fn assert_fronts(rt: &impl Abort, alloc: Global, whole: &[u8]) {
     for (length, byte) in whole.iter().enumerate() {
         if *byte == b' ' {
-            let holds = is_of_the_grammar_or_ends_too_early(rt, alloc, &whole[..length])?;
-            assert!(rt; holds);
+            let front = &whole[..length];
+            assert!(rt;
+                is_of_the_grammar_or_ends_too_early(rt, alloc, front),
+                "{length}"
+            );
         }
     }
-    Ok(())
 }
 
 #[test]
-fn a_text_that_ends_in_a_construct_is_refused_at_its_end(rt: HostRuntime) -> Result<(), Fail> {
+fn a_text_that_ends_in_a_construct_is_refused_at_its_end(rt: HostRuntime) {
     for whole in WHOLES {
-        has_fronts(&rt, rt.alloc(), whole.as_bytes())?;
+        assert_fronts(&rt, rt.alloc(), whole.as_bytes());
     }
-    Ok(())
 }

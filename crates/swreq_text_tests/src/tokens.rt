@@ -1,22 +1,30 @@
 //! Texts and their tokens.
 
-use std::alloc::Global;
+use std::alloc::{AllocError, Global};
+use std::fmt::Write;
 use std::process::Abort;
-use std::test::Fail;
-use swreq_lex::{TEXT_LIMIT, tokens_from};
+use swreq_lex::{TEXT_LIMIT, Token, tokens_from};
 
-/// The tokens of a text from an offset on as one line, or the refusal.
-fn described(rt: &impl Abort, alloc: Global, text: &[u8], from: u32) -> Result<String, Fail> {
+/// The tokens as one line.
+fn put_tokens(out: &mut String, tokens: &[Token]) -> Result<(), AllocError> {
+    for token in tokens {
+        write!(out, "{:?} {}-{} ", token.kind, token.start, token.end)?;
+    }
+    Ok(())
+}
+
+/// The tokens of a text from an offset on, or the refusal.
+fn put_tokens_from(
+    rt: &impl Abort,
+    alloc: Global,
+    text: &[u8],
+    from: u32,
+    out: &mut String,
+) -> Result<(), AllocError> {
     assert!(rt; text.len() <= TEXT_LIMIT && from as usize <= text.len());
     match tokens_from(alloc, text, from) {
-        Ok(found) => {
-            let mut line = String::new(alloc);
-            for token in &found {
-                write!(line, "{:?} {}-{} ", token.kind, token.start, token.end)?;
-            }
-            Ok(line)
-        }
-        Err(e) => Ok(format!(in alloc; "{e}")?),
+        Ok(found) => put_tokens(out, &found),
+        Err(e) => write!(out, "{e}"),
     }
 }
 
@@ -65,9 +73,10 @@ const TOKENS: &[(&[u8], u32, &str)] = &[
 ];
 
 #[test]
-fn parts_of_texts_have_these_tokens(rt: HostRuntime) -> Result<(), Fail> {
+fn parts_of_texts_have_these_tokens(rt: HostRuntime) -> Result<(), AllocError> {
     for (text, from, want) in TOKENS {
-        let line = described(&rt, rt.alloc(), text, *from)?;
+        let mut line = String::new(rt.alloc());
+        put_tokens_from(&rt, rt.alloc(), text, *from, &mut line)?;
         assert_eq!(rt; line.as_str(), *want);
     }
     Ok(())

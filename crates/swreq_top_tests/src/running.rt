@@ -1,8 +1,8 @@
 //! A run in memory, and what it has to give.
-use std::alloc::Global;
+use std::alloc::{AllocError, Global};
 use std::process::Abort;
 use std::test::Fail;
-use swreq_text::{MemSink, MemSource, Sink, Source};
+use swreq_text::{MemSink, MemSource, Sink, Source, SureSource};
 use swreq_top::run;
 use swreq_watch::{Quiet, Watch};
 
@@ -28,36 +28,76 @@ pub(crate) fn undisturbed<'a>(words: &'a str, text: &'a [u8]) -> Setting<'a> {
     }
 }
 
-/// The status, as it is written, that a run gives with the words between single spaces.
+/// Appends a word.
+fn put_word(alloc: Global, word: &str, words: &mut Vec<String>) -> Result<(), AllocError> {
+    let word = String::from_str(alloc, word)?;
+    words.push(word)?;
+    Ok(())
+}
+
+/// The words between single spaces.
+fn words_of(alloc: Global, line: &str) -> Result<Vec<String>, AllocError> {
+    let mut words = Vec::new(alloc);
+    for word in line.split(' ') {
+        put_word(alloc, word, &mut words)?;
+    }
+    Ok(words)
+}
+
+/// The status that a run gives with the words between single spaces.
 pub(crate) fn status_of<S: Source, K: Sink, W: Watch>(
     alloc: Global,
     line: &str,
     src: &mut S,
     out: &mut K,
     watch: &mut W,
-) -> Result<String, Fail> {
-    let mut words = Vec::new(alloc);
-    for word in line.split(' ') {
-        words.push(String::from_str(alloc, word)?)?;
-    }
-    let status = run(alloc, &words, src, out, watch);
-    Ok(format!(in alloc; "{status}")?)
+) -> Result<u8, AllocError> {
+    let words = words_of(alloc, line)?;
+    Ok(run(alloc, &words, src, out, watch))
 }
 
-/// A run gives this status, as it is written, and prints this.
+/// The status of a run over a source that never fails.
+pub(crate) fn status_over<K: Sink, W: Watch>(
+    alloc: Global,
+    line: &str,
+    text: &[u8],
+    out: &mut K,
+    watch: &mut W,
+) -> Result<u8, AllocError> {
+    let mut src = SureSource::new(text.to_vec(alloc)?);
+    status_of(alloc, line, &mut src, out, watch)
+}
+
+/// The text of a setting as a source.
+fn source_of(alloc: Global, setting: &Setting<'_>) -> Result<MemSource, AllocError> {
+    let failing = vec![in alloc; setting.failing_read]?;
+    let text = setting.text.to_vec(alloc)?;
+    Ok(MemSource::new(text, 10, failing))
+}
+
+/// The sink of a setting.
+fn sink_of(alloc: Global, setting: &Setting<'_>) -> Result<MemSink, AllocError> {
+    let failing = vec![in alloc; setting.failing_write]?;
+    MemSink::new(alloc, setting.room, 3, failing)
+}
+
+/// The status of a run in a setting, over its source.
+fn status_in(alloc: Global, setting: &Setting<'_>, out: &mut MemSink) -> Result<u8, AllocError> {
+    let mut src = source_of(alloc, setting)?;
+    status_of(alloc, setting.words, &mut src, out, &mut Quiet)
+}
+
+/// A run gives this status and prints this.
 pub(crate) fn runs(
     rt: &impl Abort,
     alloc: Global,
     setting: Setting<'_>,
-    status: &str,
+    status: u8,
     taken: &[u8],
 ) -> Result<(), Fail> {
-    let failing_read = vec![in alloc; setting.failing_read]?;
-    let failing_write = vec![in alloc; setting.failing_write]?;
-    let mut src = MemSource::new(setting.text.to_vec(alloc)?, 10, failing_read);
-    let mut out = MemSink::new(alloc, setting.room, 3, failing_write)?;
-    let came = status_of(alloc, setting.words, &mut src, &mut out, &mut Quiet)?;
+    let mut out = sink_of(alloc, &setting)?;
+    let came = status_in(alloc, &setting, &mut out)?;
     assert_eq!(rt; out.bytes(), taken, "after {}", setting.words);
-    assert_eq!(rt; came.as_str(), status, "after {}", setting.words);
+    assert_eq!(rt; came, status, "after {}", setting.words);
     Ok(())
 }

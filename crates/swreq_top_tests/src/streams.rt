@@ -7,99 +7,105 @@ use swreq_text::{MemSink, MemSource, Source};
 use swreq_watch::Quiet;
 
 /// Words that are refused, and words for which nothing is read, with the status and the first byte of what is printed.
-const UNREAD: &[(&str, &str, u8)] = &[("fly", "2", b'u'), ("gen 3 --max-rules 1", "3", b'e')];
+const UNREAD: &[(&str, u8, u8)] = &[("fly", 2, b'u'), ("gen 3 --max-rules 1", 3, b'e')];
 
-/// A run with these words gives this status, as it is written, prints a text that begins so, and leaves the source unchanged.
-fn reads_nothing(
+/// A run over this source gives the status of a row, and prints a text that begins as the row says.
+fn says(
     rt: &impl Abort,
     alloc: Global,
-    words: &str,
-    status: &str,
-    first: u8,
+    row: &(&str, u8, u8),
+    src: &mut MemSource,
 ) -> Result<(), Fail> {
-    let mut src = MemSource::new(b"query".to_vec(alloc)?, 10, Vec::new(alloc));
+    let (words, status, first) = *row;
     let mut out = MemSink::new(alloc, 1000, 1000, Vec::new(alloc))?;
-    let came = status_of(alloc, words, &mut src, &mut out, &mut Quiet)?;
-    assert_eq!(rt; came.as_str(), status);
-    assert_eq!(rt; out.bytes().first(), Some(&first));
-    assert_eq!(rt; src.read(&mut [0u8; 10]), Ok(5));
+    let came = status_of(alloc, words, src, &mut out, &mut Quiet)?;
+    assert_eq!(rt; came, status, "after {words}");
+    assert_eq!(rt; out.bytes().first(), Some(&first), "after {words}");
+    Ok(())
+}
+
+/// It leaves the source unchanged.
+fn reads_nothing(rt: &impl Abort, alloc: Global, row: &(&str, u8, u8)) -> Result<(), Fail> {
+    let mut src = MemSource::new(b"query".to_vec(alloc)?, 10, Vec::new(alloc));
+    says(rt, alloc, row, &mut src)?;
+    assert_eq!(rt; src.read(&mut [0u8; 10]), Ok(5), "after {}", row.0);
     Ok(())
 }
 
 #[test]
 fn wrong_words_and_gen_read_nothing(rt: HostRuntime) -> Result<(), Fail> {
-    for (words, status, first) in UNREAD {
-        reads_nothing(&rt, rt.alloc(), words, status, *first)?;
+    for row in UNREAD {
+        reads_nothing(&rt, rt.alloc(), row)?;
     }
     Ok(())
 }
 
 /// For each command that reads a text its words, a short text, the status and what is printed; and a text that is refused.
-const COMMANDS: &[(&str, &str, &str, &str)] = &[
+const COMMANDS: &[(&str, &str, u8, &str)] = &[
     (
         "answer",
         "protocol N { associatedtype Next: N }\nfunc f<T: N>()\nquery f(T.Next : N)\nquery f(T.Next)\n",
-        "0",
+        0,
         "yes\nτ_0_0.[N]Next\n",
     ),
     (
         "signatures",
         "protocol N { associatedtype Next: N }\nfunc f<T: N>() where T.Next: N\n",
-        "0",
+        0,
         "f: <τ_0_0 where τ_0_0 : N>\n",
     ),
     (
         "rules",
         "protocol P { }\nfunc f<T: P>()\n",
-        "0",
+        0,
         "f: 2 rules\n  [P].[P] => [P]\n  τ_0_0.[P] => τ_0_0\n",
     ),
     (
         "explain",
         "protocol N { associatedtype Next: N }\nfunc f<T: N>()\nquery f(T : N)\n",
-        "0",
+        0,
         "yes\n  1. τ_0_0 : N by CONF 1\n",
     ),
     (
         "verify",
         "protocol N { associatedtype Next: N }\nfunc f<T: N>()\nquery f(T : N)\n%%\nyes\n  1. τ_0_0 : N by CONF 1\n",
-        "0",
+        0,
         "ok\n",
     ),
     (
         "paths",
         "protocol N { associatedtype Next: N }\nfunc f<T: N>()\nquery f(T.Next : N)\n",
-        "0",
+        0,
         "yes\n  [τ_0_0 : N][Self.Next : N]\n",
     ),
     (
         "calls",
         "protocol P { }\nfunc f<T>()\nfunc g<U: P>()\n%%\nf: g(T)\n",
-        "0",
+        0,
         "no: τ_0_0 : P\n",
     ),
     (
         "requirements",
         "protocol P { }\nprotocol Q: P, P { }\n",
-        "0",
+        0,
         "P: <Self>\nQ: <Self where Self : P>\n",
     ),
     (
         "answer",
         "class C { }\n",
-        "1",
+        1,
         "error: unsupported class at 0\n",
     ),
 ];
 
 /// Each read of the text may fail. It comes in pieces of 10, and one read more finds its end.
 fn reads_fail(rt: &impl Abort, alloc: Global, all: Setting<'_>) -> Result<(), Fail> {
-    for (before, _) in all.text.chunks(10).enumerate() {
+    for before in 0..all.text.len().div_ceil(10) {
         let setting = Setting {
-            failing_read: u32::try_from(before + 1)?,
+            failing_read: (before + 1) as u32,
             ..all
         };
-        runs(rt, alloc, setting, "4", b"error: read fault\n")?;
+        runs(rt, alloc, setting, 4, b"error: read fault\n")?;
     }
     Ok(())
 }
@@ -113,10 +119,10 @@ fn room_is_short(
 ) -> Result<(), Fail> {
     for room in 0..output.len() {
         let setting = Setting {
-            room: u32::try_from(room)?,
+            room: room as u32,
             ..all
         };
-        runs(rt, alloc, setting, "5", &output[..room])?;
+        runs(rt, alloc, setting, 5, &output[..room])?;
     }
     Ok(())
 }
@@ -125,23 +131,27 @@ fn room_is_short(
 fn a_read_and_a_write_of_each_command_may_fail(rt: HostRuntime) -> Result<(), Fail> {
     for (words, text, status, output) in COMMANDS {
         let all = undisturbed(words, text.as_bytes());
-        runs(&rt, rt.alloc(), all, status, output.as_bytes())?;
+        runs(&rt, rt.alloc(), all, *status, output.as_bytes())?;
         reads_fail(&rt, rt.alloc(), all)?;
         room_is_short(&rt, rt.alloc(), all, output.as_bytes())?;
     }
     Ok(())
 }
 
+/// Texts that are answered, and of which the second write fails, with the status and what is taken.
+const CLOGGED: &[(&[u8], u8, &[u8])] = &[
+    (b"func f<T>()\nquery f(T : AnyObject)\n", 0, b"no\n"),
+    (b"class C { }\n", 5, b"err"),
+];
+
 #[test]
 fn a_write_in_mid_stream_may_fail(rt: HostRuntime) -> Result<(), Fail> {
-    let setting = Setting {
-        failing_write: 2,
-        ..undisturbed("answer", b"func f<T>()\nquery f(T : AnyObject)\n")
-    };
-    runs(&rt, rt.alloc(), setting, "0", b"no\n")?;
-    let setting = Setting {
-        failing_write: 2,
-        ..undisturbed("answer", b"class C { }\n")
-    };
-    runs(&rt, rt.alloc(), setting, "5", b"err")
+    for (text, status, taken) in CLOGGED {
+        let setting = Setting {
+            failing_write: 2,
+            ..undisturbed("answer", text)
+        };
+        runs(&rt, rt.alloc(), setting, *status, taken)?;
+    }
+    Ok(())
 }

@@ -1,30 +1,40 @@
 //! Runs that a watcher is told of.
 
-use crate::running::status_of;
+use crate::running::status_over;
+use std::alloc::{AllocError, Global};
 use std::test::Fail;
-use swreq_samples::{counts, tally_at};
-use swreq_text::{CountSink, MemSink, SureSource};
+use swreq_samples::{Tally, counts, tally_at};
+use swreq_text::{CountSink, MemSink};
 use swreq_watch::{Event, Quiet, Recorder};
 
 const TEXT: &[u8] = b"protocol N { associatedtype Next: N }\nfunc f<T: N>()\nquery f(T : N)\n";
 
 #[test]
 fn streams_that_never_fail_give_status_0(rt: HostRuntime) -> Result<(), Fail> {
-    let mut src = SureSource::new(TEXT.to_vec(rt.alloc())?);
     let mut out = CountSink::new();
-    let status = status_of(rt.alloc(), "answer", &mut src, &mut out, &mut Quiet)?;
-    assert_eq!(rt; status.as_str(), "0");
+    let status = status_over(rt.alloc(), "answer", TEXT, &mut out, &mut Quiet)?;
+    assert_eq!(rt; status, 0);
     assert_eq!(rt; out.count(), 4);
     Ok(())
 }
 
+/// A watcher that has memory for two events.
+fn forgetful(alloc: Global) -> Result<Tally, AllocError> {
+    let counts = counts(alloc)?;
+    tally_at(&counts, 1)
+}
+
+/// The status of a run with such a watcher.
+fn status_of_forgetful(alloc: Global, out: &mut MemSink) -> Result<u8, AllocError> {
+    let mut tally = forgetful(alloc)?;
+    status_over(alloc, "answer", TEXT, out, &mut tally)
+}
+
 #[test]
 fn a_watcher_without_memory_ends_the_run(rt: HostRuntime) -> Result<(), Fail> {
-    let mut tally = tally_at(&counts(rt.alloc())?, 1)?;
-    let mut src = SureSource::new(TEXT.to_vec(rt.alloc())?);
     let mut out = MemSink::new(rt.alloc(), 1000, 1000, Vec::new(rt.alloc()))?;
-    let status = status_of(rt.alloc(), "answer", &mut src, &mut out, &mut tally)?;
-    assert_eq!(rt; status.as_str(), "6");
+    let status = status_of_forgetful(rt.alloc(), &mut out)?;
+    assert_eq!(rt; status, 6);
     assert_eq!(rt; out.bytes(), b"error: out of memory\n".as_slice());
     Ok(())
 }
@@ -63,27 +73,23 @@ const LAYOUTS: &[u8] = b"protocol Q: AnyObject { }\nprotocol P: AnyObject { }\n"
 /// - The protocols of `EITHER` have rounds with 11, 17 and 18 rules, and the function with none, 7 and 8. Minimising grows the rules of
 ///   `T == T.B` by those of `T : P` and `T : AnyObject`, and passes the limit. So for each of `T : M` and `T : N` the machine of the others
 ///   is built, by rounds with none, 6 and 7.
-const TOLD: &[(&str, &[u8], &str, u32, u32)] = &[
-    ("answer", TEXT, "0", 4, 10),
+const TOLD: &[(&str, &[u8], (u8, u32, u32))] = &[
+    ("answer", TEXT, (0, 4, 10)),
     (
         "requirements",
         b"protocol N { associatedtype Next: N, N }\n",
-        "0",
-        4,
-        16,
+        (0, 4, 16),
     ),
-    ("requirements", LAYOUT_AGAIN, "0", 4, 14),
-    ("requirements", LAYOUTS, "0", 4, 10),
-    ("calls", CALLED, "0", 5, 3),
-    ("calls", MISCALLED, "1", 5, 3),
+    ("requirements", LAYOUT_AGAIN, (0, 4, 14)),
+    ("requirements", LAYOUTS, (0, 4, 10)),
+    ("calls", CALLED, (0, 5, 3)),
+    ("calls", MISCALLED, (1, 5, 3)),
     (
         "verify",
         b"func f<T>()\nquery f(T == T)\n%%\nno\n",
-        "0",
-        0,
-        0,
+        (0, 0, 0),
     ),
-    ("signatures --max-length 2", EITHER, "0", 12, 87),
+    ("signatures --max-length 2", EITHER, (0, 12, 87)),
 ];
 
 /// How many completions start by these events, and how many rules are born.
@@ -99,22 +105,19 @@ fn counted(events: &[Event]) -> (u32, u32) {
     (starts, born)
 }
 
+/// The status of a run, how many completions a watcher is told to start, and how many rules to be born.
+fn told(alloc: Global, words: &str, text: &[u8]) -> Result<(u8, u32, u32), AllocError> {
+    let mut recorder = Recorder::new(alloc);
+    let status = status_over(alloc, words, text, &mut CountSink::new(), &mut recorder)?;
+    let (starts, born) = counted(recorder.events());
+    Ok((status, starts, born))
+}
+
 #[test]
 fn a_watcher_is_told_of_each_completion(rt: HostRuntime) -> Result<(), Fail> {
-    for (words, text, status, starts, born) in TOLD {
-        let mut recorder = Recorder::new(rt.alloc());
-        let mut src = SureSource::new(text.to_vec(rt.alloc())?);
-        let came = status_of(
-            rt.alloc(),
-            words,
-            &mut src,
-            &mut CountSink::new(),
-            &mut recorder,
-        )?;
-        let told = counted(recorder.events());
-        assert_eq!(&rt; came.as_str(), *status, "after {words}");
-        assert_eq!(&rt; told.0, *starts, "after {words}");
-        assert_eq!(&rt; told.1, *born, "after {words}");
+    for (words, text, wanted) in TOLD {
+        let told = told(rt.alloc(), words, text)?;
+        assert_eq!(rt; told, *wanted, "after {words}");
     }
     Ok(())
 }

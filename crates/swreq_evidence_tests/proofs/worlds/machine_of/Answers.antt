@@ -1,12 +1,17 @@
-use Rattle.std.proofs.Common.{◌∙◌}
-use Rattle.swreq_evidence_tests.proofs.Signatures.{machine_for, signature_written}
+use Rattle.swreq_reqsig.proofs.WellFormed.{list_formed}
+use Rattle.swreq_symbols.specs.Meaning.{facts_of}
+use Rattle.swreq_world.specs.ByTable.{world_by}
+use Rattle.swreq_world.specs.FactsAt.{source_of}
+use Rattle.swreq_world.specs.Worlds.{signature_at}
 use Rattle.swreq_evidence_tests.proofs.worlds.machine_of.Goals as goal
-
-pub build-requires-clause-written : goal.build-requires-clause-written
-build-requires-clause-written c =
-    signature_written c.args.table.now c.args.world.now c.requires.text c.args.f c.requires.f c.deref.result.now (c.deref.ensures.value ∙ c.in_ok-list.ensures)
 
 pub returns-in-Ok : goal.returns-in-Ok
 returns-in-Ok c =
-    machine_for c.args.table.now c.args.world.now c.args.f c.params.result c.params.ensures c.deref.result.now (c.deref.ensures.value ∙ c.in_ok-list.ensures)
-    c.requires.f c.requires.formed c.in-Ok.ensures.answer.1.1 c.in-Ok.machine c.in-Ok.ensures.params c.in-Ok.ensures.machine
+    let w = world_by c.args.table.now c.args.world.now in
+    let g = signature_at w c.args.f in record {
+      signature = c.requires.f;
+      protocols = c.requires.formed;
+      list = list_formed (facts_of w) (source_of g) g.requirements c.in-Ok.ensures.answer.1.1;
+      machine = c.in-Ok.ensures.machine;
+      params = c.in-Ok.ensures.params;
+    }

@@ -1,7 +1,6 @@
 use Rattle.swreq_world.specs.ByTable.{world_by}
-use Rattle.swreq_reqsig.proofs.WellFormed.{protocols_formed}
 use Rattle.swreq_evidence_tests.proofs.worlds.protocols_of.Goals as goal
 
 pub returns-in-Ok-clause-formed : goal.returns-in-Ok-clause-formed
 returns-in-Ok-clause-formed c =
-    protocols_formed (world_by c.args.table.now c.args.world.now) c.requires.text.closed c.in-Ok.ensures.answer.1.1
+    c.valid_sides_are_well_formed.ensures (world_by c.args.table.now c.args.world.now) c.requires.text.closed c.in-Ok.ensures.answer.1.1

@@ -1,4 +1,4 @@
-use Rattle.std.proofs.Common.{refl, subst}
+use Rattle.std.proofs.Common.{subst}
 use Rattle.swreq_param.specs.Tables.{term_at}
 use Rattle.swreq_derive.specs.declared.known.Params.{Params}
 use Rattle.swreq_derive.specs.Derivation.{Derivable}
@@ -9,11 +9,12 @@ use Rattle.swreq_derive.specs.Facts.{generic_params}
 use Rattle.swreq_world.specs.ByTable.{world_by}
 use Rattle.swreq_world.specs.FactsAt.{facts_of, written_list}
 use Rattle.swreq_world.specs.Worlds.{signature_at}
-use Rattle.swreq_evidence_tests.proofs.paths.given.Goals as goal
+use Rattle.swreq_evidence_tests.proofs.paths.put_given.Goals as goal
 
 pub shortest-requires-clause-derivable : goal.shortest-requires-clause-derivable
 shortest-requires-clause-derivable c =
     let w = world_by c.args.table.now c.args.world.now in
-    let list = written_list (signature_at w c.args.f) in
-    subst (λ (ps : Params). Derivable (facts_of w) (Written (generic_params ps) list) (Requires (Conforms (term_at c.args.table.now c.args.t) c.args.p)))
-    c.requires.machine.params ((c.if-not-conforms.ensures.answer list c.requires.machine.machine).0 refl)
+    let list = written_list (signature_at w c.args.asked.0) in
+    subst (λ (ps : Params). Derivable (facts_of w) (Written (generic_params ps) list)
+    (Requires (Conforms (term_at c.args.table.now c.args.asked.1) c.args.asked.2)))
+    c.requires.machine.params ((c.in_ok-derives.ensures list c.requires.machine.machine).0 c.if-not-branch.false)

@@ -1,5 +1,5 @@
 use Rattle.std.proofs.Common.{subst, Contains}
-use Rattle.swreq_answer_tests.proofs.read_again.again.Goals as goal
+use Rattle.swreq_answer_tests.proofs.read_again.put_again.Goals as goal
 
 pub lines_text-requires : goal.lines_text-requires
 lines_text-requires c = λ l k. c.in-Ok.ensures.ids l (subst (λ z. Contains z l) c.deref.ensures.value k)

@@ -1,0 +1,351 @@
+//! What a caller of the library gets of a small text: answers, a minimised list, a reduced system, and names.
+ghost use Rattle.std.specs.Prelude.{◌≡◌, ◌<◌, List, IfSome, length};
+ghost use Rattle.swreq_map.specs.Follows.{IsMapOf};
+ghost use Rattle.swreq_param.specs.Terms.{Term};
+ghost use Rattle.swreq_derive.specs.WellFormed.{AreProtocolsWellFormed};
+ghost use Rattle.swreq_lowering.specs.ByTable.{HasQueryIdsOf};
+ghost use Rattle.swreq_query.specs.Asked.{IsQueryIn};
+ghost use Rattle.swreq_symbols.specs.Known.{IsTextOver};
+ghost use Rattle.swreq_symbols.specs.Meaning.{facts_of};
+ghost use Rattle.swreq_valid.specs.Machines.{AreRulesOf};
+ghost use Rattle.swreq_valid.specs.Rounds.{last_rules};
+ghost use Rattle.swreq_world.specs.ByTable.{world_by};
+ghost use Rattle.swreq_confpath.specs.Searches.{IsMachineFor};
+ghost use Rattle.swreq_evidence_tests.specs.Sides.{HasSides};
+
+use crate::worlds::{LIMITS, machine_of, protocols_of, world_of};
+use std::alloc::{AllocError, Global};
+use std::test::Fail;
+use swreq_lowering::Query;
+use swreq_map::PropertyMap;
+use swreq_output::{full_name, minimised_line, system_text};
+use swreq_param::{ParamTable, TermId};
+use swreq_query::answer;
+use swreq_text::append_bytes;
+use swreq_valid::{Machine, Protocols, Scratch};
+use swreq_watch::Quiet;
+use swreq_world::{FuncId, World};
+
+/// What is printed of a signature.
+#[derive(Clone, Copy)]
+enum Printed {
+    /// The answers to the queries of the text.
+    Answers,
+    /// Its minimised list.
+    Minimised,
+    /// Its reduced system.
+    System,
+}
+
+/// A signature of a world, with its machine and the rules of the protocols.
+#[derive(Clone, Copy)]
+struct Own<'a, 'b> {
+    alloc: Global,
+    world: &'a World,
+    protocols: &'b Protocols,
+    machine: &'a Machine<'b>,
+    f: FuncId,
+}
+
+/// The sides of a query of a requirement or a type. Where it has one side, both are this one.
+fn sides_of(query: Query) -> Option<(TermId, TermId)>
+    ensures { IfSome result (λ sides. (terms : List Term) → HasQueryIdsOf terms query → HasSides terms query sides) }
+{
+    match query {
+        Query::Signature { .. } => None,
+        Query::Reduced { t, .. } => Some((t, t)),
+        Query::Conf { t, .. } => Some((t, t)),
+        Query::Layout { t, .. } => Some((t, t)),
+        Query::Same { a, b, .. } => Some((a, b)),
+    }
+}
+
+/// Appends the line that answers a query with these sides.
+fn put_line(
+    own: &Own<'_, '_>,
+    table: &ParamTable,
+    map: &PropertyMap,
+    query: Query,
+    sides: (TermId, TermId),
+    out: &mut Vec<u8>,
+) -> Result<(), AllocError>
+    requires text { IsTextOver table.now own.now.world.now }
+    requires map { IsMapOf (last_rules own.now.machine.now.rounds) map.now }
+    requires protocols { map.now.protocols ≡ length own.now.world.now.lexicon.protocols }
+    requires query { IsQueryIn table.now own.now.world.now query }
+    requires sides { HasSides table.now query sides }
+{
+    let mut scratch = Scratch::for_types(own.alloc, table, sides.0, sides.1)?;
+    answer(
+        own.alloc,
+        own.world,
+        table,
+        own.machine,
+        map,
+        &query,
+        &mut scratch,
+        out,
+    )
+}
+
+/// Appends the line that answers a query of a requirement or a type.
+fn put_answer(
+    own: &Own<'_, '_>,
+    table: &ParamTable,
+    map: &PropertyMap,
+    query: Query,
+    out: &mut Vec<u8>,
+) -> Result<(), Fail>
+    requires text { IsTextOver table.now own.now.world.now }
+    requires map { IsMapOf (last_rules own.now.machine.now.rounds) map.now }
+    requires protocols { map.now.protocols ≡ length own.now.world.now.lexicon.protocols }
+    requires query { IsQueryIn table.now own.now.world.now query }
+{
+    match sides_of(query) {
+        None => Err("a query of a signature".into()),
+        Some(sides) => Ok(put_line(own, table, map, query, sides, out)?),
+    }
+}
+
+/// Appends the lines that answer the queries of the world.
+fn put_each(
+    own: &Own<'_, '_>,
+    table: &ParamTable,
+    map: &PropertyMap,
+    out: &mut Vec<u8>,
+) -> Result<(), Fail>
+    requires text { IsTextOver table.now own.now.world.now }
+    requires map { IsMapOf (last_rules own.now.machine.now.rounds) map.now }
+    requires protocols { map.now.protocols ≡ length own.now.world.now.lexicon.protocols }
+{
+    let queries = own.world.queries();
+    for k in 0..queries.len() {
+        put_answer(own, table, map, queries[k], out)?;
+    }
+    Ok(())
+}
+
+/// Appends the lines that answer the queries of the world, by the machine of the signature.
+fn put_answers(own: &Own<'_, '_>, table: &ParamTable, out: &mut Vec<u8>) -> Result<(), Fail>
+    requires { IsTextOver table.now own.now.world.now }
+{
+    let map = PropertyMap::build(own.alloc, own.machine.rules(), own.world.protocols())?;
+    put_each(own, table, &map, out)
+}
+
+/// Appends the line of the minimised list of the signature.
+fn put_minimised(own: &Own<'_, '_>, table: &mut ParamTable, out: &mut Vec<u8>) -> Result<(), Fail>
+    requires text { IsTextOver table.old own.now.world.now }
+    requires rules { AreRulesOf (world_by table.old own.now.world.now) (last_rules own.now.protocols.now.rounds) }
+    requires machine { IsMachineFor table.old own.now.world.now own.now.f own.now.machine.now }
+{
+    match minimised_line(
+        own.alloc,
+        own.world,
+        table,
+        own.protocols,
+        own.machine,
+        own.f,
+        LIMITS,
+        &mut Quiet,
+        out,
+    ) {
+        Ok(()) => Ok(()),
+        Err(_) => Err("no line".into()),
+    }
+}
+
+/// Appends the reduced system of the signature.
+fn put_system(own: &Own<'_, '_>, table: &ParamTable, out: &mut Vec<u8>) -> Result<(), Fail>
+    requires text { IsTextOver table.now own.now.world.now }
+    requires machine { IsMachineFor table.now own.now.world.now own.now.f own.now.machine.now }
+{
+    system_text(own.alloc, own.world, table, own.machine, own.f, out)?;
+    Ok(())
+}
+
+/// Appends what is printed of the signature.
+fn put_of(
+    own: &Own<'_, '_>,
+    table: &mut ParamTable,
+    what: Printed,
+    out: &mut Vec<u8>,
+) -> Result<(), Fail>
+    requires text { IsTextOver table.old own.now.world.now }
+    requires rules { AreRulesOf (world_by table.old own.now.world.now) (last_rules own.now.protocols.now.rounds) }
+    requires machine { IsMachineFor table.old own.now.world.now own.now.f own.now.machine.now }
+{
+    match what {
+        Printed::Answers => put_answers(own, table, out),
+        Printed::Minimised => put_minimised(own, table, out),
+        Printed::System => put_system(own, table, out),
+    }
+}
+
+/// Appends what is printed of the first signature of a world, by the rules of its protocols.
+fn put_by(
+    alloc: Global,
+    world: &World,
+    table: &mut ParamTable,
+    protocols: &Protocols,
+    what: Printed,
+    out: &mut Vec<u8>,
+) -> Result<(), Fail>
+    requires text { IsTextOver table.old world.now }
+    requires formed { AreProtocolsWellFormed (facts_of (world_by table.old world.now)) }
+    requires rules { AreRulesOf (world_by table.old world.now) (last_rules protocols.now.rounds) }
+    requires some { 0 < length world.now.signatures }
+{
+    let f = FuncId { place: 0 };
+    let machine = machine_of(alloc, world, table, protocols, f)?;
+    let own = Own {
+        alloc,
+        world,
+        protocols,
+        machine: &machine,
+        f,
+    };
+    put_of(&own, table, what, out)
+}
+
+/// Appends what is printed of the first signature of a world.
+fn put_over(
+    alloc: Global,
+    world: &World,
+    table: &mut ParamTable,
+    what: Printed,
+    out: &mut Vec<u8>,
+) -> Result<(), Fail>
+    requires { IsTextOver table.old world.now }
+{
+    if world.functions() == 0 {
+        return Err("no signature".into());
+    }
+    let protocols = protocols_of(alloc, world, table)?;
+    put_by(alloc, world, table, &protocols, what, out)
+}
+
+/// Appends what is printed of the first signature of a text, over the table.
+fn put_in(
+    alloc: Global,
+    text: &str,
+    table: &mut ParamTable,
+    what: Printed,
+    out: &mut Vec<u8>,
+) -> Result<(), Fail> {
+    let world = world_of(alloc, text, table)?;
+    put_over(alloc, &world, table, what, out)
+}
+
+/// Appends what is printed of the first signature of a text.
+fn put_printed(alloc: Global, text: &str, what: Printed, out: &mut Vec<u8>) -> Result<(), Fail> {
+    let mut table = ParamTable::new(alloc);
+    put_in(alloc, text, &mut table, what, out)
+}
+
+/// Appends the name of a signature as a line.
+fn put_name(
+    world: &World,
+    table: &ParamTable,
+    f: FuncId,
+    out: &mut Vec<u8>,
+) -> Result<(), AllocError>
+    requires { f.place < length world.now.signatures }
+{
+    full_name(world, table, f, out)?;
+    append_bytes(out, b"\n")
+}
+
+/// Appends the names of the signatures of a world, each as a line.
+fn put_each_name(world: &World, table: &ParamTable, out: &mut Vec<u8>) -> Result<(), AllocError> {
+    for place in 0..world.functions() {
+        put_name(world, table, FuncId { place }, out)?;
+    }
+    Ok(())
+}
+
+/// Appends the names of the signatures of a text, over the table.
+fn put_names_in(
+    alloc: Global,
+    text: &str,
+    table: &mut ParamTable,
+    out: &mut Vec<u8>,
+) -> Result<(), Fail> {
+    let world = world_of(alloc, text, table)?;
+    Ok(put_each_name(&world, table, out)?)
+}
+
+/// Appends the names of the signatures of a text, each as a line.
+fn put_names(alloc: Global, text: &str, out: &mut Vec<u8>) -> Result<(), Fail> {
+    let mut table = ParamTable::new(alloc);
+    put_names_in(alloc, text, &mut table, out)
+}
+
+/// A text of two protocols and one function. U is the member A of T, so it conforms to Base, and so does T, by inheritance.
+const TEXT: &str = "\
+protocol Base { }
+protocol P: Base { associatedtype A: Base }
+func f<T: P, U: Base>() where T: Base, T.A == U
+query f(T.A)
+query f(U : Base)
+query f(U : P)
+query f(T : AnyObject)
+query f(T.A == U)
+query f(U.A : Base)
+";
+
+/// U comes before its equal `T.A`, which has a member, and is no P, so `U.A` is no type.
+#[test]
+fn each_query_is_answered_with_a_line(rt: HostRuntime) -> Result<(), Fail> {
+    let mut out = Vec::new(rt.alloc());
+    put_printed(rt.alloc(), TEXT, Printed::Answers, &mut out)?;
+    let wanted = "τ_0_1\nyes\nno\nno\nyes\ninvalid\n";
+    assert_eq!(rt; out.as_slice(), wanted.as_bytes());
+    Ok(())
+}
+
+#[test]
+fn the_minimised_line_lacks_what_follows_from_the_rest(rt: HostRuntime) -> Result<(), Fail> {
+    let mut out = Vec::new(rt.alloc());
+    put_printed(rt.alloc(), TEXT, Printed::Minimised, &mut out)?;
+    let wanted = "<τ_0_0, τ_0_1 where τ_0_0 : P, τ_0_1 == τ_0_0.[P]A>\n";
+    assert_eq!(rt; out.as_slice(), wanted.as_bytes());
+    Ok(())
+}
+
+/// The rules of the text by their left sides, each to the least word of its class.
+const SYSTEM: &str = "\
+f: 11 rules
+  [Base].[Base] => [Base]
+  [P].[Base] => [P]
+  [P].[P] => [P]
+  [P].[P:A] => [P:A]
+  [P].A => [P:A]
+  [P:A].[Base] => [P:A]
+  τ_0_0.[Base] => τ_0_0
+  τ_0_0.[P] => τ_0_0
+  τ_0_0.[P:A] => τ_0_1
+  τ_0_0.A => τ_0_1
+  τ_0_1.[Base] => τ_0_1
+";
+
+#[test]
+fn a_reduced_system_has_its_name_its_number_and_its_rules(rt: HostRuntime) -> Result<(), Fail> {
+    let mut out = Vec::new(rt.alloc());
+    put_printed(rt.alloc(), TEXT, Printed::System, &mut out)?;
+    assert_eq!(rt; out.as_slice(), SYSTEM.as_bytes());
+    Ok(())
+}
+
+/// A struct stands before its functions.
+#[test]
+fn the_function_of_a_struct_is_named_behind_it(rt: HostRuntime) -> Result<(), Fail> {
+    let mut out = Vec::new(rt.alloc());
+    put_names(
+        rt.alloc(),
+        "func f() struct S<T> { func f<U>() func g() }",
+        &mut out,
+    )?;
+    assert_eq!(rt; out.as_slice(), b"f\nS\nS.f\nS.g\n".as_slice());
+    Ok(())
+}
