@@ -53,7 +53,7 @@ module _ (m : Symbols) (f : TermFacts) (ps : List ParamId) (list : List TermRequ
   -- ---- a same-type requirement of a bound member
 
   module _ (reads : (t : Term) (x : Symbol) → Dec (CanRead m f L t x)) where
-    -- of the member symbols of a name that are read behind r, the least
+    -- of the member symbols of a name that are read after r, the least
     least_symbol : (r : Term) (a : NameId) (j : ℕ) → CanRead m f L r (MemberSymbol j) → name_of m j ≡ a
         → (k : ℕ) × CanRead m f L r (MemberSymbol k) × (name_of m k ≡ a) × ((i : ℕ) → i < k → CanRead m f L r (MemberSymbol i) → name_of m i ≡ a → ⊥)
     least_symbol r a j c e = elim (least_below (λ i. CanRead m f L r (MemberSymbol i) × (name_of m i ≡ a))

@@ -50,7 +50,7 @@ module _ (m : Symbols) (f : TermFacts) (s : Source) (fit : AreSymbolsOf m f) whe
 
   -- ---- the equations of a protocol
 
-  -- `[P]` is read behind a type that conforms to P, or opens a block
+  -- `[P]` is read after a type that conforms to P, or opens a block
   at_proto : (p : ProtoId) (u v : Word)
       → ((b : Source) (t : Term) → Derivable f b (IsValid t) → Derivable f b (Requires (Conforms t p)) → Changes m f s b (ProtoSymbol p.rank) t u (ProtoSymbol p.rank) t v)
       → (o : Place) → IsValidPlace o → (k : Cut m f s o (ProtoSymbol p.rank ∷ u)) → HasCut m f s o (ProtoSymbol p.rank ∷ v) (current k) (blocks k)
@@ -59,7 +59,7 @@ module _ (m : Symbols) (f : TermFacts) (s : Source) (fit : AreSymbolsOf m f) whe
   at_proto p u v changes o valid (opened n c r) = let (k, h, q) = changes (SelfOf p) self (generic refl) (self_conforms m f p fit) r in (opened n c k, done, (h, q))
   at_proto p u v changes o valid (alone n c r) = absurd (c refl)
 
-  -- what is valid from [τ_0_0 : P] is read behind a type that conforms to P, as an equal type
+  -- what is valid from [τ_0_0 : P] is read after a type that conforms to P, as an equal type
   module _ (p : ProtoId) (b : Source) (t : Term) (v : Derivable f b (IsValid t)) (c : Derivable f b (Requires (Conforms t p))) where
     steps_behind : (u : Term) → Derivable f (SelfOf p) (IsValid u) → AreStepsRead m f s b t u
     steps_behind u e = steps_read m f s b t u [] ((of_self m f b fit t p v c u e).1 [] tt)

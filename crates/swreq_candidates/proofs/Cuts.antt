@@ -1,4 +1,4 @@
--- A word is cut in one way, its blocks make the word, and words are congruent just where their blocks are.
+-- A word is cut in one way, its blocks make the word, and words are congruent if and only if their blocks are.
 use Rattle.std.proofs.Common.{◌≡◌, ◌↔◌, List, [], ◌∷◌, ◌++◌, refl, ap, ap₂, subst, subst₂}
 use Rattle.std.specs.List.{AllZip}
 use Rattle.swreq_param.specs.declared.ids.ParamId.{ParamId}

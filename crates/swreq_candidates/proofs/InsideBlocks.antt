@@ -1,4 +1,4 @@
--- What is cut inside a block, and how it changes where the words behind a type change.
+-- What is cut inside a block, and how it changes where the words after a type change.
 use Rattle.std.proofs.Common.{◌≡◌, List, [], ◌∷◌, refl, ap, subst, subst₂, sym, ◌∙◌, arith}
 use Rattle.std.specs.List.{AllZip}
 use Rattle.swreq_param.specs.Terms.{Term, member_count}
@@ -32,7 +32,7 @@ module _ (m : Symbols) (f : TermFacts) (s : Source) where
   abbrev pub HasCut : Place → Word → Word → List Word → Type 0
   HasCut o w u us = (k : Cut m f s o w) × C u (current k) × AllZip C us (blocks k)
 
-  -- behind an equal type the cut is the same
+  -- after an equal type the cut is the same
   pub behind_equal : (b : Source) (t u : Term) (w : Word) → Derivable f b (Requires (Equals t u)) → (k : Cut m f s (Inside b t) w) → HasCut (Inside b u) w (current k) (blocks k)
   behind_equal b t u [] e at_end = (at_end, done, tt)
   behind_equal b t u (x ∷ w) e (on c r) =
@@ -42,9 +42,9 @@ module _ (m : Symbols) (f : TermFacts) (s : Source) where
   behind_equal b t u (x ∷ w) e (opened n c r) = (opened (λ h. n (read_same m f b u t x (symm e) h).0) c r, done, (done, all_same (blocks r)))
   behind_equal b t u (x ∷ w) e (alone n c r) = (alone (λ h. n (read_same m f b u t x (symm e) h).0) c r, done, (done, all_same (blocks r)))
 
-  -- ---- the steps of a type parameter, read behind another
+  -- ---- the steps of a type parameter, read after another
 
-  -- each step of p is read behind t and the steps before it
+  -- each step of p is read after t and the steps before it
   pub AreStepsRead : Source → Term → Term → Type 0
   AreStepsRead b t (Generic g) = Unit {0}
   AreStepsRead b t (Member p x) = AreStepsRead b t p × CanRead m f b (unbound m t p) (symbol m x)
@@ -87,12 +87,12 @@ module _ (m : Symbols) (f : TermFacts) (s : Source) where
 
   -- ---- changes
 
-  -- Where the block is read as t up to v, behind the symbol x, v may be changed to w, behind y where it is read as u: the block stays congruent,
-  -- and so do those after it.
+  -- Where the block is read as t up to v, after the symbol x, v may be changed to w, after y where it is read as u: the block stays
+  -- congruent, and so do those after it.
   abbrev pub Changes : Source → Symbol → Term → Word → Symbol → Term → Word → Type 0
   Changes b x t v y u w = (k : Cut m f s (Inside b t) v) → (l : Cut m f s (Inside b u) w) × C (x ∷ current k) (y ∷ current l) × AllZip C (blocks k) (blocks l)
 
-  -- a change behind steps that are read
+  -- a change after steps that are read
   behind_steps : (b : Source) (x y : Symbol) (t u p q : Term) (v w : Word) → AreStepsRead b t p → AreStepsRead b u q
       → ((k : Cut m f s (Inside b (unbound m t p)) v) → (l : Cut m f s (Inside b (unbound m u q)) w)
       × C (x ∷ steps m p (current k)) (y ∷ steps m q (current l)) × AllZip C (blocks k) (blocks l))
@@ -106,7 +106,7 @@ module _ (m : Symbols) (f : TermFacts) (s : Source) where
   placed : (b : Source) (w : Word) {t u : Term} → t ≡ u → (k : Cut m f s (Inside b t) w) → (l : Cut m f s (Inside b u) w) × (current l ≡ current k) × (blocks l ≡ blocks k)
   placed b w e k = subst (λ z. (l : Cut m f s (Inside b z) w) × (current l ≡ current k) × (blocks l ≡ blocks k)) e (k, refl, refl)
 
-  -- a symbol z, behind which the type is read as before, goes or comes
+  -- a symbol z, after which the type is read as before, goes or comes
   module _ (b : Source) (x z : Symbol) (t p : Term) (w : Word) (h : AreStepsRead b t p) (stays : after m (unbound m t p) z ≡ unbound m t p)
       (c : CanRead m f b (unbound m t p) z) where
     pub vanishes : ((r : Word) → C (x ∷ steps m p (z ∷ r)) (x ∷ steps m p r)) → Changes b x t (steps m p (z ∷ w)) x t (steps m p w)

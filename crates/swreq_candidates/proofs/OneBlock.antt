@@ -60,7 +60,7 @@ module _ (m : Symbols) (f : TermFacts) (ps : List ParamId) (list : List TermRequ
   pub least_blocks : (u : Word) (k : Cut m f L Outside u) → IsLeast C u → All (IsLeast C) (blocks k)
   least_blocks u k l = parts_least u [] (blocks k) l (sym (whole_word m f L u k))
 
-  -- of a minimal word each part is least that others stand before
+  -- each part of a minimal word is least that stands after others
   later_least : (u before : Word) (bs : List Word) → EachFactor u (IsLeast C) → 0 < length before → u ≡ before ++ joined_words bs → All (IsLeast C) bs
   later_least u before [] h n e = All-nil (IsLeast C)
   later_least u before (b ∷ bs) h n e =

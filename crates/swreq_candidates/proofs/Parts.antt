@@ -39,7 +39,7 @@ pub read_on-push : (m : Symbols) (t : Term) (w : Word) (x : Symbol) → read_on 
 read_on-push m t [] x = refl
 read_on-push m t (y ∷ w) x = read_on-push m (after m t y) w x
 
--- the last symbol is read behind the others
+-- the last symbol is read after the others
 pub last_read : (m : Symbols) (f : TermFacts) (b : Source) (t : Term) (w : Word) (x : Symbol) → CanReadAll m f b t (w ++ (x ∷ []))
     → CanReadAll m f b t w × CanRead m f b (read_on m t w) x
 last_read m f b t [] x c = (tt, c.0)
@@ -49,7 +49,7 @@ module _ (m : Symbols) (f : TermFacts) (ps : List ParamId) (list : List TermRequ
   abbrev L : Source
   L = Written ps list
 
-  -- Behind x, the member symbols of w lead to the type t: each stands for the bound member with the first associated type of its name.
+  -- After x, the member symbols of w lead to the type t: each stands for the bound member with the first associated type of its name.
   unfoldable pub Leads : Term → Word → Term → Type 0
   Leads x [] t = x ≡ t
   Leads x (MemberSymbol k ∷ w) t = (d : AssocId) × CanRead m f L x (MemberSymbol k) × IsFirstFor f L x (name_of m k) d × Leads (Member x (Bound d)) w t
@@ -66,7 +66,7 @@ module _ (m : Symbols) (f : TermFacts) (ps : List ParamId) (list : List TermRequ
   same_end : (a b c d : Word) → a ++ b ≡ c ++ d → length b ≡ length d → b ≡ d
   same_end a b c d e n = let h = ap length e in (same_cut a b c d e (omega (arith, length-append a b, length-append c d))).1
 
-  -- The word begins with a word of some type, behind which the rest leads to z.
+  -- The word begins with a word of some type, after which the rest leads to z.
   abbrev pub HasTypeAt : Term → Word → Word → Type 0
   HasTypeAt z u rest = (x : Term) × BeginsAs m f L x rest u × Leads x rest z
 
@@ -122,7 +122,7 @@ module _ (m : Symbols) (f : TermFacts) (ps : List ParamId) (list : List TermRequ
   pub conformance : (n : ℕ) (t : Term) (p : ProtoId) → IsReduced f L t → Derivable f L (Requires (Conforms t p)) → member_count t < n → Shorter n (Requires (Conforms t p))
   conformance n t p r c h = shorter_conformance f ps list n t p r c h (valid_by_shorter f ps list n t r (omega arith))
 
-  -- where t equals x, what w is read as behind t equals z
+  -- where t equals x, what w is read as after t equals z
   pub reads_as : (n : ℕ) (x z t : Term) (w : Word) → Leads x w z → IsReduced f L z → member_count z ≤ n → Shorter n (Requires (Equals t x))
       → Shorter n (Requires (Equals (read_on m t w) z))
   unfolding Leads
@@ -138,7 +138,7 @@ module _ (m : Symbols) (f : TermFacts) (ps : List ParamId) (list : List TermRequ
   reads_as n x z t (ParamSymbol d i ∷ w) l r g h = absurd l
   reads_as n x z t (NameSymbol a ∷ w) l r g h = absurd l
 
-  -- Of the word of a reduced type z an end begins with a member symbol of P. Then some X conforms to P, and what the end is read as over
+  -- An end of the word of a reduced type z begins with a member symbol of P. Then some X conforms to P, and what the end is read as over
   -- `[τ_0_0 : P]`, with X for `Self`, is z.
   HasBase : Term → ℕ → Word → Type 0
   HasBase z k w = (x : Term) × Shorter (member_count z) (Requires (Conforms x (proto_of m k)))

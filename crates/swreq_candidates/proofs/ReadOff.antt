@@ -146,7 +146,7 @@ one_name m (ParamSymbol d j) a b h i = absurd h
 one_name m LayoutSymbol a b h i = absurd h
 
 module _ (m : Symbols) (f : TermFacts) (s : Source) where
-  -- one symbol behind a word of a type is more than one symbol
+  -- one symbol after a word of a type is more than one symbol
   not_single : (t : Term) (u : Word) (x y : Symbol) → IsTypeOf m f s u t → u ++ (x ∷ []) ≡ y ∷ [] → ⊥
   not_single t u x y h e = let n = ap length e in let k = typed_length m f s t [] u h in omega (arith, length-append u (x ∷ []))
 

@@ -1,4 +1,4 @@
--- A chain from a word that is read over `[τ_0_0 : P]` uses no equation of the list, and what is read over it is read behind a type that
+-- A chain from a word that is read over `[τ_0_0 : P]` uses no equation of the list, and what is read over it is read after a type that
 -- conforms to P.
 use Rattle.std.proofs.Common.{[], ◌∷◌, ◌++◌, List}
 use Rattle.swreq_param.specs.declared.ids.NameId.{NameId}

@@ -90,8 +90,8 @@ module _ (m : Symbols) (f : TermFacts) (ps : List ParamId) (list : List TermRequ
     reduced_type : HasReducedTypes f L
     reduced_type = reduce m f ps list text least firsts
 
-    -- Let r be a reduced type and u its least word, k the least member symbol of some name that is read behind r, v the bound member of r with
-    -- the first associated type of that name, and z the reduced type of v.
+    -- Let r be a reduced type and u its least word, k the least member symbol of some name that is read after r, v the bound member of r
+    -- with the first associated type of that name, and z the reduced type of v.
     module _ (r z : Term) (d : AssocId) (k : ℕ) (i : IsFirstFor f L r (name_of m k) d) (c : CanRead m f L r (MemberSymbol k)) (b : IsReduced f L r)
         (q : IsReducedTypeOf f L (Member r (Bound d)) z)
         (none : (j : ℕ) → j < k → CanRead m f L r (MemberSymbol j) → name_of m j ≡ name_of m k → ⊥)
@@ -143,7 +143,7 @@ module _ (m : Symbols) (f : TermFacts) (ps : List ParamId) (list : List TermRequ
           = by_two f ps IsEarlierType cw (earlier g) (λ rs x y. trans (same_name x y ie.declares) (symm (assoc_bind x ie.declares))) in
           by_two f ps IsEarlierType first (subst (λ x. Earlier (Requires (Equals (Member w (Bound e)) x))) same_z last) (λ rs x y. trans x y)
 
-      -- What a word is read as, behind a part of u, that is less than the rest of u, reduces to a type before r.
+      -- Where a word is less than the rest of u, what it is read as, after the part of u before that, reduces to a type before r.
       less_word : (x : Term) (e s : Word) → BeginsAs m f L x e u → length s ≡ length e → SymbolsLess s e → CanReadAll m f L x s
           → (w : Term) → IsReducedTypeOf f L (read_on m x s) w → TermBefore w r
       unfolding Stands
@@ -162,7 +162,7 @@ module _ (m : Symbols) (f : TermFacts) (ps : List ParamId) (list : List TermRequ
                 (less_trans (pre ++ s) u y l (type_order m f ps list text.symbols text.of_text text.in_text text.ranked r w u y hu hy lu ly j))))
           ]
 
-      -- a lesser member symbol that is read behind r has an earlier name
+      -- a lesser member symbol that is read after r has an earlier name
       less_symbol : (t : Term) (j : ℕ) → j < k → CanRead m f L t (MemberSymbol j) → Derivable f L (Requires (Equals t r))
           → (w : Term) (e : AssocId) → IsReducedTypeOf f L t w → IsFirstFor f L w (name_of m j) e → TermBefore (Member w (Bound e)) v
       less_symbol t j l cj s w e o ie =
@@ -176,7 +176,7 @@ module _ (m : Symbols) (f : TermFacts) (ps : List ParamId) (list : List TermRequ
           let before : e.rank < d.rank = omega arith in
           subst (λ y. TermBefore (Member y (Bound e)) v) (sym wr) (inr (refl, inr (refl, before)))
 
-      -- the last symbol of a word, behind what reduces to a type before r, and behind what equals r
+      -- the last symbol of a word, after what reduces to a type before r, and after what equals r
       behind_earlier : (t : Term) (x : Symbol) → Derivable f L (IsValid t) → member_count t < size → CanRead m f L t x → Derivable f L (Requires (Equals v (after m t x)))
           → ((w : Term) → IsReducedTypeOf f L t w → TermBefore w r) → Earlier (Requires (Equals (after m t x) z))
       behind_earlier t (ProtoSymbol p) o l h s claim = shorter_case t o l s
@@ -193,7 +193,7 @@ module _ (m : Symbols) (f : TermFacts) (ps : List ParamId) (list : List TermRequ
       behind_equal t (NameSymbol a) o l h s e y = cc
       behind_equal t (MemberSymbol j) o l h s e y = name_case t (name_of m j) o h.2 l s (less_symbol t j (nat_less j k y) h e)
 
-      -- what a word is read as, behind x, that is less than the rest of u and then k
+      -- what a word is read as, after x, where it is less than the rest of u and then k
       less_case : (x : Term) (e s : Word) (y : Symbol) → BeginsAs m f L x e u → Leads m f ps list x e r → Derivable f L (IsValid x)
           → CanReadAll m f L x (s ++ (y ∷ [])) → WordLess (s ++ (y ∷ [])) (e ++ (MemberSymbol k ∷ []))
           → Derivable f L (Requires (Equals v (read_on m x (s ++ (y ∷ []))))) → Derivable f L (Requires (Equals (read_on m x e) r))
@@ -225,7 +225,7 @@ module _ (m : Symbols) (f : TermFacts) (ps : List ParamId) (list : List TermRequ
               ])
 
       module _ (named : AreMembersNamed m f) (cuts : (w : Word) → IsWordOfText m w → Cut m f L Outside w) where
-        -- The end e of u and then k are minimal, and begin with a member symbol j that is read behind x.
+        -- The end e of u and then k are minimal, and begin with a member symbol j that is read after x.
         end_follows : (x : Term) (e : Word) (j : ℕ) (w : Word) → BeginsAs m f L x e u → Leads m f ps list x e r → e ++ (MemberSymbol k ∷ []) ≡ MemberSymbol j ∷ w
             → CanRead m f L x (MemberSymbol j) → IsReduced f L x → IsMinimal C (e ++ (MemberSymbol k ∷ [])) → Earlier (Requires (Equals z v))
         end_follows x e j w hx lead eq cj bx minimal =

@@ -142,7 +142,7 @@ module _ (m : Symbols) (f : TermFacts) (ps : List ParamId) (list : List TermRequ
       abbrev pub IsSettled : TermRequirement → Type 0
       IsSettled r = IsCandidate m f L r ⊎ Follows f ps (IsOfEarlierType f ps list (principal r)) (Requires r)
 
-      -- An end of the word begins with a member symbol of P and is read, with x behind it, over `[τ_0_0 : P]`.
+      -- An end of the word begins with a member symbol of P and is read, with x after it, over `[τ_0_0 : P]`.
       abbrev HasMemberEnd : Symbol → Word → Type 0
       HasMemberEnd x u = (before w : Word) × (k : ℕ) × (u ≡ before ++ (MemberSymbol k ∷ w)) × (0 < length before)
           × CanReadAll m f (SelfOf (proto_of m k)) self ((MemberSymbol k ∷ w) ++ (x ∷ []))
@@ -163,7 +163,7 @@ module _ (m : Symbols) (f : TermFacts) (ps : List ParamId) (list : List TermRequ
           at_symbol (NameSymbol k) i l (t, g, d) = absurd d
           at_symbol LayoutSymbol i l (t, g, d) = absurd d
 
-      -- where a symbol behind the least word of a type vanishes
+      -- where a symbol after the least word of a type vanishes
       vanishes : (x : Symbol) (r : Term) (u : Word) → IsSymbolOfText m x → IsLeast C (x ∷ []) → IsTypeOf m f L u r → IsLeast C u → C (u ++ (x ∷ [])) u
           → IsMinimal C (u ++ (x ∷ [])) ⊎ HasMemberEnd x u
       vanishes x r u o s h l c = elim (minimal_end (UsableEquation m f L) (leasts least firsts) x u l) [

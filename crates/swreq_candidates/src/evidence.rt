@@ -13,7 +13,7 @@ ghost use Rattle.swreq_correspondence.specs.Equations.{Linking};
 ghost use Rattle.swreq_canonical.specs.Generators.{IsGeneratorList, AreGeneratorsTold};
 ghost use Rattle.swreq_candidates.specs.Evidence.{IsPlain, RestEquation, HasEvidence, AreRulesOfRest};
 
-/// Where every type of the rest is plain in it, evidence for a requirement whose type parameters are valid from the rest is leave to drop
+/// Where every type of the rest is plain in it, evidence for a requirement whose type parameters are valid from the rest allows one to drop
 /// it. So it is for a generator where all generators before it are in the rest, as they are where one goes from the last to the first.
 pub fn evidence_is_enough()
     ensures derives { (m : Symbols) (f : TermFacts) (params : List ParamId) (rest : List TermRequirement) (r : TermRequirement)

@@ -23,8 +23,8 @@ ghost use Rattle.swreq_candidates.specs.Blocks.Place.{Outside};
 ghost use Rattle.swreq_candidates.specs.Candidates.{IsCandidate, IsCandidateList, IsReadOff};
 ghost use Rattle.swreq_candidates.specs.Completed.{HasLeastWords, IsCompleted, IsWordOfText};
 
-/// A word is cut into blocks in one way, and its blocks make the word. Two words are congruent exactly where they have as many blocks,
-/// which are congruent one by one. So a word is least exactly where its blocks are, and a minimal word is one block.
+/// A word is cut into blocks in one way, and its blocks make the word. Two words are congruent if and only if they have the same number of
+/// blocks, which are congruent one by one. So a word is least if and only if its blocks are, and a minimal word is one block.
 pub fn congruence_goes_by_blocks()
     ensures one { (m : Symbols) (f : TermFacts) (s : Source) (u : Word) (k l : Cut m f s Outside u) → blocks k ≡ blocks l }
     ensures whole { (m : Symbols) (f : TermFacts) (s : Source) (u : Word) (k : Cut m f s Outside u) → joined_words (blocks k) ≡ u }
@@ -117,8 +117,8 @@ pub fn generators_are_taken_from_candidates()
         → (minimised : List TermRequirement) × IsMinimised f params list minimised }
 {}
 
-/// Where the completions have ended and one has gone through the list of candidates, the minimised list derives just what the list derives.
-/// Two such lists are equivalent exactly where they have one minimised list.
+/// Where the completions have ended and one has gone through the list of candidates, the minimised list derives exactly what the list
+/// derives. Two such lists are equivalent if and only if they have one minimised list.
 pub fn minimised_lists_stand_for_lists()
     ensures same { (m : Symbols) (f : TermFacts) (params : List ParamId) (list candidates taken minimised : List TermRequirement)
         → IsCompleted m f params list → IsCandidateList m f (Written params list) candidates → Takes f params [] candidates taken

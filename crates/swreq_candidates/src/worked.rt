@@ -16,7 +16,7 @@ ghost use Rattle.swreq_candidates.specs.Evidence.{IsPlain, HasEvidence};
 ghost use Rattle.swreq_candidates.specs.Worked.{read_word, broken_word, layouts_symbols, inherited_symbols, implied, implied_symbols, implied_rest};
 
 /// `protocol N { associatedtype Next: N }` and `func f<T: N>()`: a word that is read is one block. Where a name is not read, it stands
-/// alone, and a protocol behind it begins a block of its own. The conformance of T is a candidate.
+/// alone, and a protocol after it begins a block of its own. The conformance of T is a candidate.
 pub fn members_without_end()
     ensures named { AreMembersNamed endless_symbols endless }
     ensures one { (k : Cut endless_symbols endless (of_one endless_f) Outside read_word) × (blocks k ≡ read_word ∷ []) }

@@ -29,7 +29,7 @@ pub record IsGeneratorList (f : TermFacts) (params : List ParamId) (list generat
   pub sorted : IsStrictlySorted generators
   pub members : (r : TermRequirement) → Contains generators r ↔ IsGenerator f params list r
 
--- Of each canonical requirement it is told whether it is a generator.
+-- It is told of each canonical requirement whether it is a generator.
 abbrev pub AreGeneratorsTold : TermFacts → List ParamId → List TermRequirement → Type 0
 AreGeneratorsTold f params list =
     (r : TermRequirement) → IsCanonical f (Written params list) r → IsGenerator f params list r ⊎ FollowsFromEarlier f params list r
@@ -53,7 +53,7 @@ pub data Takes (f : TermFacts) (params : List ParamId) : List TermRequirement �
       → (Derivable f (Written params before) (Requires r) → ⊥) → Takes f params (before ++ r ∷ []) rest out
       → Takes f params before (r ∷ rest) out
 
--- Of each list of some of these it is told what it derives. The ended completions of such lists tell it.
+-- It is told of each list of some of these what it derives. The ended completions of such lists tell it.
 abbrev pub AreDecided : TermFacts → List ParamId → List TermRequirement → Type 0
 AreDecided f params candidates =
     (rs : List TermRequirement) (r : TermRequirement) → ((q : TermRequirement) → Contains rs q → Contains candidates q)

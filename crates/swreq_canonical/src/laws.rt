@@ -38,7 +38,7 @@ pub fn canonical_requirements_suffice()
         → (st : TermStatement) → Derivable f (Written params list) st → Follows f params (IsCanonical f (Written params list)) st }
 {}
 
-/// A list has at most one list of generators. Where it is told which canonical requirements are generators, these derive just what the
+/// A list has at most one list of generators. Where it is told which canonical requirements are generators, these derive exactly what the
 /// list derives.
 pub fn generators_suffice()
     ensures one { (f : TermFacts) (params : List ParamId) (list generators others : List TermRequirement)

@@ -23,7 +23,7 @@ pub fn conformance_by_inheritance()
 {}
 
 /// `protocol P: AnyObject { }` and `func f<T: P, U>() where U == T`: a conformance of U and the equality with the greater side on its left
-/// are not canonical. The layout is, but it is no generator, since it follows from the conformance. The conformance and the equality are
+/// are not canonical. The layout is, but it is not a generator, since it follows from the conformance. The conformance and the equality are
 /// the generators, and both are left.
 pub fn equal_parameters()
     ensures canonical { (r : TermRequirement) → Contains layouts_canonical r → IsCanonical layouts (of_two layouts_f) r }
@@ -38,7 +38,7 @@ pub fn equal_parameters()
 {}
 
 /// `protocol P { associatedtype A }`, `protocol Q { associatedtype A }` and `func f<T: P & Q>()`: the equality of the two bound members is
-/// canonical, but it is no generator, since it follows from the conformances. That of a bound and an unbound member is not canonical.
+/// canonical, but it is not a generator, since it follows from the conformances. That of a bound and an unbound member is not canonical.
 pub fn one_name_in_two_protocols()
     ensures bounds { IsCanonical shared (of_one shared_f) (Equals (bound τ_0_0 A_of_P) (bound τ_0_0 A_of_Q)) }
     ensures unbound { IsCanonical shared (of_one shared_f) (Equals (bound τ_0_0 A_of_P) (τ_0_0 · A)) → ⊥ }

@@ -37,7 +37,7 @@ impl Row {
         Ok(Row { places })
     }
 
-    /// Its places.
+    /// The places that the chains lead to.
     pub fn places(&self) -> &Bits
         ensures { result.now ≡ self.now }
     {

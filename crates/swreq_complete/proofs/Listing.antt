@@ -61,7 +61,7 @@ up_to_closed greater (Given a) k b h = tt
 up_to_closed greater (Pair i j at) (Given c) b h = cc b
 up_to_closed greater (Pair i j at) (Pair u v w) b h = let z = no_greater_than i j at u v w b in omega (arith, z, h)
 
--- want of memory before a pair with this greater number is settled
+-- memory ran out before a pair with this greater number is settled
 pub stops_here : (limits : Limits) (base : ℕ) (given : List (List Symbol × List Symbol)) (rules : List Rule) (greater : ℕ) (told : Option (List Event))
     → Progress base given rules (UpTo greater) → KeepsAll limits base rules → (s : Stop) → s ≡ Memory
     → HasStopped limits base given rules rules told told s

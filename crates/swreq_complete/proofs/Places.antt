@@ -45,7 +45,7 @@ none_read rules w counts read before rest e l =
     let c = there_is counts (length before) l in
     subst (NoneBegins rules) (cut_rest w before rest e) (read.tell (length before) c.0 c.1 w refl)
 
--- the first counts, so many, which are within the place
+-- the counts up to `kept`, which are within the place
 pub kept_counts : (old new : List ℕ) (kept at : ℕ) → new ≡ take kept old → ((k n : ℕ) → k < kept → slice_get old k ≡ Some n → n ≤ at)
     → (k n : ℕ) → slice_get new k ≡ Some n → (slice_get old k ≡ Some n) × (n ≤ at)
 kept_counts old new kept at e within k n g =

@@ -1,4 +1,4 @@
--- What equations bear by themselves: one answer, as far as their completion comes before its first pair.
+-- What equations bear by themselves: one answer, which their completion reaches before its first pair.
 use Rattle.std.proofs.Common.{◌≡◌, ℕ, ◌-◌, ◌<◌, ◌^◌, ◌⊎◌, inl, inr, refl, sym, ◌∙◌, ap, subst, arith, List, length, take, Option, Ok, Err}
 use Rattle.std.proofs.lemmas.Option.{slice_get_within}
 use Rattle.swreq_word.specs.declared.symbols.Symbol.{Symbol}

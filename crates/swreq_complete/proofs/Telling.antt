@@ -146,7 +146,7 @@ pub goes_later : (limits : Limits) (base : ℕ) (given : List (List Symbol × Li
 goes_later limits base given Visited a b c told told' told'' g d = record
     { progress = d.progress; kept = d.kept; grown = grown_on a b c told told' told'' g d.grown }
 
--- what stopped for want of memory before it did anything
+-- what ran out of memory before it did anything
 pub stops_before : (limits : Limits) (Done : List Rule → Type 0) (old new : List Rule) (told : Option (List Event)) (s : Stop) → s ≡ Memory
     → StoppedAt limits Done old new told told s
 stops_before limits Done old new told (Limit which) e = cc
@@ -170,7 +170,7 @@ does_none limits Done old told d = record {
   grown = grown_none old told;
 }
 
--- rules that keep the limits are so many at most
+-- rules that keep the limits are at most this many
 pub kept_length : (limits : Limits) (base : ℕ) (t : List Rule) → KeepsAll limits base t → length t ≤ max base limits.max_rules
 kept_length limits base t kept = elim (cases_lt base (length t)) [
   | inl l ↦ (let y = there_is t (length t - 1) (omega (arith, l)) in let k = (kept (length t - 1) y.0 (omega (arith, l)) y.1).0 in omega (arith, k, l))

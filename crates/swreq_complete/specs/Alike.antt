@@ -4,6 +4,6 @@ use Rattle.swreq_word.specs.declared.symbols.Symbol.{Symbol}
 use Rattle.swreq_rule.specs.declared.rules.Rule.{Rule}
 use Rattle.swreq_rule.specs.Reduction.{Reduces}
 
--- Reduction by the rules leads from both words to one. By complete rules these are just the words that steps link.
+-- Reduction by the rules leads from both words to one. By complete rules these are exactly the words that steps link.
 abbrev pub ReduceAlike : List Rule → List Symbol → List Symbol → Type 0
 ReduceAlike rules u v = (w : List Symbol) × Reduces rules u w × Reduces rules v w

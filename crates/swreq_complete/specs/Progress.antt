@@ -37,7 +37,7 @@ pub record Progress (base : ℕ) (given : List (List Symbol × List Symbol)) (tr
       → Settled base trace m left right
   pub known : (m : Birth) → Visited m → greater_number m ≤ length trace
 
--- the first equations, so many
+-- the first n equations
 abbrev pub GivenBelow : ℕ → Birth → Type 0
 GivenBelow count (Given n) = (0 < n) × (n ≤ count)
 GivenBelow count (Pair i j at) = ⊥
@@ -47,7 +47,7 @@ abbrev pub UpTo : ℕ → Birth → Type 0
 UpTo greater (Given n) = Unit {0}
 UpTo greater (Pair i j at) = max i j < greater
 
--- those, and the pairs at the first of the places, so many
+-- those, and the pairs at the first n of the places
 abbrev pub Listed : ℕ → List Place → ℕ → Birth → Type 0
 Listed greater places count (Given n) = Unit {0}
 Listed greater places count (Pair i j at) =

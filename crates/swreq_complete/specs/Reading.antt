@@ -4,7 +4,7 @@ use Rattle.swreq_word.specs.declared.symbols.Symbol.{Symbol}
 use Rattle.swreq_rule.specs.declared.rules.Rule.{Rule}
 use Rattle.swreq_rule.specs.Reduction.{NoneBegins}
 
--- The first symbols of the word, so many, tell that no left side begins at the place: none does in any word with these.
+-- The first n symbols of the word tell that no left side begins at the place: none does in any word that begins with them.
 abbrev pub TellNone : List Rule → List Symbol → ℕ → ℕ → Type 0
 TellNone rules w at count = (v : List Symbol) → take count v ≡ take count w → NoneBegins rules (drop at v)
 
@@ -12,7 +12,7 @@ TellNone rules w at count = (v : List Symbol) → take count v ≡ take count w 
 abbrev pub AreRising : List ℕ → Type 0
 AreRising counts = (a b m n : ℕ) → a ≤ b → slice_get counts a ≡ Some m → slice_get counts b ≡ Some n → m ≤ n
 
--- Of the places of the word from its begin on, one for each of these counts, so many first symbols tell that no left side begins there.
+-- The counts are for the places of the word from its start on: at each place this many first symbols tell that no left side begins there.
 pub record AreRead (rules : List Rule) (w : List Symbol) (counts : List ℕ) : Type 0 where
   pub tell : (at count : ℕ) → slice_get counts at ≡ Some count → TellNone rules w at count
   pub rising : AreRising counts

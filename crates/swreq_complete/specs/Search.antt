@@ -24,7 +24,7 @@ key_cmp a b = ordering_then (word_cmp a.0.now b.0.now) (nat_cmp a.1 b.1)
 abbrev pub IsKey : List Rule → Key → Type 0
 IsKey rules key = (rule : Rule) × (slice_get rules key.1 ≡ Some rule) × (rule.left ≡ key.0.now) × EachFactor rule.left (IsIrreducible (Step rules))
 
--- all such of the first rules, so many, and no others
+-- all such of the first `count` rules, and no others
 pub record AreKeysBelow (rules : List Rule) (count : ℕ) (keys : List Key) : Type 0 where
   pub each : (n : ℕ) (key : Key) → slice_get keys n ≡ Some key → IsKey rules key
   pub all : (j : ℕ) (rule : Rule) → j < count → slice_get rules j ≡ Some rule → EachFactor rule.left (IsIrreducible (Step rules))
@@ -42,7 +42,7 @@ IsReducedAt rules j r = (rule : Rule) × (slice_get rules j ≡ Some rule) × (r
 abbrev pub IsReducedRule : List Rule → Rule → Type 0
 IsReducedRule rules r = (j : ℕ) × IsReducedAt rules j r
 
--- such rules, sorted, one for each left side of the first keys, so many, the last of which is not below that of a rule
+-- such rules, sorted, one for each left side of the first `count` keys, the last of which is not below that of a rule
 pub record FoundBelow (rules : List Rule) (keys : List Key) (count : ℕ) (found : List Rule) : Type 0 where
   pub each : (n : ℕ) (r : Rule) → slice_get found n ≡ Some r → IsReducedRule rules r
   pub all : (n : ℕ) (key : Key) → n < count → slice_get keys n ≡ Some key → (k : ℕ) × (r : Rule) × (slice_get found k ≡ Some r) × (r.left ≡ key.0.now)

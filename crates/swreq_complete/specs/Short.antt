@@ -43,7 +43,7 @@ IsBorneBy limits base given (Ok trace) = BeginsWith base trace × BearsWithin li
 IsBorneBy limits base given (Err (Limit which trace)) = BeginsWith base trace × PassesAmong limits (length base) given trace which
 IsBorneBy limits base given (Err Memory) = Unit {0}
 
--- but for want of memory there is no other answer
+-- unless memory runs out, there is no other answer
 abbrev pub IsOnlyBorne : Limits → List Rule → List (List Symbol × List Symbol) → Result (List Rule) Failed → Type 0
 IsOnlyBorne limits base given answer =
     (other : Result (List Rule) Failed) → IsBorneBy limits base given other → (answer ≡ other) ⊎ (IsMemory answer ⊎ IsMemory other)

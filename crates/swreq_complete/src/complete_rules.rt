@@ -161,8 +161,8 @@ fn passed_limit(alloc: Global, which: Which, list: Indexed<'_>) -> Failed
 /// places, also those of rules that are born on the way. To settle one, both sides are reduced by all rules so far, and where they
 /// differ a rule is born, with the greater side on its left.
 ///
-/// The answer is the ended trace. It is `Failed::Limit` exactly where a rule born passes a limit, with that rule as the last of the
-/// trace, and `Failed::Memory` for want of memory. The watcher is told the start and each rule born, the last one of a limit too.
+/// The answer is the ended trace. It is `Failed::Limit` if and only if a rule born passes a limit, with that rule as the last of the
+/// trace, and `Failed::Memory` if memory runs out. The watcher is told the start and each rule born, the last one of a limit too.
 pub fn extend<'b, W: Watch>(
     alloc: Global,
     base: CompleteRules<'b>,
@@ -196,8 +196,8 @@ pub fn extend<'b, W: Watch>(
 /// The equations are settled in order, as a completion does, and no pair is. So the rules are sound, but words that they link may reduce
 /// to two. A completion that passes a limit only by its pairs has these rules first.
 ///
-/// It is `Failed::Limit` exactly where a rule of an equation passes a limit, with that rule as the last of the trace, and
-/// `Failed::Memory` for want of memory.
+/// It is `Failed::Limit` if and only if a rule of an equation passes a limit, with that rule as the last of the trace, and
+/// `Failed::Memory` if memory runs out.
 pub fn bear<'b>(
     alloc: Global,
     base: CompleteRules<'b>,

@@ -20,7 +20,7 @@ use swreq_rule::{Redex, Rule, RuleList, take_step_of};
 use swreq_trie::{Found, Trie};
 use swreq_word::Symbol;
 
-/// Rules that stand after so many others, and the trie in which exactly their left sides are stored, each with the number of its rule.
+/// Rules that stand after `before` others, and the trie in which exactly their left sides are stored, each with the number of its rule.
 #[derive(Drop)]
 pub(crate) struct Part {
     before: usize,
@@ -53,7 +53,7 @@ fn copied(alloc: Global, rules: &[Rule]) -> Result<RuleList, AllocError>
 }
 
 impl Part {
-    /// No rules, after so many others. It takes no memory.
+    /// No rules, after this many others. It takes no memory.
     pub fn new(alloc: Global, before: usize) -> Part
         ensures { result ≡ record { before = before; rules = [] } }
     {
@@ -98,7 +98,7 @@ impl Part {
         &self.trie
     }
 
-    /// Puts the rule last. For want of memory all is as before.
+    /// Puts the rule last. If memory runs out, all is as before.
     pub fn push(&mut self, rule: Rule) -> Result<(), AllocError>
         requires { self.old.before + length self.old.rules < 2 ^ 32 - 1 }
         ensures ok { OnOk result (self.new ≡ record { before = self.old.before; rules = self.old.rules ++ rule ∷ [] }) }
@@ -140,7 +140,7 @@ impl<'b> Model for Indexed<'b> {
     ghost invariant = { λ x. StandsAfter x.below x.own };
 }
 
-// Of two rules by their numbers the one with the shorter left side, of two with left sides as long the first.
+// The number of that of two rules, given by their numbers, whose left side is shorter, or of the first where both are as long.
 fn shorter(rules: &Indexed<'_>, first: u32, second: u32) -> u32
     requires first { IsNumberOf rules.now first }
     requires second { IsNumberOf rules.now second }
@@ -297,7 +297,7 @@ impl<'b> Indexed<'b> {
         Ok(copies)
     }
 
-    /// Puts the rule last. For want of memory all is as before.
+    /// Puts the rule last. If memory runs out, all is as before.
     pub fn push(&mut self, rule: Rule) -> Result<(), AllocError>
         requires { length self.old < 2 ^ 32 - 1 }
         ensures ok { OnOk result (self.new ≡ self.old ++ rule ∷ []) }

@@ -16,7 +16,7 @@ use swreq_text::Seq;
 use swreq_word::{Symbol, Word};
 
 // The path of the reduction of the word. Each step has a copy of what stands on both sides of it, so the search for the next redex may
-// begin with the word anew.
+// start at the first symbol again.
 fn reduction_path(alloc: Global, rules: &Indexed<'_>, w: &[Symbol]) -> Result<Path, AllocError>
     requires few { length rules.now < 2 ^ 32 - 1 }
     ensures { IfOk result (λ path. (v : List Symbol) × IsReductionPath rules.now path w.now v) }

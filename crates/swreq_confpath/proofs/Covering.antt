@@ -77,7 +77,7 @@ module _ (f : TermFacts) (params : List ParamId) (written : List TermRequirement
     pub not_after : IsNotAfter (from.numbers ++ (by ∷ ns)) numbers
 
   module _ (sought : TermPlace) (tried : List TermSpot) (next : ℕ) (h : AreTried f params written sought tried next) where
-    -- from a dead end no numbers lead to the place that is sought, nor from one alike it
+    -- no numbers lead from a dead end to the place that is sought, nor from a place like it
     none_from_dead : (c b : TermPlace) (ms : List ℕ) (d : TermPlace) → IsDeadEnd f params written sought c → AreAlike f s c b → AreAlike f s b b
         → LeadTo f written b ms d → AreAlike f s d sought → ⊥
     none_from_dead c b ms d dead alike own k like =

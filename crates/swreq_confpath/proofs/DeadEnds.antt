@@ -49,7 +49,7 @@ module _ (s : Sought) where
   abbrev rules : List Rule
   rules = last_rules s.machine.now.rounds
 
-  -- The place is a conformance, and the rules link the word of its subject to this one with more behind it.
+  -- The place is a conformance, and the rules link the word of its subject to this one with more after it.
   record IsBehind (w : Word) (e : TermPlace) : Type 0 where
     pub subject : Term
     pub proto : ProtoId
@@ -57,7 +57,7 @@ module _ (s : Sought) where
     pub is : e ≡ Conformance subject proto
     pub links : Links rules (word_of m S subject) (w ++ tail)
 
-  -- where numbers lead on to is behind the word of the place from which they do
+  -- where numbers lead on to is after the word of the place from which they do
   behind : (ns : List ℕ) (u : Term) (q : ProtoId) (w : Word) (e : TermPlace) → Links rules (word_of m S u) w → LeadTo F L (Conformance u q) ns e → IsBehind w e
   behind [] u q w e l h = record {
     subject = u;
@@ -80,7 +80,7 @@ module _ (s : Sought) where
       }
 
   module _ (known : IsKnown s) where
-    -- what is alike the place that is sought has a word that the rules link to its word
+    -- what is like the place that is sought has a word that the rules link to its word
     links_sought : (t : Term) (p : ProtoId) → AreAlike F S (Conformance t p) (sought_in s)
         → Links rules (word_of m S t) (word_of m S (term_at s.table.now s.subject))
     links_sought t p like =

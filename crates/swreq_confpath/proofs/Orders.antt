@@ -1,4 +1,4 @@
--- The order of lists of numbers: fewer first, and of as many from the left.
+-- The order of lists of numbers: fewer first, and lists of the same length from the left.
 use Rattle.std.proofs.Common.{◌≡◌, ℕ, ◌+◌, ◌<◌, ◌≤◌, inl, inr, List, [], ◌∷◌, ◌++◌, length, refl, sym, ap, subst, ◌∙◌, arith, length-append}
 use Rattle.swreq_derive.specs.Paths.{NumbersBefore}
 use Rattle.swreq_confpath.specs.Routes.{ComesBefore, IsNotAfter}
@@ -19,7 +19,7 @@ not_left_of_itself [] h = h
 not_left_of_itself (x ∷ xs) (inl h) = omega arith
 not_left_of_itself (x ∷ xs) (inr h) = not_left_of_itself xs h.1
 
--- what stands behind changes nothing
+-- what stands after both changes nothing
 left_with : (xs ys us vs : List ℕ) → NumbersBefore xs ys → NumbersBefore (xs ++ us) (ys ++ vs)
 left_with [] ys us vs h = absurd h
 left_with (x ∷ xs) [] us vs h = absurd h
@@ -49,7 +49,7 @@ same_behind xs us vs e = length-append xs us ∙ ap (λ n. length xs + n) e ∙ 
 more_behind : (xs us vs : List ℕ) → length us < length vs → length (xs ++ us) < length (xs ++ vs)
 more_behind xs us vs h = let e = length-append xs us in let k = length-append xs vs in omega arith
 
--- with the same numbers behind
+-- where the same numbers follow both
 pub before_with : (xs ys ns : List ℕ) → ComesBefore xs ys → ComesBefore (xs ++ ns) (ys ++ ns)
 before_with xs ys ns (inl h) = let e = length-append xs ns in let k = length-append ys ns in inl (omega arith)
 before_with xs ys ns (inr h) =
@@ -62,7 +62,7 @@ pub not_after_with : (xs ys ns : List ℕ) → IsNotAfter xs ys → IsNotAfter (
 not_after_with xs ys ns (inl e) = inl (ap (λ z. z ++ ns) e)
 not_after_with xs ys ns (inr h) = inr (before_with xs ys ns h)
 
--- with one number behind the earlier, and some behind the later
+-- where one number follows the earlier, and some follow the later
 pub before_longer : (xs ys ns : List ℕ) (m n : ℕ) → ComesBefore xs ys → ComesBefore (xs ++ m ∷ []) (ys ++ n ∷ ns)
 before_longer xs ys ns m n (inl h) = let e = length-append xs (m ∷ []) in let k = length-append ys (n ∷ ns) in inl (omega arith)
 before_longer xs ys [] m n (inr h) =
@@ -76,7 +76,7 @@ before_longer xs ys (j ∷ ns) m n (inr h) =
     let i = h.0 in
     inl (omega arith)
 
--- the same numbers, with a lesser one behind, or with only one
+-- the same numbers, followed by a lesser one, or by only one
 pub before_by_last : (xs : List ℕ) (m n : ℕ) → m < n → ComesBefore (xs ++ m ∷ []) (xs ++ n ∷ [])
 before_by_last xs m n h = inr (same_behind xs (m ∷ []) (n ∷ []) refl, left_behind xs (m ∷ []) (n ∷ []) (inl h))
 

@@ -73,7 +73,7 @@ within s spots next from count h =
     let e = spots_length s h.tried spots h.stand in
     omega arith
 
--- a requirement of the code that is no conformance
+-- a requirement of the code that is not a conformance
 no_conforms : (terms : List Term) (r : Requirement) → ((t : TermId) (p : ProtoId) → r ≡ Conf t p → ⊥) → (t : Term) (p : ProtoId) → requirement_of terms r ≡ Conforms t p → ⊥
 no_conforms terms (Conf u q) none t p e = none u q refl
 no_conforms terms (Layout u) none t p e = cc

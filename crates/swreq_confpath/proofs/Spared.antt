@@ -1,4 +1,4 @@
--- What rules spare stays: no word that goes on behind a word which has parted for good from a least word is in its class.
+-- What rules spare stays: no word that goes on after a word which has parted for good from a least word is in its class.
 use Rattle.std.proofs.Common.{◌≡◌, ℕ, zero, suc, ◌+◌, ◌-◌, ◌<◌, ◌≤◌, inl, inr, List, [], ◌∷◌, ◌++◌, length, take, drop, Some, Contains, slice_get, refl, sym, ap, ap₂, subst, ◌∙◌, arith, append_assoc, min, length-append, take-append-drop}
 use Rattle.std.proofs.Math.Seq.{take-append-add}
 use Rattle.std.proofs.lemmas.Bool.{cases_lt}
@@ -34,7 +34,7 @@ pub no_word : (front rest : Word) (x : Symbol) → [] ≡ front ++ (x ∷ rest) 
 no_word [] rest x e = cc
 no_word (y ∷ front) rest x e = cc
 
--- where two words with one symbol and some behind them are one, the longer end has the shorter one's last symbol as its last
+-- where two words with one symbol and some after them are one, the longer end has the shorter one's last symbol as its last
 last_part : (front before : Word) (x y : Symbol) (q : Word) → front ++ x ∷ [] ≡ before ++ (y ∷ q) → (b : Word) × (y ∷ q ≡ b ++ x ∷ []) × (front ≡ before ++ b)
 last_part front [] x y q e = (front, sym e, refl)
 last_part [] (c ∷ before) x y q e = absurd (no_word before q y (same_tails e))
@@ -68,7 +68,7 @@ module _ (rules : List Rule) (front : Word) (x : Symbol) (none : HasNoProtocol (
   abbrev Keeps : Word → Type 0
   Keeps v = (rest : Word) × (v ≡ front ++ (x ∷ rest))
 
-  -- by a rule whose left side ends behind the spared symbol, and begins up to it
+  -- by a rule whose left side ends after the spared symbol, and begins up to it
   over : (rule : Rule) (k : ℕ) → slice_get rules k ≡ Some rule → (before after q : Word) (y z : Symbol) (end : Word) → front ++ x ∷ [] ≡ before ++ (y ∷ q)
       → rule.left ≡ (y ∷ q) ++ (z ∷ end) → (v : Word) → v ≡ before ++ (rule.right ++ after) → Keeps v
   over rule k is before after q y z end e f v target =
@@ -184,7 +184,7 @@ in_front_of_both sides other before after x n from size same e =
       sym (take-append-drop from other) ∙ ap (λ w. w ++ drop from other) (sym same ∙ front) ∙ append_assoc before (x ∷ take n after) (drop from other),
     )
 
--- a symbol behind what both sides have in common, with another behind it and no protocol's symbol up to it, is among those that may change
+-- a symbol after what both sides have in common, with another after it and no protocol's symbol up to it, is among those that may change
 pub others_spared : (rule : Rule) (from clear to : ℕ) (changed : Word) → AreInCommon rule.left rule.right from → AreBeforeProtocol rule.left clear
     → ((i : ℕ) → i < clear → i + 1 < length rule.left → i < to)
     → ((i : ℕ) (x : Symbol) → from ≤ i → i < to → slice_get rule.left i ≡ Some x → Contains changed x)

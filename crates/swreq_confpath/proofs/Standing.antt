@@ -41,7 +41,7 @@ pub none_less : (used : List Rule) → IsLeastBy used []
 none_less used [] l = inl refl
 none_less used (x ∷ v) l = inr (by_length [] (x ∷ v) (omega arith))
 
--- one symbol more behind a word, of which some are taken
+-- one symbol more after a word, of which some are taken
 pub linked_more : (used : List Rule) (front rest w v : Word) (k : ℕ) (x : Symbol) → Links used (front ++ take k rest) w → slice_get rest k ≡ Some x
     → Links used (w ++ x ∷ []) v → Links used (front ++ take (k + 1) rest) v
 linked_more used front rest w v k x l is next =
@@ -83,7 +83,7 @@ module _ (s : Sought) where
     subst (λ z. Links rules z u) (ap (λ z. z ++ word) none ∙ is) (subst (λ z. Links z (front ++ word) u) same l),
   )
 
-  -- of one of a protocol, behind the word of that which is put for `Self`
+  -- of one of a protocol, after the word of that which is put for `Self`
   next_linked : (q : ProtoId) (u t : Term) (word rest base v : Word) → word ≡ right_side m (source_by (Some q)) (IsAnyObject t)
       → ((x : Symbol) (ys : Word) → word ≡ x ∷ ys → rest ≡ ys) → IsLeastWord W M u base → Links rules (base ++ rest) v
       → Links rules (word_of m S (for_self u t)) v

@@ -11,7 +11,7 @@ use Rattle.swreq_lexicon.specs.Views.{LexiconView}
 
 -- ---- numbers of conformances
 
--- Behind a conformance that names Q the numbers are those of conformances, each of the protocol that the one before it names.
+-- After a conformance that names Q the numbers are those of conformances, each of the protocol that the one before it names.
 abbrev pub AreNumbersBehind : TermFacts → ProtoId → List ℕ → Type 0
 AreNumbersBehind f q [] = Unit {0}
 AreNumbersBehind f q (n ∷ ns) = (v : Term) × (r : ProtoId) × HasNumber n (f.of_protocol q) (Conforms v r) × AreNumbersBehind f r ns

@@ -10,7 +10,7 @@ HasNoProtocol w = (p : ℕ) → Contains w (Proto p) → ⊥
 
 -- ---- what rules spare
 
--- Where the symbol stands in the left side, with another behind it and no protocol's symbol up to it, the right side is the same up to it.
+-- Where the symbol stands in the left side, with another after it and no protocol's symbol up to it, the right side is the same up to it.
 abbrev pub Spares : Rule → Symbol → Type 0
 Spares rule x = (before after : List Symbol) (y : Symbol) → rule.left ≡ before ++ (x ∷ (y ∷ after)) → HasNoProtocol (before ++ x ∷ [])
     → (rest : List Symbol) × (rule.right ≡ before ++ (x ∷ rest))
@@ -18,11 +18,11 @@ Spares rule x = (before after : List Symbol) (y : Symbol) → rule.left ≡ befo
 abbrev pub AllSpare : List Rule → Symbol → Type 0
 AllSpare rules x = (k : ℕ) (rule : Rule) → slice_get rules k ≡ Some rule → Spares rule x
 
--- The rule spares each symbol that is none of these.
+-- The rule spares each symbol that is not one of these.
 abbrev pub SparesOthers : Rule → List Symbol → Type 0
 SparesOthers rule changed = (x : Symbol) → (Contains changed x → ⊥) → Spares rule x
 
--- The first rules, so many, spare each symbol that is none of these.
+-- The first n rules spare each symbol that is not one of these.
 abbrev pub FirstSpareOthers : List Rule → ℕ → List Symbol → Type 0
 FirstSpareOthers rules count changed =
     (x : Symbol) → (Contains changed x → ⊥) → (k : ℕ) (rule : Rule) → k < count → slice_get rules k ≡ Some rule → Spares rule x
@@ -40,7 +40,7 @@ pub record AreInCommon (u v : List Symbol) (n : ℕ) : Type 0 where
   pub same : take n u ≡ take n v
   pub then_differ : (x y : Symbol) → slice_get u n ≡ Some x → slice_get v n ≡ Some y → x ≡ y → ⊥
 
--- This many symbols of the word come before the first of a protocol, or all of them.
+-- This many symbols of the word come before the first one of a protocol, or it has this many and none of a protocol.
 pub record AreBeforeProtocol (w : List Symbol) (n : ℕ) : Type 0 where
   pub within : n ≤ length w
   pub none : HasNoProtocol (take n w)
@@ -48,7 +48,7 @@ pub record AreBeforeProtocol (w : List Symbol) (n : ℕ) : Type 0 where
 
 -- ---- parting
 
--- The word v has a symbol that the rules spare, up to which no protocol's symbol stands, and u is not the same up to it.
+-- The word v has a symbol that the rules spare, with no protocol's symbol up to it, and u is not the same up to it.
 pub record PartsForGood (rules : List Rule) (u v : List Symbol) : Type 0 where
   pub front : List Symbol
   pub spared : Symbol

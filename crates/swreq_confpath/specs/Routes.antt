@@ -40,7 +40,7 @@ AreAlike f s Start (Conformance u q) = ⊥
 AreAlike f s (Conformance t p) Start = ⊥
 AreAlike f s (Conformance t p) (Conformance u q) = (p ≡ q) × Derivable f s (Requires (Equals t u)) × Derivable f s (Requires (Conforms u q))
 
--- Fewer numbers come first, and of as many those that are less from the left.
+-- Fewer numbers come first, and lists of the same length go from the left.
 abbrev pub ComesBefore : List ℕ → List ℕ → Type 0
 ComesBefore xs ys = (length xs < length ys) ⊎ ((length xs ≡ length ys) × NumbersBefore xs ys)
 

@@ -112,13 +112,13 @@ AreSpotsOf s [] (x ∷ xs) = ⊥
 AreSpotsOf s (a ∷ bs) [] = ⊥
 AreSpotsOf s (a ∷ bs) (x ∷ xs) = (x.1 ≡ a.numbers) × IsPlaceIn s.world.now x.0 × StandsFor s x.0 a.place × AreSpotsOf s bs xs
 
--- Of these, all that goes on from the first ones, so many, has been tried.
+-- Of these, all that goes on from the first `next` ones has been tried.
 pub record IsSearch (s : Sought) (spots : List Spot) (next : ℕ) : Type 0 where
   pub tried : List TermSpot
   pub stand : AreSpotsOf s tried spots
   pub ready : AreReady (facts_in s) (params_in s) (list_in s) (sought_in s) tried next
 
--- And so has what goes on from the next one, which leads to this place, by the first requirements, so many.
+-- And so has what goes on from the next one, which leads to this place, by the first `count` requirements.
 pub record IsSearchAt (s : Sought) (spots : List Spot) (next : ℕ) (from : Place) (count : ℕ) : Type 0 where
   pub tried : List TermSpot
   pub stand : AreSpotsOf s tried spots

@@ -15,12 +15,12 @@ abbrev pub start : TermSpot
 start = record { numbers = []; place = Start }
 
 module _ (f : TermFacts) (params : List ParamId) (written : List TermRequirement) where
-  -- Some numbers that were tried lead to a place alike this one, and do not come after these.
+  -- Some numbers that were tried lead to a place like this one, and do not come after these.
   abbrev pub IsCovered : List TermSpot → List ℕ → TermPlace → Type 0
   IsCovered tried numbers d =
       (e : TermSpot) × Contains tried e × AreAlike f (Written params written) e.place d × IsNotAfter e.numbers numbers
 
-  -- From the place no numbers lead on to one alike the place that is sought, nor is it alike itself.
+  -- No numbers lead from the place on to one like the place that is sought, and it is not like that place itself.
   abbrev pub IsDeadEnd : TermPlace → TermPlace → Type 0
   IsDeadEnd sought d = (ns : List ℕ) (e : TermPlace) → LeadTo f written d ns e → AreAlike f (Written params written) e sought → ⊥
 
@@ -28,8 +28,8 @@ module _ (f : TermFacts) (params : List ParamId) (written : List TermRequirement
   abbrev pub IsSettled : TermPlace → List TermSpot → List ℕ → TermPlace → Type 0
   IsSettled sought tried numbers d = IsCovered tried numbers d ⊎ IsDeadEnd sought d
 
-  -- All of these were tried, in their order, from none on, and no place among them is alike the one that is sought. All that goes on from
-  -- the first ones, so many, is settled.
+  -- All of these were tried, in their order, from none on, and no place among them is like the one that is sought. All that goes on from
+  -- the first `next` ones is settled.
   pub record AreTried (sought : TermPlace) (tried : List TermSpot) (next : ℕ) : Type 0 where
     pub begins : Contains tried start
     pub leads : (e : TermSpot) → Contains tried e
@@ -46,7 +46,7 @@ module _ (f : TermFacts) (params : List ParamId) (written : List TermRequirement
     pub before : (i : ℕ) (a e : TermSpot) (n : ℕ) → next ≤ i → 0 < n → slice_get tried i ≡ Some a → Contains tried e
         → ComesBefore e.numbers (a.numbers ++ n ∷ [])
 
-  -- What goes on from the next one, `at`, by the first requirements, so many, is settled, and none of it is sought. All that were tried
+  -- What goes on from the next one, `at`, by the first `count` requirements, is settled, and none of it is sought. All that were tried
   -- come before what goes on by the later ones.
   pub record AreTriedUpTo (sought : TermPlace) (tried : List TermSpot) (next : ℕ) (at : TermSpot) (count : ℕ) : Type 0 where
     pub so_far : AreTried sought tried next

@@ -30,8 +30,8 @@ use swreq_world::World;
 /// The path that is given for the conformance that is sought, whose place this is.
 ///
 /// Lists of numbers are tried in their order, the shorter ones first, but for those that lead to a place from which the one that is sought
-/// cannot be reached. What was tried grows while the search goes on, so the search ends: with the path, since there is one, or for want of
-/// memory.
+/// cannot be reached. What was tried grows while the search goes on, so the search ends: with the path, since there is one, or when memory
+/// runs out.
 fn find(sought: &Sought<'_>, target: &Place) -> Result<ConfPath, AllocError>
     requires known { IsKnown sought.now }
     requires target { StandsFor sought.now target.now (sought_in sought.now) }

@@ -18,8 +18,8 @@ ghost use Rattle.swreq_confpath.specs.Parting.{PartsForGood};
 ghost use Rattle.swreq_confpath.specs.Routes.{AreAlike, IsNotAfter, LeadTo, TermPlace};
 ghost use Rattle.swreq_confpath.specs.Routes.TermPlace.{Conformance, Start};
 
-/// Numbers that lead to a place alike one that was reached need not be tried: on a well formed text what goes on from the one goes on
-/// from the other, to places alike, and numbers that are not after others are not after them with the same numbers behind both.
+/// Numbers that lead to a place like one that was reached need not be tried: on a well formed text what goes on from the one goes on from
+/// the other, to places that are alike, and numbers that do not come after others do not come after them when the same numbers follow both.
 pub fn nothing_better_is_lost()
     ensures alike { (f : TermFacts) (params : List ParamId) (written : List TermRequirement)
         → AreProtocolsWellFormed f → IsListWellFormed f (Written params written)
@@ -28,7 +28,7 @@ pub fn nothing_better_is_lost()
     ensures order { (xs ys ns : List ℕ) → IsNotAfter xs ys → IsNotAfter (xs ++ ns) (ys ++ ns) }
 {}
 
-/// The numbers of a conformance path for a derivable `[T : P]` are those that lead from the start to a place alike the conformance.
+/// The numbers of a conformance path for a derivable `[T : P]` are those that lead from the start to a place like the conformance.
 pub fn paths_lead_from_the_start()
     ensures leads { (f : TermFacts) (params : List ParamId) (written : List TermRequirement) (t : Term) (p : ProtoId)
         (first : ℕ) (steps : List ℕ) → Derivable f (Written params written) (Requires (Conforms t p))

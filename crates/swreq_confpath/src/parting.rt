@@ -23,7 +23,7 @@ fn in_common(u: &[Symbol], v: &[Symbol]) -> usize
     most
 }
 
-/// How many symbols of a word come before the first of a protocol, or all of them.
+/// How many symbols of a word come before the first one of a protocol, or how many it has where there is none.
 fn before_protocol(word: &[Symbol]) -> usize
     ensures { AreBeforeProtocol word.now result }
 {
@@ -43,8 +43,8 @@ fn is_among(symbols: &[Symbol], x: Symbol) -> bool
     symbols.contains(&x)
 }
 
-/// The symbols of a left side that the rule may change in a word that is reduced up to them: those behind what both sides have in
-/// common, up to a protocol's symbol, and without the last.
+/// The symbols of a left side that the rule may change in a word that is reduced up to them: those after what both sides have in common, up
+/// to a protocol's symbol, without the last one.
 fn changed_by(rule: &Rule) -> &[Symbol]
     ensures { SparesOthers rule.now result.now }
 {
@@ -73,7 +73,7 @@ pub(crate) fn changed_symbols(
     Ok(changed)
 }
 
-/// Whether the word `v` parts from `u` by a symbol that is none of those that the rules change.
+/// Whether the word `v` parts from `u` by a symbol that is not one of those that the rules change.
 pub(crate) fn parts_for_good(changed: &[Symbol], u: &[Symbol], v: &[Symbol]) -> bool
     ensures { (rules : List Rule) → AllSpareOthers rules changed.now → IsTrue result → PartsForGood rules u.now v.now }
 {

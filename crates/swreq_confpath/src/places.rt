@@ -11,7 +11,7 @@ use swreq_word::{Symbol, Word};
 pub(crate) enum Place {
     /// Nowhere yet: before the list of a signature.
     Start,
-    /// To a conformance to this protocol. Of its subject there is the least word, which all equal type parameters have.
+    /// To a conformance to this protocol. The subject stands as its least word, which all equal type parameters have.
     Conformance { subject: Word, proto: ProtoId },
 }
 

@@ -95,7 +95,7 @@ fn word_of(sought: &Sought<'_>, t: TermId) -> Result<Word, AllocError>
     least(sought.alloc, sought.machine.rules(), &[], word.symbols())
 }
 
-/// The least word of a type parameter of a protocol, with that in place of `Self` of which this is the least word.
+/// The least word of a type parameter of a protocol, where `Self` is the type parameter whose least word this is.
 fn word_behind(
     sought: &Sought<'_>,
     base: &Word,

@@ -63,7 +63,7 @@ fn put_step(
     append_bytes(out, b"]")
 }
 
-// The conformances behind one that names a protocol.
+// The conformances that follow one that names a protocol.
 fn put_steps(
     alloc: Global,
     world: &World,
@@ -89,7 +89,7 @@ fn put_steps(
 }
 
 /// Appends the conformances of a path, each in brackets: the first as the signature requires it, the others with `Self` for their
-/// generic parameter. For want of memory `out` is as before.
+/// generic parameter. If memory runs out, `out` is as before.
 ///
 /// The numbers are those of conformances: the first in the list of the signature, and each later one in that of the protocol that the
 /// one before it names.

@@ -44,12 +44,12 @@ module _ {m : Symbols} {Of : ProtoId → TermRequirement → Type 0} {Own : Term
   within_all t done = done
   within_all t (more l c) = more (within t l) (within_all t c)
 
-  -- behind a type parameter that conforms to p
+  -- after a type parameter that conforms to p
   pub inside : (t : Term) (p : ProtoId) {u v : Word} → ((y : Word) → Linking (Equation m Of Own s) (spell m s t (ProtoSymbol p.rank ∷ y)) (spell m s t y))
       → Linking (Equation m Of Own s) (ProtoSymbol p.rank ∷ u) (ProtoSymbol p.rank ∷ v) → Linking (Equation m Of Own s) (spell m s t u) (spell m s t v)
   inside t p {u = u} {v = v} e c = joined (turn_all (e u)) (joined (within_all t c) (e v))
 
-  -- the equation of a requirement of p, or of the source, with something behind it
+  -- the equation of a requirement of p, or of the source, with something after it
   pub conf_link : (b : Source) (t : Term) (q : ProtoId) (y : Word) → Equation m Of Own s (left_side m b (Conforms t q)) (right_side m b (Conforms t q))
       → Link (Equation m Of Own s) (spell m b t (ProtoSymbol q.rank ∷ y)) (spell m b t y)
   conf_link b t q y e = subst₂ (Link (Equation m Of Own s)) (spell-append m b t (ProtoSymbol q.rank ∷ []) y) (spell-append m b t [] y) (forth y e)

@@ -1,4 +1,4 @@
--- Words of valid type parameters are congruent just where the type parameters are derivably equal.
+-- Words of valid type parameters are congruent if and only if the type parameters are derivably equal.
 use Rattle.std.proofs.Common.{◌≡◌, List, [], ◌∷◌, ◌++◌, refl, ap, subst, subst₂, sym, ◌↔◌}
 use Rattle.swreq_param.specs.declared.ids.AssocId.{AssocId}
 use Rattle.swreq_param.specs.declared.ids.NameId.{NameId}
@@ -149,7 +149,7 @@ module _ (m : Symbols) (f : TermFacts) (fit : AreSymbolsOf m f) where
     abbrev pub BothTo : Word → Word → Type 0
     BothTo u v = LeadsTo m f s u v × LeadsTo m f s v u
 
-    -- a requirement of the source, with something behind its words
+    -- a requirement of the source, with something after its words
     front_own : (r : TermRequirement) (y : Word) → HasRequirement s r → HasValidSides f s r → BothTo (left_side m s r ++ y) (right_side m s r ++ y)
     front_own (Conforms u q) y h w =
         let v : Derivable f s (IsValid (read s u)) = (sides_of (own s u w).0).1 in

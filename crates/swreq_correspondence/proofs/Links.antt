@@ -1,4 +1,4 @@
--- A word that is read behind a type goes on being read, as an equal type, along each link of a chain.
+-- A word that is read after a type goes on being read, as an equal type, along each link of a chain.
 use Rattle.std.proofs.Common.{◌≡◌, [], ◌∷◌, ◌++◌, Contains, refl, subst, subst₂, sym}
 use Rattle.swreq_param.specs.declared.ids.ProtoId.{ProtoId}
 use Rattle.swreq_param.specs.Terms.{Term}
@@ -19,11 +19,11 @@ use Rattle.swreq_correspondence.proofs.Spelling.{spell-append}
 use Rattle.swreq_correspondence.proofs.Readings.{read_all_same, valid_after, valid_reading, unbound, read_on-steps, rest_is_read, steps_are_read, sides_of}
 
 module _ (m : Symbols) (f : TermFacts) (s : Source) where
-  -- u, read behind t, leads to v, read behind t', as an equal type
+  -- u, read after t, leads to v, read after t', as an equal type
   abbrev pub Leads : Term → Word → Term → Word → Type 0
   Leads t u t' v = CanReadAll m f s t u → CanReadAll m f s t' v × Derivable f s (Requires (Equals (read_on m t u) (read_on m t' v)))
 
-  -- the steps of u behind t can be read
+  -- the steps of u after t can be read
   abbrev pub AreRead : Term → Term → Type 0
   AreRead t u = (y : Word) → CanReadAll m f s (unbound m t u) y → CanReadAll m f s t (steps m u y)
 
@@ -34,7 +34,7 @@ module _ (m : Symbols) (f : TermFacts) (s : Source) where
       = k (rest_is_read m f s t u a c) in
       (h b r.0, subst₂ (λ x y. Derivable f s (Requires (Equals x y))) (sym (read_on-steps m f s t u a)) (sym (read_on-steps m f s t' u' b)) r.1)
 
-  -- behind a type that conforms to q, `[Q]` may stand or not
+  -- after a type that conforms to q, `[Q]` may stand or not
   pub drop_symbol : (t : Term) (x : Symbol) (y : Word) → after m t x ≡ t → Derivable f s (IsValid t) → Leads t (x ∷ y) t y
   drop_symbol t x y e v c =
       let k : CanReadAll m f s t y = subst (λ z. CanReadAll m f s z y) e c.1 in
@@ -54,7 +54,7 @@ module _ (m : Symbols) (f : TermFacts) (s : Source) (fit : AreSymbolsOf m f) whe
   abbrev pub Both : Term → Word → Term → Word → Type 0
   Both t u t' v = Leads m f s t u t' v × Leads m f s t' v t u
 
-  -- the two sides of a requirement of p, behind a type that conforms to p
+  -- the two sides of a requirement of p, after a type that conforms to p
   module _ (t : Term) (p : ProtoId) (v : Derivable f s (IsValid t)) (c : Derivable f s (Requires (Conforms t p))) where
     pub of_self : (u : Term) → Derivable f (SelfOf p) (IsValid u) → Derivable f s (Requires (Equals (for_self t u) (unbound m t u))) × AreRead m f s t u
     of_self u e = steps_are_read m f s (SelfOf p) (λ g. t) fit (λ g h. v)

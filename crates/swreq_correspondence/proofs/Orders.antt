@@ -102,7 +102,7 @@ module _ (m : Symbols) (f : TermFacts) (ps : List ParamId) (ms : List TermRequir
       let (pre, e, w) = front t (MemberSymbol k ∷ rest) u h in
       (pre ++ (MemberSymbol k ∷ []), e ∙ sym (append_assoc pre (MemberSymbol k ∷ []) rest), stands_on pre t k d w c i)
 
-  -- two member symbols with one name, read behind the same type
+  -- two member symbols with one name, read after the same type
   alike : (pre : Word) (t : Term) (k j : ℕ) (rest : Word) → Stands pre t → CanRead m f L t (MemberSymbol k) → CanRead m f L t (MemberSymbol j)
       → name_of m k ≡ name_of m j → C (pre ++ (MemberSymbol k ∷ rest)) (pre ++ (MemberSymbol j ∷ rest))
   unfolding Stands
@@ -269,7 +269,7 @@ module _ (m : Symbols) (f : TermFacts) (ps : List ParamId) (ms : List TermRequir
   shorter [] x w = omega arith
   shorter (a ∷ pre) x w = let h = shorter pre x w in omega arith
 
-  -- in a least word no `[Q]`, no layout and no name stands behind a part that is read
+  -- in a least word no `[Q]`, no layout and no name stands after a part that is read
   least_shape : (pre : Word) (t : Term) (w : Word) → Stands pre t → Derivable f L (IsValid t) → Least (pre ++ w) → CanReadAll m f L t w → OnlyMembers w
   unfolding Stands OnlyMembers
   least_shape pre t [] s v l c = tt

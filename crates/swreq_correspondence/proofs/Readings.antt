@@ -1,4 +1,4 @@
--- How words of type parameters are read, and that what is read behind a type is read behind an equal one.
+-- How words of type parameters are read, and that what is read after a type is read after an equal one.
 use Rattle.std.proofs.Common.{◌≡◌, true, [], ◌∷◌, refl, subst, sym}
 use Rattle.swreq_param.specs.declared.ids.AssocId.{AssocId}
 use Rattle.swreq_param.specs.declared.ids.NameId.{NameId}
@@ -47,7 +47,7 @@ module _ {f : TermFacts} {s : Source} where
   same_member e h = same_name (same_conf h.2 (symm e)) e h.3
 
 module _ (m : Symbols) (f : TermFacts) (s : Source) where
-  -- what is read behind t is read behind an equal type
+  -- what is read after t is read after an equal type
   pub read_same : (t u : Term) (x : Symbol) → Derivable f s (Requires (Equals t u)) → CanRead m f s t x
       → CanRead m f s u x × Derivable f s (Requires (Equals (after m t x) (after m u x)))
   read_same t u (ProtoSymbol q) e c = (same_conf c (symm e), e)
@@ -76,7 +76,7 @@ module _ (m : Symbols) (f : TermFacts) (s : Source) where
   valid_reading t [] v c = v
   valid_reading t (x ∷ w) v c = valid_reading (after m t x) w (valid_after t x v c.0) c.1
 
--- what the steps of u, behind t, are read as
+-- what the steps of u, after t, are read as
 abbrev pub unbound : Symbols → Term → Term → Term
 unbound m t (Generic g) = t
 unbound m t (Member u x) = after m (unbound m t u) (symbol m x)
@@ -86,7 +86,7 @@ module _ (m : Symbols) (f : TermFacts) (s : Source) where
   read_on-steps t (Generic g) y = refl
   read_on-steps t (Member u x) y = read_on-steps t u (symbol m x ∷ y)
 
-  -- what stands behind the steps of u is read behind their type
+  -- what stands after the steps of u is read after their type
   pub rest_is_read : (t u : Term) (y : Word) → CanReadAll m f s t (steps m u y) → CanReadAll m f s (unbound m t u) y
   rest_is_read t (Generic g) y c = c
   rest_is_read t (Member u x) y c = (rest_is_read t u (symbol m x ∷ y) c).1

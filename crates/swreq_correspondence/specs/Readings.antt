@@ -18,7 +18,7 @@ use Rattle.swreq_correspondence.specs.Symbols.{Word, Symbols, IsRank, proto_of, 
 abbrev pub HasName : TermFacts → Source → Term → NameId → Type 0
 HasName f s t a = (p : ProtoId) × (d : AssocId) × Derivable f s (Requires (Conforms t p)) × Declares f p a d
 
--- The symbol can be read behind a word that is read as t.
+-- The symbol can be read after a word that is read as t.
 abbrev pub CanRead : Symbols → TermFacts → Source → Term → Symbol → Type 0
 CanRead m f s t (ProtoSymbol q) = Derivable f s (Requires (Conforms t (record { rank = q })))
 CanRead m f s t (MemberSymbol k) = IsRank m k × Derivable f s (Requires (Conforms t (proto_of m k))) × HasName f s t (name_of m k)
@@ -59,7 +59,7 @@ abbrev pub HasReading : Symbols → TermFacts → Source → Word → Type 0
 HasReading m f s [] = ⊥
 HasReading m f s (x ∷ u) = CanBegin m f s x × CanReadAll m f s (first m x) u
 
--- the type parameter as which it is read
+-- the type parameter that it is read as
 abbrev pub reading : Symbols → Word → Term
 reading m [] = self
 reading m (x ∷ u) = read_on m (first m x) u

@@ -12,7 +12,7 @@ use Rattle.swreq_derive.specs.Derivation.TermRequirement.{Conforms, IsAnyObject,
 use Rattle.swreq_derive.specs.Derivation.TermStatement.{IsValid, Requires}
 use Rattle.swreq_correspondence.specs.Symbols.{Word, Symbols, IsOfText, spell, word_of}
 
--- The congruence shows that t conforms to p: the word of t with `[P]` behind it is congruent to the word of t.
+-- The congruence shows that t conforms to p: the word of t with `[P]` after it is congruent to the word of t.
 abbrev pub ShowsConformance : Symbols → Source → (Word → Word → Type 0) → Term → ProtoId → Type 0
 ShowsConformance m s C t p = C (spell m s t (ProtoSymbol p.rank ∷ [])) (word_of m s t)
 
@@ -31,7 +31,7 @@ ShowsUsable m f s C (Conforms t p) = ShowsValid m f s C t
 ShowsUsable m f s C (IsAnyObject t) = ShowsValid m f s C t
 ShowsUsable m f s C (Equals t u) = ShowsValid m f s C t × ShowsValid m f s C u
 
--- What a derived statement says of words: what it says of the words alone, whatever follows behind them.
+-- What a derived statement says of words: what it says of the words alone, whatever follows them.
 abbrev pub Shows : Symbols → TermFacts → Source → (Word → Word → Type 0) → TermStatement → Type 0
 Shows m f s C (IsValid t) = ShowsValid m f s C t
 Shows m f s C (Requires (Conforms t p)) =

@@ -21,8 +21,8 @@ pub record IsFirstFor (f : TermFacts) (s : Source) (t : Term) (a : NameId) (d : 
   pub conforms : Derivable f s (Requires (Conforms t proto))
   pub first : (q : ProtoId) (e : AssocId) → Declares f q a e → Derivable f s (Requires (Conforms t q)) → d.rank ≤ e.rank
 
--- The word begins with a word of type T, behind which stands `rest`: with a generic parameter, and a symbol `[P:A]` for each member, which is
--- the bound member with the first associated type A of the type before it.
+-- The word begins with a word of type T, after which stands `rest`: with a generic parameter, and a symbol `[P:A]` for each member, which
+-- is the bound member with the first associated type A of the type before it.
 abbrev pub BeginsAs : Symbols → TermFacts → Source → Term → Word → Word → Type 0
 BeginsAs m f s (Generic g) rest u = u ≡ ParamSymbol g.depth g.index ∷ rest
 BeginsAs m f s (Member t (Bound d)) rest u =
@@ -40,7 +40,7 @@ pub record AreRanked (m : Symbols) (f : TermFacts) : Type 0 where
       → Declares f p a d → Declares f q b e → d.rank < e.rank → a.rank ≤ b.rank
   pub symbols : (k j : ℕ) → k < j → IsRank m j → (name_of m k).rank ≤ (name_of m j).rank
 
--- For each name that a protocol to which T conforms declares, the first such associated type is told. An ended completion tells it, by a
--- finite search.
+-- For each name that a protocol to which T conforms declares, it is told which associated type is the first with that name. An ended
+-- completion tells it, by a finite search.
 abbrev pub HasFirsts : TermFacts → Source → Type 0
 HasFirsts f s = (t : Term) (a : NameId) → HasName f s t a → (d : AssocId) × IsFirstFor f s t a d

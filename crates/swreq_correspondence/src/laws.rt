@@ -21,7 +21,7 @@ ghost use Rattle.swreq_correspondence.specs.Readings.{HasName, HasReading, readi
 ghost use Rattle.swreq_correspondence.specs.Shown.{Shows};
 ghost use Rattle.swreq_correspondence.specs.Types.{AreRanked, HasFirsts, IsTypeOf};
 
-/// What is derivable, congruence of words shows.
+/// Congruence of words shows what is derivable.
 pub fn derived_is_shown()
     ensures { (m : Symbols) (f : TermFacts) (s : Source) (st : TermStatement)
         → AreSymbolsOf m f → AreOfText m f → IsInText m s → Derivable f s st → Shows m f s (AreCongruent m f s) st }
@@ -59,7 +59,7 @@ pub fn derivations_are_congruences()
         ↔ ((p : ProtoId) × (a : NameId) × Derivable f s (Requires (Conforms t p)) × Declares f p a d) }
 {}
 
-/// Of two least words that have types, the one is less exactly where its type comes first. A word has one type.
+/// Of two least words that have types, the one is less if and only if its type comes first. A word has one type.
 pub fn types_go_by_words()
     ensures order { (m : Symbols) (f : TermFacts) (gs : List ParamId) (rs : List TermRequirement)
         → AreSymbolsOf m f → AreOfText m f → IsInText m (Written gs rs) → AreRanked m f

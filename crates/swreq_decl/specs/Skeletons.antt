@@ -86,7 +86,7 @@ error_of end (stops.Refused rest label) = refused (start_of end rest.now) (refus
 
 -- ---- exact answers
 
--- This is the answer exactly where the fact holds, unless memory ran out.
+-- This is the answer if and only if the fact holds, unless memory ran out.
 abbrev pub Exactly : Type 0 → (answer result : Result Skeleton ParseErr) → Type 0
 Exactly fact answer result = (result ≡ answer → fact) × (fact → (result ≡ answer) ⊎ (result ≡ Err errors.Memory))
 

@@ -59,6 +59,14 @@ separated separators g = mapped (λ p. p.0 ∷ p.1) (sequence g (repetition unli
 abbrev pub in_angles : {A : Type 0} → Line A → Line (List A)
 in_angles g = after (mark Less) (before (separated (Comma ∷ []) g) (mark Greater))
 
+-- "{" x* "}"
+abbrev pub in_braces : {A : Type 0} → Line A → Line (List A)
+in_braces g = after (mark OpenBrace) (before (repetition unlimited g) (mark CloseBrace))
+
+-- "(" x ")"
+abbrev pub in_parentheses : {A : Type 0} → Line A → Line A
+in_parentheses g = after (mark OpenParenthesis) (before g (mark CloseParenthesis))
+
 -- the first, and the second says what its value is for
 abbrev pub continued : {A B : Type 0} → Line A → Line (A → B) → Line B
 continued g h = mapped (λ p. p.1 p.0) (sequence g h)
@@ -155,7 +163,7 @@ primary_names = or_else [] primaries
 -- protocol = access? "protocol" name primaries? inherit? where? "{" member* "}", here without the access
 unfoldable pub protocol : Line ProtocolDecl
 protocol = mapped (λ p. record { name = p.0; primaries = p.1.0; inherits = p.1.1.0; clause = p.1.1.1.0; members = p.1.1.1.1 })
-    (after (mark Protocol) (sequence name (sequence primary_names (sequence inherits (sequence conditions (after (mark OpenBrace) (before (repetition unlimited member) (mark CloseBrace))))))))
+    (after (mark Protocol) (sequence name (sequence primary_names (sequence inherits (sequence conditions (in_braces member))))))
 
 -- param = name (":" bounds)?
 unfoldable pub param : Line ParamDecl
@@ -186,7 +194,7 @@ inner_function = before (after (skipped access) function) semicolon
 -- struct = access? "struct" name generics? where? "{" (function ";"?)* "}", here without the access
 unfoldable pub structure : Line StructDecl
 structure = mapped (λ p. record { name = p.0; params = p.1.0; clause = p.1.1.0; functions = p.1.1.1 })
-    (after (mark Struct) (sequence name (sequence params (sequence conditions (after (mark OpenBrace) (before (repetition unlimited inner_function) (mark CloseBrace)))))))
+    (after (mark Struct) (sequence name (sequence params (sequence conditions (in_braces inner_function)))))
 
 -- "[" name "]" name
 unfoldable pub bound_step : Line StepDecl
@@ -221,7 +229,7 @@ sname = mapped of_signature (sequence name (or_else None (mapped (λ s. Some s) 
 
 -- query = "query" sname "(" ask? ")"
 unfoldable pub query : Line QueryDecl
-query = mapped (λ p. record { outer = p.0.0; function = p.0.1; ask = p.1 }) (after (mark Query) (sequence sname (after (mark OpenParenthesis) (before asked (mark CloseParenthesis)))))
+query = mapped (λ p. record { outer = p.0.0; function = p.0.1; ask = p.1 }) (after (mark Query) (sequence sname (in_parentheses asked)))
 
 -- protocol | function | struct, without the access
 unfoldable pub declaration : Line Item

@@ -21,7 +21,7 @@ use Rattle.swreq_decl.specs.declared.skeleton.QueryDecl.{QueryDecl}
 use Rattle.swreq_decl.specs.declared.skeleton.Item.{Item}
 use Rattle.swreq_decl.specs.declared.skeleton.Item.TheVariants as items
 use Rattle.swreq_decl.specs.Terminals.{number}
-use Rattle.swreq_decl.specs.Source.{Line, mark, after, before, or_else, separated, skipped, name, semicolon, access, written_type, qentity, bounds, primary_names, params, no_body, bound_step, plain_step, sname}
+use Rattle.swreq_decl.specs.Source.{Line, mark, after, before, in_braces, in_parentheses, or_else, separated, skipped, name, semicolon, access, written_type, qentity, bounds, primary_names, params, no_body, bound_step, plain_step, sname}
 
 -- The lines have the same texts, with the same values.
 pub record SameTexts {A : Type 0} (g h : Line A) : Type 0 where
@@ -55,7 +55,7 @@ member = mapped (λ p. record { name = p.0; inherits = p.1.0; clause = p.1.1 })
 -- protocol = access? "protocol" name primaries? inherit? where? "{" member* "}"
 abbrev pub protocol : Line ProtocolDecl
 protocol = after (skipped access) (mapped (λ p. record { name = p.0; primaries = p.1.0; inherits = p.1.1.0; clause = p.1.1.1.0; members = p.1.1.1.1 })
-    (after (mark Protocol) (sequence name (sequence primary_names (sequence (or_else [] inherit) (sequence (or_else [] where_clause) (after (mark OpenBrace) (before (repetition unlimited member) (mark CloseBrace)))))))))
+    (after (mark Protocol) (sequence name (sequence primary_names (sequence (or_else [] inherit) (sequence (or_else [] where_clause) (in_braces member)))))))
 
 -- function = access? "func" name generics? "(" ")" where? ("{" "}")?
 abbrev pub function : Line FunctionDecl
@@ -65,7 +65,7 @@ function = after (skipped access) (mapped (λ p. record { name = p.0; params = p
 -- struct = access? "struct" name generics? where? "{" (function ";"?)* "}"
 abbrev pub structure : Line StructDecl
 structure = after (skipped access) (mapped (λ p. record { name = p.0; params = p.1.0; clause = p.1.1.0; functions = p.1.1.1 })
-    (after (mark Struct) (sequence name (sequence params (sequence (or_else [] where_clause) (after (mark OpenBrace) (before (repetition unlimited (before function semicolon)) (mark CloseBrace))))))))
+    (after (mark Struct) (sequence name (sequence params (sequence (or_else [] where_clause) (in_braces (before function semicolon)))))))
 
 -- qstep = "." name | "." "[" name "]" name
 abbrev pub qstep : Line StepDecl
@@ -84,7 +84,7 @@ ask = alternative (mapped (λ t. asks.Reduced t) qtype) (alternative
 -- query = "query" sname "(" ask? ")"
 abbrev pub query : Line QueryDecl
 query = mapped (λ p. record { outer = p.0.0; function = p.0.1; ask = p.1 })
-    (after (mark Query) (sequence sname (after (mark OpenParenthesis) (before (or_else asks.Signature ask) (mark CloseParenthesis)))))
+    (after (mark Query) (sequence sname (in_parentheses (or_else asks.Signature ask))))
 
 -- item = protocol ";"? | function ";"? | struct ";"? | query ";"?
 abbrev pub item : Line Item

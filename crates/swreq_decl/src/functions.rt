@@ -12,12 +12,12 @@ use crate::reading::{Read, begins, labelled, mark, name};
 use crate::requirements::conditions;
 use crate::skeleton::{FunctionDecl, ParamDecl};
 use crate::terminal::Terminal;
-use crate::types::bounds;
+use crate::types::bounds_after_colon;
 use std::alloc::Global;
 use swreq_grammar::{Part, Token, many};
 use swreq_text::Seq;
 
-/// A generic parameter.
+/// Reads a generic parameter.
 #[tactic(auto, unfolding(crate::specs::Source::param))]
 fn param(alloc: Global, tokens: &[Token<Terminal>]) -> Read<'_, ParamDecl>
     ensures { Gives (λ x. (x.0, x.1.now)) result (read number lines.param tokens.now) }
@@ -27,9 +27,7 @@ fn param(alloc: Global, tokens: &[Token<Terminal>]) -> Read<'_, ParamDecl>
         let bounds = Seq::new(Vec::new(alloc));
         return Ok((ParamDecl { name, bounds }, rest));
     }
-    let (_, rest) = mark(rest, Terminal::Colon)?;
-    let (found, rest) = bounds(alloc, rest)?;
-    let bounds = Seq::new(found);
+    let (bounds, rest) = bounds_after_colon(alloc, rest)?;
     Ok((ParamDecl { name, bounds }, rest))
 }
 
@@ -59,7 +57,7 @@ impl Part for NextParam {
     }
 }
 
-/// The generic parameters, if there are any.
+/// Reads the generic parameters, if there are any.
 #[tactic(auto, unfolding(crate::specs::Source::generics, crate::specs::Source::params))]
 pub fn params(alloc: Global, tokens: &[Token<Terminal>]) -> Read<'_, Seq<ParamDecl>>
     ensures { Gives (λ x. (x.0, x.1.now)) result (read number lines.params tokens.now) }
@@ -77,7 +75,7 @@ pub fn params(alloc: Global, tokens: &[Token<Terminal>]) -> Read<'_, Seq<ParamDe
     Ok((Seq::new(found), rest))
 }
 
-/// The empty braces, if they are there.
+/// Reads the empty braces, if they are there.
 #[tactic(auto, unfolding(crate::specs::Source::no_body))]
 fn no_body(tokens: &[Token<Terminal>]) -> Read<'_, ()>
     ensures { Gives (λ x. (tt, x.1.now)) result (read number lines.no_body tokens.now) }
@@ -90,7 +88,7 @@ fn no_body(tokens: &[Token<Terminal>]) -> Read<'_, ()>
     Ok(((), rest))
 }
 
-/// A function, from the word `func` on.
+/// Reads a function, from the word `func` on.
 #[tactic(auto, unfolding(crate::specs::Source::function))]
 pub fn function(alloc: Global, tokens: &[Token<Terminal>]) -> Read<'_, FunctionDecl>
     ensures { Gives (λ x. (x.0, x.1.now)) result (read number lines.function tokens.now) }

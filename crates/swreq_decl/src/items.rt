@@ -18,7 +18,7 @@ use crate::terminal::Terminal;
 use std::alloc::Global;
 use swreq_grammar::{Part, Stop, Token, many};
 
-/// A protocol, a function or a struct, after its access.
+/// Reads a protocol, a function or a struct, after its access.
 #[tactic(auto, unfolding(crate::specs::Source::declaration, crate::specs::Source::protocol, crate::specs::Source::function))]
 fn declaration(alloc: Global, tokens: &[Token<Terminal>]) -> Read<'_, Item>
     ensures { Gives (λ x. (x.0, x.1.now)) result (read number lines.declaration tokens.now) }
@@ -35,7 +35,7 @@ fn declaration(alloc: Global, tokens: &[Token<Terminal>]) -> Read<'_, Item>
     Ok((Item::Struct(found), rest))
 }
 
-/// An item without its semicolon.
+/// Reads an item without its semicolon.
 #[tactic(auto, unfolding(crate::specs::Source::bare_item, crate::specs::Source::access, crate::specs::Source::declaration, crate::specs::Source::protocol, crate::specs::Source::function, crate::specs::Source::structure))]
 fn bare_item(alloc: Global, tokens: &[Token<Terminal>]) -> Read<'_, Item>
     ensures { Gives (λ x. (x.0, x.1.now)) result (read number lines.bare_item tokens.now) }
@@ -91,7 +91,7 @@ impl Part for AnyItem {
     }
 }
 
-/// Items as long as one begins.
+/// Reads items while one begins.
 #[tactic(auto, unfolding(crate::specs::Source::source, crate::specs::Source::item, crate::specs::Source::bare_item, crate::specs::Source::access, crate::specs::Source::declaration, crate::specs::Source::protocol, crate::specs::Source::function, crate::specs::Source::structure, crate::specs::Source::query))]
 fn items(alloc: Global, tokens: &[Token<Terminal>]) -> Read<'_, Vec<Item>>
     ensures { Gives (λ x. (x.0.items, x.1.now)) result (read number lines.source tokens.now) }
@@ -99,7 +99,7 @@ fn items(alloc: Global, tokens: &[Token<Terminal>]) -> Read<'_, Vec<Item>>
     many::<AnyItem>(alloc, tokens)
 }
 
-/// The parts of a whole text.
+/// Reads the parts of a whole text.
 pub fn all_items(
     alloc: Global,
     tokens: &[Token<Terminal>],

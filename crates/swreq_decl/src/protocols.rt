@@ -43,7 +43,7 @@ impl Part for NextPrimary {
     }
 }
 
-/// The names of the primary associated types, if a protocol has any.
+/// Reads the names of the primary associated types, if a protocol has any.
 #[tactic(auto, unfolding(crate::specs::Source::primaries, crate::specs::Source::primary_names))]
 fn primaries(alloc: Global, tokens: &[Token<Terminal>]) -> Read<'_, Seq<Span>>
     ensures { Gives (λ x. (x.0, x.1.now)) result (read number lines.primary_names tokens.now) }
@@ -96,8 +96,19 @@ impl Part for Member {
     }
 }
 
-/// A protocol, from the word `protocol` on.
-#[tactic(auto, unfolding(crate::specs::Source::protocol, crate::specs::Source::member))]
+/// Reads the members of a protocol, in their braces.
+#[tactic(auto, unfolding(crate::specs::Source::member))]
+fn members(alloc: Global, tokens: &[Token<Terminal>]) -> Read<'_, Seq<AssocDecl>>
+    ensures { Gives (λ x. (x.0, x.1.now)) result (read number (lines.in_braces lines.member) tokens.now) }
+{
+    let (_, rest) = mark(tokens, Terminal::OpenBrace)?;
+    let (found, rest) = many::<Member>(alloc, rest)?;
+    let (_, rest) = mark(rest, Terminal::CloseBrace)?;
+    Ok((Seq::new(found), rest))
+}
+
+/// Reads a protocol, from the word `protocol` on.
+#[tactic(auto, unfolding(crate::specs::Source::protocol))]
 pub fn protocol(alloc: Global, tokens: &[Token<Terminal>]) -> Read<'_, ProtocolDecl>
     ensures { Gives (λ x. (x.0, x.1.now)) result (read number lines.protocol tokens.now) }
 {
@@ -106,10 +117,7 @@ pub fn protocol(alloc: Global, tokens: &[Token<Terminal>]) -> Read<'_, ProtocolD
     let (primaries, rest) = primaries(alloc, rest)?;
     let (inherits, rest) = inherits(alloc, rest)?;
     let (clause, rest) = conditions(alloc, rest)?;
-    let (_, rest) = mark(rest, Terminal::OpenBrace)?;
-    let (found, rest) = many::<Member>(alloc, rest)?;
-    let (_, rest) = mark(rest, Terminal::CloseBrace)?;
-    let members = Seq::new(found);
+    let (members, rest) = members(alloc, rest)?;
     let found = ProtocolDecl {
         name,
         primaries,

@@ -3,20 +3,20 @@
 ghost use Rattle.std.specs.Prelude.{◌≡◌, ◌∷◌, []};
 ghost use Rattle.swreq_grammar.specs.Gives.{Gives};
 ghost use Rattle.swreq_grammar.specs.Reader.{read};
-ghost use Rattle.swreq_decl.specs.declared.terminal.Terminal.TheVariants.{Dot};
+ghost use Rattle.swreq_decl.specs.declared.terminal.Terminal.TheVariants.{Colon, Dot, EqualEqual};
 ghost use Rattle.swreq_decl.specs.Terminals.{number};
 ghost use Rattle.swreq_decl.specs.Source as lines;
 
 use crate::kind::Kind;
 use crate::reading::{Read, begins, mark, name};
-use crate::skeleton::{Ask, QueryDecl, Span, StepDecl, TypeDecl};
+use crate::skeleton::{Ask, Entity, QueryDecl, Span, StepDecl, TypeDecl};
 use crate::terminal::Terminal;
 use crate::types::{STEP_LIMIT, query_entity};
 use std::alloc::Global;
 use swreq_grammar::{Part, Token, at_most};
 use swreq_text::Seq;
 
-/// A bound step, after its `.`.
+/// Reads a bound step, after its `.`.
 #[tactic(auto, unfolding(crate::specs::Source::bound_step))]
 fn bound_step(tokens: &[Token<Terminal>]) -> Read<'_, StepDecl>
     ensures { Gives (λ x. (x.0, x.1.now)) result (read number lines.bound_step tokens.now) }
@@ -59,7 +59,7 @@ impl Part for QueryStep {
     }
 }
 
-/// A type in a query.
+/// Reads a type in a query.
 #[tactic(auto, unfolding(crate::specs::Source::qtype, crate::specs::Source::qstep))]
 fn query_type(alloc: Global, tokens: &[Token<Terminal>]) -> Read<'_, TypeDecl>
     ensures { Gives (λ x. (x.0, x.1.now)) result (read number lines.qtype tokens.now) }
@@ -70,27 +70,41 @@ fn query_type(alloc: Global, tokens: &[Token<Terminal>]) -> Read<'_, TypeDecl>
     Ok((TypeDecl { head, steps }, rest))
 }
 
-/// What a query asks, where something stands in its parentheses.
+/// Reads the name of a protocol, or `AnyObject`, after `:`.
+fn entity_after_colon(alloc: Global, tokens: &[Token<Terminal>]) -> Read<'_, Entity>
+    ensures { Gives (λ x. (x.0, x.1.now)) result (read number (lines.after (lines.mark Colon) lines.qentity) tokens.now) }
+{
+    let (_, rest) = mark(tokens, Terminal::Colon)?;
+    query_entity(alloc, rest)
+}
+
+/// Reads a type in a query after `==`.
+fn type_after_equals(alloc: Global, tokens: &[Token<Terminal>]) -> Read<'_, TypeDecl>
+    ensures { Gives (λ x. (x.0, x.1.now)) result (read number (lines.after (lines.mark EqualEqual) lines.qtype) tokens.now) }
+{
+    let (_, rest) = mark(tokens, Terminal::EqualEqual)?;
+    query_type(alloc, rest)
+}
+
+/// Reads what a query asks, where something stands in its parentheses.
 #[tactic(auto, unfolding(crate::specs::Source::ask))]
 fn ask(alloc: Global, tokens: &[Token<Terminal>]) -> Read<'_, Ask>
     ensures { Gives (λ x. (x.0, x.1.now)) result (read number lines.ask tokens.now) }
 {
     let (t, rest) = query_type(alloc, tokens)?;
     if begins(rest, &[Terminal::Colon]) {
-        let (_, rest) = mark(rest, Terminal::Colon)?;
-        let (bound, rest) = query_entity(alloc, rest)?;
+        let (bound, rest) = entity_after_colon(alloc, rest)?;
         return Ok((Ask::Is { t, bound }, rest));
     }
     if begins(rest, &[Terminal::EqualEqual]) {
         let left = t;
-        let (_, rest) = mark(rest, Terminal::EqualEqual)?;
-        let (right, rest) = query_type(alloc, rest)?;
+        let (right, rest) = type_after_equals(alloc, rest)?;
         return Ok((Ask::Same { left, right }, rest));
     }
     Ok((Ask::Reduced { t }, rest))
 }
 
-/// What a query asks.
+/// Reads what a query asks.
 #[tactic(auto, unfolding(crate::specs::Source::asked, crate::specs::Source::ask, crate::specs::Source::qtype, crate::specs::Source::name))]
 fn asked(alloc: Global, tokens: &[Token<Terminal>]) -> Read<'_, Ask>
     ensures { Gives (λ x. (x.0, x.1.now)) result (read number lines.asked tokens.now) }
@@ -101,7 +115,7 @@ fn asked(alloc: Global, tokens: &[Token<Terminal>]) -> Read<'_, Ask>
     Ok((Ask::Signature, tokens))
 }
 
-/// The struct, if one is named, and the signature of a query.
+/// Reads the struct, if one is named, and the signature of a query.
 #[tactic(auto, unfolding(crate::specs::Source::sname))]
 fn signature_name(tokens: &[Token<Terminal>]) -> Read<'_, (Option<Span>, Span)>
     ensures { Gives (λ x. (x.0, x.1.now)) result (read number lines.sname tokens.now) }
@@ -115,16 +129,24 @@ fn signature_name(tokens: &[Token<Terminal>]) -> Read<'_, (Option<Span>, Span)>
     Ok(((Some(first), function), rest))
 }
 
-/// A query.
+/// Reads what a query asks, in its parentheses.
+fn in_parentheses(alloc: Global, tokens: &[Token<Terminal>]) -> Read<'_, Ask>
+    ensures { Gives (λ x. (x.0, x.1.now)) result (read number (lines.in_parentheses lines.asked) tokens.now) }
+{
+    let (_, rest) = mark(tokens, Terminal::OpenParenthesis)?;
+    let (ask, rest) = asked(alloc, rest)?;
+    let (_, rest) = mark(rest, Terminal::CloseParenthesis)?;
+    Ok((ask, rest))
+}
+
+/// Reads a query.
 #[tactic(auto, unfolding(crate::specs::Source::query))]
 pub fn query(alloc: Global, tokens: &[Token<Terminal>]) -> Read<'_, QueryDecl>
     ensures { Gives (λ x. (x.0, x.1.now)) result (read number lines.query tokens.now) }
 {
     let (_, rest) = mark(tokens, Terminal::Query)?;
     let ((outer, function), rest) = signature_name(rest)?;
-    let (_, rest) = mark(rest, Terminal::OpenParenthesis)?;
-    let (ask, rest) = asked(alloc, rest)?;
-    let (_, rest) = mark(rest, Terminal::CloseParenthesis)?;
+    let (ask, rest) = in_parentheses(alloc, rest)?;
     let found = QueryDecl {
         outer,
         function,

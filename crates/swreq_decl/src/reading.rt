@@ -34,7 +34,7 @@ fn has(terminals: &[Terminal], terminal: Terminal) -> bool
         .any(|t| number_of(*t) == number_of(terminal))
 }
 
-/// One token of one of the terminals.
+/// Reads one token of one of the terminals.
 pub fn one_of<'a>(
     tokens: &'a [Token<Terminal>],
     terminals: &[Terminal],
@@ -54,7 +54,7 @@ pub fn mark(tokens: &[Token<Terminal>], terminal: Terminal) -> Read<'_, Token<Te
     one_of(tokens, &[terminal])
 }
 
-/// One token of the terminal. Another one is refused with the label.
+/// Reads one token of the terminal. Another one is refused with the label.
 pub fn labelled(
     tokens: &[Token<Terminal>],
     label: Kind,
@@ -68,7 +68,7 @@ pub fn labelled(
     Err(Stop::Refused(tokens, Some(label)))
 }
 
-/// A name.
+/// Reads a name.
 #[tactic(auto, unfolding(crate::specs::Source::name))]
 pub fn name(tokens: &[Token<Terminal>]) -> Read<'_, Span>
     ensures { Gives (λ x. (x.0, x.1.now)) result (read number lines.name tokens.now) }

@@ -3,20 +3,28 @@
 ghost use Rattle.std.specs.Prelude.{◌≡◌, ◌∷◌, []};
 ghost use Rattle.swreq_grammar.specs.Gives.{Gives};
 ghost use Rattle.swreq_grammar.specs.Reader.{read};
-ghost use Rattle.swreq_decl.specs.declared.terminal.Terminal.TheVariants.{Comma};
+ghost use Rattle.swreq_decl.specs.declared.terminal.Terminal.TheVariants.{Comma, EqualEqual};
 ghost use Rattle.swreq_decl.specs.Terminals.{number};
 ghost use Rattle.swreq_decl.specs.Source as lines;
 
 use crate::kind::Kind;
 use crate::reading::{Read, begins, mark};
-use crate::skeleton::ReqDecl;
+use crate::skeleton::{ReqDecl, TypeDecl};
 use crate::terminal::Terminal;
-use crate::types::{bounds, written_type};
+use crate::types::{bounds_after_colon, written_type};
 use std::alloc::Global;
 use swreq_grammar::{Part, Token, many};
 use swreq_text::Seq;
 
-/// A requirement.
+/// Reads a type after `==`.
+fn type_after_equals(alloc: Global, tokens: &[Token<Terminal>]) -> Read<'_, TypeDecl>
+    ensures { Gives (λ x. (x.0, x.1.now)) result (read number (lines.after (lines.mark EqualEqual) lines.written_type) tokens.now) }
+{
+    let (_, rest) = mark(tokens, Terminal::EqualEqual)?;
+    written_type(alloc, rest)
+}
+
+/// Reads a requirement.
 #[tactic(auto, unfolding(crate::specs::Source::requirement))]
 fn requirement(alloc: Global, tokens: &[Token<Terminal>]) -> Read<'_, ReqDecl>
     ensures { Gives (λ x. (x.0, x.1.now)) result (read number lines.requirement tokens.now) }
@@ -24,13 +32,10 @@ fn requirement(alloc: Global, tokens: &[Token<Terminal>]) -> Read<'_, ReqDecl>
     let (left, rest) = written_type(alloc, tokens)?;
     if begins(rest, &[Terminal::Colon]) {
         let subject = left;
-        let (_, rest) = mark(rest, Terminal::Colon)?;
-        let (found, rest) = bounds(alloc, rest)?;
-        let bounds = Seq::new(found);
+        let (bounds, rest) = bounds_after_colon(alloc, rest)?;
         return Ok((ReqDecl::Bound { subject, bounds }, rest));
     }
-    let (_, rest) = mark(rest, Terminal::EqualEqual)?;
-    let (right, rest) = written_type(alloc, rest)?;
+    let (right, rest) = type_after_equals(alloc, rest)?;
     Ok((ReqDecl::Same { left, right }, rest))
 }
 
@@ -60,7 +65,7 @@ impl Part for NextRequirement {
     }
 }
 
-/// The requirements after `where`, if it is there.
+/// Reads the requirements after `where`, if it is there.
 #[tactic(auto, unfolding(crate::specs::Source::where_clause, crate::specs::Source::conditions))]
 pub fn conditions(alloc: Global, tokens: &[Token<Terminal>]) -> Read<'_, Seq<ReqDecl>>
     ensures { Gives (λ x. (x.0, x.1.now)) result (read number lines.conditions tokens.now) }

@@ -52,8 +52,19 @@ impl Part for InnerFunction {
     }
 }
 
-/// A struct, from the word `struct` on.
-#[tactic(auto, unfolding(crate::specs::Source::structure, crate::specs::Source::inner_function, crate::specs::Source::access, crate::specs::Source::function))]
+/// Reads the functions of a struct, in their braces.
+#[tactic(auto, unfolding(crate::specs::Source::inner_function, crate::specs::Source::access, crate::specs::Source::function))]
+fn functions(alloc: Global, tokens: &[Token<Terminal>]) -> Read<'_, Seq<FunctionDecl>>
+    ensures { Gives (λ x. (x.0, x.1.now)) result (read number (lines.in_braces lines.inner_function) tokens.now) }
+{
+    let (_, rest) = mark(tokens, Terminal::OpenBrace)?;
+    let (found, rest) = many::<InnerFunction>(alloc, rest)?;
+    let (_, rest) = mark(rest, Terminal::CloseBrace)?;
+    Ok((Seq::new(found), rest))
+}
+
+/// Reads a struct, from the word `struct` on.
+#[tactic(auto, unfolding(crate::specs::Source::structure))]
 pub fn structure(alloc: Global, tokens: &[Token<Terminal>]) -> Read<'_, StructDecl>
     ensures { Gives (λ x. (x.0, x.1.now)) result (read number lines.structure tokens.now) }
 {
@@ -61,10 +72,7 @@ pub fn structure(alloc: Global, tokens: &[Token<Terminal>]) -> Read<'_, StructDe
     let (name, rest) = name(rest)?;
     let (params, rest) = params(alloc, rest)?;
     let (clause, rest) = conditions(alloc, rest)?;
-    let (_, rest) = mark(rest, Terminal::OpenBrace)?;
-    let (found, rest) = many::<InnerFunction>(alloc, rest)?;
-    let (_, rest) = mark(rest, Terminal::CloseBrace)?;
-    let functions = Seq::new(found);
+    let (functions, rest) = functions(alloc, rest)?;
     let found = StructDecl {
         name,
         params,

@@ -4,7 +4,7 @@ ghost use Rattle.std.specs.Prelude.{◌≡◌, ◌∷◌, []};
 ghost use Rattle.swreq_grammar.specs.Grammar.{terminal, mapped};
 ghost use Rattle.swreq_grammar.specs.Gives.{Gives};
 ghost use Rattle.swreq_grammar.specs.Reader.{read};
-ghost use Rattle.swreq_decl.specs.declared.terminal.Terminal.TheVariants.{Ampersand, AnyObject, Comma, Dot};
+ghost use Rattle.swreq_decl.specs.declared.terminal.Terminal.TheVariants.{Ampersand, AnyObject, Colon, Comma, Dot};
 ghost use Rattle.swreq_decl.specs.Terminals.{number};
 ghost use Rattle.swreq_decl.specs.Source as lines;
 
@@ -45,7 +45,7 @@ impl Part for NextArgument {
     }
 }
 
-/// The arguments of a constraint, if it has any.
+/// Reads the arguments of a constraint, if it has any.
 #[tactic(auto, unfolding(crate::specs::Source::args, crate::specs::Source::arguments))]
 fn arguments(alloc: Global, tokens: &[Token<Terminal>]) -> Read<'_, Seq<TypeDecl>>
     ensures { Gives (λ x. (x.0, x.1.now)) result (read number lines.arguments tokens.now) }
@@ -76,7 +76,7 @@ fn any_object(alloc: Global, tokens: &[Token<Terminal>]) -> Read<'_, Entity>
     Ok((found, rest))
 }
 
-/// The name of a protocol with its arguments, or `AnyObject`.
+/// Reads the name of a protocol with its arguments, or `AnyObject`.
 #[tactic(auto, unfolding(crate::specs::Source::entity, crate::specs::Source::name))]
 fn entity(alloc: Global, tokens: &[Token<Terminal>]) -> Read<'_, Entity>
     ensures { Gives (λ x. (x.0, x.1.now)) result (read number lines.entity tokens.now) }
@@ -90,7 +90,7 @@ fn entity(alloc: Global, tokens: &[Token<Terminal>]) -> Read<'_, Entity>
     Ok((Entity { span, layout, args }, rest))
 }
 
-/// The name of a protocol, or `AnyObject`, as a query has it.
+/// Reads the name of a protocol, or `AnyObject`, as a query has it.
 #[tactic(auto, unfolding(crate::specs::Source::qentity, crate::specs::Source::name))]
 pub fn query_entity(alloc: Global, tokens: &[Token<Terminal>]) -> Read<'_, Entity>
     ensures { Gives (λ x. (x.0, x.1.now)) result (read number lines.qentity tokens.now) }
@@ -130,17 +130,25 @@ impl Part for JoinedEntity {
     }
 }
 
-/// Entities joined by `&`.
+/// Reads entities joined by `&`.
 #[tactic(auto, unfolding(crate::specs::Source::bounds))]
-pub fn bounds(alloc: Global, tokens: &[Token<Terminal>]) -> Read<'_, Vec<Entity>>
-    ensures { Gives (λ x. (x.0.items, x.1.now)) result (read number lines.bounds tokens.now) }
+fn bounds(alloc: Global, tokens: &[Token<Terminal>]) -> Read<'_, Seq<Entity>>
+    ensures { Gives (λ x. (x.0, x.1.now)) result (read number lines.bounds tokens.now) }
 {
     let (first, rest) = entity(alloc, tokens)?;
     let (mut others, rest) = many::<JoinedEntity>(alloc, rest)?;
     let mut found = Vec::new(alloc);
     found.push(first)?;
     found.append(&mut others)?;
-    Ok((found, rest))
+    Ok((Seq::new(found), rest))
+}
+
+/// Reads bounds after `:`.
+pub fn bounds_after_colon(alloc: Global, tokens: &[Token<Terminal>]) -> Read<'_, Seq<Entity>>
+    ensures { Gives (λ x. (x.0, x.1.now)) result (read number (lines.after (lines.mark Colon) lines.bounds) tokens.now) }
+{
+    let (_, rest) = mark(tokens, Terminal::Colon)?;
+    bounds(alloc, rest)
 }
 
 /// A bound after `,` or `&`.
@@ -169,7 +177,7 @@ impl Part for NextInherited {
     }
 }
 
-/// What is inherited, if anything is.
+/// Reads what is inherited, if anything is.
 #[tactic(auto, unfolding(crate::specs::Source::inherit, crate::specs::Source::inherits))]
 pub fn inherits(alloc: Global, tokens: &[Token<Terminal>]) -> Read<'_, Seq<Entity>>
     ensures { Gives (λ x. (x.0, x.1.now)) result (read number lines.inherits tokens.now) }
@@ -186,7 +194,7 @@ pub fn inherits(alloc: Global, tokens: &[Token<Terminal>]) -> Read<'_, Seq<Entit
     Ok((Seq::new(found), rest))
 }
 
-/// The first word of a type.
+/// Reads the first word of a type.
 #[tactic(auto, unfolding(crate::specs::Source::head))]
 fn head(tokens: &[Token<Terminal>]) -> Read<'_, Span>
     ensures { Gives (λ x. (x.0, x.1.now)) result (read number lines.head tokens.now) }
@@ -223,7 +231,7 @@ impl Part for PlainStep {
     }
 }
 
-/// A type.
+/// Reads a type.
 #[tactic(auto, unfolding(crate::specs::Source::written_type))]
 pub fn written_type(alloc: Global, tokens: &[Token<Terminal>]) -> Read<'_, TypeDecl>
     ensures { Gives (λ x. (x.0, x.1.now)) result (read number lines.written_type tokens.now) }

@@ -89,7 +89,8 @@ within front a b o x h = elim (Contains-append_cases front (a ++ b) x h) [
   ])
 ]
 
--- A requirement that stayed is needed, also where only some of what stood before it are there: `some` of `front`, that derive what `front` does.
+-- A requirement that stayed is needed, also where only some of what stood before it is there: `some` of `front`, which derive what `front`
+-- does.
 pub none_left_out : {ds : List AssociatedType} {front rest out : List Owned} → Keeps ds front rest out → (some a b : List Owned) (o : Owned)
     → ((x : Owned) → Contains some x → Contains front x) → out ≡ a ++ (o ∷ b)
     → DeriveTheSame ds (some ++ (a ++ b)) (front ++ out) → ⊥

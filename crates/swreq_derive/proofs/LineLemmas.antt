@@ -129,7 +129,7 @@ stated_of terms m earlier (n ∷ ns) (st ∷ sts) of h =
     let x = number_map (λ (z : Line). z.statement) n earlier st h.0 in
     (subst (IsStatementOver terms m) x.2 (of (n - 1) x.0 x.1.1).1, stated_of terms m earlier ns sts of h.1)
 
--- Where these are the statements of the premises, a line follows just where its rule gives what it states.
+-- Where these are the statements of the premises, a line follows if and only if its rule gives what it states.
 pub follows_from : (terms : List Term) (m : IdFacts) (earlier : List Statement) (l : Line) (sts : List Statement) (b : _) → AreStated earlier l.premises sts
     → IsTrue b ↔ IsGiven terms m l.rule sts l.statement → IsTrue b ↔ IsNext terms m earlier l
 follows_from terms m earlier l sts b h w = (
@@ -182,7 +182,7 @@ said_before terms zero ls = refl
 said_before terms (suc k) [] = refl
 said_before terms (suc k) (l ∷ ls) = ap (λ z. statement_of terms l.statement ∷ z) (said_before terms k ls)
 
--- the k-th line, over type parameters, follows just where the k-th line does
+-- the k-th line, over type parameters, follows if and only if the k-th line does
 pub next_at : (terms : List Term) (m : IdFacts) (ls : List Line) (k : ℕ) (l : Line)
     → IsNext terms m (stated_by (take k ls)) l ↔ Follows (term_facts terms m) (generic_params m.params) (map (requirement_of terms) m.written) (take k (statements_of (map (line_of terms) ls))) (line_of terms l)
 next_at terms m ls k l = (

@@ -108,7 +108,7 @@ statements_of ls = map (λ l. l.statement) ls
 abbrev pub IsDerivation : TermFacts → List ParamId → List TermRequirement → List TermLine → Type 0
 IsDerivation f params written ls = (k : ℕ) (l : TermLine) → slice_get ls k ≡ Some l → Follows f params written (take k (statements_of ls)) l
 
--- The line with this number is the first that is no instance of its rule over the lines before it.
+-- The line with this number is the first that is not an instance of its rule over the lines before it.
 pub record IsFirstBad (f : TermFacts) (params : List ParamId) (written : List TermRequirement) (ls : List TermLine) (n : ℕ) : Type 0 where
   pub line : TermLine
   pub number : HasNumber n ls line

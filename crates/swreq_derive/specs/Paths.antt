@@ -29,13 +29,13 @@ pub record IsConformancePath (f : TermFacts) (params : List ParamId) (written : 
 abbrev pub IsShortest : TermFacts → List ParamId → List TermRequirement → List ℕ → Term → ProtoId → Type 0
 IsShortest f params written steps t p = (k : ℕ) (ns : List ℕ) → IsConformancePath f params written k ns t p → length steps ≤ length ns
 
--- Of two lists of numbers as long as each other, the first comes before the second, from the left.
+-- Of two lists of numbers of the same length, the first comes before the second, from the left.
 abbrev pub NumbersBefore : List ℕ → List ℕ → Type 0
 NumbersBefore [] ys = ⊥
 NumbersBefore (x ∷ xs) [] = ⊥
 NumbersBefore (x ∷ xs) (y ∷ ys) = (x < y) ⊎ ((x ≡ y) × NumbersBefore xs ys)
 
--- The conformance path that is given for [T : P]: none is shorter, and of those as long as it none has numbers that come before its own.
+-- The conformance path that is given for [T : P]: none is shorter, and none of the same length has numbers that come before its own.
 pub record IsGivenPath (f : TermFacts) (params : List ParamId) (written : List TermRequirement) (first : ℕ) (steps : List ℕ) (t : Term) (p : ProtoId) : Type 0 where
   pub path : IsConformancePath f params written first steps t p
   pub shortest : IsShortest f params written steps t p

@@ -50,7 +50,7 @@ pub trait Facts {
         ensures { result.now ≡ (meaning self.now).of_protocol p };
 
     /// The associated type that a protocol of the facts declares by a name of the facts, or None
-    /// exactly where it declares none.
+    /// if and only if it declares none.
     fn declared(&self, p: ProtoId, a: NameId) -> Option<AssocId>
         requires proto { p.rank < (meaning self.now).protocols }
         requires name { a.rank < (meaning self.now).names }

@@ -38,7 +38,7 @@ pub struct Line {
     pub statement: Statement,
 }
 
-/// The first line that is no instance of its rule over earlier lines, by its number.
+/// The first line that is not an instance of its rule over earlier lines, by its number.
 #[derive(Clone, Copy, Debug, PartialEq, Eq)]
 pub struct BadLine {
     pub line: usize,

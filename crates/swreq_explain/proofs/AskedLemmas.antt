@@ -1,4 +1,4 @@
--- What is derivable from the list of a signature, reduction by the rules of its book shows.
+-- Reduction by the rules of a signature's book shows what is derivable from its list.
 use Rattle.std.proofs.Common.{List, []}
 use Rattle.swreq_rule.specs.declared.rules.Rule.{Rule}
 use Rattle.swreq_complete.specs.Alike.{ReduceAlike}

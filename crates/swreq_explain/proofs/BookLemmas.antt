@@ -1,4 +1,4 @@
--- The book of a machine is one, and fits the facts of its signature.
+-- The book of a machine is a book (`IsBook`), and fits the facts of its signature.
 use Rattle.std.proofs.Common.{◌≡◌, ◌∙◌, inl, inr, ℕ, suc, ◌+◌, ◌-◌, ◌<◌, ◌≤◌, ◌^◌, List, [], ◌∷◌, ◌++◌, Option, Some, None, ap, ap₂, arith, length, length-append, map, refl, slice_get, subst, sym}
 use Rattle.std.proofs.lemmas.List.{map-append}
 use Rattle.std.proofs.lemmas.Option.{get_or_from_slice_get, same_Some, slice_get-get_or, slice_get_within}
@@ -73,7 +73,7 @@ module _ (m : Symbols) (terms : List Term) (o : Origin) where
     ];
   }
 
-  -- the system of a round
+  -- each round has its system, with the round's rules
   pub system_in : (vs : List System) → AreSystemsOf m terms o vs → (k : ℕ) (round : RoundView) → slice_get o.course.rounds k ≡ Some round
       → (v : System) × (slice_get vs k ≡ Some v) × (v.rules ≡ round.rules) × (length v.rules < 2 ^ 32 - 1)
   system_in vs h k round e =
@@ -83,7 +83,7 @@ module _ (m : Symbols) (terms : List Term) (o : Origin) where
       let same : made.round ≡ round = same_Some _ _ (sym made.there ∙ e) in
       (v, at, made.rules ∙ ap (λ (z : RoundView). z.rules) same, made.few)
 
-  -- the rules of a round are few
+  -- a round has fewer than 2^32 - 1 rules
   pub few_rules : (vs : List System) → AreSystemsOf m terms o vs → (k : ℕ) (round : RoundView) → slice_get o.course.rounds k ≡ Some round
       → length round.rules < 2 ^ 32 - 1
   few_rules vs h k round e =
@@ -154,7 +154,7 @@ module _ (terms : List Term) (o : Origin) (plan : Plan) (b : Book) (list : List 
         (subst (λ z. IsBorn (length plan.base) z v.rules j rule.birth) (sym given_is)
         (subst (λ z. IsBorn (length plan.base) (given plan (chosen plan.all is.round.used)) z j rule.birth) (sym is.rules) h))
 
-    -- an equation of a used requirement is of one that the rules of an earlier system show usable
+    -- the rules of an earlier system show that the requirement of each equation is usable
     module _ (r : ℕ) (shown : (x : Numbered) (s : ℕ) → IsShownBy o.course k x s
         → (s < r) × AreShownByReduction plan (rules_at b s) (item_by terms (generic_params b.ground.params) list x)) where
       basic_given : (why : Reason) (left right : Word) → IsBasicBy o.members why left right → IsGivenBy b r why left right
@@ -204,7 +204,7 @@ module _ (terms : List Term) (w : IdWorld) (fn : FuncId) (p : ProtocolsView) (m 
   abbrev f : TermFacts
   f = facts_of (world_by terms w)
 
-  -- what the list of the signature says
+  -- the requirements of the signature's list
   abbrev pub own_list : List TermRequirement
   own_list = listed terms (bare (signature_at w fn).requirements)
 
@@ -272,7 +272,7 @@ module _ (terms : List Term) (w : IdWorld) (fn : FuncId) (p : ProtocolsView) (m 
   own_few : (k : ℕ) (round : RoundView) → slice_get m.rounds k ≡ Some round → length round.rules < 2 ^ 32 - 1
   own_few = few_rules (symbols_of w.lexicon) terms own_origin is.own is.of_list
 
-  -- the rules of the protocols, over which the rounds of the list begin
+  -- the rules of the protocols, which the rounds of the list begin with, are complete
   base_complete : IsComplete own_plan.base
   base_complete =
       let (used, ends) = last_ends rounds.protocols.1 in

@@ -1,4 +1,4 @@
--- The first lines of a derivation, up to one that states this.
+-- The first lines of a derivation, up to the line that states this.
 use Rattle.std.proofs.Common.{◌≡◌, ◌∙◌, ℕ, zero, suc, ◌-◌, ◌≤◌, List, [], ◌∷◌, ap, arith, map, refl, subst, sym, take}
 use Rattle.swreq_orders.proofs.Elements.{get_map, get_of_map, in_whole, take_one}
 use Rattle.swreq_param.specs.Tables.{AreDistinct}
@@ -25,7 +25,7 @@ front_of_front (suc k) zero xs l = absurd (omega (arith, l))
 front_of_front (suc k) (suc n) [] l = refl
 front_of_front (suc k) (suc n) (x ∷ xs) l = ap (λ ys. x ∷ ys) (front_of_front k n xs (omega (arith, l)))
 
--- the first lines of a derivation are one
+-- the first lines of a derivation are a derivation
 pub front_derived : (terms : List Term) (m : IdFacts) (ls : List Line) (n : ℕ) → AreDerived terms m ls → AreDerived terms m (take n ls)
 front_derived terms m ls n d k l e =
     let (x, at, same) = get_of_map (line_of terms) (take n ls) k l e in

@@ -31,7 +31,7 @@ use Rattle.swreq_symbols.proofs.Declared.{at_rank, from_rank, symbol_at}
 use Rattle.swreq_symbols.proofs.Symbols.{text_law}
 use Rattle.swreq_explain.specs.Grounded.{IsGroundOf, named_by, parent}
 
--- no more than there are
+-- no more numbers below n pass a test than there are
 below_count : (test : ℕ → Bool) (n : ℕ) → count_below test n ≤ n
 below_count test zero = omega arith
 below_count test (suc n) = let h = below_count test n in let e = one (test n) in omega (arith, h, e)
@@ -40,7 +40,7 @@ below_count test (suc n) = let h = below_count test n in let e = one (test n) in
     one true = omega arith
     one false = omega arith
 
--- The first step of a chain of written inheritance.
+-- A chain of written inheritance begins with a step to a direct parent.
 first_step : {f : TermFacts} {p r q : ProtoId} → LeadsTo f p r → InheritsDirectly f r q → (e : ProtoId) × InheritsDirectly f p e × LeadsTo f e q
 first_step {f} {p} {r} {q} here i = (q, i, here)
 first_step {f} {p} {r} {q} (further l j) i = let s = first_step l j in (s.0, s.1, further s.2 i)
@@ -78,7 +78,7 @@ module _ (terms : List Term) (w : IdWorld) (params : Params) (g : Ground) (is : 
 
   -- ---- inheritance
 
-  -- a protocol that is inherited directly is a parent, and of the text
+  -- a protocol that p inherits directly is a parent of p in the ground, and both are protocols of the text
   parent_is : (p e : ProtoId) → InheritsDirectly f p e → (n : ℕ) × Contains g.parents (parent p n e) × IsProtocol x p × IsProtocol x e
   parent_is p e c =
       let (k, at) = contains_get (f.of_protocol p) (Conforms self e) c in
@@ -88,7 +88,7 @@ module _ (terms : List Term) (w : IdWorld) (params : Params) (g : Ground) (is : 
       let same : suc k - 1 ≡ k = omega arith in
       (suc k, is.parents.all p e (suc k) (inl here_p) (omega arith, ap (slice_get (f.of_protocol p)) same ∙ at), here_p, here_e)
 
-  -- a member name of the text has a symbol
+  -- a member name of a protocol of the text has its member symbol in the ground
   has_symbol : (p : ProtoId) (a : _) → IsProtocol x p → HasMember x p a → IsMember g p a
   has_symbol p a l h =
       let (k, at) = contains_get x.symbols (pair p a) ((closed.ids.symbols p a).1 (l, h)) in

@@ -41,7 +41,7 @@ steps_append m (Member t x) rest =
 pub spell_append : (m : Symbols) (s : Source) (t : Term) (rest : Word) → spell m s t rest ≡ word_of m s t ++ rest
 spell_append m s t rest = ap (λ z. start s (head t) ∷ z) (steps_append m t rest)
 
--- Words of a list are the same whatever the list is.
+-- The words of a requirement do not depend on the list.
 pub left_by : (m : Symbols) (params : List ParamId) (list : List TermRequirement) (owner : Option ProtoId) (r : TermRequirement)
     → left_side m (source_by owner) r ≡ left_side m (source_in params list owner) r
 left_by m params list None (Conforms t p) = refl

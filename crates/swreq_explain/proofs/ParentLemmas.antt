@@ -1,4 +1,4 @@
--- The written inheritance, requirement by requirement.
+-- How the written inheritance is collected, one requirement after another.
 use Rattle.std.proofs.Common.{◌≡◌, ◌∙◌, inl, inr, ℕ, ◌+◌, ◌-◌, ◌<◌, ◌^◌, List, [], ◌∷◌, ◌++◌, All, Some, Contains, ap, arith, length, map, slice_get, subst, sym}
 use Rattle.std.proofs.lemmas.Bool.{cases_lt}
 use Rattle.std.proofs.lemmas.List.{get_or_past, length-map}
@@ -37,7 +37,7 @@ own_requirement w terms text p r c = elim (cases_lt p.rank (length w.requirement
   | inr l ↦ no_member r (subst (λ z. Contains z r) (get_or_past w.requirements p.rank [] l) c)
 ]
 
--- lists of protocols are short
+-- the requirements of a protocol are numbered by 32 bits
 pub short_list : (w : IdWorld) → All (λ (rs : List Written). length rs < 2 ^ 32) w.requirements → (p : ProtoId) → length (requirements_of w p) < 2 ^ 32
 short_list w all p = elim (cases_lt p.rank (length w.requirements)) [
   | inl l ↦ All-get_or (λ (rs : List Written). length rs < 2 ^ 32) w.requirements p.rank [] l all
@@ -48,7 +48,7 @@ module _ (f : TermFacts) (p : ProtoId) (terms : List Term) (list : List Requirem
   required_at : (k : ℕ) (r : Requirement) → slice_get list k ≡ Some r → slice_get (f.of_protocol p) k ≡ Some (requirement_of terms r)
   required_at k r e = ap (λ (z : List TermRequirement). slice_get z k) of ∙ get_map (requirement_of terms) list k r e
 
-  -- the requirement with the next number is this one
+  -- the requirement with the next number is the one at the next place of the list
   next_is : (k n : ℕ) (r : Requirement) (q o : ProtoId) → slice_get list k ≡ Some r → q.rank ≡ p.rank → n ≡ k + 1
       → HasNumber n (f.of_protocol q) (Conforms self o) → requirement_of terms r ≡ Conforms self o
   next_is k n r q o e same number h =

@@ -19,14 +19,14 @@ use Rattle.swreq_explain.specs.Uses.{HaveFlags}
 
 -- ---- flags
 
--- flags of which none is set
+-- flags that are all false have none set
 pub none_set : (n k : ℕ) → slice_get (replicate n false) k ≡ Some true → ⊥
 none_set zero k e = cc
 none_set (suc n) zero e = cc
 none_set (suc n) (suc k) e = none_set n k e
 
 module _ {A : Type 0} where
-  -- what is chosen is of the list
+  -- what the flags choose from a list stands in the list
   pub chosen_of : (xs : List A) (bs : List Bool) (k : ℕ) (x : A) → slice_get (chosen xs bs) k ≡ Some x → (j : ℕ) × (slice_get xs j ≡ Some x)
   chosen_of [] bs k x e = cc
   chosen_of (y ∷ xs) [] k x e = cc
@@ -34,7 +34,7 @@ module _ {A : Type 0} where
   chosen_of (y ∷ xs) (true ∷ bs) (suc k) x e = let h = chosen_of xs bs k x e in (suc h.0, h.1)
   chosen_of (y ∷ xs) (false ∷ bs) k x e = let h = chosen_of xs bs k x e in (suc h.0, h.1)
 
-  -- what the flags tell holds where the flag is set
+  -- what the flags tell holds of an item whose flag is set
   pub set_holds : (P : A → Type 0) (xs : List A) (bs : List Bool) → Tells P xs bs → (k : ℕ) (x : A) → slice_get xs k ≡ Some x
       → slice_get bs k ≡ Some true → P x
   set_holds P [] [] t k x e f = cc
@@ -43,7 +43,7 @@ module _ {A : Type 0} where
   set_holds P (y ∷ xs) (b ∷ bs) t zero x e f = let same : y ≡ x = cc in let set : b ≡ true = cc in subst P same (t.0.0 set)
   set_holds P (y ∷ xs) (b ∷ bs) t (suc k) x e f = set_holds P xs bs t.1 k x e f
 
-  -- and where flags are set and more flags, it holds where only the second is
+  -- what the second flags tell more than the first holds of an item whose second flag is set and whose first flag is not
   pub more_holds : (P : A → Type 0) (xs : List A) (bs cs : List Bool) → TellsMore P xs bs cs → (k : ℕ) (x : A) → slice_get xs k ≡ Some x
       → slice_get cs k ≡ Some true → (slice_get bs k ≡ Some true → ⊥) → P x
   more_holds P [] [] [] t k x e f no_flag = cc
@@ -71,13 +71,13 @@ module _ {A : Type 0} where
 
 -- ---- rounds
 
--- The equations of what it uses bear its rules, from the base on.
+-- The round's rules begin with the base. The rules past the base are born of the equations of what the round uses.
 abbrev pub IsReachedRound : Plan → RoundView → Type 0
 IsReachedRound plan round =
     BeginsWith plan.base round.rules × IsReached (length plan.base) (given plan (chosen plan.all round.used)) round.rules
 
--- After the round these flags are set: those of what its rules show where it ended, and otherwise those that it had and those of what
--- reduction by its rules shows.
+-- The flags after the round. If the round ended, they are set for what its rules show. Otherwise they are set for what the round used and
+-- for what reduction by its rules shows.
 abbrev pub LeavesFlags : Limits → Plan → RoundView → List Bool → Type 0
 LeavesFlags limits plan round flags =
     (Ends limits plan (chosen plan.all round.used) round.rules × Tells (AreShown plan round.rules) plan.all flags)
@@ -115,7 +115,7 @@ module _ {limits : Limits} {plan : Plan} where
   first_used {used} (once_more {rules = rules} j o) round is =
       let same : short_round used rules ≡ round = cc in sym (ap (λ (r : RoundView). r.used) same)
 
-  -- What a round uses, the one before it left.
+  -- A round uses what the round before it left.
   pub left_at : {used : List Bool} {first : Option Passed} {rounds : List RoundView} → AreRoundsFrom limits plan used first rounds
       → (k : ℕ) (earlier round : RoundView) → slice_get rounds k ≡ Some earlier → slice_get rounds (suc k) ≡ Some round
       → LeavesFlags limits plan earlier round.used
@@ -161,7 +161,7 @@ module _ {limits : Limits} {plan : Plan} where
 
   -- ---- the last round
 
-  -- the last round ends
+  -- the last round ended
   pub last_ends : {used : List Bool} {first : Option Passed} {rounds : List RoundView} → AreRoundsFrom limits plan used first rounds
       → (last : List Item) × Ends limits plan last (last_rules rounds)
   last_ends {used} (the_last due e t) = (chosen plan.all used, e)
@@ -175,7 +175,7 @@ module _ {limits : Limits} {plan : Plan} where
       let h = last_ends o in
       (h.0, subst (Ends limits plan h.0) (sym (last_of (short_round used rules) others (some_round o))) h.1)
 
--- the rules of a round that ended are complete where those of the base are
+-- if the rules of the base are complete, so are the rules of a round that ended
 pub ended_complete : (limits : Limits) (plan : Plan) (used : List Item) (rules : List Rule) → IsComplete plan.base
     → Ends limits plan used rules → length rules < 2 ^ 32 - 1 → IsComplete rules
 ended_complete limits plan used rules c e few =
@@ -195,7 +195,7 @@ none_complete = record {
     no_rule : (k : ℕ) (rule : Rule) → slice_get [] k ≡ Some rule → ⊥
     no_rule k rule e = cc
 
--- There is a last round where there is one.
+-- If there are rounds, there is a last one, and it has the last rules.
 pub last_is : (rounds : List RoundView) → 0 < length rounds
     → (round : RoundView) × (slice_get rounds (length rounds - 1) ≡ Some round) × (round.rules ≡ last_rules rounds)
 last_is [] l = absurd (omega (arith, l))

@@ -50,7 +50,7 @@ module _ (d : Desk) (x : Side) (t : Term) where
   pub read_ids : (s : Sheet) (r : ReadAs) → IsReadAt d x t s r → AreEqualIds s r.itself r.word
   read_ids s r h = (h.itself_of, h.word_of, read_equal s r h)
 
-  -- what lines allow after its word they allow after the type parameter that the word is read as
+  -- if lines allow the word with one symbol more, they allow the symbol after the type parameter that the word is read as
   pub vanished : (s : Sheet) (r : ReadAs) (y : Symbol) (longer : List Symbol) → IsReadAt d x t s r → longer ≡ x.word.now ++ y ∷ []
       → SaysWord (ground_at d) s t longer → SaysSymbol (ground_at d) s (term_at s.table r.word) y
   vanished s r y longer h e w =
@@ -68,7 +68,7 @@ module _ (g : Ground) (owner : Option ProtoId) (rules : List Rule) (t b : Term) 
   abbrev s : Source
   s = source_of g h.list owner
 
-  -- its word is that of the member without the last symbol
+  -- the word of the base is the word of the member without the last symbol
   front_is : take (length w - 1) w ≡ word_of h.symbols s b
   front_is =
       let e : w ≡ word_of h.symbols s b ++ symbol h.symbols x ∷ []
@@ -96,7 +96,7 @@ module _ (g : Ground) (owner : Option ProtoId) (rules : List Rule) (t b : Term) 
       of (Name a) v = (let (p, d, c, k) = v.1 in (d.rank, record { proto = p; name = a }, (h.are.associated p a d c, refl, on p k)))
       of (Bound d) v = (let (p, a, c, k) = v.1 in (d.rank, record { proto = p; name = a }, (h.are.associated p a d c, refl, on p k)))
 
--- a generic parameter that is shown is one of the list
+-- a generic parameter that the rules show valid is one of the list
 pub shown_generic : (g : Ground) (rules : List Rule) (t : Term) (p : ParamId) (w : List Symbol) → t ≡ Generic p → IsShown g None rules t w
     → Contains (generic_params g.params) p
 shown_generic g rules t p w is h = subst (ShowsValid h.symbols h.facts (source_of g h.list None) (ReduceAlike rules)) is h.shown

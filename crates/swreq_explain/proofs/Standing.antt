@@ -33,7 +33,7 @@ use Rattle.swreq_explain.specs.Books.{IsBookFor, basis_of}
 use Rattle.swreq_explain.specs.Written.{AreWritten, IsBasisOver}
 use Rattle.swreq_explain.proofs.TextLines.{lines_are_of}
 
--- A query asks one signature.
+-- A query asks of one signature only.
 pub asks_one : (q : Query) (f g : FuncId) (r s : Requirement) → Asks q f r → Asks q g s → f ≡ g
 asks_one (queries.Signature h) f g r s a b = absurd a
 asks_one (queries.Reduced h t) f g r s a b = absurd a
@@ -72,7 +72,7 @@ module _ (terms : List Term) (w : IdWorld) (f : FuncId) (text : IsTextOver terms
       lines_are_of (world_by terms w) text.closed m refl refl (generic_params m.params) (map (requirement_of terms) m.written) listed terms ls
       (subst (λ (z : TermFacts). IsDerivation z (generic_params m.params) (map (requirement_of terms) m.written) (map (line_of terms) ls)) (facts_are w terms f) d) ids
 
--- The book answers for the signature still, over a table that has grown.
+-- The book still answers for the signature over a table that has grown.
 pub book_stays : (old new : List Term) (w : IdWorld) (f : FuncId) (b : Book) → Extends old new → IsOverTable old w → IsBookFor (world_by old w) f b
     → IsBookFor (world_by new w) f b
 book_stays old new w f b more over h = subst (λ (z : TextWorld). IsBookFor z f b) (sym (world_stays old new more w over)) h

@@ -1,4 +1,4 @@
--- The lines of a derivation over the facts of a world are of the world.
+-- The lines of a derivation over the facts of a world mention only what the world has.
 use Rattle.std.proofs.Common.{◌≡◌, ℕ, zero, suc, ◌-◌, ◌<◌, List, [], ◌∷◌, Contains, Some, arith, length, map, slice_get, subst, sym, take}
 use Rattle.swreq_orders.proofs.Elements.{contains_get, get_contains, get_map, get_of_map}
 use Rattle.swreq_param.specs.declared.ids.ParamId.{ParamId}
@@ -36,7 +36,7 @@ module _ (w : TextWorld) (closed : IsClosed w) (m : IdFacts) (protocols : m.prot
   abbrev f : TermFacts
   f = facts_of w
 
-  -- a protocol to which a type parameter is stated to conform is of the text
+  -- if it is stated that a type parameter conforms to a protocol, the protocol is of the text
   abbrev pub IsStated : TermStatement → Type 0
   IsStated (IsValid t) = Unit {0}
   IsStated (Requires (Conforms t p)) = p.rank < m.protocols

@@ -1,4 +1,4 @@
--- The rules that show a requirement which a round uses.
+-- The rules that show a requirement that a round uses.
 use Rattle.std.proofs.Common.{◌≡◌, ◌∙◌, inl, inr, ℕ, zero, suc, ◌-◌, ◌<◌, ◌≤◌, ◌^◌, List, Some, ap, arith, length, map, slice_get, sym}
 use Rattle.std.proofs.lemmas.Bool.{cases_lt}
 use Rattle.std.proofs.lemmas.Option.{slice_get_within}
@@ -18,20 +18,20 @@ use Rattle.swreq_explain.specs.Uses.{Course, Uses, UsesFirst}
 use Rattle.swreq_complete.proofs.Alike.{linked_are_alike}
 use Rattle.swreq_explain.proofs.RoundLemmas.{ended_complete, left_at, more_holds, none_at_first, none_set, set_holds}
 
--- The first round that uses it is not after one that does.
+-- The first round that uses a requirement comes no later than any round that uses it.
 pub first_within : (rounds : List RoundView) (first k place : ℕ) → UsesFirst rounds first place → Uses rounds k place → first ≤ k
 first_within rounds first k place h u = elim (cases_lt k first) [
   | inl l ↦ absurd (h.none_before k l u)
   | inr l ↦ omega (arith, l)
 ]
 
--- what complete rules show, reduction by them shows
+-- reduction by complete rules shows what the rules show
 shown_by_complete : (plan : Plan) (rules : List Rule) (x : Item) → IsComplete rules → AreShown plan rules x
     → AreShownByReduction plan rules x
 shown_by_complete plan rules x c =
     usable_by_more plan.symbols plan.facts x.source (Linked (Step rules)) (ReduceAlike rules) (linked_are_alike rules c) x.requirement
 
--- There is a round before, by whose rules reduction shows it.
+-- There is a round right before this one, and reduction by its rules shows the requirement.
 pub record ShownBefore (plan : Plan) (rounds : List RoundView) (round : ℕ) (x : Item) : Type 0 where
   pub before : ℕ
   pub next : round ≡ suc before

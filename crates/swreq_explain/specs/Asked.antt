@@ -1,4 +1,4 @@
--- Of what lines are written: what is asked, and the rounds from which it follows.
+-- What lines are written for: what a query asks, and the rounds that it follows from.
 use Rattle.std.specs.Prelude.{◌≡◌, ◌<◌, List, length}
 use Rattle.swreq_param.specs.Terms.{Term}
 use Rattle.swreq_derive.specs.declared.requirements.Requirement.{Requirement}
@@ -34,7 +34,8 @@ pub record IsYes (terms : List Term) (w : IdWorld) (f : FuncId) (q : Query) : Ty
   pub derivable : Derivable (facts_of (world_by terms w)) (source_of (signature_at (world_by terms w) f))
       (Requires (requirement_of terms requirement))
 
--- The signature is of the world. These are the rounds of the protocols, and over their rules those of the machine of the signature's list.
+-- The signature is of the world. These are the rounds of the protocols, and the rounds of the machine of its list, which begin with the
+-- protocols' rules.
 pub record AreRoundsFor (terms : List Term) (w : IdWorld) (f : FuncId) (p : ProtocolsView) (m : MachineView) : Type 0 where
   pub signature : f.place < length w.signatures
   pub params : m.params ≡ (signature_at w f).params

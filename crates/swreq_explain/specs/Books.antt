@@ -60,7 +60,7 @@ pub record IsBookOf (terms : List Term) (w : IdWorld) (f : FuncId) (p : Protocol
 
 -- ---- a book that answers for a signature
 
--- From what its lines are derived: the facts of the text, and the list of the signature with its generic parameters.
+-- What its lines are derived from: the facts of the text, and the list of the signature with its generic parameters.
 abbrev pub basis_of : TextWorld → FuncId → Basis
 basis_of w f = record {
   facts = facts_of w;
@@ -68,7 +68,8 @@ basis_of w f = record {
   written = written_list (signature_at w f);
 }
 
--- It is a book, and its equations are of what is written. Its last system has the rules of the list of the signature, which are complete.
+-- It is a book, and its equations are of written requirements. Its last system has the rules of the signature's list, and they are
+-- complete.
 pub record IsBookFor (w : TextWorld) (f : FuncId) (b : Book) : Type 0 where
   pub book : IsBook b
   pub fits : FitsBook b (basis_of w f)

@@ -31,16 +31,16 @@ abbrev pub numbered_from : Option ProtoId → ℕ → List Requirement → List 
 numbered_from owner n [] = []
 numbered_from owner n (r ∷ rs) = record { owner = owner; number = n; requirement = r } ∷ numbered_from owner (suc n) rs
 
--- the requirements of these protocols, in order, each counted from 1
+-- the requirements of these protocols, in order; the numbers of each protocol begin with 1
 abbrev pub numbered_in : IdWorld → List ProtoId → List Numbered
 numbered_in w [] = []
 numbered_in w (p ∷ ps) = numbered_from (Some p) 1 (bare (requirements_of w p)) ++ numbered_in w ps
 
--- The requirements are of the table and of the text.
+-- The type parameters of the requirements are of the table, and their protocols are of the text.
 abbrev pub AreNumberedIn : List Term → LexiconView → List Numbered → Type 0
 AreNumberedIn terms x all = (n : Numbered) → Contains all n → IsRequirementIn terms x n.requirement
 
--- over what it is read: [τ_0_0 : P], or the list with these generic parameters
+-- what a requirement is read over: [τ_0_0 : P], or the list with these generic parameters
 abbrev pub source_in : List ParamId → List TermRequirement → Option ProtoId → Source
 source_in params list (Some p) = SelfOf p
 source_in params list None = WrittenList params list
@@ -50,11 +50,11 @@ item_by terms params list x = record { source = source_in params list x.owner; r
 
 -- ---- equations
 
--- the two sides
+-- the left side and the right side
 abbrev pub sides_of : Equation → Word × Word
 sides_of e = (e.left, e.right)
 
--- The equation is a basic one, by its reason.
+-- The equation is the basic one that its reason names.
 abbrev pub IsBasicBy : List Named → Reason → Word → Word → Type 0
 IsBasicBy members (Doubled p) left right = (left ≡ Proto p.rank ∷ Proto p.rank ∷ []) × (right ≡ Proto p.rank ∷ [])
 IsBasicBy members (NamedBy k) left right =
@@ -65,13 +65,13 @@ IsBasicBy members (Required owner n q shown) left right = ⊥
 abbrev pub AreBasic : List Named → List Equation → Type 0
 AreBasic members given = (k : ℕ) (e : Equation) → slice_get given k ≡ Some e → IsBasicBy members e.reason e.left e.right
 
--- The reason is that the requirement is written, with this number, and that the rules of the system show its type parameters.
+-- The reason is that the requirement is written, with this number, and that the rules of the system show its type parameters valid.
 pub record IsReasonOf (terms : List Term) (x : Numbered) (shown : ℕ) (why : Reason) : Type 0 where
   pub requirement : Owned
   pub stands : requirement_by requirement ≡ requirement_of terms x.requirement
   pub is : why ≡ Required x.owner x.number requirement shown
 
--- It is the equation of the requirement, which the rules of this system show.
+-- It is the equation of the requirement, and its reason names this system.
 pub record IsEquationOf (m : Symbols) (terms : List Term) (x : Numbered) (shown : ℕ) (e : Equation) : Type 0 where
   pub left : e.left ≡ left_side m (source_by x.owner) (requirement_of terms x.requirement)
   pub right : e.right ≡ right_side m (source_by x.owner) (requirement_of terms x.requirement)

@@ -11,8 +11,8 @@ use Rattle.swreq_explain.specs.declared.numbered.Numbered.{Numbered}
 use Rattle.swreq_explain.specs.Numbering.{AreBasic, AreEquationsOf, sides_of}
 use Rattle.swreq_explain.specs.Uses.{Course}
 
--- From what the systems of rounds are made: the base of each, the system that has it, the basic equations, and the rounds with the
--- requirements that they may use.
+-- What the systems of rounds are made from: how many rules the base has, the place of the system that has it, the basic equations, and the
+-- rounds with the requirements that they may use.
 pub record Origin : Type 0 where
   pub base : ℕ
   pub below : ℕ
@@ -20,7 +20,7 @@ pub record Origin : Type 0 where
   pub basic : List (Word × Word)
   pub course : Course
 
--- Systems with this base, which the system at `below` has, with these basic equations and these rounds are made from it.
+-- The base, the place of the system below, the rounds and the basic equations are those of the origin.
 pub record IsBegun (o : Origin) (base below : ℕ) (course : Course) (basic : List Equation) : Type 0 where
   pub base_is : base ≡ o.base
   pub below_is : below ≡ o.below
@@ -28,7 +28,7 @@ pub record IsBegun (o : Origin) (base below : ℕ) (course : Course) (basic : Li
   pub sides : map sides_of basic ≡ o.basic
   pub are_basic : AreBasic o.members basic
 
--- The equations are the basic ones, and those of the requirements that are used in the round k.
+-- The equations are the basic ones, and then those of the requirements that the round k uses.
 pub record AreGiven (m : Symbols) (terms : List Term) (o : Origin) (k : ℕ) (used : List Numbered) (given : List Equation) : Type 0 where
   pub basic : List Equation
   pub more : List Equation

@@ -1,4 +1,4 @@
--- Over what a requirement of a list is stated.
+-- What a requirement of a list is stated from.
 use Rattle.std.specs.Prelude.{◌≡◌, ◌++◌, [], ◌∷◌, List, None}
 use Rattle.swreq_param.specs.Owned.{as_term}
 use Rattle.swreq_param.specs.Tables.{IsOf, term_at}
@@ -18,21 +18,21 @@ use Rattle.swreq_explain.specs.declared.sides.Side.{Side}
 abbrev pub ground_at : Desk → Ground
 ground_at d = d.book.now.ground
 
--- the rules that show what is stated
+-- the rules of the system, which show what is stated
 abbrev pub rules_of : Desk → List Rule
 rules_of d = rules_at d.book.now d.system
 
--- The system is of the book, and the type parameter after which words are read is of the sheet.
+-- The book has the system, and the type parameter after which words are read is of the sheet's table.
 pub record IsReady (d : Desk) (s : Sheet) : Type 0 where
   pub system : HasSystem d.book.now d.system
   pub sheet : IsSheet s
   pub t : IsOf s.table d.t
 
--- The rules show that it is a type parameter of the list, and this is its word.
+-- The rules show that the type parameter is valid over the list, and this is its word.
 abbrev pub IsSide : Desk → Side → Type 0
 IsSide d x = IsShown (ground_at d) None (rules_of d) (as_term x.param.now) x.word.now
 
--- By the rules the word of the type parameter, and that word with the symbol after it, reduce to one.
+-- The rules reduce the word of the type parameter, and that word with the symbol after it, to one word.
 abbrev pub Vanishes : Desk → Side → Symbol → List Symbol → Type 0
 Vanishes d x y longer = (longer ≡ x.word.now ++ y ∷ []) × ReduceAlike (rules_of d) x.word.now longer
 

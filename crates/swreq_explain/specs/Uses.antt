@@ -1,4 +1,4 @@
--- Which round uses a requirement first, and so which rules show its type parameters.
+-- Which round uses a requirement first, and so which rules show its type parameters valid.
 use Rattle.std.specs.Prelude.{◌≡◌, ℕ, ◌+◌, ◌-◌, ◌<◌, ◌≤◌, true, List, Some, length, slice_get}
 use Rattle.swreq_valid.specs.Rounds.{RoundView}
 use Rattle.swreq_explain.specs.declared.first_use.Makings.{Makings}
@@ -26,7 +26,8 @@ pub record UsesFirst (rounds : List RoundView) (k place : ℕ) : Type 0 where
   pub uses : Uses rounds k place
   pub none_before : (i : ℕ) → i < k → Uses rounds i place → ⊥
 
--- In the round k the requirement joined or had joined by the rules of this system: those of the round before the first one that uses it.
+-- The rules of this system show the requirement that the round k uses. It is the system of the round before the first round that uses the
+-- requirement.
 pub record IsShownBy (c : Course) (k : ℕ) (x : Numbered) (system : ℕ) : Type 0 where
   pub place : ℕ
   pub there : slice_get c.all place ≡ Some x

@@ -9,13 +9,14 @@ use Rattle.swreq_sheet.specs.Sheets.{AreIdsIn, Basis}
 use Rattle.swreq_unfold.specs.declared.book.Book.{Book}
 use Rattle.swreq_unfold.specs.Systems.{FitsBook}
 
--- The basis is what the facts say over the table.
+-- The basis has what the facts say over the table.
 pub record IsBasisOver (terms : List Term) (m : IdFacts) (b : Basis) : Type 0 where
   pub facts : b.facts ≡ term_facts terms m
   pub params : b.params ≡ generic_params m.params
   pub written : b.written ≡ map (requirement_of terms) m.written
 
--- Over the table, which has grown, the lines are a derivation from each basis that the book fits, and the ids of what they state are of it.
+-- The table has grown. Over it the lines are a derivation from each basis that the book fits, and the ids in what they state are of the
+-- table.
 pub record AreWritten (old new : List Term) (book : Book) (ls : List Line) : Type 0 where
   pub extends : Extends old new
   pub derived : (b : Basis) (m : IdFacts) → FitsBook book b → IsBasisOver new m b → AreDerived new m ls

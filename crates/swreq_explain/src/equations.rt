@@ -35,7 +35,7 @@ fn word_of(alloc: Global, symbols: &[Symbol]) -> Result<Word, AllocError>
     Ok(Word::new(symbols))
 }
 
-/// `[P][P] = [P]`
+/// The equation `[P][P] = [P]`.
 fn doubled(alloc: Global, p: ProtoId) -> Result<Equation, AllocError>
     ensures left { IfOk result (λ e. e.left ≡ (basics.doubled p).0) }
     ensures right { IfOk result (λ e. e.right ≡ (basics.doubled p).1) }
@@ -50,7 +50,7 @@ fn doubled(alloc: Global, p: ProtoId) -> Result<Equation, AllocError>
     })
 }
 
-/// `[P]·A = [P:A]`, where `[P:A]` has this rank.
+/// The equation `[P]·A = [P:A]`, where `[P:A]` has this rank.
 fn named(alloc: Global, p: ProtoId, a: NameId, rank: u64) -> Result<Equation, AllocError>
     ensures left { IfOk result (λ e. e.left ≡ (basics.named p (record { proto = p; name = a }) rank).0) }
     ensures right { IfOk result (λ e. e.right ≡ (basics.named p (record { proto = p; name = a }) rank).1) }
@@ -65,7 +65,7 @@ fn named(alloc: Global, p: ProtoId, a: NameId, rank: u64) -> Result<Equation, Al
     })
 }
 
-/// Puts the equation of the member symbol last, if it is of the protocol.
+/// Puts the equation of the member symbol last, if the symbol is one of the protocol.
 fn add_member(
     alloc: Global,
     world: &World,
@@ -108,7 +108,7 @@ fn add_protocol(
     Ok(())
 }
 
-/// The basic equations: for each protocol in written order the one of its symbol, and then those of its member names.
+/// The basic equations: for each protocol, in written order, the equation of its symbol and then those of its member names.
 pub(crate) fn basic(alloc: Global, world: &World) -> Result<Vec<Equation>, AllocError>
     requires { AreIds world.now.lexicon }
     ensures sides { IfOk result (λ v. map sides_of v.items ≡ basics.basic_equations (symbols_of world.now.lexicon)) }
@@ -122,7 +122,7 @@ pub(crate) fn basic(alloc: Global, world: &World) -> Result<Vec<Equation>, Alloc
     Ok(given)
 }
 
-/// The requirement between type parameters by themselves.
+/// The requirement, with its type parameters in full and not by ids.
 pub(crate) fn owned(alloc: Global, table: &ParamTable, r: Requirement) -> Result<Owned, AllocError>
     requires { HasIdsOf table.now r }
     ensures { IfOk result (λ q. requirement_by q ≡ requirement_of table.now r) }
@@ -144,7 +144,7 @@ pub(crate) fn owned(alloc: Global, table: &ParamTable, r: Requirement) -> Result
     }
 }
 
-/// The equation of a requirement, whose type parameters the rules of the system show.
+/// The equation of a requirement. The rules of the system `shown` show its type parameters valid.
 fn equation_of(
     alloc: Global,
     world: &World,
@@ -170,7 +170,7 @@ fn equation_of(
     })
 }
 
-/// Puts the equations of the requirements last that the round uses.
+/// Puts the equations of the requirements that the round uses last.
 pub(crate) fn add_used(
     makings: Makings<'_>,
     round: usize,

@@ -31,7 +31,7 @@ use swreq_unfold::Book;
 use swreq_valid::{Machine, Protocols};
 use swreq_world::World;
 
-/// What a query asks of its signature, or None for a query of a type or of a signature.
+/// The requirement that a query asks of its signature, or None for a query of a type or of a signature.
 fn asked(query: &Query) -> Option<Requirement>
     ensures { (f : FuncId) (r : RequirementView) → Asks query.now f r → result ≡ Some r }
 {
@@ -47,7 +47,7 @@ fn asked(query: &Query) -> Option<Requirement>
     }
 }
 
-/// Lines that state a requirement of the list for which the book answers.
+/// Lines that state a requirement that is derivable from the list that the book answers for.
 fn derive(
     alloc: Global,
     world: &World,
@@ -77,8 +77,7 @@ fn derive(
     Ok(lines)
 }
 
-/// What `explain` answers, by the book of the machine of the signature that the query asks. One book serves for all queries of a
-/// signature.
+/// The same as `explain`, by the book of the signature that the query asks of. One book serves for all queries of a signature.
 pub fn explain_by(
     alloc: Global,
     world: &World,
@@ -108,9 +107,9 @@ pub fn explain_by(
 
 /// Lines of a derivation of what a query asks of a signature, by the rules without the guard.
 ///
-/// `m` is the machine of the signature, and what is asked is derivable. The checker of derivations accepts the lines over the facts of the
-/// signature, and the last of them states what is asked. Type parameters of the lines come into the table, which begins with the old one on
-/// every answer.
+/// `machine` is the machine of the signature, and what is asked is derivable. The checker of derivations accepts the lines over the facts
+/// of the signature, and the last line states what is asked. The type parameters of the lines are added to the table. It begins with the
+/// old one, whatever the call answers.
 pub fn explain(
     alloc: Global,
     world: &World,

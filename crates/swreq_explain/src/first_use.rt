@@ -1,4 +1,4 @@
-//! Which round uses a requirement first: the rules of the round before it show its type parameters.
+//! Which round uses a requirement first: the rules of the round before it show its type parameters valid.
 ghost use Rattle.std.specs.Prelude.{◌≡◌, ◌↔◌, ◌+◌, ◌<◌, ◌^◌, ℕ, IsTrue, Some, length, slice_get};
 ghost use Rattle.swreq_explain.specs.declared.numbered.Numbered.{Numbered as NumberedView};
 ghost use Rattle.swreq_explain.specs.Uses.{HaveFlags, IsShownBy, Uses, UsesFirst, course_of};
@@ -9,8 +9,8 @@ use swreq_param::ParamTable;
 use swreq_valid::Rounds;
 use swreq_world::World;
 
-/// From what the systems of rounds are made: the rounds, the written requirements that they may use, and the place of the system of the
-/// first round.
+/// What the systems of rounds are made from: the rounds, the written requirements that they may use, and the place of the first round's
+/// system.
 #[derive(Clone, Copy)]
 pub(crate) struct Makings<'a> {
     pub alloc: Global,
@@ -32,7 +32,7 @@ fn uses(makings: Makings<'_>, round: usize, place: usize) -> bool
     used[place]
 }
 
-/// The first round that uses the requirement at this place, where one does.
+/// The first round that uses the requirement at this place. There is one.
 fn first_use(makings: Makings<'_>, place: usize) -> usize
     requires flags { HaveFlags (length makings.all.now) makings.rounds.now }
     requires place { place < length makings.all.now }
@@ -47,7 +47,7 @@ fn first_use(makings: Makings<'_>, place: usize) -> usize
     unreachable!()
 }
 
-/// The system whose rules show the type parameters of the requirement at this place, which the round uses.
+/// The place of the system whose rules show the type parameters of the requirement at this place valid. The round uses the requirement.
 pub(crate) fn shown_by(makings: Makings<'_>, round: usize, place: usize) -> usize
     requires flags { HaveFlags (length makings.all.now) makings.rounds.now }
     requires used { Uses makings.rounds.now round place }

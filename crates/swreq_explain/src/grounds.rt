@@ -53,7 +53,7 @@ fn members_of(alloc: Global, world: &World) -> Result<Vec<Named>, AllocError>
     Ok(found)
 }
 
-/// The protocol that is inherited by a requirement over `Self`, or None where it is no conformance of the bare `Self`.
+/// The protocol Q if the requirement is `[Self : Q]`, or None for another requirement over `Self`.
 fn inherited_by(table: &ParamTable, r: Requirement) -> Option<ProtoId>
     requires ids { HasIdsOf table.now r }
     requires over_self { IsOverSelf (requirement_of table.now r) }
@@ -110,7 +110,7 @@ fn parents_of(alloc: Global, world: &World, table: &ParamTable) -> Result<Vec<Pa
     Ok(parents)
 }
 
-/// The names and the inheritance of the text, with these generic parameters.
+/// The names and the written inheritance of the text, with these generic parameters.
 pub(crate) fn ground_of(
     alloc: Global,
     world: &World,

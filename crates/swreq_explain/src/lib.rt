@@ -1,5 +1,5 @@
-//! Derivations of what a machine answers: for each requirement that is derivable from the list of a signature, lines by the rules of
-//! derivation, which the checker of derivations accepts by itself.
+//! Derivations of what a machine answers. For each requirement that is derivable from the list of a signature there are lines by the rules
+//! of derivation, and the checker of derivations accepts them by themselves.
 #![tactic(auto)]
 
 mod equations;

@@ -10,7 +10,7 @@ use swreq_derive::Requirement;
 use swreq_param::ProtoId;
 use swreq_world::World;
 
-/// A written requirement with its number, counted from 1, among those of a protocol, or of a list where there is no owner.
+/// A written requirement with its number, counted from 1, among the requirements of its owner, or of the list if it has no owner.
 #[derive(Clone, Copy, Debug)]
 pub(crate) struct Numbered {
     pub owner: Option<ProtoId>,
@@ -38,7 +38,7 @@ pub(crate) fn add_numbered(
     Ok(())
 }
 
-/// The requirements of all protocols, protocols and requirements in written order.
+/// The requirements of all protocols, with their numbers. Protocols and requirements stand in written order.
 pub(crate) fn protocols_numbered(alloc: Global, world: &World) -> Result<Vec<Numbered>, AllocError>
     requires ids { AreIds world.now.lexicon }
     requires short { All (λ rs. length rs < 2 ^ 32) world.now.requirements }

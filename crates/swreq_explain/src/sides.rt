@@ -12,8 +12,8 @@ use swreq_sheet::Sheet;
 use swreq_unfold::{Book, Scope, read_type};
 use swreq_word::Symbol;
 
-/// By what requirements of a list are stated: the rules of a system of the book. Words of a list begin with generic parameters, so it does
-/// not matter after which type parameter they are read.
+/// What requirements of a list are stated by: the rules of a system of the book. Words are read after `t`. Words of a list begin with
+/// generic parameters, so any type parameter will do for `t`.
 #[derive(Clone, Copy)]
 pub(crate) struct Desk<'a> {
     pub alloc: Global,
@@ -36,7 +36,7 @@ pub(crate) struct ReadAs {
     pub word: TermId,
 }
 
-/// Lines state that the type parameter equals the one that its word is read as.
+/// States that the type parameter equals the one that its word is read as. Answers the ids of the two.
 pub(crate) fn read_side(
     desk: Desk<'_>,
     sheet: &mut Sheet,

@@ -1,4 +1,4 @@
-//! Requirements of a list, stated.
+//! How requirements of a list are stated.
 ghost use Rattle.std.specs.Prelude.{◌≡◌, IfOk, None, OnOk};
 ghost use Rattle.swreq_param.specs.Owned.{as_term};
 ghost use Rattle.swreq_param.specs.Tables.{IsOf, term_at};
@@ -18,7 +18,7 @@ use swreq_sheet::{Sheet, are_one, same_conf, same_layout, symm, trans};
 use swreq_unfold::{Owned, link};
 use swreq_word::Symbol;
 
-/// States that the type parameter conforms to the protocol, whose symbol vanishes after its word.
+/// States that the type parameter conforms to the protocol. The protocol's symbol vanishes after the word of the type parameter.
 pub(crate) fn conform(
     desk: Desk<'_>,
     sheet: &mut Sheet,
@@ -39,7 +39,7 @@ pub(crate) fn conform(
     Ok(())
 }
 
-/// States that the type parameter is an object, where the symbol of that vanishes after its word.
+/// States that the type parameter conforms to `AnyObject`. The symbol of `AnyObject` vanishes after the word of the type parameter.
 pub(crate) fn be_object(
     desk: Desk<'_>,
     sheet: &mut Sheet,
@@ -59,7 +59,7 @@ pub(crate) fn be_object(
     Ok(())
 }
 
-/// States that two type parameters, whose words reduce to one by the rules, are equal, if they are not one. Answers their ids.
+/// States that two type parameters are equal, unless they are identical. The rules reduce their words to one word. Answers their ids.
 pub(crate) fn equate(
     desk: Desk<'_>,
     sheet: &mut Sheet,
@@ -86,7 +86,7 @@ pub(crate) fn equate(
     Ok((first.itself, last.itself))
 }
 
-/// States that two type parameters, whose words reduce to one by the rules, are equal.
+/// States that two type parameters are equal. The rules reduce their words to one word.
 fn be_equal(
     desk: Desk<'_>,
     sheet: &mut Sheet,
@@ -108,7 +108,7 @@ fn be_equal(
     Ok(())
 }
 
-/// States a requirement with these two sides, which reduce to one by the rules.
+/// States the requirement with these two sides. The rules reduce the sides to one word.
 pub(crate) fn state(
     desk: Desk<'_>,
     sheet: &mut Sheet,

@@ -23,7 +23,7 @@ use swreq_unfold::{Book, Equation, System};
 use swreq_valid::{Machine, Protocols};
 use swreq_world::World;
 
-/// The system of a round whose first `base` rules are those of the system at `below`, with these basic equations.
+/// The system of a round, with these basic equations. Its first `base` rules are those of the system at `below`.
 fn system_of(
     makings: Makings<'_>,
     basic: Vec<Equation>,
@@ -85,7 +85,7 @@ fn add_list_systems(
         × AreSystemsOf (symbols_of makings.entry.world.now.lexicon) makings.entry.table.now o own) }
 {
     for k in 0..makings.rounds.count() {
-        // The place of the system that comes next is a number of 64 bits.
+        // The place of the next system is a number of 64 bits.
         let _place = systems.len();
         let given = Vec::new(makings.alloc);
         let system = system_of(makings, given, base, below, k)?;
@@ -185,7 +185,7 @@ fn assemble(
     })
 }
 
-/// The book of the machine of a signature, from which lines are written for all that the machine answers.
+/// The book of the machine of a signature. Lines are written from it for all that the machine answers.
 pub fn book_of(
     alloc: Global,
     world: &World,

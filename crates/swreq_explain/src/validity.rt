@@ -1,4 +1,4 @@
-//! Valid type parameters of a list, stated.
+//! How it is stated that type parameters of a list are valid.
 ghost use Rattle.std.specs.Prelude.{◌≡◌, IfOk, MatchOption, OnOk};
 ghost use Rattle.swreq_param.specs.Tables.{IsOf, term_at};
 ghost use Rattle.swreq_param.specs.Owned.{as_term};
@@ -35,8 +35,8 @@ fn split(alloc: Global, t: &TypeParam) -> Result<Option<(TypeParam, Step)>, Allo
     }
 }
 
-/// States that a member is valid whose base equals a type parameter that a line states to conform to the protocol of an associated type
-/// that the step names. Answers its id.
+/// States that a member is valid. Its step names an associated type, its base equals a type parameter, and a line states that this type
+/// parameter conforms to the protocol of the associated type. Answers the id of the member.
 fn validate_member(
     desk: Desk<'_>,
     sheet: &mut Sheet,

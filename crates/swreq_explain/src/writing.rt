@@ -22,7 +22,7 @@ use swreq_sheet::{Sheet, number_of, param};
 use swreq_unfold::{Book, Owned};
 use swreq_word::Symbol;
 
-/// States a requirement of a list with these two sides, which reduce to one by the rules of the last system.
+/// States the requirement of a list with these two sides. The rules of the last system reduce the sides to one word.
 fn write(
     alloc: Global,
     book: &Book,
@@ -51,7 +51,7 @@ fn write(
     Ok(())
 }
 
-/// The lines up to the one that states the requirement, without those that it does not need.
+/// The lines that the line that states the requirement needs, and this line last.
 fn finish(alloc: Global, sheet: &Sheet, r: Requirement) -> Result<Vec<Line>, AllocError>
     requires sheet { IsSheet sheet.now }
     requires ids { AreIdsIn sheet.now.table (Holds r) }
@@ -61,7 +61,7 @@ fn finish(alloc: Global, sheet: &Sheet, r: Requirement) -> Result<Vec<Line>, All
     ensures last { IfOk result (λ v. EndIn v.items (Holds r)) }
     ensures some { IfOk result (λ v. AreSomeOf v.items sheet.now.lines.items) }
 {
-    // Where two type parameters are equal, so are their ids.
+    // If two ids stand for the same type parameter, they are equal.
     let _count = sheet.table.len();
     match number_of(sheet, Statement::Holds { r }) {
         None => unreachable!(),
@@ -72,8 +72,8 @@ fn finish(alloc: Global, sheet: &Sheet, r: Requirement) -> Result<Vec<Line>, All
     }
 }
 
-/// Lines that state a requirement, which this is by itself, with its sides, which reduce to one by the rules of
-/// the last system.
+/// Lines that state the requirement with these sides. `by_itself` is the requirement with its type parameters in full. The rules of the
+/// last system reduce the sides to one word.
 fn lines_on(
     alloc: Global,
     book: &Book,
@@ -100,7 +100,7 @@ fn lines_on(
     Ok(lines)
 }
 
-/// Lines that state a requirement, which this is by itself, with its sides, over the table.
+/// The same, on a new sheet over the table.
 pub(crate) fn lines_over(
     alloc: Global,
     book: &Book,

@@ -12,11 +12,11 @@ map_same : (xs : List ℕ) → map (λ x. x) xs ≡ xs
 map_same [] = refl
 map_same (x ∷ xs) = ap (λ ys. x ∷ ys) (map_same xs)
 
--- the numbers from a on, and one more
+-- a range of numbers with one more at the end
 range_more : (a n : ℕ) → range_with_len a (n + 1) ≡ range_with_len a n ++ (a + n) ∷ []
 range_more a n = sym (map_same (range_with_len a (n + 1))) ∙ map-range_with_len_more (λ x. x) a n (a + n) refl ∙ ap (λ xs. xs ++ (a + n) ∷ []) (map_same (range_with_len a n))
 
--- the lines up to one more
+-- the lines of 1 up to k, with the line after them
 each_more : (line : ℕ → List ℕ) (k : ℕ) → each_line line (k + 1) ≡ each_line line k ++ line (k + 1)
 each_more line k =
     ap (flat_map line) (range_more 1 k) ∙ flat_map-append line (range_with_len 1 k) ((1 + k) ∷ [])
@@ -26,7 +26,7 @@ pub grown : (line : ℕ → List ℕ) (k : ℕ) (old before after : List ℕ) �
 grown line k old before after was is =
     is ∙ ap (λ t. t ++ line (k + 1)) was ∙ append_assoc old (each_line line k) (line (k + 1)) ∙ ap (λ t. old ++ t) (sym (each_more line k))
 
--- texts after a separator, and one more
+-- texts, each after a separator, with one more at the end
 followed_more : (separator : List ℕ) (texts : List (List ℕ)) (text : List ℕ) → followed separator (texts ++ text ∷ []) ≡ followed separator texts ++ (separator ++ text)
 followed_more separator [] text = ap (λ t. separator ++ t) (append-nil text)
 followed_more separator (first ∷ rest) text =
@@ -35,7 +35,7 @@ followed_more separator (first ∷ rest) text =
     ∙ ap (λ t. separator ++ t) (sym (append_assoc first front (separator ++ text)))
     ∙ sym (append_assoc separator (first ++ front) (separator ++ text))
 
--- texts with a separator between them, and one more
+-- texts with a separator between them, with one more at the end
 joined_more : (separator first : List ℕ) (rest : List (List ℕ)) (text : List ℕ) → joined separator ((first ∷ rest) ++ text ∷ []) ≡ joined separator (first ∷ rest) ++ (separator ++ text)
 joined_more separator first rest text =
     ap (λ t. first ++ t) (followed_more separator rest text) ∙ sym (append_assoc first (followed separator rest) (separator ++ text))

@@ -6,8 +6,8 @@ ghost use Rattle.swreq_gen.specs.Generated.{each_line, generated, protocol_line,
 use crate::lines::{lengthen, put_function, put_last, put_protocol, put_queries};
 use std::alloc::{AllocError, Global};
 
-/// The generated text of n, from 1 to 100: n protocols, each with an associated type that conforms to the next one and the last to the
-/// first, a function of two parameters, and 4n + 1 queries.
+/// The generated text of n, from 1 to 100. It has n protocols, each with an associated type that conforms to the next protocol (that of the
+/// last one to the first), a function with two generic parameters, and 4n + 1 queries.
 pub fn text(alloc: Global, n: u32) -> Result<Vec<u8>, AllocError>
     requires { (1 ≤ n) × (n ≤ 100) }
     ensures { IfOk result (λ text. text.items ≡ generated n) }

@@ -1,4 +1,4 @@
-//! The generated text of a number: so many protocols that lead to one another in a ring, a function over them, and its queries.
+//! The generated text of a number: this many protocols, which lead to one another in a ring, a function over them, and its queries.
 #![tactic(auto)]
 
 mod generate;

@@ -7,7 +7,7 @@ ghost use Rattle.swreq_gen.specs.Generated.{next_of, chain, dot, protocol_line, 
 use std::alloc::AllocError;
 use swreq_text::{append_bytes, append_number};
 
-// The number of the protocol that the k-th of n leads to.
+// The number of the protocol that the k-th of n protocols leads to.
 fn next_of(n: u32, k: u32) -> u32
     requires { (k ≤ n) × (n ≤ 100) }
     ensures { result ≡ next_of n k }
@@ -43,7 +43,7 @@ pub(crate) fn put_function(out: &mut Vec<u8>) -> Result<(), AllocError>
     )
 }
 
-// Whether the chain of T conforms to the m-th protocol.
+// Asks whether the chain of T conforms to the m-th protocol.
 fn put_chain(out: &mut Vec<u8>, path: &[u8], m: u32) -> Result<(), AllocError>
     ensures { OnOk result (out.new.items ≡ out.old.items ++ chain_line path.now m) }
 {
@@ -54,7 +54,7 @@ fn put_chain(out: &mut Vec<u8>, path: &[u8], m: u32) -> Result<(), AllocError>
     append_bytes(out, b")\n".as_slice())
 }
 
-// Whether the chains of T and of U are one.
+// Asks whether the chains of T and of U are equal.
 fn put_same(out: &mut Vec<u8>, path: &[u8]) -> Result<(), AllocError>
     ensures { OnOk result (out.new.items ≡ out.old.items ++ same_line path.now) }
 {
@@ -65,7 +65,7 @@ fn put_same(out: &mut Vec<u8>, path: &[u8]) -> Result<(), AllocError>
     append_bytes(out, b")\n".as_slice())
 }
 
-// Whether the k-th member of T conforms to the first protocol.
+// Asks whether the k-th member of T conforms to the first protocol.
 fn put_member(out: &mut Vec<u8>, k: u32) -> Result<(), AllocError>
     ensures { OnOk result (out.new.items ≡ out.old.items ++ member_line k) }
 {
@@ -74,7 +74,7 @@ fn put_member(out: &mut Vec<u8>, k: u32) -> Result<(), AllocError>
     append_bytes(out, b" : L1)\n".as_slice())
 }
 
-// The four queries of k, whose chain is passed.
+// Writes the four queries of k. `path` is the chain of k members.
 pub(crate) fn put_queries(out: &mut Vec<u8>, n: u32, k: u32, path: &[u8]) -> Result<(), AllocError>
     requires range { (k ≤ n) × (n ≤ 100) }
     requires its_chain { path.now ≡ chain k }
@@ -92,7 +92,7 @@ pub(crate) fn put_last(out: &mut Vec<u8>) -> Result<(), AllocError>
     append_bytes(out, b"query f()\n".as_slice())
 }
 
-// The dot before the k-th member of a chain, where one stands there.
+// Writes the dot before the k-th member of a chain. There is none before the first.
 fn put_dot(path: &mut Vec<u8>, k: u32) -> Result<(), AllocError>
     ensures { OnOk result (path.new.items ≡ path.old.items ++ dot k) }
 {
@@ -103,7 +103,7 @@ fn put_dot(path: &mut Vec<u8>, k: u32) -> Result<(), AllocError>
     }
 }
 
-// Makes the chain of k - 1 that of k.
+// Makes the chain of k members from the chain of k - 1.
 pub(crate) fn lengthen(path: &mut Vec<u8>, k: u32) -> Result<(), AllocError>
     requires from { 1 ≤ k }
     requires before { path.old.items ≡ chain (k - 1) }

@@ -101,7 +101,7 @@ module _ {T L : Type 0} (number : T → ℕ) (label : L) (rest : List (Token T))
   begins_some firsts [] b = absurd cc
   begins_some firsts (t ∷ ts) b = omega arith
 
-  -- the steps after so many parts
+  -- the steps after this many parts
   steps_on : {A : Type 0} (limit : Limit L) (vs : List A) (pre mid : List (Token T)) → length vs ≤ length pre → (firsts : List T) → begins number firsts (mid ++ rest) ≡ true → Within limit (suc (length vs)) → (k : ℕ) × (steps limit (pre ++ (mid ++ rest)) ≡ length vs + suc k)
   steps_on unlimited vs pre mid h firsts b i =
       let some = begins_some firsts (mid ++ rest) b in

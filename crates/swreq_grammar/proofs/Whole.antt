@@ -21,7 +21,7 @@ module _ {T : Type 0} (number : T → ℕ) where
   pub one_value : {L A : Type 0} (g : Grammar T L A) → is_predictive number g ≡ true → (ts : List (Token T)) (v w : A) → Matches number g ts v → Matches number g ts w → v ≡ w
   one_value g p ts v w m n = let a = whole_takes g p ts v m in let b = whole_takes g p ts w n in cc
 
-  -- a text on which the reader stops is none
+  -- where the reader stops at a token, no text of the grammar begins with the tokens up to and with it
   stuck : {L A : Type 0} (g : Grammar T L A) → is_predictive number g ≡ true → (pre : List (Token T)) (t : Token T) (why : Option L) → ((more : List (Token T)) → read_whole number g (pre ++ (t ∷ more)) ≡ Err (t ∷ more, why)) → Viable number g (pre ++ t ∷ []) → ⊥
   stuck g p pre t why k v =
       let a = whole_takes g p ((pre ++ t ∷ []) ++ v.0) v.1 v.2 in

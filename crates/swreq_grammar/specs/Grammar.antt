@@ -3,7 +3,7 @@ use Rattle.std.specs.Prelude.{◌≡◌, ℕ, ◌≤◌, Bool, List, [], ◌∷�
 use Rattle.std.specs.List.{list_any}
 use Rattle.swreq_grammar.specs.declared.token.Token.{Token}
 
--- How many parts a repetition may have: any number, or at most so many. One part more is refused, with the label.
+-- How many parts a repetition may have: any number, or at most this many. One part more is refused, with the label.
 pub data Limit (L : Type 0) : Type 0 where
   unlimited : Limit L
   at_most : ℕ → L → Limit L

@@ -92,7 +92,7 @@ module _ {T : Type 0} (number : T → ℕ) where
   read_no_more unlimited firsts ts = Ok ([], ts)
   read_no_more (at_most n label) firsts ts = cond (begins firsts ts) (Err (ts, Some label)) (Ok ([], ts))
 
-  -- parts as long as one begins, and at most so many more
+  -- parts while one begins, at most this many more
   unfoldable pub read_parts : {L A : Type 0} → (List (Token T) → Read T L A) → List T → Limit L → ℕ → List (Token T) → Read T L (List A)
   read_parts r firsts limit zero ts = read_no_more limit firsts ts
   read_parts r firsts limit (suc n) ts = cond (begins firsts ts) (r ts >>= λ x. read_parts r firsts limit n x.1 >>= λ y. Ok (x.0 ∷ y.0, y.1)) (Ok ([], ts))

@@ -4,7 +4,7 @@ use Rattle.swreq_grammar.specs.declared.token.Token.{Token}
 use Rattle.swreq_grammar.specs.Grammar.{Limit, unlimited, at_most, Grammar, terminal, empty, mapped, sequence, alternative, repetition, labelled, Within, Parts, Matches}
 use Rattle.swreq_grammar.specs.Reader.{Fault, nullable, follow_last, is_empty}
 
--- so many parts are as many as a repetition may have; one part more is refused with the label
+-- a repetition may have this many parts and no more; one part more is refused with the label
 abbrev pub IsFull : {L : Type 0} → Limit L → ℕ → L → Type 0
 IsFull unlimited n label = ⊥
 IsFull (at_most limit wanted) n label = (n ≡ limit) × (wanted ≡ label)
@@ -20,7 +20,7 @@ module _ {T : Type 0} (number : T → ℕ) where
   IsStuck g before (t ∷ rest) = Viable g (before ++ t ∷ []) → ⊥
 
   -- The first token of the rest is the refused one: it is the first token such that no text of the grammar begins with
-  -- the tokens up to and with it. Without a rest, a text of the grammar begins with all the tokens, and they are none.
+  -- the tokens up to and with it. Without a rest, some text of the grammar begins with all the tokens, and they are not a text of it.
   abbrev pub RefusedAt : {L A : Type 0} → Grammar T L A → (before rest : List (Token T)) → Type 0
   RefusedAt g before rest = Viable g before × IsStuck g before rest
 
@@ -54,7 +54,7 @@ module _ {T : Type 0} (number : T → ℕ) where
   abbrev pub Refuses : {L A : Type 0} → Grammar T L A → List (Token T) → Fault T L → Type 0
   Refuses g ts fault = (before : List (Token T)) × (ts ≡ before ++ fault.0) × RefusedAt g before fault.0 × LabelAt g before fault.0 fault.1
 
--- ---- grammars whose labels are no matter of how a text is read
+-- ---- grammars whose labels do not change how a text is read
 
 -- a label may stand before any token
 abbrev pub begins_labelled : {T L A : Type 0} → Grammar T L A → Bool

@@ -6,7 +6,7 @@ ghost use Rattle.swreq_grammar.specs.Grammar.{Grammar, Matches};
 ghost use Rattle.swreq_grammar.specs.Refusal.{RefusedAt, Refuses, Viable, is_well_labelled};
 ghost use Rattle.swreq_grammar.specs.Reader.{Fault, is_predictive, read_whole};
 
-/// A grammar, of which the laws speak.
+/// The grammar that the laws are about.
 pub trait Language {
     type Terminal;
 

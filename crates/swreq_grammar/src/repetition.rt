@@ -10,7 +10,7 @@ use crate::stop::Stop;
 use crate::token::Token;
 use std::alloc::Global;
 
-/// The part of which a repetition has many.
+/// What a repetition repeats.
 pub trait Part {
     type Terminal;
 
@@ -36,7 +36,7 @@ pub trait Part {
         ensures { Gives (λ x. (x.0, x.1.now)) result (reads tokens.now) };
 }
 
-/// Reads parts as long as one begins: their values, and the tokens after them.
+/// Reads parts while one begins: their values, and the tokens after them.
 pub fn many<P: Part>(
     alloc: Global,
     tokens: &[Token<P::Terminal>],
@@ -56,7 +56,7 @@ pub fn many<P: Part>(
     Ok((found, rest))
 }
 
-/// Reads parts as long as one begins, and at most `limit` of them. One part more is refused where it begins, with the
+/// Reads parts while one begins, at most `limit` of them. One part more is refused where it begins, with the
 /// label.
 pub fn at_most<P: Part>(
     alloc: Global,

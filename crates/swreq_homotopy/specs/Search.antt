@@ -9,7 +9,7 @@ use Rattle.swreq_path.specs.Paths.{HasTarget}
 use Rattle.swreq_homotopy.specs.declared.around.Evidence.{Evidence}
 use Rattle.swreq_homotopy.specs.Evidence.{IsMarked, AreOfOthers, Shows}
 
--- each of the first steps, so many, is of a kept rule other than this one
+-- each of the first n steps is of a kept rule other than this one
 abbrev pub AreOfOthersBelow : List Bool → ℕ → List RewriteStep → ℕ → Type 0
 AreOfOthersBelow keep n steps bound =
     (k : ℕ) (step : RewriteStep) → k < bound → slice_get steps k ≡ Some step → (step.rule ≢ n) × IsMarked keep step.rule
@@ -38,7 +38,7 @@ NoneShows keep may steps = (at : ℕ) → ShowsAt keep may steps at → ⊥
 abbrev pub NoneShownBefore : List Bool → List Bool → List Loop → ℕ → Type 0
 NoneShownBefore keep may loops bound = (k n : ℕ) (round : Loop) → k < bound → slice_get loops k ≡ Some round → Shows keep may round n → ⊥
 
--- the steps behind the one at this place, and then those from the begin up to it
+-- the steps after the one at this place, and then those from the start up to it
 abbrev pub rest_of : List RewriteStep → ℕ → List RewriteStep
 rest_of steps at = drop (suc at) steps ++ take at steps
 

@@ -18,7 +18,7 @@ pub struct Evidence {
     pub path: Path,
 }
 
-// The steps behind the one at the place, and then those up to it.
+// The steps after the one at the place, and then those up to it.
 fn rest(alloc: Global, steps: &[RewriteStep], at: usize) -> Result<Vec<RewriteStep>, AllocError>
     requires { at < length steps.now }
     ensures { IfOk result (λ v. v.items ≡ rest_of steps.now at) }

@@ -1,4 +1,4 @@
--- The scan for the end of a comment finds just the end of the comment.
+-- The scan for the end of a comment finds exactly the end of the comment.
 use Rattle.std.proofs.Common.{◌≡◌, ℕ, zero, suc, true, false, List, [], ◌∷◌, ◌++◌, Option, Some, None, refl, sym, ap, subst, ◌∙◌, append_assoc, nat_eq, arith}
 use Rattle.std.proofs.lemmas.Bool.{eqb-true, and_parts}
 use Rattle.swreq_lex.specs.Comments.{is_opening, is_closing, IsInside, closing, character, nested}

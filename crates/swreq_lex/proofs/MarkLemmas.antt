@@ -15,7 +15,7 @@ is_ascii_mark mark = list_all (λ c. nat_lt c 128) mark
 apart : (a b : ℕ) → a < 128 → 128 ≤ b → nat_eq a b ≡ false
 apart a b h k = grind (arith, nat_tests)
 
--- a byte at the front of a character beyond ASCII is none of a mark
+-- the first byte of a character beyond ASCII is not a byte of a mark
 long : (c b : ℕ) (bs rest : List ℕ) → 128 ≤ c → b ∷ bs ≡ encode c ++ rest → 128 ≤ b
 long c b bs rest h e = elim (nat_lt b 128) as (λ t. nat_lt b 128 ≡ t → 128 ≤ b) [
   | true ↦ λ k. let small : b < 128 = ltb-true b 128 k in let same : c ≡ b = char_from_byte (b ∷ bs) rest c e small (omega arith) in absurd (omega arith)

@@ -66,7 +66,7 @@ white_is_no_word c h =
 slash_is_no_word : starts_word 47 ≡ false
 slash_is_no_word = rw (is_xid_start-ascii 47 (omega arith)) refl
 
--- a mark begins with an ASCII character that is no white space, begins no word and is no slash
+-- a mark begins with an ASCII character that is not white space, does not begin a word and is not a slash
 abbrev begins_mark : List ℕ → Bool
 begins_mark [] = false
 begins_mark (c ∷ cs) = nat_lt c 128 && (not (is_white_space c) && (not (is_ascii_alphabetic c || nat_eq c 95) && not (nat_eq c 47)))

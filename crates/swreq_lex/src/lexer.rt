@@ -21,12 +21,12 @@ pub const TEXT_LIMIT: usize = 1_048_576;
 /// The tokens of a text of at most [`TEXT_LIMIT`] bytes, or its first lexical refusal.
 pub fn tokens(alloc: Global, text: &[u8]) -> Result<Vec<Token>, LexErr>
     requires { length text.now ≤ TEXT_LIMIT }
-    // What is answered are the tokens of the text,
+    // The answer is the tokens of the text,
     ensures ok { IfOk result (λ found. HasTokens text.now found.items) }
     // or its first refusal, unless memory runs out.
     ensures err { IfErr result (λ e. (e ≡ LexErr.Memory) ⊎ HasRefusal text.now e) }
 
-    // The tokens of a text are answered wherever it has some, and its refusal wherever it has one,
+    // Where a text has tokens, they are the answer, and where it has a refusal, that is the answer,
     // unless memory runs out.
     ensures tokens { (ts : List Token) → HasTokens text.now ts →
         MatchResult result (λ found. found.items ≡ ts) (λ e. e ≡ LexErr.Memory) }
@@ -41,12 +41,13 @@ pub fn tokens(alloc: Global, text: &[u8]) -> Result<Vec<Token>, LexErr>
 pub fn tokens_from(alloc: Global, text: &[u8], from: u32) -> Result<Vec<Token>, LexErr>
     requires limit { length text.now ≤ TEXT_LIMIT }
     requires within { from ≤ length text.now }
-    // What is answered are the tokens from there on,
+    // The answer is the tokens from there on,
     ensures ok { IfOk result (λ found. HasTokensFrom text.now from found.items) }
     // or the first refusal from there on, unless memory runs out.
     ensures err { IfErr result (λ e. (e ≡ LexErr.Memory) ⊎ HasRefusalFrom text.now from e) }
 
-    // The tokens are answered wherever there are some, and the refusal wherever there is one, unless memory runs out.
+    // Where there are tokens, they are the answer, and where there is a refusal, that is the answer, unless memory runs
+    // out.
     ensures tokens { (ts : List Token) → HasTokensFrom text.now from ts →
         MatchResult result (λ found. found.items ≡ ts) (λ e. e ≡ LexErr.Memory) }
     ensures refusal { (refused : LexErr) → HasRefusalFrom text.now from refused →

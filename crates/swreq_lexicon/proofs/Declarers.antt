@@ -16,7 +16,7 @@ use Rattle.swreq_lexicon.specs.Symbols.{AreDeclarers}
 same_name : (a : NameId) (d : ProtocolName) → a.rank ≡ d.name.rank → pair d.proto a ≡ d
 same_name a d e = λ k. record { proto = d.proto; name = record { rank = e k } }
 
--- where nothing passes
+-- if no element passes the test, none of a list does
 pub none_passes : {A : Type 0} (test : A → Bool) → ((x : A) → test x ≡ false) → (xs : List A) → list_any test xs ≡ false
 none_passes test none [] = refl
 none_passes test none (x ∷ xs) = (λ i. none x i || list_any test xs) ∙ none_passes test none xs
@@ -39,7 +39,7 @@ module _ (associated : List ProtocolName) (lists : List (List ProtoId)) (are : A
       let n = eqb-true a.rank d.name.rank ((and_parts (nat_eq a.rank d.name.rank) (g d.proto) s.2).0) in
       passes g (get_or lists a.rank []) d.proto ((are d.proto a).1 (subst (λ x. Contains associated x) (sym (same_name a d n)) s.1)) ((and_parts (nat_eq a.rank d.name.rank) (g d.proto) s.2).1)
 
-  -- some protocol that declares the name passes the test
+  -- whether some protocol that declares the name passes the test, by the lists and by the associated types
   pub any_declarer : list_any g (get_or lists a.rank []) ≡ list_any declared associated
   any_declarer = same_bool (list_any g (get_or lists a.rank [])) (list_any declared associated) to from
 
@@ -76,6 +76,6 @@ none_declared pairs lists names none p a = (
 pub all_declared : (pairs : List ProtocolName) (i : ℕ) (lists : List (List ProtoId)) → length pairs ≤ i → AreDeclarers (take i pairs) lists → AreDeclarers pairs lists
 all_declared pairs i lists h are = subst (λ xs. AreDeclarers xs lists) (take_all i pairs h) are
 
--- the same associated types, in another order
+-- lists of declarers are right for the same associated types in another order too
 pub same_declarers : (xs ys : List ProtocolName) (lists : List (List ProtoId)) → ((d : ProtocolName) → Contains ys d ↔ Contains xs d) → AreDeclarers xs lists → AreDeclarers ys lists
 same_declarers xs ys lists same are p a = (λ c. (same (pair p a)).1 ((are p a).0 c), λ c. (are p a).1 ((same (pair p a)).0 c))

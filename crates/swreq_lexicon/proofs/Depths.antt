@@ -1,4 +1,4 @@
--- A protocol inherits more than those that it inherits.
+-- A protocol inherits more protocols than each protocol that it inherits.
 use Rattle.std.proofs.Common.{◌≡◌, ℕ, zero, suc, ◌<◌, ◌≤◌, ⊎_elim, Bool, true, false, cond, length, refl, sym, ap, ◌∙◌, arith}
 use Rattle.std.proofs.lemmas.Bool.{false_from_ne_true}
 use Rattle.swreq_orders.proofs.Numbers.{last_or_below}
@@ -11,11 +11,11 @@ use Rattle.swreq_lexicon.specs.Associated.{protocol, count_below}
 use Rattle.swreq_lexicon.specs.Texts.{IsLexiconOf}
 use Rattle.swreq_lexicon.specs.Views.{LexiconView, IsProtocol, inherits, depth}
 
--- what a test counts for
+-- the number that the answer of a test counts for
 abbrev counted : Bool → ℕ
 counted b = cond b 1 0
 
--- what passes the one test passes the other
+-- what passes the first test passes the second
 module _ (one other : ℕ → Bool) (passes : (k : ℕ) → one k ≡ true → other k ≡ true) where
   no_less : (a b : Bool) → (a ≡ true → b ≡ true) → counted a ≤ counted b
   no_less true b h = let e : counted b ≡ 1 = ap counted (h refl) in omega (arith, e)
@@ -28,7 +28,7 @@ module _ (one other : ℕ → Bool) (passes : (k : ℕ) → one k ≡ true → o
       let l = no_less (one n) (other n) (passes n) in
       omega (arith, h, l)
 
-  -- and some number passes the other test alone
+  -- if some number passes only the second test, more numbers pass the second test
   pub count_less : (k n : ℕ) → k < n → one k ≡ false → other k ≡ true → count_below one n < count_below other n
   count_less k zero h e d = absurd (omega (arith, h))
   count_less k (suc n) h e d = ⊎_elim at_last (λ b. further (count_less k n b e d)) (last_or_below k n (omega (arith, h)))

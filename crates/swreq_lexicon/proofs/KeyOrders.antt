@@ -23,7 +23,7 @@ any d = record { name = d.name; inherited = true; proto = d.proto }
 
 module _ (inherits : ProtoId → ProtoId → Bool) (pairs : List ProtocolName) (ranked : List AssocKey)
     (same : (k : AssocKey) → Contains ranked k ↔ Contains (map (key inherits pairs) pairs) k) where
-  -- the associated types are the pairs
+  -- the pairs of the keys are the associated types
   map_key : (ds : List ProtocolName) → map pair_of (map (key inherits pairs) ds) ≡ ds
   map_key [] = refl
   map_key (d ∷ ds) = ap (λ xs. d ∷ xs) (map_key ds)

@@ -4,12 +4,12 @@ use Rattle.std.specs.declared.cmp.Ordering.{Ordering}
 use Rattle.std.proofs.lemmas.List.{get_or_default, get_or-map, length-map}
 use Rattle.swreq_rank.proofs.Rising.{IsRising}
 
--- The order of the keys is that of their items.
+-- The keys have the order of their items.
 abbrev pub GoesBy : {K A : Type 0} → (K → K → Ordering) → (K → A) → (A → A → Ordering) → List K → Type 0
 GoesBy {K} key_cmp item cmp keys = (k l : K) → Contains keys k → Contains keys l → cmp (item k) (item l) ≡ key_cmp k l
 
 module _ {K A : Type 0} (item : K → A) (any : A → K) where
-  -- an item that is there has a key, and conversely
+  -- an item of the list has a key among the keys, and conversely
   pub key_of : (ks : List K) (d : A) → Contains (map item ks) d → (k : K) × Contains ks k × (item k ≡ d)
   key_of ks d c =
       let l : c.0 < length ks = subst (λ n. c.0 < n) (length-map ks item) c.1 in

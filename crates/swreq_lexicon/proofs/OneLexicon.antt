@@ -22,7 +22,7 @@ use Rattle.swreq_lexicon.specs.Views.{HasMember, IsProtocol, LexiconView, assoc_
 use Rattle.swreq_lexicon.proofs.RankLaws.{assoc_total}
 use Rattle.swreq_lexicon.proofs.Rankings.{one_ranking}
 
--- the order of associated types is that by which they are sorted, also where other ones are so sorted
+-- two rankings of the same associated types, each by the roots among its own items, are one list
 module _ (inherits : ProtoId → ProtoId → Bool) (P : ProtocolName → Type 0) (xs ys : List ProtocolName)
     (of_xs : IsRanking (over.assoc_cmp inherits xs) P xs) (of_ys : IsRanking (over.assoc_cmp inherits ys) P ys) where
   same_roots : (d : ProtocolName) → over.is_root inherits xs d ≡ over.is_root inherits ys d
@@ -64,7 +64,7 @@ module _ (text : Bytes) (s : Skeleton) (x y : LexiconView) (of_x : IsLexiconOf t
   same_places = same_number_lists x.places y.places (of_x.placed ∙ ap length same_protocols ∙ sym of_y.placed)
       (λ k h. same_place (record { rank = k }) (subst (λ (n : ℕ). k < n) of_x.placed h))
 
-  -- Protocols, names, places and inheritance being the same, so are the ranks that go by them.
+  -- If protocols, names, places and inheritance are the same, so are the ranks that depend on them.
   abbrev with_ranks : List ProtocolName → List ProtocolName → LexiconView
   with_ranks associated symbols = record {
     protocols = y.protocols;

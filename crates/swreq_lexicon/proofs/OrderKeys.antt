@@ -19,7 +19,7 @@ abbrev proto_of : OrderKey → ProtoId
 proto_of k = k.proto
 
 module _ (inherits : ProtoId → ProtoId → Bool) (n : ℕ) where
-  -- each of the first m protocols has its key
+  -- each key of the first m protocols is the key of its protocol
   key_is : (m : ℕ) (k : OrderKey) → Contains (order_keys inherits n m) k → (k.proto.rank < m) × (k ≡ order_key inherits n k.proto)
   key_is zero k c = no_member k c
   key_is (suc m) k c =

@@ -18,7 +18,7 @@ use Rattle.swreq_rank.specs.Ranks.{IsRanking}
 use Rattle.swreq_rank.proofs.Rising.{rising_from_sorted, one_place}
 use Rattle.swreq_lexicon.proofs.RankLaws.{stands_first}
 
--- of two items of a sorted list the lesser one stands first
+-- of two items of a sorted list, the lesser one stands first
 pub lesser_first : {K : Type 0} (cmp : K → K → Ordering) → IsTotalOrder cmp → (xs : List K) → IsStrictlySortedBy cmp xs
     → (i j : ℕ) (x y : K) → slice_get xs i ≡ Some x → slice_get xs j ≡ Some y → cmp x y ≡ Less → i < j
 lesser_first cmp total xs sorted i j x y f g h =
@@ -26,14 +26,14 @@ lesser_first cmp total xs sorted i j x y f g h =
     (λ s. let clash : Equal ≡ Less = sym (tied_itself total x) ∙ ap (cmp x) s ∙ h in absurd cc)
     (λ l. let clash : Less ≡ Greater = sym h ∙ total.antisymm x y ∙ ap ordering_reverse l in absurd cc)
 
--- numbers that are equal leave the order to what comes next
+-- if two numbers are equal, what is compared next decides the order
 tied : (m n : ℕ) (o : Ordering) → m ≡ n → ordering_then (nat_cmp m n) o ≡ o
 tied m n o e = ap (λ c. ordering_then c o) (sym (nat_cmp_is m n Equal e))
 
 -- ---- associated types
 
 module _ (inherits : ProtoId → ProtoId → Bool) (associated : List ProtocolName) where
-  -- what tells roots apart tells whether P inherits the name
+  -- the test for roots tells whether P inherits the name
   module _ (p : ProtoId) (a : NameId) where
     abbrev test : ProtocolName → Bool
     test d = nat_eq a.rank d.name.rank && inherits p d.proto
@@ -51,7 +51,7 @@ module _ (inherits : ProtoId → ProtoId → Bool) (associated : List ProtocolNa
     name_not : (InheritsName inherits associated p a → ⊥) → inherits_name inherits associated p a ≡ false
     name_not n = false_from_ne_true (inherits_name inherits associated p a) (λ e. n (name_from e))
 
-  -- 0 for a root, and 1 for another one
+  -- 0 for a root, and 1 for any other associated type
   abbrev kind : ProtocolName → ℕ
   kind d = cond (is_root inherits associated d) 0 1
 

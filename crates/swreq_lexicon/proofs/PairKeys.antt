@@ -73,7 +73,7 @@ not_before_itself p a true h = let e = sym (alike p a true true) ∙ h in absurd
 not_before_itself p a false h = let e = sym (alike p a false false) ∙ h in absurd cc
 
 module _ (ks : List AssocKey) (rising : IsRising cmp-value.it ks) (p : ProtoId) (a : NameId) where
-  -- the test at a place, where the item there is a key or is none
+  -- the test of the item at a place, or of the default past the end
   at_map : (i : ℕ) (d : AssocKey) → is_pair p a (get_or (map pair_of ks) i (pair_of d)) ≡ is_pair p a (pair_of (get_or ks i d))
   at_map i d = ap (is_pair p a) (at_map_any pair_of ks i d)
 

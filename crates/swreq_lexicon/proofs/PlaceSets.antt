@@ -56,7 +56,7 @@ set_more old new k size h before after others test =
     ∙ count_more (λ j. test j && has old j) (λ j. test j && has new j) k (test k) (λ j n. ap (λ b. test j && b) (others j n))
     (ap (λ b. test k && b) before ∙ and-false (test k)) (ap (λ b. test k && b) after ∙ and-true (test k)) (room old) h
 
--- the places that are still to be added are not there
+-- the places that are still to be added are not in the set
 pub fresh_more : (places old new : List ℕ) (i : ℕ) → AreApart places → i < length places → ((j : ℕ) → j ≢ get_or places i 0 → has new j ≡ has old j)
     → ((r : ℕ) → i ≤ r → r < length places → has old (get_or places r 0) ≡ false) → (r : ℕ) → i + 1 ≤ r → r < length places → has new (get_or places r 0) ≡ false
 fresh_more places old new i apart h others fresh r g l =

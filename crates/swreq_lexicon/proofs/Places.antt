@@ -18,7 +18,7 @@ use Rattle.swreq_lexicon.specs.Heirs.{HaveProtocols}
 use Rattle.swreq_lexicon.specs.Texts.{protocol_names}
 use Rattle.swreq_lexicon.proofs.Positions.{fails_all}
 
--- a name that is there has a first place
+-- a name of a list has a first place in it
 pub some_place : (all : List Bytes) (q : Bytes) → Contains all q → (k : ℕ) × (position_from (bytes_eq q) 0 all ≡ Some k)
 some_place all q c = by (position_from (bytes_eq q) 0 all) refl
   where
@@ -37,13 +37,13 @@ placed_from (x ∷ xs) q i k e = by (bytes_eq q x) refl e (placed_from xs q (i +
     by true t f later = subst (Contains (x ∷ xs)) (sym (same_text q x (sym t))) (Contains-append_left (x ∷ []) xs x (Contains-push [] x))
     by false t f later = Contains-append_right (x ∷ []) xs q (later f)
 
--- a name that has a first place is there
+-- a name that has a first place in a list is one of it
 placed_there : (all : List Bytes) (q : Bytes) (k : ℕ) → position_from (bytes_eq q) 0 all ≡ Some k → Contains all q
 placed_there all q k h = placed_from all q 0 k h
 
 -- ---- the names of the protocols
 
--- as they are declared
+-- the names of the declared protocols are the names of the protocols of the text
 pub declared_names : (text : Bytes) (ps : List ProtocolDecl)
     → map (λ (d : Declaration). d.name) (declarations text (map (λ (p : ProtocolDecl). p.name) ps)) ≡ protocol_names text ps
 declared_names text [] = refl
@@ -64,7 +64,7 @@ placed all ranks ds names within r q h =
     ∙ ap Some (sym (get_or-map first ranks r q 0 (slice_get_within ranks r q h) ∙ ap first (get_or_from_slice_get ranks r q q h)
     ∙ ap (λ o. unwrap_or o 0) (ap (position_from (bytes_eq q) 0) names ∙ k.1)))
 
--- where a name is declared first, the protocol of its rank stands
+-- the protocol of a name's rank stands where the name is declared first
 pub declared_place : (ranks : List Bytes) (ds : List Declaration)
     → ((q : Bytes) → Contains (map (λ (d : Declaration). d.name) ds) q → Contains ranks q)
     → HaveProtocols ds (map (λ name. unwrap_or (place ds name) 0) ranks) (length ranks)

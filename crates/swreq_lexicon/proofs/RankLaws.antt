@@ -59,7 +59,7 @@ assoc_is ds d c = by (position (is_pair d.proto d.name) ds) refl
     by None e = absurd (by_place d.proto d.name ds None e c)
     by (Some i) e = ap (λ o. slice_get ds (unwrap_or o 0)) e ∙ by_place d.proto d.name ds (Some i) e
 
--- the associated types from a rank on have their ranks
+-- An associated type of a list that begins at rank k stands at its rank.
 record HasRank (k : ℕ) (ds : List ProtocolName) (d : AssociatedType) : Type 0 where
   pub from : k ≤ d.assoc.rank
   pub is : slice_get ds (d.assoc.rank - k) ≡ Some (pair d.proto d.name)
@@ -116,7 +116,7 @@ assoc_total inherits associated =
 
 -- ---- by name first
 
--- Of two items of a sorted list the one stands first where they are not the same and the other is not less.
+-- If two items of a sorted list are not identical, and the second is not less than the first, then the first stands before the second.
 pub stands_first : {K : Type 0} (cmp : K → K → Ordering) (xs : List K) → IsStrictlySortedBy cmp xs
     → (i j : ℕ) (x y : K) → slice_get xs i ≡ Some x → slice_get xs j ≡ Some y → (x ≡ y → ⊥) → (cmp y x ≡ Less → ⊥) → i < j
 stands_first cmp xs sorted i j x y f g other not_less =

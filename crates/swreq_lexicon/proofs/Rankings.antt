@@ -24,7 +24,7 @@ module _ {K : Type 0} (R S : K → K → Ordering) (total : IsTotalOrder R) wher
   not_back : (x y : K) → R x y ≡ Less → R y x ≡ Less → ⊥
   not_back x y h k = let clash : Greater ≡ Less = ap ordering_reverse (sym h) ∙ sym (total.antisymm y x) ∙ k in cc
 
-  -- Each of two lists has the items of the other, and where both have two items their orders agree.
+  -- Each of two lists has the items of the other, and the two orders agree on these items.
   record AreItems (xs ys : List K) : Type 0 where
     pub agree : (x y : K) → Contains xs x → Contains xs y → R x y ≡ S x y
     pub to : (x : K) → Contains xs x → Contains ys x
@@ -60,7 +60,7 @@ module _ {K : Type 0} (R S : K → K → Ordering) (total : IsTotalOrder R) wher
     rest_items =
         record { agree = λ a b c d. items.agree a b (later_member x a xs c) (later_member x b xs d); to = rest_to; from = rest_from }
 
-  -- two lists that are sorted alike and have the same items
+  -- two lists with the same items, each sorted by its order, are one list if the orders agree
   same_sorted : (xs ys : List K) → IsStrictlySortedBy R xs → IsStrictlySortedBy S ys → AreItems xs ys → xs ≡ ys
   unfolding IsStrictlySortedBy
   same_sorted [] [] s t items = refl

@@ -117,7 +117,7 @@ any_push : {A : Type 0} (test : A → Bool) (xs : List A) (x : A) → list_any t
 any_push test xs x = list_any-append test xs (x ∷ []) ∙ ap (λ b. list_any test xs || b) (or-false (test x))
 
 module _ (inherits : ProtoId → ProtoId → Bool) (order : List ProtoId) where
-  -- the heirs of a protocol that declares one name more
+  -- adding the heirs of a protocol to the row of one more name that it declares
   pub rows_more : (pairs : List ProtocolName) (i : ℕ) (d : ProtocolName) (old new : List (List ℕ)) (heirs : List ℕ) → i < length pairs → d ≡ get_or pairs i d
       → AreHeirs inherits order d.proto heirs
       → ((a : NameId) (k : ℕ) → sets.has (row_of new a) k ≡ (sets.has (row_of old a) k || (nat_eq a.rank d.name.rank && sets.has heirs k)))

@@ -20,7 +20,7 @@ get_left [] ys i h = absurd (omega arith)
 get_left (x ∷ xs) ys zero h = refl
 get_left (x ∷ xs) ys (suc i) h = get_left xs ys i (omega arith)
 
--- an item that passes stands among those that pass after those before it
+-- an item that passes a test stands, among those that pass, after those that pass before it
 pub filter_place : {A : Type 0} (p : A → Bool) (xs : List A) (i : ℕ) (d : A) → i < length xs → p (get_or xs i d) ≡ true → slice_get (filter p xs) (length (filter p (take i xs))) ≡ Some (get_or xs i d)
 filter_place p [] i d h e = absurd (omega arith)
 filter_place p (x ∷ xs) zero d h e = ap (λ b. slice_get (cond b (x ∷ filter p xs) (filter p xs)) 0) e
@@ -70,7 +70,7 @@ module _ (order : List ProtoId) (has : ProtoId → NameId → Bool) where
       ⊎_elim (λ b. longer_more n m (longer n m (at_most n m b)))
       (λ e. same_le (length (symbols_below order has n)) (length (symbols_below order has (suc m))) (ap (λ k. length (symbols_below order has k)) (sym (at_end n m h e)))) (cases_lt n (suc m))
 
-  -- the places below a name stay
+  -- member symbols of names below a name keep their places
   kept_more : (n m i : ℕ) → n ≤ m → i < length (symbols_below order has n) → slice_get (symbols_below order has m) i ≡ slice_get (symbols_below order has n) i
       → slice_get (symbols_below order has (suc m)) i ≡ slice_get (symbols_below order has n) i
   kept_more n m i h l before = let g = longer n m h in get_left (symbols_below order has m) (symbols_of order has (name m)) i (omega (arith, g, l)) ∙ before
@@ -80,7 +80,7 @@ module _ (order : List ProtoId) (has : ProtoId → NameId → Bool) where
   kept n (suc m) i h l =
       ⊎_elim (λ b. kept_more n m i (at_most n m b) l (kept n m i (at_most n m b) l)) (λ e. ap (λ k. slice_get (symbols_below order has k) i) (at_end n m h e)) (cases_lt n (suc m))
 
-  -- the k-th protocol that has the a-th name
+  -- the place of the member symbol of the k-th protocol that has the a-th name
   pub symbol_at : (n a k : ℕ) (p : ProtoId) → a < n → k < length (having order has (name a)) → slice_get (having order has (name a)) k ≡ Some p
       → slice_get (symbols_below order has n) (length (symbols_below order has a) + k) ≡ Some (pair p (name a))
   symbol_at n a k p h l e =

@@ -11,7 +11,7 @@ use Rattle.swreq_lexicon.proofs.SymbolMembers.{symbol_is}
 use Rattle.swreq_lexicon.proofs.SymbolPlaces.{filter_place, having_le, length_below, symbol_at}
 
 module _ (order : List ProtoId) (has : ProtoId → NameId → Bool) (n : ℕ) where
-  -- where a name begins
+  -- the place where the member symbols of a name begin
   pub start_is : (starts : List ℕ) → AreStarts order has n starts → (a x : ℕ) → a ≤ n → get_or starts a x ≡ length (symbols_below order has a)
   start_is starts are a x h =
       let size = are.count in

@@ -17,7 +17,7 @@ use Rattle.swreq_lexicon.specs.Views.{place_by}
 no_element : (k : ℕ) → Contains [] k → ⊥
 no_element k c = let h = c.1 in omega (arith, h)
 
--- a chain ends with a step
+-- the last step of a chain leads where the chain leads
 last_step : (graph : List (List ℕ)) (i j : ℕ) → Leads graph i j → (k : ℕ) × Contains (next graph k) j
 last_step graph i j (step c) = (i, c)
 last_step graph i j (more {j = k} c l) = last_step graph k j l
@@ -50,7 +50,7 @@ module _ (order : List ProtoId) (places : List ℕ) (positions : List (Option �
 
   module _ (count : ℕ) (standing : LeadToProtocols places count graph) (within : AreWithin graph) (size : length positions ≡ length graph)
       (all : HavePositions order places positions (length order)) (ordered : (p : ProtoId) → p.rank < count → Contains order p) where
-    -- where a step leads, a protocol of the order stands
+    -- a protocol of the order stands where a step leads, and has a position
     target : (i b : ℕ) → Contains (next graph i) b
         → (m : ℕ) × (r : ProtoId) × (position_at positions b ≡ Some m) × (slice_get order m ≡ Some r) × (place_by places r ≡ b)
     target i b c =
@@ -153,7 +153,7 @@ module _ (order : List ProtoId) (places : List ℕ) (xs : List (Option ℕ)) (k 
 
 -- ---- direct heirs
 
--- The lists have what they had, and the heir at the positions of some of the bases.
+-- Each list has what it had before. The lists at the positions of these bases have the heir too.
 abbrev pub AreAdded : List (Option ℕ) → List ℕ → ℕ → List (List ℕ) → List (List ℕ) → Type 0
 AreAdded positions bases heir old new = (m k : ℕ) → Contains (next new m) k
     ↔ (Contains (next old m) k ⊎ ((k ≡ heir) × (place : ℕ) × Contains bases place × (position_at positions place ≡ Some m)))
@@ -204,7 +204,7 @@ module _ (positions : List (Option ℕ)) (bases : List ℕ) (i b heir : ℕ) (ol
             (Contains-push_cases (next lists position) heir k
             (subst (λ xs. Contains xs k) pushed_here (subst (λ n. Contains (next pushed n) k) s c)))
 
-    -- what the lists are to have after the base
+    -- what the lists have once the base is done
     abbrev IsAdded : ℕ → ℕ → Type 0
     IsAdded m k = Contains (next old m) k
         ⊎ ((k ≡ heir) × (place : ℕ) × Contains (take (i + 1) bases) place × (position_at positions place ≡ Some m))

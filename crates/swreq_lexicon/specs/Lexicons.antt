@@ -20,7 +20,7 @@ proto_by protocols name = record { rank = rank protocols name }
 abbrev pub name_by : List Bytes → Bytes → NameId
 name_by names name = record { rank = rank names name }
 
--- a protocol with a name
+-- the pair of a protocol and a name
 abbrev pub pair : ProtoId → NameId → ProtocolName
 pair p a = record { proto = p; name = a }
 
@@ -30,7 +30,7 @@ is_pair p a d = nat_eq p.rank d.proto.rank && nat_eq a.rank d.name.rank
 abbrev pub assoc_at : ℕ → AssocId
 assoc_at r = record { rank = r }
 
--- the rank of an associated type, which is 0 where there is none; where the names of a text resolve, there is one
+-- the rank of an associated type, or 0 if there is none; there is one if the names of the text resolve
 abbrev pub assoc_by : List ProtocolName → ProtoId → NameId → AssocId
 assoc_by associated p a = assoc_at (unwrap_or (position (is_pair p a) associated) 0)
 
@@ -47,7 +47,7 @@ assoc_id x p a = assoc_by x.associated p a
 
 -- ---- associated types with their ids
 
--- the associated types, whose ranks begin with k
+-- these associated types, with ranks that begin with k
 abbrev pub associated_from : ℕ → List ProtocolName → List AssociatedType
 associated_from k [] = []
 associated_from k (d ∷ ds) = record { proto = d.proto; name = d.name; assoc = record { rank = k } } ∷ associated_from (k + 1) ds

@@ -26,7 +26,8 @@ module _ (text : Bytes) (protocols names : List Bytes) where
   abbrev pub declared_in : List ProtocolDecl → List ProtocolName
   declared_in ps = flat_map declared_by ps
 
--- A text of at most 1,048,576 bytes has no more protocols, associated types and names than that. Names are counted once each.
+-- The text has at most 1,048,576 protocols, associated types and names, as each text of at most 1,048,576 bytes does. Each name is counted
+-- once.
 pub record IsSmall (text : Bytes) (s : Skeleton) : Type 0 where
   pub protocols : length s.protocols ≤ 1048576
   pub associated : length (flat_map (λ p. p.members) s.protocols) ≤ 1048576
@@ -34,14 +35,14 @@ pub record IsSmall (text : Bytes) (s : Skeleton) : Type 0 where
 
 -- This is the lexicon of the text.
 pub record IsLexiconOf (text : Bytes) (s : Skeleton) (x : LexiconView) : Type 0 where
-  -- protocols and names go by their bytes
+  -- protocols and names are ordered by their bytes
   pub protocols : IsRanking bytes_cmp (Contains (protocol_names text s.protocols)) x.protocols
   pub names : IsRanking bytes_cmp (Contains (mentioned text s)) x.names
   pub written_order : x.written_order ≡ map (λ p. proto_by x.protocols (word text p.name)) s.protocols
-  -- each protocol has one place, the first of its name
+  -- each protocol has one place, the first place of its name
   pub placed : length x.places ≡ length x.protocols
   pub places : (p : ProtoId) (name : Bytes) → slice_get x.protocols p.rank ≡ Some name → place (spaces text s).protocols name ≡ Some (place_of x p)
-  -- and inherits what the protocol at this place inherits
+  -- a protocol inherits what the protocol at its place inherits
   pub inheritance : (p q : ProtoId) → IsTrue (inherits x p q) ↔ Inherits text s (place_of x p) (place_of x q)
   -- associated types are the declared pairs
   pub associated : IsRanking (assoc_cmp x) (Contains (declared_in text x.protocols x.names s.protocols)) x.associated

@@ -20,7 +20,7 @@ pub record ProtocolsView : Type 0 where
 pub record LexiconView : Type 0 where
   -- the names of the protocols, by rank
   pub protocols : List Bytes
-  -- of each protocol, by rank, the first place of its name in written order
+  -- for each protocol, by rank, the first place of its name in written order
   pub places : List ℕ
   -- the protocols in written order
   pub written_order : List ProtoId
@@ -33,7 +33,7 @@ pub record LexiconView : Type 0 where
   -- what the names of the text refer to, and which protocol inherits which, by places in written order
   pub resolved : NamesView
 
--- with the bytes of the text
+-- the lexicon of the view, with the bytes of the text
 abbrev pub lexicon_of : Bytes → LexiconView → Lexicon
 lexicon_of text x = record { text = text; protocols = x.protocols; names = x.names; associated = x.associated }
 

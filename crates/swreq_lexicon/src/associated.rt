@@ -16,7 +16,7 @@ use std::marker::Model;
 use swreq_param::{AssocId, NameId, ProtoId};
 use swreq_rank::{Lists, Ranked};
 
-/// By what associated types are ranked: their name, whether their protocol inherits one that declares it, and their protocol.
+/// What associated types are ranked by: their name, whether their protocol inherits one that declares it, and their protocol.
 #[derive(Clone, Copy, PartialEq, Eq, PartialOrd, Ord)]
 pub struct AssocKey {
     pub name: NameId,
@@ -36,7 +36,7 @@ impl AssocKey {
     }
 }
 
-/// At most 1,048,576 associated types by rank and in written order, and for each name the protocols that declare it.
+/// At most 1,048,576 associated types, by rank and in written order, and for each name the protocols that declare it.
 #[derive(Drop)]
 pub struct Associated {
     ranked: Ranked<AssocKey>,
@@ -82,7 +82,7 @@ impl Associated {
         })
     }
 
-    /// How many there are.
+    /// How many associated types there are.
     pub fn len(&self) -> u32
         ensures { result ≡ length self.now }
     {
@@ -116,7 +116,7 @@ impl Associated {
         }
     }
 
-    /// The protocols and the names of the associated types, in written order, those that are written twice twice.
+    /// The protocols and the names of the associated types, in written order. Each is there as often as it is written.
     pub fn written(&self) -> &[ProtocolName]
         ensures { (d : ProtocolName) → Contains result.now d ↔ Contains self.now d }
     {
@@ -168,7 +168,7 @@ fn has_name(protocols: &Protocols, lists: &Lists<ProtoId>, p: ProtoId, a: NameId
         .any(|q| p == *q || protocols.inherits(p, *q))
 }
 
-/// By what the associated types of these pairs are ranked.
+/// The keys by which the associated types of these pairs are ranked.
 fn keys(
     alloc: Global,
     protocols: &Protocols,

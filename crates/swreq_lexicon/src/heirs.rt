@@ -15,11 +15,11 @@ use swreq_param::ProtoId;
 use swreq_rank::Lists;
 use swreq_text::Seq;
 
-/// For each protocol of an order the places in order of those that inherit it: the closure of the steps from each protocol to those
-/// that inherit it directly.
+/// For each protocol of an order, the places of the protocols that inherit it: the closure of the steps from each protocol to those that
+/// inherit it directly.
 #[derive(Drop)]
 pub struct Heirs {
-    /// Of each place in written order, the place in order of the protocol that stands there.
+    /// For each place in written order, the place in the order of the protocol that stands there.
     positions: Vec<Option<usize>>,
     closure: Closure,
 }
@@ -33,7 +33,7 @@ impl Model for Heirs {
 }
 
 impl Heirs {
-    /// The heirs of the protocols of an order, which has all protocols.
+    /// The heirs of the protocols of an order. The order has all protocols.
     pub fn of(alloc: Global, protocols: &Protocols, ordered: &Ordered) -> Result<Heirs, AllocError>
         requires { (p : ProtoId) → p.rank < length protocols.now.protocols → Contains ordered.now p }
         ensures { IfOk result (AreAllHeirs ordered.now protocols.now.places protocols.now.resolved.inherits) }
@@ -46,7 +46,8 @@ impl Heirs {
         Ok(Heirs { positions, closure })
     }
 
-    /// The places in order of the protocols that inherit the one at this place in written order, or None where there is none.
+    /// The places in the order of the protocols that inherit the protocol at this place in written order, or None if there is no such
+    /// protocol.
     pub fn at(&self, place: usize) -> Option<&Bits>
         ensures { MatchOption result
             ((k : ℕ) → leads_up self.now.rows (position_at self.now.positions place) k ≡ false)
@@ -59,7 +60,7 @@ impl Heirs {
     }
 }
 
-/// Of each place in written order below the bound, the place in order of the protocol that stands there, if one does.
+/// For each place in written order below the bound, the place in the order of the protocol that stands there, if one does.
 fn positions(
     alloc: Global,
     protocols: &Protocols,
@@ -90,7 +91,7 @@ fn position_at(positions: &[Option<usize>], place: usize) -> Option<usize>
     }
 }
 
-/// Adds a protocol to the heirs of each of these that it inherits directly.
+/// Adds a protocol to the heirs of each of these bases, which it inherits directly.
 fn add_heir(
     positions: &[Option<usize>],
     bases: &[usize],
@@ -110,7 +111,7 @@ fn add_heir(
     Ok(())
 }
 
-/// Where one step leads from a place.
+/// The places that one step leads to from a place.
 fn bases_of(direct: &[Seq<usize>], place: usize) -> &[usize]
     ensures { result.now ≡ next direct.now place }
 {
@@ -120,7 +121,7 @@ fn bases_of(direct: &[Seq<usize>], place: usize) -> &[usize]
     }
 }
 
-/// For each place in order those of the protocols that inherit the one there directly.
+/// For each place in the order, the places of the protocols that directly inherit the protocol there.
 fn direct_heirs(
     alloc: Global,
     protocols: &Protocols,

@@ -28,8 +28,8 @@ pub fn names_have_ranks(text: &[u8])
         → slice_get x.associated (assoc_by x.associated d.proto d.name).rank ≡ Some d }
 {}
 
-/// What stands in written order are protocols of the text, and each of them stands there at its place; where no name is declared
-/// twice, each of them once. A name that is declared as a protocol means the protocol at its first place.
+/// The written order has protocols of the text, and each protocol stands there at its place. If no name is declared twice, each protocol
+/// stands there once. A name that is declared as a protocol means the protocol at its first place.
 pub fn protocols_have_places(text: &[u8])
     ensures protocols { (s : Skeleton) (x : LexiconView) → IsLexiconOf text.now s x → (k : ℕ) (p : ProtoId) → slice_get x.written_order k ≡ Some p → IsProtocol x p }
     ensures places { (s : Skeleton) (x : LexiconView) → IsLexiconOf text.now s x → (p : ProtoId) → IsProtocol x p → slice_get x.written_order (place_of x p) ≡ Some p }
@@ -39,7 +39,7 @@ pub fn protocols_have_places(text: &[u8])
         → place_of x (proto_by x.protocols name) ≡ k }
 {}
 
-/// Each declared pair of a protocol and a name has one associated type, which is its rank, and no two pairs have the same.
+/// Each declared pair of a protocol and a name has one associated type, which is its rank, and no two pairs have the same one.
 pub fn associated_types_are_one_to_one(text: &[u8])
     ensures ranked { (ds : List ProtocolName) (d : AssociatedType) → Contains (associated_types ds) d ↔ (slice_get ds d.assoc.rank ≡ Some (pair d.proto d.name)) }
     ensures one_to_one { (s : Skeleton) (x : LexiconView) → IsLexiconOf text.now s x → AreOneToOne (associated_types x.associated) }
@@ -53,8 +53,8 @@ pub fn ranks_go_by_name_first(text: &[u8])
         → slice_get x.symbols i ≡ Some d → slice_get x.symbols j ≡ Some e → d.name.rank < e.name.rank → i < j }
 {}
 
-/// Associated types of one name: those of protocols that do not inherit the name, the roots, come before those of protocols that do. Roots
-/// go by protocol, and so do the others.
+/// Among the associated types of one name, those of protocols that do not inherit the name, the roots, come before those of protocols that
+/// do. Roots are ordered by protocol, and so are the others.
 pub fn roots_come_first(text: &[u8])
     ensures roots { (s : Skeleton) (x : LexiconView) → IsLexiconOf text.now s x → (i j : ℕ) (p q : ProtoId) (a : NameId)
         → slice_get x.associated i ≡ Some (pair p a) → slice_get x.associated j ≡ Some (pair q a)
@@ -64,8 +64,8 @@ pub fn roots_come_first(text: &[u8])
         → (InheritsName x p a ↔ InheritsName x q a) → p.rank < q.rank → i < j }
 {}
 
-/// Member symbols of one name: that of a protocol comes before that of each protocol that it inherits and that does not inherit itself. A
-/// protocol that inherits more protocols comes first, and those that inherit as many go by rank.
+/// Among the member symbols of one name, that of a protocol comes before that of each protocol that it inherits and that does not inherit
+/// itself. A protocol that inherits more protocols comes first. Those that inherit the same number are ordered by rank.
 pub fn heirs_come_first(text: &[u8])
     ensures heirs { (s : Skeleton) (x : LexiconView) → IsLexiconOf text.now s x → (i j : ℕ) (p q : ProtoId) (a : NameId)
         → slice_get x.symbols i ≡ Some (pair p a) → slice_get x.symbols j ≡ Some (pair q a)

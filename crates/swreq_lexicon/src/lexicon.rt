@@ -20,11 +20,11 @@ use swreq_names::{Names, member_names, word};
 use swreq_param::{AssocId, NameId, ProtoId};
 use swreq_rank::Ranks;
 
-/// What the words of a text stand for: its protocols, its names of associated types and of members, its associated types and
-/// its member symbols, each by rank.
+/// What the symbols of a text's words stand for: its protocols, its names of associated types and of members, its associated types and its
+/// member symbols, each by rank.
 ///
-/// A protocol is of the text where its rank is below `protocols`, a name where it is below `names`, an associated type where
-/// it is below `associated`, and a member symbol where it is below `members`. No call but `of` takes memory.
+/// A protocol is of the text if and only if its rank is below `protocols`. The same holds of a name and `names`, of an associated type and
+/// `associated`, and of a member symbol and `members`. No call but `of` takes memory.
 #[derive(Drop)]
 pub struct Lexicon {
     protocols: Protocols,
@@ -68,8 +68,8 @@ impl Lexicon {
         ensures { IfOk result (IsLexiconOf text.now s.now) }
     {
         let ps = s.protocols.items();
-        let protocols = Protocols::of(alloc, text, ps, resolved)?;
         let names = names_of(alloc, text, s)?;
+        let protocols = Protocols::of(alloc, text, ps, resolved)?;
         let pairs = pairs_of(alloc, text, s, &protocols, &names)?;
         let associated = Associated::of(alloc, &protocols, names.len(), pairs)?;
         let symbols = Symbols::of(alloc, &protocols, &associated, names.len())?;
@@ -148,14 +148,14 @@ impl Lexicon {
         self.associated.pair(d)
     }
 
-    /// The protocol with this name, or None exactly where there is none.
+    /// The protocol with this name, or None if and only if there is none.
     pub fn find_proto(&self, name: &[u8]) -> Option<ProtoId>
         ensures { MatchOption result (Contains self.now.protocols name.now → ⊥) (λ p. slice_get self.now.protocols p.rank ≡ Some name.now) }
     {
         self.protocols.find(name)
     }
 
-    /// The name with these bytes, or None exactly where there is none.
+    /// The name with these bytes, or None if and only if there is none.
     pub fn find_name(&self, name: &[u8]) -> Option<NameId>
         ensures { MatchOption result (Contains self.now.names name.now → ⊥) (λ a. slice_get self.now.names a.rank ≡ Some name.now) }
     {
@@ -165,14 +165,14 @@ impl Lexicon {
         }
     }
 
-    /// The protocol with this name, or the one of rank 0 where there is none.
+    /// The protocol with this name, or the one of rank 0 if there is none.
     pub fn proto_id(&self, name: &[u8]) -> ProtoId
         ensures { result ≡ proto_by self.now.protocols name.now }
     {
         self.protocols.id(name)
     }
 
-    /// The name with these bytes, or the one of rank 0 where there is none.
+    /// The name with these bytes, or the one of rank 0 if there is none.
     pub fn name_id(&self, name: &[u8]) -> NameId
         ensures { result ≡ name_by self.now.names name.now }
     {
@@ -181,7 +181,7 @@ impl Lexicon {
         }
     }
 
-    /// The associated type of a name that a protocol declares, or the one of rank 0 where it declares none.
+    /// The associated type of a name that a protocol declares, or the one of rank 0 if it does not declare the name.
     pub fn assoc_id(&self, p: ProtoId, a: NameId) -> AssocId
         ensures { result ≡ assoc_by self.now.associated p a }
     {
@@ -198,14 +198,14 @@ impl Lexicon {
         self.protocols.inherits(p, q)
     }
 
-    /// How many protocols it inherits.
+    /// How many protocols the protocol inherits.
     pub fn depth(&self, p: ProtoId) -> u32
         ensures { result ≡ depth self.now p }
     {
         self.protocols.depth(p)
     }
 
-    /// The associated type of a name that a protocol declares, or None exactly where it declares none.
+    /// The associated type of a name that a protocol declares, or None if and only if it does not declare the name.
     pub fn declares(&self, p: ProtoId, a: NameId) -> Option<AssocId>
         ensures { MatchOption result (Contains self.now.associated (pair p a) → ⊥) (λ d. slice_get self.now.associated d.rank ≡ Some (pair p a)) }
     {
@@ -220,7 +220,7 @@ impl Lexicon {
             .has_member(&self.protocols, &self.associated, p, a)
     }
 
-    /// The rank of the member symbol `[P:A]`, or None exactly where there is none.
+    /// The rank of the member symbol `[P:A]`, or None if and only if there is none.
     pub fn member_rank(&self, p: ProtoId, a: NameId) -> Option<u64>
         ensures { MatchOption result (Contains self.now.symbols (pair p a) → ⊥) (λ m. slice_get self.now.symbols m ≡ Some (pair p a)) }
     {

@@ -16,7 +16,7 @@ use std::marker::Model;
 use swreq_closure::Bits;
 use swreq_param::{NameId, ProtoId};
 
-/// For each name, by rank, the set of the places in order of the protocols that have it.
+/// For each name, by rank, the set of the places of the protocols that have it.
 #[derive(Drop)]
 pub struct Members {
     rows: Vec<Bits>,
@@ -31,7 +31,7 @@ impl Model for Members {
 }
 
 impl Members {
-    /// The members of the first `names` names, which have all associated types.
+    /// The members of the first `names` names. All associated types have one of these names.
     pub fn of(
         alloc: Global,
         protocols: &Protocols,
@@ -75,7 +75,7 @@ impl Members {
         }
     }
 
-    /// At how many places before this one protocols have the name.
+    /// At how many places before this one a protocol has the name.
     pub fn count_before(&self, place: usize, a: NameId) -> usize
         ensures { result ≡ count_below (has (row_of self.now a)) place }
     {
@@ -86,14 +86,14 @@ impl Members {
     }
 }
 
-/// The row of a name, or None where it has no place.
+/// The row of a name, or None if it has no row.
 fn row_at(rows: &[Bits], a: NameId) -> Option<&Bits>
     ensures { MatchOption result (row_of rows.now a ≡ []) (λ row. row.now ≡ row_of rows.now a) }
 {
     rows.get(a.rank as usize)
 }
 
-/// The set of the place of a protocol.
+/// The set with only the place of this protocol.
 fn itself(alloc: Global, ordered: &Ordered, q: ProtoId) -> Result<Bits, AllocError>
     ensures { IfOk result (λ s. (k : ℕ) (p : ProtoId) → slice_get ordered.now k ≡ Some p → has s k ≡ nat_eq p.rank q.rank) }
 {
@@ -107,7 +107,7 @@ fn itself(alloc: Global, ordered: &Ordered, q: ProtoId) -> Result<Bits, AllocErr
     }
 }
 
-/// The places of the protocols that are this one or inherit it.
+/// The places of this protocol and of the protocols that inherit it.
 fn places_of(
     alloc: Global,
     protocols: &Protocols,
@@ -125,7 +125,7 @@ fn places_of(
     }
 }
 
-/// A row without a place for each of `names` names.
+/// An empty row for each of `names` names.
 fn no_rows(alloc: Global, names: usize) -> Result<Vec<Bits>, AllocError>
     ensures len { IfOk result (λ rows. length rows.items ≡ names) }
     ensures none { IfOk result (λ rows. (a : NameId) (k : ℕ) → has (row_of rows.items a) k ≡ false) }
@@ -149,7 +149,7 @@ fn add(alloc: Global, heirs: &Bits, a: NameId, rows: &mut Vec<Bits>) -> Result<(
     Ok(())
 }
 
-/// The rows of the first `names` names. The heirs of protocols are found only where there are pairs.
+/// The rows of the first `names` names. The heirs of protocols are computed only if there are associated types.
 fn rows(
     alloc: Global,
     protocols: &Protocols,

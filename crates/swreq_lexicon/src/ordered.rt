@@ -26,7 +26,7 @@ impl Model for Ordered {
 }
 
 impl Ordered {
-    /// These protocols, whose ranks are below the bound.
+    /// These protocols in this order. Their ranks are below the bound.
     pub fn of(alloc: Global, protos: Vec<ProtoId>, bound: u32) -> Result<Ordered, AllocError>
         requires within { (p : ProtoId) → Contains protos.items p → p.rank < bound }
         requires once { AreOnce protos.items }
@@ -43,7 +43,7 @@ impl Ordered {
         &self.protos
     }
 
-    /// The place of a protocol, or None exactly where it is not among these.
+    /// The place of a protocol, or None if and only if it is not among these.
     pub fn place_of(&self, p: ProtoId) -> Option<usize>
         ensures { MatchOption result (Contains self.now p → ⊥) (StandsAt self.now p) }
     {
@@ -54,7 +54,7 @@ impl Ordered {
     }
 }
 
-/// The place that is kept of a protocol, or None where none is.
+/// The place that is kept for a protocol, or None if none is.
 fn kept(places: &[usize], p: ProtoId) -> Option<usize>
     ensures { result ≡ slice_get places.now p.rank }
 {
@@ -64,7 +64,7 @@ fn kept(places: &[usize], p: ProtoId) -> Option<usize>
     }
 }
 
-/// The place, where the protocol stands there.
+/// The place, if the protocol stands there.
 fn here(protos: &[ProtoId], p: ProtoId, place: usize) -> Option<usize>
     ensures { MatchOption result (slice_get protos.now place ≡ Some p → ⊥) (λ k. (k ≡ place) × (slice_get protos.now place ≡ Some p)) }
 {

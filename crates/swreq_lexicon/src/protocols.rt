@@ -27,7 +27,7 @@ use swreq_text::Seq;
 #[derive(Drop)]
 pub struct Protocols {
     ranks: Ranks,
-    /// Of each protocol, by rank, the first place of its name in written order.
+    /// For each protocol, by rank, the first place of its name in written order.
     places: Vec<usize>,
     /// The set of these places.
     firsts: Bits,
@@ -86,7 +86,7 @@ impl Protocols {
         })
     }
 
-    /// How many there are.
+    /// How many protocols there are.
     pub fn len(&self) -> u32
         ensures is { result ≡ length self.now.protocols }
         ensures small { result ≤ 1048576 }
@@ -112,7 +112,7 @@ impl Protocols {
         }
     }
 
-    /// The protocol with this name, or the first one where there is none.
+    /// The protocol with this name, or the first one if there is none.
     pub fn id(&self, name: &[u8]) -> ProtoId
         ensures { result ≡ proto_by self.now.protocols name.now }
     {
@@ -156,14 +156,14 @@ impl Protocols {
         self.resolved.direct()
     }
 
-    /// Whether it may inherit any. It is false only where it inherits none.
+    /// Whether the protocol may inherit a protocol. It is false only if it inherits none.
     pub fn may_inherit(&self, p: ProtoId) -> bool
         ensures { result ≡ false → (q : ProtoId) → inherits_by self.now.places self.now.resolved.inherits p q ≡ false }
     {
         self.resolved.inheritance().may_lead(self.place(p))
     }
 
-    /// How many protocols it inherits.
+    /// How many protocols the protocol inherits.
     pub fn depth(&self, p: ProtoId) -> u32
         ensures { result ≡ depth (inherits_by self.now.places self.now.resolved.inherits) (length self.now.protocols) p }
     {
@@ -179,7 +179,7 @@ impl Protocols {
     }
 }
 
-/// The rank of a name, or 0 where it has none.
+/// The rank of a name, or 0 if it has none.
 pub fn rank_or_first(ranks: &Ranks, name: &[u8]) -> u32
     requires { length ranks.now ≤ 1048576 }
     ensures { result ≡ rank ranks.now name.now }
@@ -212,14 +212,14 @@ fn ranks_of(alloc: Global, text: &[u8], protocols: &[ProtocolDecl]) -> Result<Ra
     Ok(ranks)
 }
 
-/// The first place of a name among those of protocols in written order, or 0 where it is none of them.
+/// The first place of a name among the names of protocols in written order, or 0 if it is not one of them.
 fn first_place(resolved: &Names, name: &[u8]) -> usize
     ensures { result ≡ unwrap_or (place resolved.now.declared.protocols name.now) 0 }
 {
     resolved.declared().protocols().find(name).unwrap_or(0)
 }
 
-/// Of each protocol, by rank, the first place of its name in written order.
+/// For each protocol, by rank, the first place of its name in written order.
 fn places(alloc: Global, resolved: &Names, ranks: &Ranks) -> Result<Vec<usize>, AllocError>
     ensures { IfOk result (λ places. places.items ≡ map (λ name. unwrap_or (place resolved.now.declared.protocols name) 0) ranks.now) }
 {

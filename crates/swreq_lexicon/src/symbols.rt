@@ -21,14 +21,14 @@ use std::marker::Model;
 use swreq_param::{NameId, ProtoId};
 use swreq_rank::Ranked;
 
-/// By what protocols are ordered: how many protocols they inherit, more first, and their rank.
+/// What protocols are ordered by: how many protocols they inherit, more first, and their rank.
 #[derive(Clone, Copy, PartialEq, Eq, PartialOrd, Ord)]
 pub struct OrderKey {
     pub depth: Reverse<u32>,
     pub proto: ProtoId,
 }
 
-/// The protocols in their order within each name, and the places at which the member symbols of each name begin.
+/// The protocols in their order within each name, and the places where the member symbols of each name begin.
 ///
 /// The member symbols themselves are not kept: a chain of 20,000 protocols that each declare a name has 200 million of them.
 #[derive(Drop)]
@@ -74,7 +74,7 @@ impl Symbols {
         })
     }
 
-    /// How many there are of `names` names.
+    /// How many member symbols the first `names` names have.
     pub fn len(&self, names: usize) -> u64
         requires { names < length self.now.starts }
         ensures { result ≡ slice_index self.now.starts names }
@@ -156,7 +156,7 @@ impl Symbols {
     }
 }
 
-/// By what the protocols are ordered.
+/// The keys by which the protocols are ordered.
 fn keys(alloc: Global, protocols: &Protocols) -> Result<Vec<OrderKey>, AllocError>
     ensures { IfOk result (λ keys. keys.items
         ≡ order_keys (inherits_by protocols.now.places protocols.now.resolved.inherits) (length protocols.now.protocols) (length protocols.now.protocols)) }
@@ -177,7 +177,7 @@ fn protos(alloc: Global, keys: &[OrderKey]) -> Result<Vec<ProtoId>, AllocError>
     keys.iter().map(|k| k.proto).collect(alloc)
 }
 
-/// The protocols in their order within each name: those first that inherit more.
+/// The protocols in their order within each name: those that inherit more protocols first.
 fn order(alloc: Global, protocols: &Protocols) -> Result<Vec<ProtoId>, AllocError>
     ensures ranking { IfOk result (λ order. IsRanking (order_cmp (inherits_by protocols.now.places protocols.now.resolved.inherits) (length protocols.now.protocols))
         (λ p. p.rank < length protocols.now.protocols) order.items) }
@@ -189,7 +189,7 @@ fn order(alloc: Global, protocols: &Protocols) -> Result<Vec<ProtoId>, AllocErro
     Ok(order)
 }
 
-/// How many member symbols each of the first `names` names has, where there are so many protocols.
+/// How many member symbols each of the first `names` names has. There are `protocols` protocols.
 fn counts(
     alloc: Global,
     members: &Members,
@@ -209,7 +209,7 @@ fn counts(
     Ok(counts)
 }
 
-/// The sums of the first counts, of none up to all.
+/// The sums of the first counts: of none, of one, and so on up to all.
 fn starts(alloc: Global, counts: &[u64]) -> Result<Vec<u64>, AllocError>
     requires few { length counts.now ≤ 1048576 }
     requires small { (a : ℕ) → slice_index counts.now a ≤ 1048576 }
@@ -226,7 +226,7 @@ fn starts(alloc: Global, counts: &[u64]) -> Result<Vec<u64>, AllocError>
     Ok(starts)
 }
 
-/// The last of the first `names` places that begins at `m` or before.
+/// The last of the first `names` names whose member symbols begin at `m` or before.
 fn last_from(starts: &[u64], names: usize, m: u64) -> usize
     requires len { length starts.now ≡ names + 1 }
     requires from { slice_index starts.now 0 ≤ m }
@@ -248,7 +248,7 @@ fn last_from(starts: &[u64], names: usize, m: u64) -> usize
     low
 }
 
-/// The protocol with this place among those that have the member name.
+/// The protocol at this place among those that have the member name.
 fn nth(
     protocols: &Protocols,
     associated: &Associated,

@@ -1,4 +1,4 @@
--- A symbol that vanishes behind an irreducible word ends a left side, and before it stands an ending of the word.
+-- A symbol that vanishes after an irreducible word ends a left side, and before it stands an ending of the word.
 use Rattle.std.proofs.Common.{◌≡◌, inl, inr, ℕ, suc, ◌-◌, ◌≤◌, Bool, List, [], ◌∷◌, ◌++◌, append_assoc, append-nil, length, length-append, drop, refl, sym, ◌∙◌, ap, subst, arith, Some}
 use Rattle.std.specs.List.{slice_get}
 use Rattle.std.specs.Bool.{Decides}

@@ -20,7 +20,7 @@ use Rattle.swreq_map.specs.Follows.{AreConforming, Follows, IsMapOf, MapView}
 use Rattle.swreq_map.specs.Properties.{IsProperty, Vanishes}
 use Rattle.swreq_map.proofs.Ending.{ends_left_side}
 
--- ---- protocols that vanish behind the word
+-- ---- protocols that vanish after the word
 
 module _ (rules : List Rule) (protocols : ℕ) (u symbols : List Symbol) (k : ℕ) (x : Symbol) (found : List ℕ) (here : slice_get symbols k ≡ Some x)
     (so_far : AreConforming rules protocols u (take k symbols) found) where
@@ -43,7 +43,7 @@ module _ (rules : List Rule) (protocols : ℕ) (u symbols : List Symbol) (k : �
     ],
   ))
 
-  -- it is none of them
+  -- the next symbol is not one of them
   pub conforming_same : ((p : ℕ) → x ≡ Proto p → p < protocols → Vanishes rules u x → ⊥)
       → AreConforming rules protocols u (take (suc k) symbols) found
   conforming_same none = subst (λ ys. AreConforming rules protocols u ys found) (sym more) (λ q. (
@@ -59,7 +59,7 @@ module _ (rules : List Rule) (protocols : ℕ) (u symbols : List Symbol) (k : �
 
 module _ (rules : List Rule) (complete : IsComplete rules) (m : MapView) (map : IsMapOf rules m) (u : List Symbol)
     (least : IsLeast (Linked (Step rules)) u) where
-  -- a property that vanishes behind the word follows an ending of it that is no longer than the left sides
+  -- a property that vanishes after the word follows an ending of it that is no longer than the left sides
   pub vanishing_follows : (longest : ℕ) → NoneLonger rules longest → (x : Symbol) → IsProperty m.protocols x → Vanishes rules u x
       → (at : ℕ) × (length u - longest ≤ at) × (at ≤ length u) × Follows m.words m.lists (drop at u) x
   vanishing_follows longest short x p v =
@@ -68,7 +68,7 @@ module _ (rules : List Rule) (complete : IsComplete rules) (m : MapView) (map : 
       let most = short e.0 e.1 e.3 in
       (e.2, omega (arith, size, most, e.4), e.4, map e.1 (drop e.2 u) x (get_contains rules e.0 e.1 e.3) e.5 p)
 
-  -- all protocols that vanish behind the word are among the symbols that follow its endings
+  -- all protocols that vanish after the word are among the symbols that follow its endings
   pub all_conforming : (longest : ℕ) → NoneLonger rules longest → (symbols : List Symbol) (found : List ℕ)
       → ((at : ℕ) (x : Symbol) → length u - longest ≤ at → at ≤ length u → Follows m.words m.lists (drop at u) x → Contains symbols x)
       → AreConforming rules m.protocols u symbols found

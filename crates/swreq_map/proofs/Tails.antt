@@ -1,4 +1,4 @@
--- What the ending of a least word tells of a symbol behind the word.
+-- What the ending of a least word tells of a symbol after the word.
 use Rattle.std.proofs.Common.{◌≡◌, ℕ, suc, ◌+◌, ◌-◌, ◌≤◌, List, [], ◌∷◌, ◌++◌, append_assoc, append-nil, length, length-append, length-drop, take, drop, drop-drop, take-append-drop, true, false, refl, sym, ◌∙◌, ap, subst, arith}
 use Rattle.std.specs.Bool.{Decides}
 use Rattle.std.proofs.lemmas.Bool.{false≢true}
@@ -27,14 +27,14 @@ module _ (rules : List Rule) (complete : IsComplete rules) (u : List Symbol) (le
           least_irreducible rules (locally rules complete.meet) u least (take from u ++ v)
           (subst (λ w. Step rules w (take from u ++ v)) whole (Step-before (take from u) s))
 
-  -- what vanishes behind the ending vanishes behind the word
+  -- what vanishes after the ending vanishes after the word
   pub vanishes_behind : (x : Symbol) → Vanishes rules (drop from u) x → Vanishes rules u x
   vanishes_behind x h =
       let longer = Linked-before (take from u) h in
       subst (λ w. Linked (Step rules) (w ++ x ∷ []) w) whole
       (subst (λ w. Linked (Step rules) w (take from u ++ drop from u)) (sym (append_assoc (take from u) (drop from u) (x ∷ []))) longer)
 
-  -- where no left side that ends behind the word reaches before the ending, what stays behind the ending stays behind the word
+  -- where no left side that ends after the word reaches before the ending, what stays after the ending stays after the word
   pub stays_behind : (x : Symbol) → from ≤ length u → NoneLonger rules (length u - from) → IsLeast (Linked (Step rules)) (drop from u ++ x ∷ []) → Vanishes rules u x → ⊥
   stays_behind x within short stays h =
       let f = ends_left_side rules complete u least x h in

@@ -1,4 +1,4 @@
--- What a map keeps: with words the properties that end left sides behind them.
+-- What a map keeps with words: the properties that end left sides after them.
 use Rattle.std.specs.Prelude.{◌≡◌, ◌↔◌, ℕ, ◌<◌, List, [], ◌∷◌, ◌++◌, Some, Vec, Contains, slice_get}
 use Rattle.std.specs.declared.alloc.Global.{Global}
 use Rattle.swreq_word.specs.declared.symbols.Symbol.{Symbol}
@@ -30,6 +30,6 @@ abbrev pub IsMapOf : List Rule → MapView → Type 0
 IsMapOf rules m = (rule : Rule) (v : List Symbol) (x : Symbol) → Contains rules rule → rule.left ≡ v ++ x ∷ [] → IsProperty m.protocols x
     → Follows m.words m.lists v x
 
--- just the protocols below this number among these symbols that vanish behind the word
+-- exactly the protocols below this number among these symbols that vanish after the word
 abbrev pub AreConforming : List Rule → ℕ → List Symbol → List Symbol → List ℕ → Type 0
 AreConforming rules protocols u symbols found = (p : ℕ) → Contains found p ↔ (Contains symbols (Proto p) × (p < protocols) × Vanishes rules u (Proto p))

@@ -17,12 +17,12 @@ IsProperty protocols (Param d i) = ⊥
 IsProperty protocols (Name a) = ⊥
 IsProperty protocols Layout = Unit {0}
 
--- The symbol vanishes behind the word: the word with the symbol behind it is congruent to the word. Where the word is irreducible, it is
+-- The symbol vanishes after the word: the word with the symbol after it is congruent to the word. Where the word is irreducible, it is
 -- the one to which the longer word reduces.
 abbrev pub Vanishes : List Rule → List Symbol → Symbol → Type 0
 Vanishes rules u x = Linked (Step rules) (u ++ x ∷ []) u
 
--- just the protocols below this number that vanish behind the word, ascending, and whether the layout does
+-- exactly the protocols below this number that vanish after the word, ascending, and whether the layout does
 pub record ArePropertiesOf (rules : List Rule) (protocols : ℕ) (u : List Symbol) (found : Properties) : Type 0 where
   pub protocols_are : (p : ℕ) → Contains found.protocols p ↔ ((p < protocols) × Vanishes rules u (Proto p))
   pub ascending : IsStrictlyIncreasing found.protocols

@@ -1,4 +1,4 @@
-// A symbol put behind a least word. Only near the end of the word a left side can stand then.
+// A symbol put after a least word. A left side can then stand only near the end of the word.
 ghost use Rattle.std.specs.Prelude.{◌≡◌, ◌+◌, ◌≤◌, [], ◌∷◌, ◌++◌, vec_capacity, vec_len};
 ghost use Rattle.swreq_word.specs.Least.{IsLeast};
 ghost use Rattle.swreq_word.specs.Relations.{Linked};
@@ -16,7 +16,7 @@ pub(crate) fn put(word: &mut Vec<Symbol>, x: Symbol)
     if let Err(_) = word.push(x) {}
 }
 
-/// Puts a symbol behind the least word of a class, and reduces the longer word to the least one of its own class. No memory is taken:
+/// Puts a symbol after the least word of a class, and reduces the longer word to the least one of its own class. No memory is taken:
 /// there is room for one symbol more.
 pub fn append(rules: &CompleteRules<'_>, word: &mut Vec<Symbol>, x: Symbol)
     requires least { IsLeast (Linked (Step rules.now)) word.old.items }

@@ -42,7 +42,7 @@ fn put(
     push(&mut lists[place], x)
 }
 
-/// Keeps a symbol with a word. For want of memory what was kept stays.
+/// Keeps a symbol with a word. If memory runs out, what was kept stays.
 fn add(
     alloc: Global,
     table: &mut WordTable,
@@ -87,7 +87,7 @@ pub fn followers<'a>(table: &WordTable, lists: &'a [Vec<Symbol>], v: &[Symbol]) 
     requires { AreDistinct table.now }
     ensures { (x : Symbol) → Follows table.now lists.now v.now x → Contains result.now x }
 {
-    match table.find(v) {
+    match table.find_symbols(v) {
         Some(id) => list_at(lists, id.place),
         None => &[],
     }

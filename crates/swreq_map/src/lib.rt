@@ -1,4 +1,4 @@
-//! The properties of irreducible words: the protocols whose symbols vanish behind them, and the layout.
+//! The properties of irreducible words: the protocols whose symbols vanish after them, and the layout.
 #![tactic(auto)]
 
 mod appending;

@@ -44,7 +44,7 @@ impl Model for PropertyMap {
     ghost invariant = { λ m. AreDistinct m.table };
 }
 
-/// The least word of a class by rules, and the number below which the protocols are that are asked of it.
+/// The least word of a class by rules, and the number below which the protocols are that it is asked about.
 #[derive(Clone, Copy)]
 struct Class<'a, 'b> {
     rules: &'a CompleteRules<'b>,
@@ -52,7 +52,7 @@ struct Class<'a, 'b> {
     protocols: u32,
 }
 
-/// The symbols that are kept with some ending of a word that begins at this place or behind it.
+/// The symbols that are kept with some ending of a word that begins at this place or after it.
 fn candidates(
     alloc: Global,
     table: &WordTable,
@@ -100,7 +100,7 @@ impl PropertyMap {
         })
     }
 
-    /// Whether the map keeps the symbol with some ending of a word that begins at this place or behind it.
+    /// Whether the map keeps the symbol with some ending of a word that begins at this place or after it.
     fn is_candidate(&self, u: &[Symbol], from: usize, x: Symbol) -> bool
         ensures { (at : ℕ) → from ≤ at → at ≤ length u.now → Follows self.now.words self.now.lists (drop at u.now) x → result ≡ true }
     {
@@ -112,7 +112,7 @@ impl PropertyMap {
         false
     }
 
-    /// Whether a property vanishes behind the least word of a class, by the rules of the map. No memory is taken: the room is for one
+    /// Whether a property vanishes after the least word of a class, by the rules of the map. No memory is taken: the room is for one
     /// symbol more than the word.
     pub fn has(
         &self,
@@ -182,7 +182,7 @@ fn symbol_at(symbols: &[Symbol], k: usize) -> Symbol
     symbols[k]
 }
 
-/// The protocol of the symbol, if it is one below this number that vanishes behind the least word of a class.
+/// The protocol of the symbol, if it is one below this number that vanishes after the least word of a class.
 fn conforms(class: &Class<'_, '_>, x: Symbol, room: &mut Vec<Symbol>) -> Option<u32>
     requires least { IsLeast (Linked (Step class.now.rules.now)) class.now.word.now }
     requires fits { length class.now.word.now + 1 ≤ vec_capacity room.old }
@@ -203,7 +203,7 @@ fn conforms(class: &Class<'_, '_>, x: Symbol, room: &mut Vec<Symbol>) -> Option<
     }
 }
 
-/// Adds the protocol of the next symbol, if it is one below this number that vanishes behind the least word of a class.
+/// Adds the protocol of the next symbol, if it is one below this number that vanishes after the least word of a class.
 fn add_conforming(
     class: &Class<'_, '_>,
     symbols: &[Symbol],
@@ -229,7 +229,7 @@ fn add_conforming(
     }
 }
 
-/// The protocols among these symbols that vanish behind the least word of a class.
+/// The protocols among these symbols that vanish after the least word of a class.
 fn conforming(
     alloc: Global,
     class: &Class<'_, '_>,

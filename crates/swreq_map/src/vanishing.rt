@@ -1,4 +1,4 @@
-// Whether a symbol vanishes behind a word.
+// Whether a symbol vanishes after a word.
 ghost use Rattle.std.specs.Prelude.{◌≡◌, ◌+◌, ◌-◌, ◌≤◌, [], ◌∷◌, ◌++◌, length, vec_capacity, vec_len, IfSome};
 ghost use Rattle.std.specs.Bool.{Decides};
 ghost use Rattle.swreq_word.specs.Least.{IsLeast};
@@ -29,15 +29,15 @@ fn put_all(room: &mut Vec<Symbol>, u: &[Symbol])
     if let Err(_) = room.extend_from_slice(u) {}
 }
 
-/// Whether a word is the other one with this symbol behind it.
+/// Whether a word is the other one with this symbol after it.
 fn is_followed(w: &[Symbol], u: &[Symbol], x: Symbol) -> bool
     ensures { Decides result (w.now ≡ u.now ++ x ∷ []) }
 {
     w.len() == u.len() + 1 && w[u.len()] == x && are_same(&w[..u.len()], u)
 }
 
-/// Whether the symbol vanishes behind the least word of a class, by the ending of the word from a place on, to which left sides that end
-/// behind the word do not reach. Where the ending alone does not tell, the answer is None.
+/// Whether the symbol vanishes after the least word of a class, by the ending of the word from a place on, to which left sides that end
+/// after the word do not reach. Where the ending alone does not tell, the answer is None.
 fn vanishes_by_ending(
     rules: &CompleteRules<'_>,
     u: &[Symbol],
@@ -83,9 +83,9 @@ fn vanishes_by_all(
     are_same(room, u)
 }
 
-/// Whether the symbol vanishes behind the least word of a class. The room is for one symbol more than the word.
+/// Whether the symbol vanishes after the least word of a class. The room is for one symbol more than the word.
 ///
-/// Only near the end of the word a left side can stand that reaches behind it, so mostly the last symbols tell, however long the word is.
+/// A left side that reaches past the word can stand only near its end, so mostly the last symbols tell, however long the word is.
 pub fn vanishes(rules: &CompleteRules<'_>, u: &[Symbol], x: Symbol, room: &mut Vec<Symbol>) -> bool
     requires least { IsLeast (Linked (Step rules.now)) u.now }
     requires fits { length u.now + 1 ≤ vec_capacity room.old }

@@ -13,7 +13,7 @@ use Rattle.swreq_lex.specs.Characters.{starts_word, continues_word}
 use Rattle.swreq_lex.specs.Slices.{IsSpelledWord}
 use Rattle.swreq_names.specs.WordBytes.{in_word, HasWordBytes}
 
--- What starts a word may go on in one.
+-- A byte that may start a word may also stand later in one.
 goes_on : (c : ℕ) → starts_word c ≡ true → continues_word c ≡ true
 goes_on c s = by (is_xid_start c) refl
   where

@@ -70,7 +70,7 @@ referred_place ds others name k = by (place ds name)
 -- ---- direct steps
 
 module _ (text : List ℕ) (d : Spaces) where
-  -- Each direct step leads to what has a property, if the first place of each name has it.
+  -- If the first place of each name has a property, each direct step leads to a place that has it.
   module _ (P : ℕ → Type 0) (placed : (name : List ℕ) (k : ℕ) → place d.protocols name ≡ Some k → P k) where
     all_named : (e : Entity) → All P (option_to_list (named_by text d e))
     all_named e =

@@ -12,13 +12,13 @@ pieces_more g xs i x start into new h e inv k =
     k ∙ ap (λ ys. ys ++ g x) inv ∙ append_assoc start (flat_map g (take i xs)) (g x)
     ∙ ap (λ ys. start ++ ys) ((λ j. flat_map g (take i xs) ++ g (e j)) ∙ ap (λ ys. flat_map g (take i xs) ++ ys) (sym (append-nil (g (get_or xs i x)))) ∙ sym (flat_map-append g (take i xs) (get_or xs i x ∷ [])) ∙ ap (flat_map g) (sym (take_more xs i x h)))
 
--- a list that has one thing for each element
+-- a list with one item for each element of another list, made one item after another
 pub mapped_more : {A B : Type 0} (f : A → B) (xs : List A) (i : ℕ) (x : A) (y : B) (old new : List B) → i < length xs → x ≡ get_or xs i x
     → new ≡ old ++ y ∷ [] → y ≡ f x → old ≡ map f (take i xs) → new ≡ map f (take (i + 1) xs)
 mapped_more f xs i x y old new h e k l o =
     k ∙ (λ j. o j ++ l j ∷ []) ∙ (λ j. map f (take i xs) ++ f (e j) ∷ []) ∙ sym (map-append f (take i xs) (get_or xs i x ∷ [])) ∙ ap (map f) (sym (take_more xs i x h))
 
--- the same, after what was there
+-- the same, after items that were there before
 pub mapped_onto_more : {A B : Type 0} (f : A → B) (xs : List A) (i : ℕ) (x : A) (y : B) (start old new : List B) → i < length xs → x ≡ get_or xs i x
     → new ≡ old ++ y ∷ [] → y ≡ f x → old ≡ start ++ map f (take i xs) → new ≡ start ++ map f (take (i + 1) xs)
 mapped_onto_more f xs i x y start old new h e k l o =
@@ -29,10 +29,10 @@ pub mapped_twice : {A B C : Type 0} (f : B → C) (g : A → B) (xs : List A) �
 mapped_twice f g [] = refl
 mapped_twice f g (x ∷ xs) = ap (λ ys. f (g x) ∷ ys) (mapped_twice f g xs)
 
--- ---- its members
+-- ---- the items of pieces
 
 module _ {A B : Type 0} (f : A → List B) where
-  -- an item of a piece, and the piece of an item
+  -- an item of the list is an item of a piece, and conversely
   pub in_pieces : (xs : List A) (x : A) (y : B) → Contains xs x → Contains (f x) y → Contains (flat_map f xs) y
   in_pieces [] x y c d = no_member x c
   in_pieces (z ∷ zs) x y c d =
@@ -45,7 +45,7 @@ module _ {A B : Type 0} (f : A → List B) where
       ⊎_elim (λ h. (z, first_member z zs, h)) (λ h. let s = from_pieces zs y h in (s.0, later_member z s.0 zs s.1, s.2))
       (Contains-append_cases (f z) (flat_map f zs) y c)
 
--- the pieces of pieces
+-- a list of pieces whose elements are items of pieces
 pub pieces_of_pieces : {A B C : Type 0} (f : B → List C) (g : A → List B) (xs : List A)
     → flat_map f (flat_map g xs) ≡ flat_map (λ x. flat_map f (g x)) xs
 pieces_of_pieces f g [] = refl

@@ -22,7 +22,7 @@ use Rattle.swreq_names.specs.Spaces.{word}
 abbrev pub AreNames : List (List ℕ) → Type 0
 AreNames ws = AllByRecursion (IsSpelled kinds.Name) ws
 
--- Where the token is a name for the grammar, it is spelled as one.
+-- If the token is a name for the grammar, it is spelled as one.
 abbrev pub IsNamed : List ℕ → Token Terminal → Type 0
 IsNamed text t = IsTrue (has number (Name ∷ Query ∷ []) t.terminal) → AreNames (word text (span t) ∷ [])
 
@@ -49,11 +49,11 @@ join_all f (x ∷ xs) a = join (f x) (flat_map f xs) a.0 (join_all f xs a.1)
 
 -- ---- lines
 
--- What a text of the line stands for has this, where its tokens are named.
+-- What a text of the line stands for has the property, if the text's tokens are named.
 record Names {A : Type 0} (text : List ℕ) (g : Line A) (Is : A → Type 0) : Type 0 where
   holds : (ts : Tokens) (v : A) → AreNamed text ts → Matches number g ts v → Is v
 
--- The same of what a text of the line makes of a value.
+-- The same of what a text of the line makes of a value that has a property.
 record NamesOf {A B : Type 0} (text : List ℕ) (h : Line (A → B)) (Is : A → Type 0) (Js : B → Type 0) : Type 0 where
   holds : (ts : Tokens) (f : A → B) → AreNamed text ts → Matches number h ts f → (v : A) → Is v → Js (f v)
 
@@ -188,7 +188,7 @@ module _ (text : List ℕ) where
       (λ p i j. join (word text p.0 ∷ []) (names.in_bounds text p.1.0 ++ names.in_clause text p.1.1) i
       (join (names.in_bounds text p.1.0) (names.in_clause text p.1.1) j.0 j.1))))
 
-  -- Of a protocol its own name is one too.
+  -- The names in a protocol are names, and so is its own name.
   abbrev pub IsProtocolNamed : ProtocolDecl → Type 0
   IsProtocolNamed p = AreNames (word text p.name ∷ names.in_protocol text p)
 

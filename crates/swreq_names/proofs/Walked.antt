@@ -30,14 +30,14 @@ use Rattle.swreq_names.specs.Walk.{walked, walked_direct}
 
 -- ---- pieces
 
--- of items with their places, where no piece asks for the place
+-- the pieces of numbered items, if no piece depends on the number
 pieces_numbered : {A B C : Type 0} (f : B → List C) (g : ℕ × A → List B) (h : A → List C)
     → ((x : ℕ × A) → flat_map f (g x) ≡ h x.1) → (i : ℕ) (xs : List A) → flat_map f (flat_map g (numbered i xs)) ≡ flat_map h xs
 pieces_numbered f g h each i [] = refl
 pieces_numbered f g h each i (x ∷ xs) =
     flat_map-append f (g (i, x)) (flat_map g (numbered (i + 1) xs)) ∙ (λ k. each (i, x) k ++ pieces_numbered f g h each (i + 1) xs k)
 
--- of parts with their scopes, where no piece asks for the scope
+-- the pieces of parts with their scopes, if no piece depends on the scope
 pieces_standing : {A B : Type 0} (f : A → List B) (scope : Scope) (parts : List A)
     → flat_map (λ (x : Scope × A). f x.1) (standing scope parts) ≡ flat_map f parts
 pieces_standing f scope parts = flat_map-map (λ x. f x.1) (λ part. (scope, part)) parts
@@ -58,7 +58,7 @@ each_permuted f g each (x ∷ xs) =
     (IsPermutation-append_left (flat_map f xs) (f x) (g x) (each x))
     (IsPermutation-append_right (g x) (flat_map f xs) (flat_map g xs) (each_permuted f g each xs))
 
--- pieces that have two parts each, and first all first parts
+-- pieces of two parts each are a permutation of all first parts and then all second parts
 parted : {A B : Type 0} (f g : A → List B) (xs : List A)
     → IsPermutation (flat_map (λ x. f x ++ g x) xs) (flat_map f xs ++ flat_map g xs)
 parted f g [] = IsPermutation-refl []

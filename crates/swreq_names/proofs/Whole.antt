@@ -28,7 +28,7 @@ use Rattle.swreq_names.proofs.Walked.{same_names}
 abbrev is_name : Terminal → Bool
 is_name t = has number (Name ∷ Query ∷ []) t
 
--- No entry of such a table is a name, and past its end stands the underscore.
+-- If no terminal of a table is a name, no entry is one: past the end of the table stands the underscore.
 no_name_in : (table : List Terminal) (n : ℕ) → list_all (λ t. not (is_name t)) table ≡ true → is_name (entry table n) ≡ true → ⊥
 no_name_in [] n all e = true≢false (sym e)
 no_name_in (t ∷ table) zero all e = both_ways (is_name t) (not-true (is_name t) (and_parts (not (is_name t)) _ all).0) e

@@ -26,7 +26,7 @@ module _ (text : List ℕ) (d : Spaces) where
   abbrev pub named_in : List Entity → List ℕ
   named_in es = flat_map (λ e. option_to_list (named_by e)) es
 
-  -- whether a constraint in a protocol is on the protocol itself: on what it inherits, or on the bare `Self`
+  -- whether a constraint in a protocol is on the protocol itself: an inheritance entry, or a constraint on the bare `Self`
   abbrev pub is_itself : Subject → Bool
   is_itself (self_of name) = true
   is_itself (associated name) = false
@@ -42,7 +42,7 @@ module _ (text : List ℕ) (d : Spaces) where
   abbrev pub direct : ProtocolDecl → List ℕ
   direct p = flat_map inherited_by (of_protocol p)
 
--- for each protocol those that it inherits directly
+-- for each protocol, the protocols that it inherits directly
 abbrev pub inheritance : List ℕ → Skeleton → List (List ℕ)
 inheritance text s = map (direct text (spaces text s)) s.protocols
 

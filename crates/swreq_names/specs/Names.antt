@@ -8,7 +8,7 @@ use Rattle.swreq_names.specs.Inheritance.{TellsInheritance, inheritance}
 -- what contracts see of the names of a text
 pub record NamesView : Type 0 where
   pub declared : Spaces
-  -- for each protocol, in written order, those that it inherits directly
+  -- for each protocol, in written order, the protocols that it inherits directly
   pub direct : List (List ℕ)
   pub inherits : Matrix
 

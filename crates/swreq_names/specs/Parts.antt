@@ -1,5 +1,5 @@
--- The parts of a text that say something of types: its constraints and its written types, each with the scope in which it stands. Those of one
--- protocol or signature stand in written order; those of protocols stand before those of structs, functions and queries.
+-- The parts of a text that say something of types: its constraints and its written types, each with the scope in which it stands. The parts
+-- of one protocol or signature stand in written order. The parts of protocols come before those of structs, functions and queries.
 use Rattle.std.specs.Prelude.{ℕ, ◌+◌, List, [], ◌∷◌, ◌++◌, map}
 use Rattle.std.specs.List.{flat_map}
 use Rattle.swreq_decl.specs.declared.skeleton.Span.{Span}
@@ -29,7 +29,7 @@ pub data Subject : Type 0 where
   parameter : ℕ → Span → Subject
   written : TypeDecl → Subject
 
--- `T: P & Q`, or an inheritance entry with what stands behind its colon; and `T == U`.
+-- `T: P & Q`, or an inheritance entry with what stands after its colon; and `T == U`.
 pub data Constraint : Type 0 where
   bound : Subject → List Entity → Constraint
   same : TypeDecl → TypeDecl → Constraint
@@ -48,7 +48,7 @@ of_member m = bound (associated m.name) m.inherits ∷ of_clause m.clause
 abbrev pub of_protocol : ProtocolDecl → List Constraint
 of_protocol p = bound (self_of p.name) p.inherits ∷ (of_clause p.clause ++ flat_map of_member p.members)
 
--- each item with its place, which begins from i
+-- each item with its place, counted from i
 abbrev pub numbered : {A : Type 0} → ℕ → List A → List (ℕ × A)
 numbered i [] = []
 numbered i (x ∷ xs) = (i, x) ∷ numbered (i + 1) xs
@@ -77,14 +77,14 @@ in_protocol_at p = standing (in_protocol p.0) (of_protocol p.1)
 abbrev pub in_nested_at : ℕ → ℕ × FunctionDecl → List (Scope × Constraint)
 in_nested_at i f = standing (in_signature (Nested i f.0)) (of_signature f.1.params f.1.clause)
 
--- of a struct, and then of its functions
+-- the constraints of a struct, and then those of its functions
 abbrev pub in_struct_at : ℕ × StructDecl → List (Scope × Constraint)
 in_struct_at t = standing (in_signature (Struct t.0)) (of_signature t.1.params t.1.clause) ++ flat_map (in_nested_at t.0) (numbered 0 t.1.functions)
 
 abbrev pub in_function_at : ℕ × FunctionDecl → List (Scope × Constraint)
 in_function_at f = standing (in_signature (Function f.0)) (of_signature f.1.params f.1.clause)
 
--- the constraints of a text, each kind of part in written order
+-- the constraints of a text: those of protocols, of structs and of functions, each in written order
 abbrev pub constraints : Skeleton → List (Scope × Constraint)
 constraints s =
     flat_map in_protocol_at (numbered 0 s.protocols) ++ (flat_map in_struct_at (numbered 0 s.structs) ++ flat_map in_function_at (numbered 0 s.functions))

@@ -28,15 +28,15 @@ declarations text spans = map (declaration text) spans
 -- The names that a text declares, in written order.
 pub record Spaces : Type 0 where
   pub protocols : List Declaration
-  -- of each protocol its associated types, and its primary names
+  -- for each protocol, its associated types and its primary names
   pub members : List (List Declaration)
   pub primaries : List (List Declaration)
   pub structs : List Declaration
-  -- of each struct its generic parameters, its functions, and of each of these the generic parameters
+  -- for each struct, its generic parameters, its functions, and the generic parameters of each function
   pub struct_params : List (List Declaration)
   pub nested : List (List Declaration)
   pub nested_params : List (List (List Declaration))
-  -- the functions at the top, and of each the generic parameters
+  -- the functions at the top, and the generic parameters of each
   pub functions : List Declaration
   pub params : List (List Declaration)
 
@@ -62,7 +62,7 @@ spaces text s = record {
 abbrev pub self_bytes : List ℕ
 self_bytes = 83 ∷ 101 ∷ 108 ∷ 102 ∷ []
 
--- Names are compared by their bytes. A name refers to the first declaration of it; this is its place in a list, from 0.
+-- Names are compared by their bytes. A name refers to its first declaration. This is the place of that declaration in a list, from 0.
 abbrev pub place : List Declaration → List ℕ → Option ℕ
 place ds name = position_from (bytes_eq name) 0 (map (λ d. d.name) ds)
 
@@ -76,7 +76,7 @@ offset_of ds k = elim (slice_get ds k) [ None ↦ 0 | Some d ↦ d.at ]
 abbrev pub is_declared_before : List Declaration → List ℕ → ℕ → Bool
 is_declared_before ds name at = elim (place ds name) [ None ↦ false | Some k ↦ nat_lt (offset_of ds k) at ]
 
--- what the name refers to in a space of two lists, where it is one of the first list
+-- what the name refers to in a space of two lists, if that is one of the first list
 abbrev pub refers_to : List Declaration → List Declaration → List ℕ → Option ℕ
 refers_to ds others name = elim (place ds name) [ None ↦ None | Some k ↦ cond (is_declared_before others name (offset_of ds k)) None (Some k) ]
 
@@ -91,15 +91,15 @@ struct_of d name = refers_to d.structs d.functions name
 abbrev pub function_of : Spaces → List ℕ → Option ℕ
 function_of d name = refers_to d.functions d.structs name
 
--- the struct or the function at the top
+-- the struct, or the function at the top, that a name refers to
 abbrev pub signature_of : Spaces → List ℕ → Option Signature
 signature_of d name = elim (struct_of d name) [ None ↦ option_map Function (function_of d name) | Some i ↦ Some (Struct i) ]
 
--- the function of the i-th struct; the functions of a struct are a space
+-- the function of the i-th struct that a name refers to; the functions of a struct are a space
 abbrev pub nested_in : Spaces → ℕ → List ℕ → Option Signature
 nested_in d i name = option_map (Nested i) (place (slice_index_or d.nested i []) name)
 
--- the function of a struct
+-- the function that a name refers to in the struct that another name refers to
 abbrev pub nested_of : Spaces → List ℕ → List ℕ → Option Signature
 nested_of d outer name = elim (struct_of d outer) [ None ↦ None | Some i ↦ nested_in d i name ]
 

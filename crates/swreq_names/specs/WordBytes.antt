@@ -7,7 +7,7 @@ use Rattle.std.specs.List.{list_all}
 abbrev pub in_word : ℕ → Bool
 in_word b = nat_le 128 b || (is_ascii_alphanumeric b || (b == 95))
 
--- There are some, and each is one of a word.
+-- There is at least one byte, and each may stand in a word.
 pub record HasWordBytes (bytes : List ℕ) : Type 0 where
   pub some : 0 < length bytes
   pub each : IsTrue (list_all in_word bytes)

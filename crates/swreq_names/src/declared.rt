@@ -20,16 +20,17 @@ struct OfProtocols {
 }
 
 impl OfProtocols {
-    fn of(alloc: Global, text: &[u8], protocols: &[ProtocolDecl]) -> Result<Self, AllocError>
-        ensures names { IfOk result (λ d. d.names ≡ declarations text.now (map (λ p. p.name) protocols.now)) }
-        ensures members { IfOk result (λ d. d.members.items ≡ map (λ p. declarations text.now (map (λ m. m.name) p.members)) protocols.now) }
-        ensures primaries { IfOk result (λ d. d.primaries.items ≡ map (λ p. declarations text.now p.primaries) protocols.now) }
+    fn of(alloc: Global, text: &[u8], protocols: &[ProtocolDecl]) -> Result<Box<Self>, AllocError>
+        ensures names { IfOk result (λ d. d.value.names ≡ declarations text.now (map (λ p. p.name) protocols.now)) }
+        ensures members { IfOk result (λ d. d.value.members.items ≡ map (λ p. declarations text.now (map (λ m. m.name) p.members)) protocols.now) }
+        ensures primaries { IfOk result (λ d. d.value.primaries.items ≡ map (λ p. declarations text.now p.primaries) protocols.now) }
     {
-        Ok(OfProtocols {
+        let found = OfProtocols {
             names: directory_of(alloc, text, protocols)?,
             members: members(alloc, text, protocols)?,
             primaries: primaries(alloc, text, protocols)?,
-        })
+        };
+        Ok(Box::new(alloc, found)?)
     }
 }
 
@@ -58,18 +59,19 @@ struct OfStructs {
 }
 
 impl OfStructs {
-    fn of(alloc: Global, text: &[u8], structs: &[StructDecl]) -> Result<Self, AllocError>
-        ensures names { IfOk result (λ d. d.names ≡ declarations text.now (map (λ t. t.name) structs.now)) }
-        ensures params { IfOk result (λ d. d.params.items ≡ map (λ t. of_params text.now t.params) structs.now) }
-        ensures nested { IfOk result (λ d. d.nested.items ≡ map (λ t. declarations text.now (map (λ f. f.name) t.functions)) structs.now) }
-        ensures nested_params { IfOk result (λ d. d.nested_params.items ≡ map (λ t. map (λ f. of_params text.now f.params) t.functions) structs.now) }
+    fn of(alloc: Global, text: &[u8], structs: &[StructDecl]) -> Result<Box<Self>, AllocError>
+        ensures names { IfOk result (λ d. d.value.names ≡ declarations text.now (map (λ t. t.name) structs.now)) }
+        ensures params { IfOk result (λ d. d.value.params.items ≡ map (λ t. of_params text.now t.params) structs.now) }
+        ensures nested { IfOk result (λ d. d.value.nested.items ≡ map (λ t. declarations text.now (map (λ f. f.name) t.functions)) structs.now) }
+        ensures nested_params { IfOk result (λ d. d.value.nested_params.items ≡ map (λ t. map (λ f. of_params text.now f.params) t.functions) structs.now) }
     {
-        Ok(OfStructs {
+        let found = OfStructs {
             names: directory_of(alloc, text, structs)?,
             params: struct_params(alloc, text, structs)?,
             nested: nested(alloc, text, structs)?,
             nested_params: nested_params(alloc, text, structs)?,
-        })
+        };
+        Ok(Box::new(alloc, found)?)
     }
 }
 
@@ -81,25 +83,26 @@ struct OfFunctions {
 }
 
 impl OfFunctions {
-    fn of(alloc: Global, text: &[u8], functions: &[FunctionDecl]) -> Result<Self, AllocError>
-        ensures names { IfOk result (λ d. d.names ≡ declarations text.now (map (λ f. f.name) functions.now)) }
-        ensures params { IfOk result (λ d. d.params.items ≡ map (λ f. of_params text.now f.params) functions.now) }
+    fn of(alloc: Global, text: &[u8], functions: &[FunctionDecl]) -> Result<Box<Self>, AllocError>
+        ensures names { IfOk result (λ d. d.value.names ≡ declarations text.now (map (λ f. f.name) functions.now)) }
+        ensures params { IfOk result (λ d. d.value.params.items ≡ map (λ f. of_params text.now f.params) functions.now) }
     {
-        Ok(OfFunctions {
+        let found = OfFunctions {
             names: directory_of(alloc, text, functions)?,
             params: params(alloc, text, functions)?,
-        })
+        };
+        Ok(Box::new(alloc, found)?)
     }
 }
 
 /// The names that a text declares, in their spaces.
 #[derive(Drop)]
 pub struct Declared {
-    protocols: OfProtocols,
-    structs: OfStructs,
-    functions: OfFunctions,
+    protocols: Box<OfProtocols>,
+    structs: Box<OfStructs>,
+    functions: Box<OfFunctions>,
     declarers: Declarers,
-    /// What stands for a list of declarations that is not there.
+    /// What is answered for a list of declarations that is not there.
     empty: Directory,
 }
 
@@ -111,18 +114,18 @@ impl Model for Declared {
     ghost Value = { Spaces };
 
     ghost view = { λ d. record {
-      protocols = d.protocols.names;
-      members = d.protocols.members.items;
-      primaries = d.protocols.primaries.items;
-      structs = d.structs.names;
-      struct_params = d.structs.params.items;
-      nested = d.structs.nested.items;
-      nested_params = d.structs.nested_params.items;
-      functions = d.functions.names;
-      params = d.functions.params.items;
+      protocols = d.protocols.value.names;
+      members = d.protocols.value.members.items;
+      primaries = d.protocols.value.primaries.items;
+      structs = d.structs.value.names;
+      struct_params = d.structs.value.params.items;
+      nested = d.structs.value.nested.items;
+      nested_params = d.structs.value.nested_params.items;
+      functions = d.functions.value.names;
+      params = d.functions.value.params.items;
     } };
 
-    ghost invariant = { λ d. AreDeclarers d.protocols.members.items d.declarers.ranks d.declarers.lists × (d.empty ≡ []) };
+    ghost invariant = { λ d. AreDeclarers d.protocols.value.members.items d.declarers.ranks d.declarers.lists × (d.empty ≡ []) };
 }
 
 impl Declared {
@@ -193,7 +196,7 @@ impl Declared {
         self.protocols().refers_to(self.structs(), name)
     }
 
-    /// The struct that a name refers to, where a signature is asked.
+    /// The struct that a name refers to among the signatures.
     pub fn struct_of(&self, name: &[u8]) -> Option<usize>
         ensures { result ≡ struct_of self.now name.now }
     {
@@ -223,7 +226,7 @@ impl Declared {
         }
     }
 
-    /// The function of the struct that the one name refers to.
+    /// The function that `name` refers to in the struct that `outer` refers to.
     pub fn nested_of(&self, outer: &[u8], name: &[u8]) -> Option<Signature>
         ensures { result ≡ nested_of self.now outer.now name.now }
     {
@@ -288,7 +291,7 @@ impl Declared {
     }
 }
 
-/// The directory at this place, or the empty one where there is none.
+/// The directory at this place, or the empty one if there is none.
 fn at<'a>(directories: &'a [Directory], place: usize, empty: &'a Directory) -> &'a Directory
     requires { empty.now ≡ [] }
     ensures { result.now ≡ slice_index_or directories.now place [] }
@@ -299,7 +302,7 @@ fn at<'a>(directories: &'a [Directory], place: usize, empty: &'a Directory) -> &
     }
 }
 
-/// The list at this place, or the empty one where there is none.
+/// The list at this place, or the empty one if there is none.
 fn list_of(lists: &[OfNested], place: usize) -> &[Directory]
     ensures { result.now ≡ slice_index_or lists.now place [] }
 {

@@ -8,7 +8,7 @@ use std::alloc::{AllocError, Global};
 use swreq_rank::{Lists, Ranks};
 use swreq_text::Seq;
 
-/// All names of associated types that protocols declare, and of each the protocols that declare it.
+/// All names of associated types that protocols declare, and for each name the protocols that declare it.
 #[derive(Drop)]
 pub struct Declarers {
     pub ranks: Ranks,
@@ -75,7 +75,7 @@ fn add_names(
     Ok(())
 }
 
-/// For each rank the protocols that declare its name.
+/// For each rank, the protocols that declare its name.
 fn lists_of(alloc: Global, ranks: &Ranks, members: &[Directory]) -> Result<Lists<usize>, AllocError>
     ensures { IfOk result (λ lists. (r : ℕ) (q : List ℕ) → slice_get ranks.now r ≡ Some q → (j : ℕ)
         → Contains (slice_index_or lists r []) j ↔ Contains (names_of (slice_index_or members.now j [])) q) }

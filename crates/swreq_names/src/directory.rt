@@ -74,7 +74,7 @@ impl Directory {
         self.find(name).is_some()
     }
 
-    /// The offset of the declaration at this place, or 0 where there is none.
+    /// The offset of the declaration at this place, or 0 if there is none.
     fn offset_of(&self, place: usize) -> u32
         ensures { result ≡ offset_of self.now place }
     {
@@ -94,7 +94,7 @@ impl Directory {
         }
     }
 
-    /// The place of what the name refers to in the space of these and the others, where it is one of these.
+    /// The place of what the name refers to in the space of these declarations and the others, if that is one of these.
     pub fn refers_to(&self, others: &Directory, name: &[u8]) -> Option<usize>
         ensures { result ≡ refers_to self.now others.now name.now }
     {
@@ -131,7 +131,7 @@ fn names(alloc: Global, items: &[Declaration]) -> Result<Vec<Seq<u8>>, AllocErro
     Ok(names)
 }
 
-/// Notes a place of a name.
+/// Notes that the name stands at this place.
 fn note(place: usize, name: &[u8], ranks: &Ranks, firsts: &mut Vec<Option<usize>>)
     requires { length firsts.old.items ≡ length ranks.now }
     ensures len { length firsts.new.items ≡ length firsts.old.items }

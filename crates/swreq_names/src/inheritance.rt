@@ -111,7 +111,7 @@ fn direct(
     Ok(Seq::new(into))
 }
 
-/// For each protocol those that it inherits directly, by places in written order. `d` has the names of the skeleton.
+/// For each protocol, the protocols that it inherits directly, by places in written order. `d` has the names of the skeleton.
 pub fn inheritance(
     alloc: Global,
     text: &[u8],

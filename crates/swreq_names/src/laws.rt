@@ -12,7 +12,7 @@ ghost use Rattle.swreq_names.specs.WordBytes.{HasWordBytes};
 
 use swreq_lex::laws::tokens_are_slices;
 
-/// The names of protocols, and those of associated types and of members, are spelled as names: a word each, and no reserved one.
+/// The names of protocols, of associated types and of members are spelled as names: each is a word, and not a reserved one.
 pub fn names_are_words(text: &[u8])
     ensures protocols { (s : Skeleton) → StandsFor text.now s
         → (name : List ℕ) → Contains (map (λ p. word text.now p.name) s.protocols) name → IsSpelled Name name }

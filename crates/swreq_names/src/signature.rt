@@ -4,19 +4,19 @@
 /// order, each kind from 0.
 #[derive(Clone, Copy, Debug, PartialEq, Eq)]
 pub enum Signature {
-    /// A struct.
+    /// A struct, by its number.
     Struct(usize),
-    /// A function at the top.
+    /// A function at the top, by its number.
     Function(usize),
-    /// A function of a struct.
+    /// A function of a struct, by the number of the struct and by its own.
     Nested { outer: usize, function: usize },
 }
 
 /// A generic parameter of a signature, by its place in written order, from 0.
 #[derive(Clone, Copy, Debug, PartialEq, Eq)]
 pub enum Param {
-    /// One of the struct around a function.
+    /// A generic parameter of the struct around a function.
     Outer(usize),
-    /// One of the signature's own.
+    /// A generic parameter of the signature's own.
     Own(usize),
 }

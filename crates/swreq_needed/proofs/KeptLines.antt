@@ -1,4 +1,4 @@
--- The lines that are marked, numbered anew.
+-- The lines that are marked, with their new numbers.
 use Rattle.std.proofs.Common.{◌≡◌, inl, inr, ℕ, zero, suc, ◌+◌, ◌-◌, ◌<◌, ◌≤◌, Bool, true, false, List, [], ◌∷◌, ◌++◌, length, Some, Contains, map, slice_get, take, refl, sym, subst, ◌∙◌, ap, arith}
 use Rattle.std.proofs.lemmas.Option.{slice_get_within}
 use Rattle.std.proofs.lemmas.List.{map-append}
@@ -33,7 +33,7 @@ marked_no (false ∷ marks) zero e = refl
 marked_no (true ∷ marks) (suc k) e = ap suc (marked_no marks k e)
 marked_no (false ∷ marks) (suc k) e = marked_no marks k e
 
--- one more number
+-- the numbers, with one more at the end
 pub numbers_grow : (marks : List Bool) (numbers : List ℕ) (k count : ℕ) → length numbers ≡ k + 1
     → ((n : ℕ) → n ≤ k → slice_get numbers n ≡ Some (new_number marks n)) → count ≡ marked (take (k + 1) marks)
     → (n : ℕ) → n ≤ k + 1 → slice_get (numbers ++ count ∷ []) n ≡ Some (new_number marks n)
@@ -45,7 +45,7 @@ numbers_grow marks numbers k count long each so_far n l = elim (cases_lt k n) [
   | inr i ↦ get_left numbers (count ∷ []) n (new_number marks n) (each n i)
 ]
 
--- of two numbers of marked lines the later is greater
+-- of two marked lines, the later one has the greater new number
 pub marked_less : (marks : List Bool) (i j : ℕ) → i < j → IsMarked marks i → marked (take i marks) < marked (take j marks)
 marked_less [] i j l e = cc
 marked_less (b ∷ marks) i zero l e = absurd (omega (arith, l))
@@ -54,7 +54,7 @@ marked_less (false ∷ marks) zero (suc j) l e = cc
 marked_less (true ∷ marks) (suc i) (suc j) l e = let h = marked_less marks i j (omega (arith, l)) e in omega (arith, h)
 marked_less (false ∷ marks) (suc i) (suc j) l e = marked_less marks i j (omega (arith, l)) e
 
--- ---- those that are marked
+-- ---- the marked items
 
 module _ {A : Type 0} where
   pub kept_yes : (marks : List Bool) (xs : List A) (k : ℕ) (x : A) → slice_get marks k ≡ Some true → slice_get xs k ≡ Some x
@@ -85,7 +85,7 @@ module _ {A : Type 0} where
   kept_all (true ∷ marks) (x ∷ xs) (suc k) c l = ap (λ zs. x ∷ zs) (kept_all marks xs k (omega (arith, c)) (omega (arith, l)))
   kept_all (false ∷ marks) (x ∷ xs) (suc k) c l = kept_all marks xs k (omega (arith, c)) (omega (arith, l))
 
-  -- a marked line stands among those that are marked
+  -- a marked item stands among the marked ones, at the place that is the count of those before it
   pub kept_at : (marks : List Bool) (xs : List A) (k : ℕ) (x : A) → IsMarked marks k → slice_get xs k ≡ Some x
       → slice_get (kept marks xs) (marked (take k marks)) ≡ Some x
   kept_at [] xs k x m e = cc
@@ -95,7 +95,7 @@ module _ {A : Type 0} where
   kept_at (true ∷ marks) (y ∷ xs) (suc k) x m e = kept_at marks xs k x m e
   kept_at (false ∷ marks) (y ∷ xs) (suc k) x m e = kept_at marks xs k x m e
 
-  -- the place that one of those that are marked had
+  -- An item among the marked ones, with its place in the whole list.
   pub record HadPlace (marks : List Bool) (xs : List A) (j : ℕ) (x : A) : Type 0 where
     pub place : ℕ
     pub on : IsMarked marks place
@@ -119,7 +119,7 @@ module _ (lines : List Line) (marks : List Bool) where
   abbrev pub left : List Line
   left = map (renumbered marks) (kept marks lines)
 
-  -- the place that a line had
+  -- A line that is left, with the line that it comes from and the place of that line.
   pub record Whence (j : ℕ) (l : Line) : Type 0 where
     pub place : ℕ
     pub old : Line
@@ -206,7 +206,7 @@ module _ (lines : List Line) (marks : List Bool) where
     abbrev said_still : List TermStatement
     said_still = statements_of (map (line_of terms) left)
 
-    -- A marked line has its new number among those that are left.
+    -- What a marked line states has the line's new number among what is left.
     number_left : (k n : ℕ) (st : TermStatement) → HasNumber n (take k said) st → IsMarked marks (n - 1)
         → HasNumber (new_number marks n) (take (marked (take k marks)) said_still) st
     number_left k n st s on =

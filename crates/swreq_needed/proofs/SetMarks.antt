@@ -33,7 +33,7 @@ marked_then old mid new ns n below a b = record {
 }
 
 module _ (lines : List Line) (at : ℕ) where
-  -- Where the next line down is not marked, nothing is needed for it.
+  -- If the line at this place is not marked, nothing is needed for it.
   pub needed_unmarked : (marks : List _) → AreNeeded lines marks (at + 1) → (IsMarked marks at → ⊥) → AreNeeded lines marks at
   needed_unmarked marks h off = record {
     count = h.count;
@@ -45,7 +45,7 @@ module _ (lines : List Line) (at : ℕ) where
     used = h.used;
   }
 
-  -- Where it is, its premises are marked.
+  -- If the line at this place is marked, its premises get marked.
   pub needed_marked : (line : Line) (old new : List _) → slice_get lines at ≡ Some line → AreNeeded lines old (at + 1) → IsMarked old at
       → AreMarked old new line.premises at → AreNeeded lines new at
   needed_marked line old new is h on a = record {

@@ -1,21 +1,21 @@
--- Lines by marks: those that are marked, and their new numbers.
+-- Marks on lines: the marked lines, and their new numbers.
 use Rattle.std.specs.Prelude.{◌≡◌, ◌⊎◌, ◌<◌, ◌≤◌, ◌-◌, ℕ, suc, Bool, true, false, List, [], ◌∷◌, Some, length, map, slice_get, take, Contains}
 use Rattle.swreq_derive.specs.declared.lines.Line.{Line}
 
--- those that are marked
+-- the marked items, in order
 abbrev pub kept : {A : Type 0} → List Bool → List A → List A
 kept [] xs = []
 kept (b ∷ marks) [] = []
 kept (true ∷ marks) (x ∷ xs) = x ∷ kept marks xs
 kept (false ∷ marks) (x ∷ xs) = kept marks xs
 
--- how many are marked
+-- how many items are marked
 abbrev pub marked : List Bool → ℕ
 marked [] = 0
 marked (true ∷ marks) = suc (marked marks)
 marked (false ∷ marks) = marked marks
 
--- the number that a line has among those that are marked
+-- the number that a marked line has among the marked ones
 abbrev pub new_number : List Bool → ℕ → ℕ
 new_number marks n = marked (take n marks)
 
@@ -26,19 +26,19 @@ renumbered marks l = record { rule = l.rule; premises = map (new_number marks) l
 abbrev pub IsMarked : List Bool → ℕ → Type 0
 IsMarked marks k = slice_get marks k ≡ Some true
 
--- the number of a line before that at this place
+-- It is the number of a line before this place.
 abbrev pub IsEarlier : ℕ → ℕ → Type 0
 IsEarlier k n = (0 < n) × (n ≤ k)
 
--- The lines that these numbers name before a place are marked now, and else as before.
+-- The lines before a place that these numbers name are marked now. The other lines are marked as before.
 pub record AreMarked (old new : List Bool) (numbers : List ℕ) (below : ℕ) : Type 0 where
   pub count : length new ≡ length old
   pub stay : (k : ℕ) → IsMarked old k → IsMarked new k
   pub named : (n : ℕ) → Contains numbers n → IsEarlier below n → IsMarked new (n - 1)
   pub only : (k : ℕ) → IsMarked new k → IsMarked old k ⊎ ((k < below) × Contains numbers (suc k))
 
--- From this place on the earlier lines that a marked one has as premises are marked. Each marked line but the last is a premise of a
--- marked one after it.
+-- From this place on, the premises of each marked line are marked if they stand before it. Each marked line but the last one is a premise
+-- of a marked line after it.
 pub record AreNeeded (lines : List Line) (marks : List Bool) (from : ℕ) : Type 0 where
   pub count : length marks ≡ length lines
   pub last : (k : ℕ) → suc k ≡ length lines → IsMarked marks k

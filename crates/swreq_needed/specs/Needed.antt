@@ -3,7 +3,7 @@ use Rattle.std.specs.Prelude.{◌≡◌, ◌<◌, ℕ, suc, List, [], ◌∷◌,
 use Rattle.swreq_derive.specs.declared.lines.Line.{Line}
 use Rattle.swreq_derive.specs.declared.requirements.Statement.{Statement}
 
--- There is a last line, and it states this.
+-- There is a last line, and this is what it states.
 abbrev pub EndIn : List Line → Statement → Type 0
 EndIn ls st = (front : List Line) × (last : Line) × (ls ≡ front ++ last ∷ []) × (last.statement ≡ st)
 

@@ -1,4 +1,4 @@
-//! The lines that are needed, numbered anew.
+//! The lines that are needed, with new numbers.
 ghost use Rattle.std.specs.Prelude.{◌≡◌, ◌+◌, ◌≤◌, ℕ, List, Some, IfOk, length, map, slice_get};
 ghost use Rattle.swreq_param.specs.Terms.{Term};
 ghost use Rattle.swreq_derive.specs.declared.requirements.Statement.{Statement};
@@ -12,7 +12,7 @@ use std::alloc::{AllocError, Global};
 use swreq_derive::Line;
 use swreq_text::Seq;
 
-/// At each place how many of the first, so many, are marked.
+/// At each place n, how many of the first n lines are marked.
 fn numbers_of(alloc: Global, marks: &[bool]) -> Result<Vec<usize>, AllocError>
     ensures count { IfOk result (λ v. length v.items ≡ length marks.now + 1) }
     ensures each { IfOk result (λ v. (n : ℕ) → n ≤ length marks.now → slice_get v.items n ≡ Some (new_number marks.now n)) }
@@ -29,7 +29,7 @@ fn numbers_of(alloc: Global, marks: &[bool]) -> Result<Vec<usize>, AllocError>
     Ok(numbers)
 }
 
-/// The number that the line with this number has among those that are marked.
+/// The number that the line with this number has among the marked ones.
 fn number_in(marks: &[bool], numbers: &[usize], n: usize) -> usize
     requires count { length numbers.now ≡ length marks.now + 1 }
     requires each { (n : ℕ) → n ≤ length marks.now → slice_get numbers.now n ≡ Some (new_number marks.now n) }
@@ -39,7 +39,7 @@ fn number_in(marks: &[bool], numbers: &[usize], n: usize) -> usize
     if n < last { numbers[n] } else { numbers[last] }
 }
 
-/// The new numbers of premises.
+/// The premises, each with its new number.
 fn premises_in(
     alloc: Global,
     marks: &[bool],
@@ -77,7 +77,7 @@ fn renumbered(
     })
 }
 
-/// The lines that are marked, numbered anew.
+/// The lines that are marked, with new numbers.
 fn keep(alloc: Global, lines: &[Line], marks: &[bool]) -> Result<Vec<Line>, AllocError>
     requires { length marks.now ≡ length lines.now }
     ensures { IfOk result (λ v. v.items ≡ map (renumbered marks.now) (kept marks.now lines.now)) }
@@ -93,8 +93,8 @@ fn keep(alloc: Global, lines: &[Line], marks: &[bool]) -> Result<Vec<Line>, Allo
     Ok(out)
 }
 
-/// The lines that the last one needs, numbered anew: the last line, and the premises of each line that is needed. Of a derivation they are
-/// a derivation that ends in the same statement.
+/// The lines that the last one needs, with new numbers: the last line, and the premises of each line that is needed. If the lines are a
+/// derivation, so are the needed ones, and they end in the same statement.
 pub fn needed(alloc: Global, lines: &[Line]) -> Result<Vec<Line>, AllocError>
     ensures derived { IfOk result (λ v. (terms : List Term) (m : IdFacts) → AreDerived terms m lines.now → AreDerived terms m v.items) }
     ensures used { IfOk result (λ v. AreAllUsed v.items) }

@@ -5,7 +5,7 @@ ghost use Rattle.swreq_needed.specs.Marks.{AreMarked, AreNeeded};
 use std::alloc::{AllocError, Global};
 use swreq_derive::Line;
 
-/// Marks the line with this number if it stands before the place.
+/// Marks the line with this number, if it stands before the place.
 fn mark_one(marks: &mut Vec<bool>, n: usize, below: usize)
     requires { below ≤ length marks.old.items }
     ensures { AreMarked marks.old.items marks.new.items (n ∷ []) below }
@@ -19,7 +19,7 @@ fn mark_one(marks: &mut Vec<bool>, n: usize, below: usize)
     marks[n - 1] = true;
 }
 
-/// Marks the lines with these numbers that stand before the place.
+/// Marks those of the lines with these numbers that stand before the place.
 fn mark(marks: &mut Vec<bool>, numbers: &[usize], below: usize)
     requires { below ≤ length marks.old.items }
     ensures { AreMarked marks.old.items marks.new.items numbers.now below }
@@ -41,7 +41,7 @@ fn mark_premises(marks: &mut Vec<bool>, lines: &[Line], at: usize)
     }
 }
 
-/// No marks but that of the last line.
+/// The marks with which marking begins: only the last line is marked.
 fn mark_last(alloc: Global, lines: &[Line]) -> Result<Vec<bool>, AllocError>
     ensures { IfOk result (λ v. AreNeeded lines.now v.items (length lines.now)) }
 {
@@ -53,7 +53,7 @@ fn mark_last(alloc: Global, lines: &[Line]) -> Result<Vec<bool>, AllocError>
     Ok(marks)
 }
 
-/// A mark for each line that the last one needs: the last one, and the earlier lines that a marked one has as premises.
+/// Marks the lines that the last one needs: the last line, and the earlier lines that are premises of a marked line.
 pub(crate) fn marks_of(alloc: Global, lines: &[Line]) -> Result<Vec<bool>, AllocError>
     ensures { IfOk result (λ v. AreNeeded lines.now v.items 0) }
 {

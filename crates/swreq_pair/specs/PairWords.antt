@@ -6,7 +6,7 @@ use Rattle.swreq_rule.specs.declared.rules.Place.{Place}
 use Rattle.swreq_rule.specs.Steps.{RuleAt, StepBy}
 use Rattle.swreq_pair.specs.Pairs.{IsPair}
 
--- the left side of the first rule, and then what of that of the second is behind it
+-- the left side of the first rule, and then the part of the second's left side that stands after it
 pub record IsPairWord (rules : List Rule) (place : Place) (w : List Symbol) : Type 0 where
   pub first : Rule
   pub second : Rule

@@ -18,7 +18,7 @@ b = Name 1
 abbrev pub place_with : ℕ → ℕ → ℕ → Place
 place_with i j at = record { i = i; j = j; at = at }
 
--- By the greater number, then by the first, then by the second, then from the left.
+-- Places go by the greater number, then by the first, then by the second, then from the left.
 abbrev pub ordered_places : List Place
 ordered_places = place_with 1 2 1 ∷ place_with 2 1 1 ∷ place_with 1 3 1 ∷ place_with 3 2 2 ∷ place_with 3 3 1 ∷ place_with 3 3 2 ∷ []
 

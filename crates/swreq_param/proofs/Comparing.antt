@@ -94,7 +94,7 @@ same_compares t Less h = absurd (strict t h)
 same_compares t Equal h = refl
 same_compares t Greater h = absurd (strict t h)
 
--- Where ids are told apart, two are equal just where their type parameters compare so.
+-- Where ids are told apart, two are equal if and only if their type parameters compare so.
 pub equal_ids : (ts : List Term) (a b : TermId) (o : Ordering) → AreDistinct ts → IsOf ts a → IsOf ts b → Compares (term_at ts a) (term_at ts b) o → (o ≡ Equal) ↔ (a ≡ b)
 equal_ids ts a b o d h k c = (
   (λ e. d a b h k (subst (Compares (term_at ts a) (term_at ts b)) e c)),

@@ -68,8 +68,8 @@ impl ParamTable {
         self.entries.len()
     }
 
-    /// The id of a generic parameter. One that is there keeps its id, and then no memory is taken; a
-    /// new one comes last. For want of memory the table stays as it was.
+    /// The id of a generic parameter. One that is there keeps its id, and then no memory is taken;
+    /// a new one comes last. If memory runs out, the table stays as it was.
     pub fn param(&mut self, p: ParamId) -> Result<TermId, AllocError>
         ensures ok { IfOk result (Interned self.old self.new (Generic p)) }
         ensures there { Contains self.old (Generic p) → IsOk result }
@@ -80,9 +80,9 @@ impl ParamTable {
         self.intern(Entry::Param(p))
     }
 
-    /// The id of the member of a type parameter of the table with this step. One that is there keeps
-    /// its id, and then no memory is taken; a new one comes last. For want of memory the table stays
-    /// as it was.
+    /// The id of the member of a type parameter of the table with this step. One that is there
+    /// keeps its id, and then no memory is taken; a new one comes last. If memory runs out, the
+    /// table stays as it was.
     pub fn member(&mut self, base: TermId, step: Step) -> Result<TermId, AllocError>
         requires { IsOf self.old base }
         ensures ok { IfOk result (Interned self.old self.new (Member (term_at self.old base) step)) }
@@ -149,7 +149,7 @@ impl ParamTable {
         }
     }
 
-    /// The order of two type parameters of the table. They are equal exactly where their ids are.
+    /// The order of two type parameters of the table. They are equal if and only if their ids are.
     pub fn compare(&self, a: TermId, b: TermId) -> Ordering
         requires left { IsOf self.now a }
         requires right { IsOf self.now b }

@@ -24,7 +24,7 @@ not_at_end text at some = by (length (drop at text)) refl
 pub all_before : (text : List ℕ) (at : ℕ) → drop at text ≡ [] → take at text ≡ text
 all_before text at e = take_all at text (let d = length-drop at text in let l = ap length e in omega arith)
 
--- the lines before the place, and those behind it
+-- the lines before the place, and those after it
 pub lines-split : (text : List ℕ) (at : ℕ) → IsLineEnd text at → lines text ≡ lines (take at text) ++ lines (drop at text)
 lines-split text at h = by (drop at text) refl
   where
@@ -41,7 +41,7 @@ taken text front rest e =
     ∙ ap (λ m. m - length rest) (length-append front rest) ∙ add-sub_cancel (length front) (length rest) in
     ap (λ m. take m text) n ∙ ap (take (length front)) e ∙ take-append_seam front rest
 
--- behind the first line of what stands behind the place
+-- after the first line of what stands after the place
 module _ (text : List ℕ) (at : ℕ) (line rest : List ℕ) (ends : IsLineEnd text at) (first : IsFirstLine (drop at text) line rest) where
   abbrev before : List ℕ
   before = take at text

@@ -82,7 +82,7 @@ lines-feed_append (c ∷ before) text =
           ∙ sym (ap (λ z. z ++ lines text) (lines-other c front h.1))
     ]
 
--- behind whole lines the lines of another text follow
+-- after whole lines the lines of another text follow
 pub lines-append : (first text : List ℕ) → HasWholeLines first → lines (first ++ text) ≡ lines first ++ lines text
 lines-append first text h =
     elim h [
@@ -125,7 +125,7 @@ lines-first text line rest h =
       | inr w ↦ ap lines w.0 ∙ lines-last line h.1.0 (λ e. h.0 (w.0 ∙ e)) ∙ sym (ap (λ z. line ∷ lines z) w.1)
     ]
 
--- less is left behind it
+-- less is left after it
 pub rest_shorter : (text line rest : List ℕ) → IsFirstLine text line rest → length rest < length text
 rest_shorter text line rest h =
     elim h.1.1 [

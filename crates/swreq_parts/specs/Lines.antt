@@ -22,10 +22,10 @@ HasWholeLines text = (text ≡ []) ⊎ ((before : List ℕ) × (text ≡ before 
 abbrev pub StandsBefore : List ℕ → List ℕ → List ℕ → Type 0
 StandsBefore line rest text = (text ≡ line ++ (line_feed ∷ rest)) ⊎ ((text ≡ line) × (rest ≡ []))
 
--- The text is cut behind its first line feed, if it has one.
+-- The text is cut after its first line feed, if it has one.
 abbrev pub IsCut : List ℕ → List ℕ → List ℕ → Type 0
 IsCut text line rest = IsOneLine line × StandsBefore line rest text
 
--- The text has a first line, and this is it; the rest stands behind it.
+-- The text has a first line, and this is it; the rest stands after it.
 abbrev pub IsFirstLine : List ℕ → List ℕ → List ℕ → Type 0
 IsFirstLine text line rest = (text ≢ []) × IsCut text line rest

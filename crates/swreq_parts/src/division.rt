@@ -13,11 +13,11 @@ const DIVIDER: &[u8] = b"%%";
 pub struct TwoParts<'a> {
     /// What stands before the line `%%`.
     pub first: &'a [u8],
-    /// What stands behind it.
+    /// What stands after it.
     pub second: &'a [u8],
 }
 
-/// The two parts of an input, which is divided at its first line that is exactly `%%`, or None exactly where it has no such line.
+/// The two parts of an input, which is divided at its first line that is exactly `%%`, or None if and only if it has no such line.
 pub fn parts(input: &[u8]) -> Option<TwoParts<'_>>
     ensures parts { MatchOption result
         (Contains (lines input.now) divider → ⊥)

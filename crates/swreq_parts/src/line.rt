@@ -2,14 +2,14 @@
 ghost use Rattle.std.specs.Prelude.{◌≡◌, ◌==◌, ◌∷◌, [], IfSome, MatchOption, position};
 ghost use Rattle.swreq_parts.specs.Lines.{IsCut, IsFirstLine, line_feed, lines};
 
-/// The first line of a text, without its line feed, and what stands behind it.
+/// The first line of a text, without its line feed, and what stands after it.
 #[derive(Clone, Copy)]
 pub struct FirstLine<'a> {
     pub line: &'a [u8],
     pub rest: &'a [u8],
 }
 
-/// The first line of a text, or None exactly where the text is empty. A line ends with a line feed or with the text.
+/// The first line of a text, or None if and only if the text is empty. A line ends with a line feed or with the text.
 pub fn first_line(text: &[u8]) -> Option<FirstLine<'_>>
     ensures first { MatchOption result
         (text.now ≡ [])
@@ -23,7 +23,7 @@ pub fn first_line(text: &[u8]) -> Option<FirstLine<'_>>
     }
 }
 
-/// The text up to its first line feed, and what stands behind that. Without a line feed it is the whole text, and nothing.
+/// The text up to its first line feed, and what stands after that. Without a line feed it is the whole text, and nothing.
 fn cut(text: &[u8]) -> FirstLine<'_>
     ensures { IsCut text.now result.line.now result.rest.now }
 {

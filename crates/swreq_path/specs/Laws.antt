@@ -13,7 +13,7 @@ use Rattle.swreq_path.specs.Reductions.{IsReductionPath}
 abbrev pub PathsHaveOneTarget : List Rule → Type 0
 PathsHaveOneTarget rules = (path : Path) (v w : List Symbol) → HasTarget rules path v → HasTarget rules path w → v ≡ w
 
--- A path over the rules leads from one word to another exactly where steps, each forth or back, do.
+-- A path over the rules leads from one word to another if and only if steps, each forth or back, do.
 abbrev pub PathsAreLinks : List Rule → Type 0
 PathsAreLinks rules =
     (u v : List Symbol) → Linked (Step rules) u v ↔ ((path : Path) × (path.start ≡ u) × HasTarget rules path v)

@@ -9,7 +9,7 @@ pub fn paths_have_one_target(rules: &[Rule])
     ensures { PathsHaveOneTarget rules.now }
 {}
 
-/// A path over the rules leads from one word to another exactly where steps, each forth or back, do.
+/// A path over the rules leads from one word to another if and only if steps, each forth or back, do.
 pub fn paths_are_links(rules: &[Rule])
     ensures { PathsAreLinks rules.now }
 {}

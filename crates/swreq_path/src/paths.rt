@@ -24,7 +24,7 @@ pub struct Loop {
     pub path: Path,
 }
 
-/// Puts copies of the steps last. For want of memory some of them may stand there.
+/// Puts copies of the steps last. If memory runs out, some of them may stand there.
 pub fn append_copies(out: &mut Vec<RewriteStep>, steps: &[RewriteStep]) -> Result<(), AllocError>
     ensures { OnOk result (out.new.items ≡ out.old.items ++ steps.now) }
 {

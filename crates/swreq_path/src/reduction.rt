@@ -52,7 +52,7 @@ pub fn step_at(
     step_of(alloc, &rules[redex.number - 1], w, redex)
 }
 
-/// Takes the step of reduction at the first redex of the word, which is by this rule, and puts it last. For want of memory the word and
+/// Takes the step of reduction at the first redex of the word, which is by this rule, and puts it last. If memory runs out, the word and
 /// the steps are as before.
 pub fn take_redex_of(
     alloc: Global,
@@ -73,7 +73,7 @@ pub fn take_redex_of(
     Ok(())
 }
 
-/// Takes the step of reduction at the first redex of the word, and puts it last. For want of memory the word and the steps are as before.
+/// Takes the step of reduction at the first redex of the word, and puts it last. If memory runs out, the word and the steps are as before.
 pub fn take_redex(
     alloc: Global,
     rules: &[Rule],

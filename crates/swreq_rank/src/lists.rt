@@ -88,7 +88,7 @@ impl<T: Drop> Lists<T> {
         Ok(seqs)
     }
 
-    /// The list at this place, which has no item where there is none.
+    /// The list at this place, or an empty one where there is no list.
     pub fn at(&self, place: usize) -> &[T]
         ensures { result.now ≡ slice_index_or self.now place [] }
     {

@@ -1,4 +1,4 @@
--- What lines allow, as a sheet grows.
+-- What lines allow after a type parameter, on a sheet and on the sheets that it grows to.
 use Rattle.std.proofs.Common.{◌≡◌, inl, inr, ℕ, zero, suc, ◌+◌, ◌<◌, Bool, List, [], ◌∷◌, ◌++◌, length, drop, take, get_or, slice_get, ◌≤◌}
 use Rattle.std.proofs.Common.{arith, Option, Some, None, MatchOption, true, false, refl, sym, ap, subst, ◌∙◌}
 use Rattle.std.specs.Bool.{Decides}
@@ -89,7 +89,7 @@ read_step g t v u w k d h e f = ap (λ z. read g z (drop (k + 1) w)) e ∙ sym (
 -- ---- associated types that steps name
 
 module _ (g : Ground) (s : Sheet) (t : Term) (a : NameId) where
-  -- one of a name, and the protocol that declares it
+  -- an associated type that the unbound step A names, and a protocol that declares A
   pub named_given : (n : Named) → IsGiven g s t (NameStep a) n → SaysName g s t a
   named_given n w = (
     n.proto,
@@ -104,14 +104,14 @@ module _ (g : Ground) (s : Sheet) (t : Term) (a : NameId) where
   pub given_named : SaysName g s t a → (n : Named) × IsGiven g s t (NameStep a) n
   given_named w = (record { proto = w.0; name = a }, (w.1.0, (w.1.1, refl, w.2)))
 
-  -- where one is told, or that there is none
+  -- a search finds such an associated type if and only if lines allow the name
   pub name_told : (o : Option Named) (b : Bool) → MatchOption o ((n : Named) → IsGiven g s t (NameStep a) n → ⊥)
       (IsGiven g s t (NameStep a))
       → MatchOption o (b ≡ false) (λ n. b ≡ true) → Decides b (SaysName g s t a)
   name_told (Some n) b h e = ((λ i. named_given n h), λ w. e)
   name_told None b h e = ((λ i. absurd cc), λ w. absurd (let m = given_named w in h m.0 m.1))
 
--- one at a place is told where the one that stands there is
+-- what is said of the associated type with a rank, of the pair that stands there
 pub given_at : (g : Ground) (s : Sheet) (t : Term) (x : Step) (k : ℕ) (n m : Named) → slice_get g.associated k ≡ Some n
     → IsGivenAt g s t x k m
     → IsOfStep x k n × Says s (Requires (Conforms t n.proto))
@@ -136,7 +136,7 @@ module _ (s u : Sheet) (grows : Grows s u) where
       → Says u (Requires (IsAnyObject (term_at u.table t)))
   object_still t h w = subst (λ z. Says u (Requires (IsAnyObject z))) (sym (term_still t h)) (grows.stays _ w)
 
-  -- what was said equal is said so of the ids as they now stand
+  -- if the grown sheet says that what two ids stood for is equal, it says the same of what they stand for now
   pub equal_now : (t v : TermId) → IsOf s.table t → IsOf s.table v → AreSaidEqual u (term_at s.table t) (term_at s.table v)
       → AreSaidEqual u (term_at u.table t) (term_at u.table v)
   equal_now t v h k w = subst (λ z. AreSaidEqual u z (term_at u.table v)) (sym (term_still t h))
@@ -150,12 +150,12 @@ module _ (s u : Sheet) (grows : Grows s u) where
       again (inl e) = inl e
       again (inr w) = inr (grows.stays _ w)
 
--- ids that were said equal are so still
+-- ids that a sheet says are equal are equal on the grown sheet
 pub equal_ids_still : (s u : Sheet) → Grows s u → (t v : TermId) → AreEqualIds s t v → AreEqualIds u t v
 equal_ids_still s u grows t v w =
     (is_still s u grows t w.0, is_still s u grows v w.1, equals_still s u grows t v w.0 w.1 w.2)
 
--- what is now said equal is said so of ids as they now stand
+-- if the grown sheet says that what two ids stood for is equal, the ids are equal on it
 pub equal_ids_now : (s u : Sheet) → Grows s u → (t v : TermId) → IsOf s.table t → IsOf s.table v
     → AreSaidEqual u (term_at s.table t) (term_at s.table v) → AreEqualIds u t v
 equal_ids_now s u grows t v h k w = (is_still s u grows t h, is_still s u grows v k, equal_now s u grows t v h k w)
@@ -163,14 +163,14 @@ equal_ids_now s u grows t v h k w = (is_still s u grows t h, is_still s u grows 
 pub equal_as : (s : Sheet) (a b t u : Term) → a ≡ t → b ≡ u → AreSaidEqual s t u → AreSaidEqual s a b
 equal_as s a b t u e f w = subst (λ z. AreSaidEqual s z b) (sym e) (subst (AreSaidEqual s t) (sym f) w)
 
--- what may be read behind an id may be read behind it as it now stands
+-- if lines allow a symbol after an id, they allow it after that id on the grown sheet
 pub symbol_now : (g : Ground) (s u : Sheet) → Grows s u → (t : TermId) (x : Symbol) → IsOf s.table t → SaysSymbol g s (term_at s.table t) x
     → SaysSymbol g u (term_at u.table t) x
 symbol_now g s u grows t x h w = subst (λ z. SaysSymbol g u z x) (sym (term_still s u grows t h)) (symbol_still g s u grows _ x w)
 
 -- ---- a word carried, symbol by symbol
 
--- The symbols before this place are carried from T to U; one goes on from t and u.
+-- The symbols before this place are carried from a to b. After them, a's word is read as t and b's as u.
 pub record IsCarrying (g : Ground) (s : Sheet) (a b : Term) (w : List Symbol) (k : ℕ) (t u : Term) : Type 0 where
   pub left : SaysWord g s t (drop k w)
   pub first : read g t (drop k w) ≡ read g a w
@@ -203,7 +203,7 @@ carrying_on g s n a b w k d t u t' u' c grows h e f says equal =
     grows_after : (s n v : Sheet) → Grows s n → Grows n v → Grows s v
     grows_after s n v i j = sheets.grows_then s n v i j
 
--- the word is carried
+-- the whole word is carried: lines allow it after b too, and it is read as equal type parameters after a and after b
 pub record IsCarried (g : Ground) (s : Sheet) (a b : Term) (w : List Symbol) (t u : Term) : Type 0 where
   pub word : SaysWord g s b w
   pub first : t ≡ read g a w
@@ -226,7 +226,7 @@ all_carried g s a b w k t u i c h =
 
 -- ---- a side put in place of another
 
--- what may be read behind a type parameter may be read behind the same as it now stands
+-- if lines allow a word after a type parameter, they allow it after an identical one
 pub word_at : (g : Ground) (s : Sheet) (t u : Term) (w : List Symbol) → u ≡ t → SaysWord g s t w → SaysWord g s u w
 word_at g s t u w e h = subst (λ z. SaysWord g s z w) (sym e) h
 
@@ -239,7 +239,7 @@ both_still g s u grows t a b w =
           (read g t a) (read g t b) w.equal;
     }
 
--- what stands behind the sides is read behind both
+-- two words that are read alike are read alike with the same word after them
 pub both_with : (g : Ground) (s : Sheet) (t : Term) (a b c : List Symbol) → SaysBoth g s t a b → SaysWord g s (read g t a) c
     → SaysWord g s (read g t b) c
     → AreSaidEqual s (read g (read g t a) c) (read g (read g t b) c) → SaysBoth g s t (a ++ c) (b ++ c)
@@ -249,7 +249,7 @@ both_with g s t a b c w left right equal = record {
   equal = equal_as s (read g t (a ++ c)) (read g t (b ++ c)) _ _ (read_on g t a c) (read_on g t b c) equal;
 }
 
--- what stands before them is read before both
+-- two words that are read alike after what a word is read as are read alike with that word before them
 pub both_behind : (g : Ground) (s : Sheet) (t : Term) (before a b : List Symbol) → SaysWord g s t before
     → SaysBoth g s (read g t before) a b → SaysBoth g s t (before ++ a) (before ++ b)
 both_behind g s t before a b h w = record {
@@ -260,7 +260,7 @@ both_behind g s t before a b h w = record {
 
 -- ---- whether a word is said, symbol by symbol
 
--- The symbols before this place are said, and this is what they are read as.
+-- Lines allow the symbols before this place, and this is what they are read as.
 pub record IsSaidTo (g : Ground) (s : Sheet) (t : Term) (w : List Symbol) (k : ℕ) (at : Term) : Type 0 where
   pub word : SaysWord g s t (take k w)
   pub stands : at ≡ read g t (take k w)
@@ -285,7 +285,7 @@ pub read_as : (g : Ground) (s : Sheet) (t : Term) (w : List Symbol) (o : Option 
     → MatchOption o (SaysWord g s t w → ⊥) (IsReadAs g s t w) → IsReadAs g s t w x
 read_as g s t w o x e h = MatchOption-at_some (SaysWord g s t w → ⊥) (IsReadAs g s t w) x e h
 
--- whether both are said, from whether what they are read as is
+-- two words that lines allow are read alike if and only if lines state that what they are read as is equal
 pub both_told : (g : Ground) (s : Sheet) (t : Term) (u v : List Symbol) (a b : Term) (is : Bool) → a ≡ read g t u → b ≡ read g t v
     → SaysWord g s t u → SaysWord g s t v → Decides is (AreSaidEqual s a b) → Decides is (SaysBoth g s t u v)
 both_told g s t u v a b is e f h k d = (

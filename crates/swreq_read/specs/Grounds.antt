@@ -12,7 +12,7 @@ use Rattle.swreq_read.specs.declared.ground.Ground.{Ground}
 use Rattle.swreq_read.specs.declared.ground.Named.{Named}
 use Rattle.swreq_read.specs.declared.ground.Parent.{Parent}
 
--- the pair of a member symbol
+-- the protocol and the name of a member symbol, by its rank
 abbrev pub member_at : Ground → ℕ → Named
 member_at g k = get_or g.members k (record { proto = record { rank = 0 }; name = record { rank = 0 } })
 
@@ -24,16 +24,16 @@ IsDeclared g p a = (k : ℕ) × (slice_get g.associated k ≡ Some (record { pro
 abbrev pub IsMember : Ground → ProtoId → NameId → Type 0
 IsMember g p a = (k : ℕ) × (slice_get g.members k ≡ Some (record { proto = p; name = a }))
 
--- The parent at this place is one of P, and A is a member name of it.
+-- P inherits the parent at this place, and A is a member name of the parent.
 abbrev pub IsParentFor : Ground → ProtoId → NameId → ℕ → Type 0
 IsParentFor g p a k = (e : Parent) × (slice_get g.parents k ≡ Some e) × (e.heir ≡ p) × IsMember g e.proto a
 
--- A is a member name of P, which P does not declare.
+-- A is a member name of P, and P does not declare A.
 abbrev pub IsFromAbove : Ground → ProtoId → NameId → Type 0
 IsFromAbove g p a = IsMember g p a × (IsDeclared g p a → ⊥)
 
--- Inheritance goes down, and a protocol inherits no more protocols than there are. A member name of P is declared by P, or is one of a
--- protocol that P is written to inherit.
+-- Each protocol has a depth that is at most the number of protocols, and that is greater than the depth of each protocol that it inherits.
+-- If A is a member name of P, then P declares A, or A is a member name of a protocol that P is written to inherit.
 pub record IsInherited (g : Ground) : Type 0 where
   pub depth : ProtoId → ℕ
   pub bounded : (p : ProtoId) → depth p ≤ g.protocols
@@ -41,7 +41,8 @@ pub record IsInherited (g : Ground) : Type 0 where
   pub from : (p : ProtoId) (a : NameId) → IsMember g p a
       → IsDeclared g p a ⊎ ((e : Parent) × Contains g.parents e × (e.heir ≡ p) × IsMember g e.proto a)
 
--- Each associated type is one of the facts, by its rank; each parent is written; and the generic parameters are those of the list.
+-- Each associated type is the one of the facts with the same rank. Each parent is a written requirement `[Self : Q]`. The generic
+-- parameters are those of the list.
 pub record FitsBasis (g : Ground) (b : Basis) : Type 0 where
   pub associated : (k : ℕ) (n : Named) → slice_get g.associated k ≡ Some n → Declares b.facts n.proto n.name (record { rank = k })
   pub parents : (e : Parent) → Contains g.parents e → HasNumber e.number (b.facts.of_protocol e.heir) (Conforms self e.proto)

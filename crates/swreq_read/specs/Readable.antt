@@ -1,7 +1,7 @@
--- How a word is read behind a type parameter, and where lines allow it.
+-- How a word is read after a type parameter, and when lines allow it.
 --
--- A generic parameter is read anywhere, and what follows it is read behind it. So a word that begins with one is read alike behind every
--- type parameter.
+-- A generic parameter is read as itself after any type parameter, and the rest of the word is read after it. So a word that begins with one
+-- is read as the same type parameter after every type parameter.
 use Rattle.std.specs.Prelude.{◌≡◌, ◌<◌, ℕ, List, [], ◌∷◌, Some, length, slice_get, Contains}
 use Rattle.swreq_param.specs.declared.ids.AssocId.{AssocId}
 use Rattle.swreq_param.specs.declared.ids.NameId.{NameId}
@@ -24,7 +24,7 @@ use Rattle.swreq_read.specs.declared.ground.Named.{Named}
 use Rattle.swreq_read.specs.declared.members.Members.{Members}
 use Rattle.swreq_read.specs.Grounds.{IsDeclared, member_at}
 
--- the type parameter as which a symbol behind t is read
+-- the type parameter that a symbol after t is read as
 abbrev pub after : Ground → Term → Symbol → Term
 after g t (Proto q) = t
 after g t (Member k) = MemberOf t (NameStep (member_at g k).name)
@@ -32,12 +32,12 @@ after g t (Param d i) = Generic (record { depth = d; index = i })
 after g t (Name a) = MemberOf t (NameStep (record { rank = a }))
 after g t Layout = t
 
--- the same of a word
+-- the type parameter that a word after t is read as
 abbrev pub read : Ground → Term → List Symbol → Term
 read g t [] = t
 read g t (x ∷ w) = read g (after g t x) w
 
--- It is an id of the table, which stands for what one reads by the symbol behind T.
+-- It is an id of the table, and stands for what the symbol after t is read as.
 abbrev pub IsIdAfter : Ground → Sheet → TermId → Symbol → TermId → Type 0
 IsIdAfter g s t x v = IsOf s.table v × (term_at s.table v ≡ after g (term_at s.table t) x)
 
@@ -50,20 +50,20 @@ abbrev pub IsOfStep : Step → ℕ → Named → Type 0
 IsOfStep (NameStep a) k n = n.name ≡ a
 IsOfStep (Bound d) k n = d.rank ≡ k
 
--- The associated type with this rank is one that the step names, and a line states that t conforms to its protocol.
+-- The step names the associated type with this rank, and a line states that t conforms to its protocol.
 abbrev pub IsGivenAt : Ground → Sheet → Term → Step → ℕ → Named → Type 0
 IsGivenAt g s t x k n = (slice_get g.associated k ≡ Some n) × IsOfStep x k n × Says s (Requires (Conforms t n.proto))
 
 abbrev pub IsGiven : Ground → Sheet → Term → Step → Named → Type 0
 IsGiven g s t x n = (k : ℕ) × IsGivenAt g s t x k n
 
--- They are the members of T by the bound and by the unbound step, and a type parameter that equals the latter.
+-- They are the members of t by the bound step and by the unbound step, and a type parameter that equals the member by the unbound step.
 pub record AreMembers (s : Sheet) (t : TermId) (d : AssocId) (a : NameId) (m : Members) : Type 0 where
   pub bound : IsIdOfMember s t (Bound d) m.bound
   pub plain : IsIdOfMember s t (NameStep a) m.plain
   pub equal : AreEqualIds s m.plain m.last
 
--- Lines allow the symbol behind t.
+-- Lines allow the symbol after t.
 abbrev pub SaysSymbol : Ground → Sheet → Term → Symbol → Type 0
 SaysSymbol g s t (Proto q) = Says s (Requires (Conforms t (record { rank = q })))
 SaysSymbol g s t (Member k) = (k < length g.members) × Says s (Requires (Conforms t (member_at g k).proto)) × SaysName g s t
@@ -72,17 +72,17 @@ SaysSymbol g s t (Param d i) = Contains (generic_params g.params) (record { dept
 SaysSymbol g s t (Name a) = SaysName g s t (record { rank = a })
 SaysSymbol g s t Layout = Says s (Requires (IsAnyObject t))
 
--- Lines allow each symbol of the word, behind what is read before it.
+-- Lines allow the word after t: each symbol is allowed after what the symbols before it are read as.
 abbrev pub SaysWord : Ground → Sheet → Term → List Symbol → Type 0
 SaysWord g s t [] = Unit {0}
 SaysWord g s t (x ∷ w) = SaysSymbol g s t x × SaysWord g s (after g t x) w
 
--- Lines allow both words behind t, and state that they are read as equal type parameters.
+-- The two words are read alike after t: lines allow both, and state that they are read as equal type parameters.
 pub record SaysBoth (g : Ground) (s : Sheet) (t : Term) (u v : List Symbol) : Type 0 where
   pub left : SaysWord g s t u
   pub right : SaysWord g s t v
   pub equal : AreSaidEqual s (read g t u) (read g t v)
 
--- Lines allow the word behind t, and the id stands for what it is read as.
+-- Lines allow the word after t, and the id stands for what it is read as.
 abbrev pub IsReadAs : Ground → Sheet → Term → List Symbol → TermId → Type 0
 IsReadAs g s t w u = IsOf s.table u × SaysWord g s t w × (term_at s.table u ≡ read g t w)

@@ -1,4 +1,4 @@
-//! Symbols and words that are read behind a type parameter are read behind an equal one.
+//! Symbols and words that lines allow after a type parameter are allowed after an equal one.
 ghost use Rattle.std.specs.Prelude.{◌≡◌, ◌<◌, IfOk, OnOk, length};
 ghost use Rattle.swreq_param.specs.Tables.{IsOf, term_at};
 ghost use Rattle.swreq_param.specs.declared.ids.Step.TheVariants as steps;
@@ -16,7 +16,8 @@ use swreq_param::{NameId, ProtoId, TermId};
 use swreq_sheet::Sheet;
 use swreq_word::Symbol;
 
-/// Where a member symbol is read behind T, and `[T == U]`, it is read behind U, and what one reads by it are equal. `members` are these.
+/// If lines allow a member symbol after T, and state `[T == U]`, then they allow it after U, and state that what it is read as after T
+/// equals what it is read as after U. `members` are the ids of the two.
 fn carry_member(
     ground: &Ground,
     sheet: &mut Sheet,
@@ -41,7 +42,8 @@ fn carry_member(
     Ok(())
 }
 
-/// Where a symbol is read behind T, and `[T == U]`, it is read behind U, and what one reads by it are equal. `members` are these.
+/// If lines allow a symbol after T, and state `[T == U]`, then they allow it after U, and state that what it is read as after T equals what
+/// it is read as after U. `members` are the ids of the two.
 fn carry_symbol(
     ground: &Ground,
     sheet: &mut Sheet,
@@ -81,7 +83,7 @@ fn carry_symbol(
     }
 }
 
-/// The same, with the ids of what one reads.
+/// The same. Answers the ids of what the symbol is read as after T and after U.
 fn carry(
     ground: &Ground,
     sheet: &mut Sheet,
@@ -110,7 +112,8 @@ fn carry(
     Ok((first, second))
 }
 
-/// Where a word is read behind T, and `[T == U]`, it is read behind U, and what one reads are equal. Answers the ids of these.
+/// If lines allow a word after T, and state `[T == U]`, then they allow it after U, and state that what it is read as after T equals what
+/// it is read as after U. Answers the ids of the two.
 pub fn carry_all(
     ground: &Ground,
     sheet: &mut Sheet,

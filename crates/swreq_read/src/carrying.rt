@@ -1,4 +1,4 @@
-//! What is read behind a type parameter is read behind an equal one.
+//! What lines allow after a type parameter, they allow after an equal one.
 ghost use Rattle.std.specs.Prelude.{◌≡◌, OnOk};
 ghost use Rattle.swreq_param.specs.Tables.{IsOf, term_at};
 ghost use Rattle.swreq_param.specs.declared.ids.Step.TheVariants.{Name};
@@ -47,7 +47,8 @@ pub fn carry_layout(sheet: &mut Sheet, t: TermId, u: TermId) -> Result<(), Alloc
     Ok(())
 }
 
-/// Where a name is read behind T, and `[T == U]`, it is read behind U, and the members are equal. `members` are T.A and U.A.
+/// If lines allow the name A after T, and state `[T == U]`, then they allow A after U, and state `[T.A == U.A]`. `members` are the ids of
+/// T.A and U.A.
 pub fn carry_name(
     ground: &Ground,
     sheet: &mut Sheet,

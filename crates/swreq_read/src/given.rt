@@ -1,4 +1,4 @@
-//! The associated types that steps name behind a type parameter.
+//! The associated types that steps name after a type parameter.
 ghost use Rattle.std.specs.Prelude.{MatchOption};
 ghost use Rattle.std.specs.Bool.{Decides};
 ghost use Rattle.swreq_param.specs.Tables.{IsOf, term_at};
@@ -23,7 +23,7 @@ pub fn is_of_step(step: Step, k: usize, named: Named) -> bool
     }
 }
 
-/// Whether the associated type with this rank is one that the step names, and a line states that T conforms to its protocol.
+/// Whether the step names the associated type with this rank, and a line states that T conforms to its protocol.
 fn is_given_at(sheet: &Sheet, t: TermId, step: Step, k: usize, named: Named) -> bool
     requires sheet { IsSheet sheet.now }
     requires t { IsOf sheet.now.table t }
@@ -36,7 +36,7 @@ fn is_given_at(sheet: &Sheet, t: TermId, step: Step, k: usize, named: Named) -> 
     }
 }
 
-/// An associated type that the step names, where a line states that T conforms to its protocol, or None where there is none.
+/// An associated type that the step names, such that a line states that T conforms to its protocol, or None if there is none.
 pub fn given_step(ground: &Ground, sheet: &Sheet, t: TermId, step: Step) -> Option<Named>
     requires sheet { IsSheet sheet.now }
     requires t { IsOf sheet.now.table t }
@@ -53,7 +53,7 @@ pub fn given_step(ground: &Ground, sheet: &Sheet, t: TermId, step: Step) -> Opti
     None
 }
 
-/// A protocol that declares the name, where a line states that T conforms to it.
+/// A protocol that declares the name, such that a line states that T conforms to it. Lines allow the name after T.
 pub fn declarer(ground: &Ground, sheet: &Sheet, t: TermId, a: NameId) -> ProtoId
     requires sheet { IsSheet sheet.now }
     requires t { IsOf sheet.now.table t }

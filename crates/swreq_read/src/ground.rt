@@ -7,14 +7,14 @@ use swreq_derive::Params;
 use swreq_param::{NameId, ProtoId};
 use swreq_text::Seq;
 
-/// A protocol with a name: one that it declares, or one of a member.
+/// A protocol with a name: a name that it declares, or a member name of it.
 #[derive(Clone, Copy, Debug, PartialEq, Eq)]
 pub struct Named {
     pub proto: ProtoId,
     pub name: NameId,
 }
 
-/// A requirement `[Self : Q]` of a protocol, which inherits Q by it. Requirements are counted from 1.
+/// A requirement `[Self : Q]` of the protocol `heir`, which thereby inherits Q. Its number among the requirements is counted from 1.
 #[derive(Clone, Copy, Debug, PartialEq, Eq)]
 pub struct Parent {
     pub heir: ProtoId,
@@ -22,7 +22,7 @@ pub struct Parent {
     pub proto: ProtoId,
 }
 
-/// The generic parameters of a list; and of its text the associated types and the member symbols, each by rank, the written inheritance,
+/// The generic parameters of a list, and of its text: the associated types and the member symbols, each by rank, the written inheritance,
 /// and how many protocols there are.
 #[derive(Drop)]
 pub struct Ground {
@@ -33,7 +33,7 @@ pub struct Ground {
     pub protocols: usize,
 }
 
-/// The pair of a member symbol.
+/// The protocol and the name of the member symbol with this rank.
 pub fn member_at(ground: &Ground, rank: u64) -> Named
     ensures { result ≡ member_at ground.now rank }
 {
@@ -48,7 +48,7 @@ pub fn member_at(ground: &Ground, rank: u64) -> Named
     }
 }
 
-/// The pair of an associated type.
+/// The protocol and the name of the associated type with this rank.
 pub fn declared_at(ground: &Ground, k: usize) -> Named
     requires { k < length ground.now.associated }
     ensures { slice_get ground.now.associated k ≡ Some result }
@@ -56,7 +56,7 @@ pub fn declared_at(ground: &Ground, k: usize) -> Named
     ground.associated.items()[k]
 }
 
-/// Whether the protocol with the name is one of these.
+/// Whether the pair of the protocol and the name is one of these.
 fn has_pair(pairs: &[Named], proto: ProtoId, name: NameId) -> bool
     ensures { Decides result ((k : ℕ) × (slice_get pairs.now k ≡ Some (record { proto = proto; name = name }))) }
 {

@@ -1,4 +1,4 @@
-//! The names that a type parameter has since a protocol inherits them.
+//! The names that lines allow after a type parameter since its protocol inherits them.
 ghost use Rattle.std.specs.Prelude.{◌≡◌, ◌<◌, Contains, IfOk, OnOk, Some, length, slice_get};
 ghost use Rattle.std.specs.Bool.{Decides};
 ghost use Rattle.swreq_param.specs.Tables.{IsOf, term_at};
@@ -13,7 +13,7 @@ use std::alloc::AllocError;
 use swreq_param::{NameId, ProtoId, TermId};
 use swreq_sheet::{Sheet, assoc_conf};
 
-/// A parent.
+/// The written inheritance at this place.
 fn parent_at(ground: &Ground, k: usize) -> Parent
     requires { k < length ground.now.parents }
     ensures { slice_get ground.now.parents k ≡ Some result }
@@ -21,7 +21,7 @@ fn parent_at(ground: &Ground, k: usize) -> Parent
     ground.parents.items()[k]
 }
 
-/// Whether P is written to inherit this parent, of which A is a member name.
+/// Whether P is written to inherit this parent, and A is a member name of the parent.
 fn is_parent_for(ground: &Ground, p: ProtoId, a: NameId, k: usize) -> bool
     requires { k < length ground.now.parents }
     ensures { Decides result (IsParentFor ground.now p a k) }
@@ -34,7 +34,7 @@ fn is_parent_for(ground: &Ground, p: ProtoId, a: NameId, k: usize) -> bool
     }
 }
 
-/// A protocol that P is written to inherit, and of which A is a member name.
+/// A written inheritance of P from a protocol with the member name A.
 fn parent_for(ground: &Ground, p: ProtoId, a: NameId) -> Parent
     requires inherited { IsInherited ground.now }
     requires member { IsFromAbove ground.now p a }
@@ -50,7 +50,8 @@ fn parent_for(ground: &Ground, p: ProtoId, a: NameId) -> Parent
     unreachable!()
 }
 
-/// From `[T : P]`: `[T : Q]` for a protocol Q that P is written to inherit, and of which A is a member name. Answers how it is written.
+/// From `[T : P]`: `[T : Q]` for a protocol Q that P is written to inherit, and that has the member name A. Answers the requirement by
+/// which P inherits Q.
 fn step_up(
     ground: &Ground,
     sheet: &mut Sheet,
@@ -76,8 +77,8 @@ fn step_up(
     Ok(parent)
 }
 
-/// Where a line states `[T : P]`, and A is a member name of P, lines state `[T : Q]` for a protocol Q that declares A: for P, or up from
-/// P along written inheritance.
+/// If a line states `[T : P]`, and A is a member name of P, then lines state `[T : Q]` for a protocol Q that declares A. Q is P, or stands
+/// above P in the written inheritance.
 pub fn inherit(
     ground: &Ground,
     sheet: &mut Sheet,

@@ -1,4 +1,4 @@
-//! Words that are read as equal type parameters, one after the other.
+//! Words that are read alike: the order of two, and chains of them.
 ghost use Rattle.std.specs.Prelude.{OnOk};
 ghost use Rattle.swreq_param.specs.Tables.{IsOf, term_at};
 ghost use Rattle.swreq_sheet.specs.Sheets.{Basis, Grows, IsSheet, Keeps};
@@ -11,7 +11,7 @@ use swreq_param::TermId;
 use swreq_sheet::{Sheet, symm, trans};
 use swreq_word::Symbol;
 
-/// Two words that are read as equal type parameters, the other way round.
+/// If u and v are read alike after T, so are v and u.
 pub fn turn(
     ground: &Ground,
     sheet: &mut Sheet,
@@ -32,7 +32,7 @@ pub fn turn(
     Ok(())
 }
 
-/// Where the first two words are read as equal type parameters, and so are the last two, the first and the last are.
+/// If u and v are read alike after T, and so are v and w, then so are u and w.
 pub fn join(
     ground: &Ground,
     sheet: &mut Sheet,

@@ -1,6 +1,6 @@
-//! Words that are read behind type parameters, where lines of a derivation allow it.
+//! Words that are read after type parameters, as lines of a derivation allow it.
 //!
-//! A call fails for want of memory alone. On every answer what was stated still is, and the table begins with the old one.
+//! A call fails only if memory runs out. Whatever it answers, what was stated is still stated, and the table begins with the old one.
 #![tactic(auto, using(crate::proofs::ReadLemmas::grown_by_none))]
 
 mod along;

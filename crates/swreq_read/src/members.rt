@@ -1,4 +1,4 @@
-//! The members of equal type parameters by a step.
+//! Equal type parameters have equal members.
 ghost use Rattle.std.specs.Prelude.{◌≡◌, IfOk, OnOk};
 ghost use Rattle.swreq_param.specs.Tables.{IsOf, term_at};
 ghost use Rattle.swreq_param.specs.declared.ids.Step.TheVariants.{Bound, Name};
@@ -12,7 +12,7 @@ use std::alloc::AllocError;
 use swreq_param::{AssocId, Step, TermId};
 use swreq_sheet::{Sheet, assoc_bind, member, same_conf, same_name, trans};
 
-/// The bound and the unbound member of a type parameter by an associated type, and a type parameter that equals the latter.
+/// The bound member and the unbound member of a type parameter by an associated type, and a type parameter that equals the unbound member.
 #[derive(Clone, Copy, Debug)]
 struct Members {
     bound: TermId,
@@ -20,7 +20,7 @@ struct Members {
     last: TermId,
 }
 
-/// From `[T == U]`, where a line states that U conforms to the protocol of an associated type: the bound member of T equals the last of
+/// If lines state `[T == U]`, and that U conforms to the protocol of an associated type, then the bound member of T equals the last of
 /// `members`, which are those of T.
 fn bind(
     ground: &Ground,
@@ -51,8 +51,8 @@ fn bind(
     Ok(())
 }
 
-/// From `[T == U]`, where a line states that U conforms to the protocol of an associated type A that the step names: the member of T by
-/// the step equals U.A. Answers the former.
+/// If lines state `[T == U]`, the step names an associated type A, and a line states that U conforms to its protocol, then the member of T
+/// by the step equals U.A. Answers the id of the member of T.
 pub fn equal_member(
     ground: &Ground,
     sheet: &mut Sheet,

@@ -14,15 +14,15 @@ use swreq_param::TermId;
 use swreq_sheet::Sheet;
 use swreq_word::Symbol;
 
-/// Two words, the second of which is put in place of the first.
+/// Two words, of which the second is put in place of the first.
 #[derive(Clone, Copy)]
 pub struct Sides<'a> {
     pub from: &'a [Symbol],
     pub to: &'a [Symbol],
 }
 
-/// Where two words are read alike behind V, and a word behind T has the first of them behind a part that is read as V, the word with
-/// the second one there is read behind T, and the two are equal.
+/// If two words are read alike after V, and lines allow a word after V that begins with the first of them, then this word and the word with
+/// the second one in its place are read alike after V.
 pub fn put_side(
     ground: &Ground,
     sheet: &mut Sheet,
@@ -45,8 +45,8 @@ pub fn put_side(
     Ok(())
 }
 
-/// Where two words are read alike behind what a part of a word is read as, and the word goes on with the first of them, the word with
-/// the second one there is read as an equal type parameter.
+/// If two words are read alike after what `before` is read as, and lines allow a word that has the first of them after `before`, then this
+/// word and the word with the second one in its place are read alike.
 pub fn replace(
     ground: &Ground,
     sheet: &mut Sheet,
@@ -69,7 +69,7 @@ pub fn replace(
     Ok(())
 }
 
-/// Replaces a side in a word as `replace` does, where lines state that the second side is read as the first.
+/// The same as `replace`, from the two words in the other order.
 pub fn replace_back(
     ground: &Ground,
     sheet: &mut Sheet,

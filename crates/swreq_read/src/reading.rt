@@ -1,4 +1,4 @@
-//! The type parameters as which words are read.
+//! The type parameters that words are read as.
 ghost use Rattle.std.specs.Prelude.{◌≡◌, IfOk, OnOk};
 ghost use Rattle.swreq_param.specs.Tables.{IsOf, term_at};
 ghost use Rattle.swreq_sheet.specs.Sheets.{Basis, Grows, IsSheet, Keeps};
@@ -10,7 +10,7 @@ use swreq_param::{NameId, ParamId, Step, TermId};
 use swreq_sheet::{Sheet, member, param};
 use swreq_word::Symbol;
 
-/// The type parameter as which a symbol behind t is read.
+/// The type parameter that a symbol after t is read as.
 pub fn after(ground: &Ground, sheet: &mut Sheet, t: TermId, x: Symbol) -> Result<TermId, AllocError>
     requires sheet { IsSheet sheet.old }
     requires t { IsOf sheet.old.table t }
@@ -31,7 +31,7 @@ pub fn after(ground: &Ground, sheet: &mut Sheet, t: TermId, x: Symbol) -> Result
     }
 }
 
-/// The type parameter as which a word behind t is read.
+/// The type parameter that a word after t is read as.
 pub fn read(
     ground: &Ground,
     sheet: &mut Sheet,

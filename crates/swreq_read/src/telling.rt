@@ -14,7 +14,7 @@ use swreq_param::{NameId, ParamId, ProtoId, Step, TermId};
 use swreq_sheet::{Sheet, are_one, conf, is_said, layout, same};
 use swreq_word::Symbol;
 
-/// Whether lines allow the name behind T.
+/// Whether lines allow the name after T.
 fn says_name(ground: &Ground, sheet: &Sheet, t: TermId, a: NameId) -> bool
     requires sheet { IsSheet sheet.now }
     requires t { IsOf sheet.now.table t }
@@ -26,7 +26,7 @@ fn says_name(ground: &Ground, sheet: &Sheet, t: TermId, a: NameId) -> bool
     }
 }
 
-/// Whether lines allow the member symbol with this rank behind T.
+/// Whether lines allow the member symbol with this rank after T.
 fn says_member(ground: &Ground, sheet: &Sheet, t: TermId, rank: u64) -> bool
     requires sheet { IsSheet sheet.now }
     requires t { IsOf sheet.now.table t }
@@ -42,7 +42,7 @@ fn says_member(ground: &Ground, sheet: &Sheet, t: TermId, rank: u64) -> bool
     false
 }
 
-/// Whether lines allow the symbol behind T.
+/// Whether lines allow the symbol after T.
 fn says_symbol(ground: &Ground, sheet: &Sheet, t: TermId, x: Symbol) -> bool
     requires sheet { IsSheet sheet.now }
     requires t { IsOf sheet.now.table t }
@@ -57,7 +57,7 @@ fn says_symbol(ground: &Ground, sheet: &Sheet, t: TermId, x: Symbol) -> bool
     }
 }
 
-/// What the word is read as, where lines allow it behind T, or None where they do not.
+/// What the word is read as if lines allow it after T, or None if they do not.
 fn said_word(
     ground: &Ground,
     sheet: &mut Sheet,
@@ -82,7 +82,7 @@ fn said_word(
     Ok(Some(at))
 }
 
-/// Whether the two are one, or a line states that they are equal.
+/// Whether the two ids are one, or a line states that they are equal.
 fn are_equal(sheet: &Sheet, t: TermId, u: TermId) -> bool
     requires sheet { IsSheet sheet.now }
     requires t { IsOf sheet.now.table t }
@@ -95,7 +95,7 @@ fn are_equal(sheet: &Sheet, t: TermId, u: TermId) -> bool
     is_said(sheet, same(t, u))
 }
 
-/// Whether lines allow both words behind T, and state that they are read as equal type parameters.
+/// Whether the two words are read alike after T: lines allow both, and state that they are read as equal type parameters.
 pub fn says_both(
     ground: &Ground,
     sheet: &mut Sheet,

@@ -1,4 +1,4 @@
--- Each name that is refused the walk refuses.
+-- The walk refuses each name that is refused.
 use Rattle.std.proofs.Common.{◌≡◌, ◌⊎◌, ⊎_elim, ℕ, zero, suc, Bool, true, cond, not, List, [], ◌∷◌, ◌++◌, length, map, get_or, slice_get, Option, None, Some, Contains, refl, sym, ap, subst, ◌∙◌, nat_eq}
 use Rattle.std.specs.List.{flat_map}
 use Rattle.std.specs.Option.{option_map}

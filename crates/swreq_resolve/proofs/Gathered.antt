@@ -34,7 +34,7 @@ use Rattle.swreq_resolve.proofs.SameMembers.{Same, equal, itself, then, both, mo
 -- ---- constraints
 
 module _ (text : List ℕ) (d : Spaces) (begins : List ℕ → Bool) where
-  -- of the entities and of the types of a part
+  -- what is refused of the entities and of the types of a part
   abbrev pub of_parts : List Entity → List TypeDecl → List Refusal
   of_parts es ts = flat_map (of_named text d) es ++ flat_map (of_type text d begins) ts
 

@@ -106,7 +106,7 @@ some_least b (x ∷ rs) = by (precedes x b) refl (some_least x rs) (some_least b
     by true h m n = (m.0, ap (λ t. least (cond t (Some x) (Some b)) rs) h ∙ m.1)
     by false h m n = (n.0, ap (λ t. least (cond t (Some x) (Some b)) rs) h ∙ n.1)
 
--- where there is no first, nothing is refused
+-- where there is no first refusal, nothing is refused
 pub none_refused : (rs : List Refusal) → least None rs ≡ None → rs ≡ []
 none_refused [] e = refl
 none_refused (x ∷ rs) e = let k = some_least x rs in absurd (let s = sym e ∙ k.1 in cc)

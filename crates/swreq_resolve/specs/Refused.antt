@@ -124,7 +124,7 @@ module _ (text : List ℕ) (s : Skeleton) where
     pub written : Contains (types s) (scope, t)
     pub looked_at : IsLookedAt scope
 
-  -- The entity stands in the scope, is looked at, and is a name: `AnyObject` is none.
+  -- The entity stands in the scope, is looked at, and is a name, which `AnyObject` is not.
   pub record HasEntity (scope : Scope) (e : Entity) : Type 0 where
     pub written : Contains (entities s) (scope, e)
     pub looked_at : IsLookedAt scope

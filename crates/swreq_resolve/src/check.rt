@@ -12,8 +12,8 @@ use swreq_closure::Closure;
 use swreq_decl::{Entity, ReqDecl, Span, StepDecl, TypeDecl};
 use swreq_names::{Declaration, Declared, Directory, Signature, has_member, word};
 
-/// The names with which a type may begin: in a protocol, by its place in written order, of which it is known what it
-/// inherits, `Self` and its member names, and in a signature generic parameters.
+/// The names with which a type may begin: in a protocol `Self` and its member names, in a signature its generic parameters. A protocol is
+/// given by which protocol inherits which, and by its place in written order.
 #[derive(Clone, Copy)]
 pub enum FirstWords<'a> {
     Protocol(&'a Closure, usize),
@@ -49,7 +49,7 @@ fn check_declaration(space: &Directory, d: &Declaration, best: Option<Refusal>) 
     noted(best, again, Fault::Duplicate, d.at)
 }
 
-/// Names that a list of their space has before them.
+/// Checks for names that a list of their space has before them.
 pub fn check_duplicates(
     space: &Directory,
     items: &[Declaration],
@@ -69,7 +69,7 @@ fn has_arity(d: &Declared, protocol: usize, count: usize) -> bool
     count == 0 || count == d.primaries(protocol).items().len()
 }
 
-/// The name of a protocol, with the number of its arguments.
+/// Checks the name of a protocol, with the number of its arguments.
 fn check_protocol_name(
     text: &[u8],
     d: &Declared,
@@ -88,7 +88,7 @@ fn check_protocol_name(
     }
 }
 
-/// The names in `.[P]A`.
+/// Checks the names in `.[P]A`.
 fn check_bound(
     text: &[u8],
     d: &Declared,
@@ -156,7 +156,7 @@ fn check_types(
         .fold(best, |b, t| check_type(text, d, first_words, t, b))
 }
 
-/// What stands for a protocol, without its arguments.
+/// Checks what stands for a protocol, without its arguments.
 fn check_named(text: &[u8], d: &Declared, e: &Entity, best: Option<Refusal>) -> Option<Refusal>
     ensures { result ≡ least best (of_named text.now d.now e.now) }
 {

@@ -13,7 +13,7 @@ use swreq_closure::Closure;
 use swreq_decl::{AssocDecl, FunctionDecl, ParamDecl, ProtocolDecl, ReqDecl, Skeleton, StructDecl};
 use swreq_names::{Declaration, Declared, Directory, Signature, has_member};
 
-/// Names that two lists of declarations, which are one space, declare twice.
+/// Checks for names that two lists of declarations, which are one space, declare twice.
 #[tactic(auto, using(crate::proofs::Walks::walked, crate::proofs::Walks::least_both))]
 fn check_space(one: &Directory, other: &Directory, best: Option<Refusal>) -> Option<Refusal>
     ensures { result ≡ least best (of_space one.now other.now) }
@@ -79,7 +79,7 @@ fn check_primaries(
         .fold(best, |b, name| check_primary(d, inherits, i, name, b))
 }
 
-/// The primary names of the i-th protocol.
+/// Checks the primary names of the i-th protocol.
 fn check_all_primaries(
     d: &Declared,
     inherits: &Closure,
@@ -93,7 +93,7 @@ fn check_all_primaries(
     check_primaries(d, inherits, i, primaries.items(), best)
 }
 
-/// The associated types of the i-th protocol.
+/// Checks the associated types of the i-th protocol.
 #[tactic(auto, using(crate::proofs::Walks::walked, crate::proofs::Walks::least_both))]
 fn check_all_members(
     text: &[u8],
@@ -110,7 +110,7 @@ fn check_all_members(
     check_members(text, d, first_words, members, best)
 }
 
-/// The i-th protocol.
+/// Checks the i-th protocol.
 fn check_protocol(
     text: &[u8],
     d: &Declared,
@@ -171,7 +171,7 @@ fn check_params(
         .fold(best, |b, p| check_param(text, d, first_words, p, b))
 }
 
-/// The generic parameters and requirements of a signature.
+/// Checks the generic parameters and requirements of a signature.
 #[tactic(auto, using(crate::proofs::Walks::walked, crate::proofs::Walks::least_both))]
 fn check_signature(
     text: &[u8],
@@ -245,7 +245,7 @@ fn check_nested(
     )
 }
 
-/// The functions of a struct.
+/// Checks the functions of a struct.
 fn check_all_nested(
     text: &[u8],
     d: &Declared,
@@ -294,7 +294,7 @@ fn check_structs(
     best
 }
 
-/// Names that are declared twice among protocols, structs and the functions at the top.
+/// Checks for names that are declared twice among protocols, structs and the functions at the top.
 #[tactic(auto, using(crate::proofs::Walks::least_both))]
 fn check_spaces(d: &Declared, best: Option<Refusal>) -> Option<Refusal>
     ensures { result ≡ least best (of_spaces d.now) }

@@ -34,7 +34,7 @@ fn check_ask(
     }
 }
 
-/// A query on what was found, of which the rest is looked at only where it is a signature.
+/// Checks a query on what was found. The rest of the query is looked at only where that is a signature.
 fn check_asked(
     text: &[u8],
     d: &Declared,
@@ -50,7 +50,7 @@ fn check_asked(
     }
 }
 
-/// A query on a function of a struct.
+/// Checks a query on a function of a struct.
 fn check_nested_query(
     text: &[u8],
     d: &Declared,

@@ -12,13 +12,13 @@ use thiserror::Error;
 pub enum Fault {
     /// It is declared a second time in its space.
     Duplicate,
-    /// It stands where a protocol is wanted, and is none.
+    /// It stands where a protocol is required, and is not one.
     NotAProtocol,
-    /// It begins a type, and is no type parameter there.
+    /// It begins a type, and is not a type parameter there.
     ConcreteType,
-    /// It is bound to a protocol that does not declare it, or is a primary name and no member name of its protocol.
+    /// It is bound to a protocol that does not declare it, or is a primary name and not a member name of its protocol.
     NoSuchMember,
-    /// It stands where a signature is asked, and is none.
+    /// It stands where a signature is required, and is not one.
     UnknownSignature,
     /// It names a protocol with another number of primary names than the arguments that follow.
     WrongArity,
@@ -37,16 +37,16 @@ pub enum NameErr {
     /// A name is declared twice in its space. The place is the second.
     #[error("duplicate name at {at}")]
     Duplicate { at: u32 },
-    /// A name that stands where a protocol is wanted is not one.
+    /// A name that stands where a protocol is required is not one.
     #[error("not a protocol at {at}")]
     NotAProtocol { at: u32 },
-    /// The first word of a type is no type parameter there.
+    /// The first word of a type is not a type parameter there.
     #[error("concrete type at {at}")]
     ConcreteType { at: u32 },
-    /// A bound member is not declared by its protocol, or a primary name is no member name of its protocol.
+    /// A bound member is not declared by its protocol, or a primary name is not a member name of its protocol.
     #[error("no such member at {at}")]
     NoSuchMember { at: u32 },
-    /// A query is on a name that is no signature.
+    /// A query is on a name that is not a signature.
     #[error("unknown signature at {at}")]
     UnknownSignature { at: u32 },
     /// A protocol is given another number of arguments than it has primary names.
@@ -55,7 +55,7 @@ pub enum NameErr {
     /// A protocol inherits itself.
     #[error("circular inheritance at {at}")]
     Cycle { at: u32 },
-    /// There was no memory.
+    /// Memory ran out.
     #[error("out of memory")]
     Memory,
 }

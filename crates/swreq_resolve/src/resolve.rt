@@ -61,7 +61,7 @@ pub fn resolve_type(
     // No name of the type is refused, or this is the first that is.
     ensures answer { MatchResult result (λ _. of_type_on d.now signature written.now t.now ≡ [])
         (IsFirst (of_type_on d.now signature written.now t.now)) }
-    // Where none is refused, there is no refusal, and where one is the first, that is it.
+    // Where no name is refused, there is no refusal, and the first refusal, where there is one, is the answer.
     ensures resolves { of_type_on d.now signature written.now t.now ≡ [] → IsOk result }
     ensures refuses { (r : Refusal) → IsFirst (of_type_on d.now signature written.now t.now) r → result ≡ Err r }
 {

@@ -70,7 +70,7 @@ module _ (limits : Limits) (plan : Plan) where
         → Begins (events (length plan.base) whole) (events (length plan.base) trace)
     front_of whole b h = events_front (length plan.base) trace whole (within_is_prefix limits plan.base (given plan used) trace whole begins within b h)
 
-    -- the events of a trace as far as which a completion comes are a front of what the round tells
+    -- the events of a trace that a completion reaches are a front of what the round tells
     turn_front : {now : List Event} {n : Next} → Turns limits plan used first now n → Begins now (events (length plan.base) trace)
     turn_front {n = n} (joins p e b t) = due_not_begun limits plan used first p n e due b
     turn_front (ends rules d k t c) = subst (λ l. Begins l (events (length plan.base) trace)) (sym t) (front_of rules k.0 (inl k.1))

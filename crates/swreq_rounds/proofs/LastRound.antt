@@ -1,4 +1,4 @@
--- The last round uses just the usable requirements, and its rules stand for their equations.
+-- The last round uses exactly the usable requirements, and its rules stand for their equations.
 use Rattle.std.proofs.Common.{◌≡◌, ◌⊎◌, inl, inr, sym, ap, subst, subst₂, List, [], map, ◌↔◌, Contains, Option}
 use Rattle.std.proofs.lemmas.List.Elements.{Contains-append_cases, Contains-append_left, Contains-append_right}
 use Rattle.swreq_param.specs.declared.ids.ParamId.{ParamId}

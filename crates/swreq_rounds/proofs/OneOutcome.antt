@@ -27,7 +27,7 @@ one_selection (takes p h) (leaves n k) = absurd (n p)
 one_selection (leaves n h) (takes p k) = absurd (n p)
 one_selection (leaves n h) (leaves m k) = one_selection h k
 
--- answers that are no want of memory
+-- answers other than that memory ran out
 abbrev Answer : Type 0
 Answer = Result (List Rule) Failed
 
@@ -180,7 +180,7 @@ module _ (limits : Limits) (plan : Plan) where
       subst (λ z. Onward limits plan [] None z a) (sym (append_assoc before now told) ∙ ap (λ z. z ++ told) (sym e))
       (from_first r (goes turn o refl))
 
-  -- each outcome that is no want of memory comes of the first round
+  -- each outcome other than that memory ran out comes of the first round
   pub onward : (a : Answer) (told : List Event) → IsOutcome limits plan a told → Onward limits plan [] None told a ⊎ IsMemory a
   onward (Ok rules) told (used, l) =
       inl (subst (λ z. Onward limits plan [] None z (Ok rules)) (sym l.told_is)

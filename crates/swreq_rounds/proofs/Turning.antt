@@ -85,7 +85,7 @@ module _ {limits : Limits} {plan : Plan} where
   lasts {first = None} {rules = rules} (stops passed due s t (inr n)) = end_not_limit rules passed n.1
   lasts {first = Some f} {rules = rules} (stops passed due s t n) = end_not_limit rules f n
 
--- A round with which the rounds stop passes a limit, which is maybe not the one that is told.
+-- A round at which the rounds stop passes a limit, which may not be the one that is told.
 pub record StopsHere (limits : Limits) (plan : Plan) (used : List Item) (first : Option Passed) (told : List Event) : Type 0 where
   pub passed : Passed
   pub due : IsDue limits plan used first
@@ -103,7 +103,7 @@ module _ {limits : Limits} {plan : Plan} where
   stops_here which trace (ends rules due e t (usable, l, inr n)) = goes_not_end (sym n.1)
   stops_here which trace (stops passed due s t c) = record { passed = passed; due = due; stops = s; told_is = t }
 
-  -- so far as they stop they come
+  -- the rounds come to the round at which they stop
   pub stopped_comes : (which : Which) (trace : List Rule) (told : List Event) → IsStoppedRound limits plan which trace told → ComesTo limits plan told
   stopped_comes which trace told h =
       let s = stops_here which trace h.turns in record {

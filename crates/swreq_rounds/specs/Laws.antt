@@ -8,7 +8,7 @@ use Rattle.swreq_complete.specs.Answers.{IsMemory}
 use Rattle.swreq_rounds.specs.Plan.{Plan}
 use Rattle.swreq_rounds.specs.Rounds.{IsOutcome, ComesTo}
 
--- But for want of memory rounds have one outcome, and what is told in all is one.
+-- Unless memory runs out, rounds have one outcome, and they tell one list of events in all.
 abbrev pub OutcomesAreOne : Limits → Plan → Type 0
 OutcomesAreOne limits plan =
     (a b : Result (List Rule) Failed) (told also : List Event) → IsOutcome limits plan a told → IsOutcome limits plan b also

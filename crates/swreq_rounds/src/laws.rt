@@ -15,7 +15,7 @@ ghost use Rattle.swreq_rounds.specs.Rounds.{IsLastRound};
 ghost use Rattle.swreq_rounds.specs.Presents.{AreProtocolRules, AreListRules};
 ghost use Rattle.swreq_rounds.specs.Laws.{OutcomesAreOne, PartsAreFronts};
 
-/// Rounds come out in one way, but for want of memory, and tell one list of events.
+/// Unless memory runs out, rounds come out in one way and tell one list of events.
 pub fn outcomes_are_one()
     ensures { (limits : Limits) (plan : Plan) → OutcomesAreOne limits plan }
 {}
@@ -25,7 +25,7 @@ pub fn parts_are_fronts()
     ensures { (limits : Limits) (plan : Plan) → PartsAreFronts limits plan }
 {}
 
-/// The last round of the protocols uses just the usable requirements, and its rules stand for their equations.
+/// The last round of the protocols uses exactly the usable requirements, and its rules stand for their equations.
 pub fn last_round_of_protocols()
     ensures used { (m : Symbols) (f : TermFacts) (limits : Limits) (used : List Item) (rules : List Rule) (told : List Event)
         → AreSymbolsOf m f → AreOfText m f → IsLastRound limits (protocols_plan m f) used rules told

@@ -4,7 +4,7 @@ use Rattle.swreq_word.specs.declared.symbols.Symbol.{Symbol}
 use Rattle.swreq_word.specs.Overlap.{Overlap, Containment}
 use Rattle.swreq_word.proofs.Cuts.{cut_rest}
 
--- where they stand
+-- an overlap stands within the first word, past its start
 pub overlap_within : (l m : List Symbol) (at : ℕ) → Overlap l m at → (0 < at) × (at < length l) × (length l < at + length m)
 overlap_within l m at o =
     let first = simp length-append at (ap length o.first_is) in

@@ -15,7 +15,7 @@ use Rattle.swreq_sheet.specs.contracts.stated.KeyPartialEq.TheImpl.{eq-value}
 use Rattle.swreq_sheet.specs.contracts.stated.KeyEq.TheImpl.Laws.{laws-law}
 use Rattle.swreq_sheet.specs.Keys.{statement_by}
 
--- keys that the derived `==` calls equal are one
+-- keys that are equal by the derived `==` are identical
 key_same : (x y : Key) → eq-value.it x y ≡ true → x ≡ y
 key_same (Valid t) (Valid u) h = search rules
 key_same (Valid t) (Conf u q) h = search rules
@@ -34,7 +34,7 @@ key_same (Same t w) (Conf u q) h = search rules
 key_same (Same t w) (Layout u) h = search rules
 key_same (Same t w) (Same u v) h = search rules
 
--- keys of one statement are one
+-- keys of the same statement are identical
 one_key : (x y : Key) → statement_by x ≡ statement_by y → x ≡ y
 one_key (Valid t) (Valid u) h = cc
 one_key (Valid t) (Conf u q) h = absurd cc
@@ -59,13 +59,13 @@ there_any (y ∷ keys) zero x h =
     let same : y ≡ x = cc in ap (λ b. b || list_any (eq-value.it x) keys) (subst (λ z. eq-value.it x z ≡ true) (sym same) (laws-law.refl x))
 there_any (y ∷ keys) (suc k) x h = ap (λ b. eq-value.it x y || b) (there_any keys k x h) ∙ or-true (eq-value.it x y)
 
--- a key that is found is the one that was sought
+-- the key at the place that a search finds is the one that was sought
 pub found_at : (x : Key) (keys : List Key) (k : ℕ) → position (eq-value.it x) keys ≡ Some k → slice_get keys k ≡ Some x
 found_at x keys k h =
     let p = position-Some (eq-value.it x) keys k x h in
     slice_get-get_or keys k x p.0 ∙ ap Some (sym (key_same x (get_or keys k x) p.1))
 
--- the number of a statement whose key is found
+-- a statement whose key is found has the number after that place
 pub numbered : (x : Key) (keys : List Key) (st : Statement) (k : ℕ) → statement_by x ≡ st → position (eq-value.it x) keys ≡ Some k
     → HasNumber (k + 1) (map statement_by keys) st
 numbered x keys st k e h = (
@@ -74,7 +74,7 @@ numbered x keys st k e h = (
       (get_map statement_by keys k x (found_at x keys k h) ∙ ap Some e),
 )
 
--- a statement whose key is not found is not there
+-- a statement whose key is not found does not stand in the list
 pub nowhere : (x : Key) (keys : List Key) (st : Statement) → statement_by x ≡ st → list_any (eq-value.it x) keys ≡ false
     → (k : ℕ) → slice_get (map statement_by keys) k ≡ Some st → ⊥
 nowhere x keys st e h k w =
@@ -91,7 +91,7 @@ any_there x (y ∷ keys) h = at (eq-value.it x y) refl (any_there x keys)
     at true i rest = (0, ap Some (sym (key_same x y i)))
     at false i rest = let r = rest (subst (λ b. b || list_any (eq-value.it x) keys ≡ true) i h) in (suc r.0, r.1)
 
--- the statements after one more, whose key was not there
+-- putting a key that was not there puts its statement last
 pub put_last : (x : Key) (keys : List Key) (st : Statement) → statement_by x ≡ st
     → ((k : ℕ) → slice_get (map statement_by keys) k ≡ Some st → ⊥)
     → map statement_by (if list_any (eq-value.it x) keys then keys else keys ++ x ∷ []) ≡ map statement_by keys ++ st ∷ []

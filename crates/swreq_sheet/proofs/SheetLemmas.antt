@@ -23,7 +23,7 @@ use Rattle.swreq_sheet.specs.Sheets.{AreIdsIn, Basis, Grows, IsSheet, Keeps, Say
 
 -- ---- ids and type parameters
 
--- Ids of a table whose type parameters make one statement are equal.
+-- Two statements over ids of a table are identical if they are the same statement over type parameters.
 pub same_ids : (terms : List Term) → AreDistinct terms → (a b : Statement) → AreIdsIn terms a → AreIdsIn terms b
     → statement_of terms a ≡ statement_of terms b → a ≡ b
 same_ids terms d (Valid x) (Valid y) h k e = ap Valid (d x y h k (cc))
@@ -40,12 +40,12 @@ same_ids terms d (Holds (Same x w)) (Holds (Layout y)) h k e = absurd cc
 same_ids terms d (Holds (Same x w))
     (Holds (Same y z)) h k e = let i : x ≡ y = d x y h.0 k.0 (cc) in let j : w ≡ z = d w z h.1 k.1 (cc) in cc
 
--- what is found among the statements is said
+-- a line states what is found among the statements
 pub found : (s : Sheet) (st : Statement) (n : ℕ) → IsSheet s → HasNumber n s.stated st → HasNumber n (said s) (statement_of s.table st)
 found s st n h w =
     (w.0, get_map (statement_of s.table) (stated_by s.lines.items) (n - 1) st (subst (λ z. slice_get z (n - 1) ≡ Some st) h.stated w.1))
 
--- what is not found is not said
+-- no line states what is not found among the statements
 pub not_found : (s : Sheet) (st : Statement) → IsSheet s → AreDistinct s.table → AreIdsIn s.table st
     → ((k : ℕ) → slice_get s.stated k ≡ Some st → ⊥) → Says s (statement_of s.table st) → ⊥
 not_found s st h d i none w =
@@ -55,14 +55,14 @@ not_found s st h d i none w =
     let e : x.0 ≡ st = same_ids s.table d x.0 st o i x.2 in
     none (w.0 - 1) (subst (λ z. slice_get z (w.0 - 1) ≡ Some st) (sym h.stated) (x.1 ∙ ap Some e))
 
--- what is told of the statements is told of what is said
+-- a search among the statements tells whether a line states it
 pub number_told : (s : Sheet) (st : Statement) (o : Option ℕ) → IsSheet s → AreDistinct s.table → AreIdsIn s.table st
     → MatchOption o ((k : ℕ) → slice_get s.stated k ≡ Some st → ⊥) (λ n. HasNumber n s.stated st)
     → MatchOption o (Says s (statement_of s.table st) → ⊥) (λ n. HasNumber n (said s) (statement_of s.table st))
 number_told s st (Some n) h d i w = found s st n h w
 number_told s st None h d i w = not_found s st h d i w
 
--- what is not said is not found
+-- what no line states is not found among the statements
 pub unsaid : (s : Sheet) (st : Statement) → IsSheet s → (Says s (statement_of s.table st) → ⊥) → (k : ℕ)
     → slice_get s.stated k ≡ Some st → ⊥
 unsaid s st h none k w =
@@ -70,12 +70,12 @@ unsaid s st h none k w =
 
 -- ---- a line more
 
--- the statements of lines, and those of the lines over type parameters
+-- the statements of the lines over type parameters are the statements of the lines, over type parameters
 statements_are : (terms : List Term) (ls : List Line) → statements_of (map (line_of terms) ls) ≡ map (statement_of terms) (stated_by ls)
 statements_are terms [] = refl
 statements_are terms (l ∷ ls) = ap (λ z. statement_of terms l.statement ∷ z) (statements_are terms ls)
 
--- the item at a place of a list with one more, which is one of the list or the last
+-- an item of a list with one more item is an item of the list, or the last one
 last_or_before : {A : Type 0} (xs : List A) (y : A) (k : ℕ) (x : A) → slice_get (xs ++ y ∷ []) k ≡ Some x
     → ((k < length xs) × (slice_get xs k ≡ Some x)) ⊎ ((k ≡ length xs) × (x ≡ y))
 last_or_before [] y zero x e = inr (refl, cc)
@@ -105,7 +105,7 @@ module _ (b : Basis) where
             (subst (Follow (statements_of ls)) (sym i.1) w)))
       ]
 
-  -- the line whose premises state these, and whose rule gives what it states
+  -- a derivation stays one with a line more, if its rule gives what it states from what its premises state
   line_more : (terms : List Term) (ls : List Line) (rule : DerivRule) (ns : List ℕ) (from : List TermStatement) (st : Statement)
       → AreStated (map (statement_of terms) (stated_by ls)) ns from
       → IsInstance b.facts b.params b.written rule from (statement_of terms st)
@@ -162,7 +162,7 @@ grown_by_line old new l h i e k f =
     stated = k ∙ ap (λ z. z ++ l.statement ∷ []) h.stated ∙ sym
         (ap stated_by f ∙ map-append (λ (z : Line). z.statement) old.lines.items (l ∷ []))
 
--- It stays a derivation where the rule of the line gives what it states from what earlier lines state.
+-- The lines stay a derivation if the rule of the new line gives what it states from what earlier lines state.
 pub kept_by_line : (b : Basis) (old new : Sheet) (rule : DerivRule) (ns : List ℕ) (from : List TermStatement) (st : Statement)
     → new.table ≡ old.table → new.lines.items ≡ old.lines.items ++ record { rule = rule; premises = ns; statement = st } ∷ []
     → AreStated (said old) ns from → IsInstance b.facts b.params b.written rule from (statement_of old.table st) → Keeps b old new
@@ -194,7 +194,7 @@ grows_then s t u g h = record {
   stays = λ st w. h.stays st (g.stays st w);
 }
 
--- ---- type parameters more
+-- ---- more type parameters
 
 same_statement : (old new : List Term) → Extends old new → (st : Statement) → AreIdsIn old st → statement_of new st ≡ statement_of old st
 same_statement old new e (Valid t) h = ap IsValid (e.stands t h)
@@ -208,7 +208,7 @@ more_ids old new e (Holds (Conf t p)) h = omega (arith, e.longer, h)
 more_ids old new e (Holds (Layout t)) h = omega (arith, e.longer, h)
 more_ids old new e (Holds (Same t u)) h = (omega (arith, e.longer, h.0), omega (arith, e.longer, h.1))
 
--- the ids of what these lines state are of the table
+-- the ids in what these lines state are of the table
 abbrev AllIn : List Term → List Line → Type 0
 AllIn terms ls = (k : ℕ) (l : Line) → slice_get ls k ≡ Some l → AreIdsIn terms l.statement
 
@@ -239,6 +239,6 @@ kept_by_terms b old new h e f d =
     subst (λ z. IsDerivation b.facts b.params b.written (map (line_of new.table) z)) (sym f)
     (subst (IsDerivation b.facts b.params b.written) (sym (same_lines old.table new.table e old.lines.items h.ids)) d)
 
--- type parameters more say nothing
+-- type parameters that are added to the table state nothing
 pub said_by_terms : (old new : Sheet) → IsSheet old → Extends old.table new.table → new.lines.items ≡ old.lines.items → said new ≡ said old
 said_by_terms old new h e f = ap (λ z. map (statement_of new.table) (stated_by z)) f ∙ same_said old.table new.table e old.lines.items h.ids

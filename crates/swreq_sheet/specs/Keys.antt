@@ -1,4 +1,4 @@
--- Statements, as they are looked up.
+-- Keys by which statements are looked up.
 use Rattle.swreq_derive.specs.declared.requirements.Requirement.TheVariants as required
 use Rattle.swreq_derive.specs.declared.requirements.Statement.{Statement}
 use Rattle.swreq_derive.specs.declared.requirements.Statement.TheVariants as stated

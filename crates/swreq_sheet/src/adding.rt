@@ -1,4 +1,4 @@
-//! A line more, where its rule gives what it states.
+//! Lines that are added, each with a rule that gives what it states.
 ghost use Rattle.std.specs.Prelude.{◌≡◌, ◌++◌, [], ◌∷◌, OnOk};
 ghost use Rattle.std.specs.Bool.{Decides};
 ghost use Rattle.swreq_derive.specs.Facts.{statement_of};
@@ -10,7 +10,7 @@ use std::alloc::AllocError;
 use swreq_derive::{DerivRule, Line, Statement};
 use swreq_text::Seq;
 
-/// Puts a line last, whose statement none makes. For want of memory the lines stay as they were.
+/// Puts a line last. No line states what it states. If memory runs out, the lines stay as they were.
 fn add(
     sheet: &mut Sheet,
     rule: DerivRule,
@@ -86,7 +86,7 @@ pub(crate) fn from_none(
     Ok(())
 }
 
-/// States what a rule gives from this, unless a line states it.
+/// States what a rule gives from one premise, unless a line states it.
 pub(crate) fn from_one(
     sheet: &mut Sheet,
     rule: DerivRule,
@@ -111,7 +111,7 @@ pub(crate) fn from_one(
     Ok(())
 }
 
-/// States what a rule gives from these two, unless a line states it.
+/// States what a rule gives from two premises, unless a line states it.
 pub(crate) fn from_two(
     sheet: &mut Sheet,
     rule: DerivRule,

@@ -1,6 +1,6 @@
-//! Sheets on which a derivation is written: what lines state, and lines more by the rules of derivation.
+//! Sheets that a derivation is written on: what the lines state, and how lines are added by the rules of derivation.
 //!
-//! A call fails for want of memory alone. On every answer what was stated still is, and the table begins with the old one.
+//! A call fails only if memory runs out. Whatever it answers, what was stated is still stated, and the table begins with the old one.
 #![tactic(auto, using(crate::proofs::SheetLemmas::grown_by_none))]
 
 mod adding;

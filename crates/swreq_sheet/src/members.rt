@@ -1,4 +1,4 @@
-//! Type parameters more.
+//! Type parameters that are added to the table.
 ghost use Rattle.std.specs.Prelude.{◌≡◌, IfOk, OnOk};
 ghost use Rattle.swreq_param.specs.Tables.{IsOf, term_at};
 ghost use Rattle.swreq_param.specs.Terms.Term.{Generic, Member};
@@ -8,7 +8,7 @@ use crate::sheet::Sheet;
 use std::alloc::AllocError;
 use swreq_param::{ParamId, Step, TermId};
 
-/// The id of a member of a type parameter.
+/// The id of a member of a type parameter, which is added if it is not in the table.
 pub fn member(sheet: &mut Sheet, t: TermId, step: Step) -> Result<TermId, AllocError>
     requires sheet { IsSheet sheet.old }
     requires t { IsOf sheet.old.table t }
@@ -22,7 +22,7 @@ pub fn member(sheet: &mut Sheet, t: TermId, step: Step) -> Result<TermId, AllocE
     Ok(id)
 }
 
-/// The id of a generic parameter.
+/// The id of a generic parameter, which is added if it is not in the table.
 pub fn param(sheet: &mut Sheet, g: ParamId) -> Result<TermId, AllocError>
     requires sheet { IsSheet sheet.old }
     ensures is_of { IfOk result (IsOf sheet.new.table) }

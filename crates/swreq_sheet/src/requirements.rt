@@ -15,7 +15,7 @@ use std::alloc::AllocError;
 use swreq_derive::DerivRule;
 use swreq_param::{ProtoId, TermId};
 
-/// From `[T : P]`, and the n-th requirement of P, `[U : Q]`: that one with T for `Self`. `v` is U with T for `Self`.
+/// From `[T : P]` and the n-th requirement `[U : Q]` of P: `[V : Q]`, where V is U with T for `Self`. `v` is its id.
 pub fn assoc_conf(
     sheet: &mut Sheet,
     t: TermId,
@@ -38,7 +38,7 @@ pub fn assoc_conf(
     Ok(())
 }
 
-/// From `[T : P]`, and the n-th requirement of P, `[U : AnyObject]`: that one with T for `Self`. `v` is U with T for `Self`.
+/// From `[T : P]` and the n-th requirement `[U : AnyObject]` of P: `[V : AnyObject]`, where V is U with T for `Self`. `v` is its id.
 pub fn assoc_layout(
     sheet: &mut Sheet,
     t: TermId,
@@ -65,7 +65,8 @@ pub fn assoc_layout(
     Ok(())
 }
 
-/// From `[T : P]`, and the n-th requirement of P, `[U == V]`: that one with T for `Self`. `sides` are U and V with T for `Self`.
+/// From `[T : P]` and the n-th requirement `[U == V]` of P: this requirement with T for `Self`. `sides` are the ids of U and V with T for
+/// `Self`.
 pub fn assoc_same(
     sheet: &mut Sheet,
     t: TermId,

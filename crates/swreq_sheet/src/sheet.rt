@@ -1,4 +1,4 @@
-//! Lines under way, with the table whose ids they use.
+//! A derivation that is being written, with the table whose ids its lines use.
 ghost use Rattle.std.specs.Prelude.{◌≡◌, [], MatchOption};
 ghost use Rattle.swreq_derive.specs.Facts.{statement_of};
 ghost use Rattle.swreq_derive.specs.Instances.{HasNumber};
@@ -9,8 +9,8 @@ use std::alloc::Global;
 use swreq_derive::{Line, Statement};
 use swreq_param::ParamTable;
 
-/// Lines of a derivation under way, with the table whose ids they use. No two of them state the same. What is put on the sheet takes
-/// memory of its allocator.
+/// The lines of a derivation that is being written, with the table whose ids they use. No two lines state the same. What is put on the
+/// sheet takes memory from its allocator.
 #[derive(Drop)]
 pub struct Sheet {
     pub alloc: Global,
@@ -21,7 +21,7 @@ pub struct Sheet {
 }
 
 impl Sheet {
-    /// No lines, over this table, which takes no memory.
+    /// A sheet without lines over this table. It takes no memory.
     pub fn new(alloc: Global, table: ParamTable) -> Sheet
         ensures table { result.table ≡ table }
         ensures lines { result.lines.items ≡ [] }
@@ -36,7 +36,7 @@ impl Sheet {
     }
 }
 
-/// The number of the line that states this, counted from 1, or None where none does.
+/// The number of the line that states this, counted from 1, or None if no line does.
 pub fn number_of(sheet: &Sheet, statement: Statement) -> Option<usize>
     requires sheet { IsSheet sheet.now }
     requires ids { AreIdsIn sheet.now.table statement }
@@ -44,7 +44,7 @@ pub fn number_of(sheet: &Sheet, statement: Statement) -> Option<usize>
         (Says sheet.now (statement_of sheet.now.table statement) → ⊥)
         (λ n. HasNumber n (said sheet.now) (statement_of sheet.now.table statement)) }
 {
-    // Where two type parameters are equal, so are their ids.
+    // If two ids stand for the same type parameter, they are equal.
     let _count = sheet.table.len();
     sheet.stated.number_of(statement)
 }

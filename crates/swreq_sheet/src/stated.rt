@@ -9,7 +9,7 @@ use std::marker::Model;
 use swreq_derive::{Requirement, Statement};
 use swreq_param::{ProtoId, TermId};
 
-/// A statement, as it is looked up.
+/// The key by which a statement is looked up.
 #[derive(Clone, Copy, PartialEq, Eq, Hash)]
 enum Key {
     Valid(TermId),
@@ -49,7 +49,7 @@ fn key_of(statement: Statement) -> Key
 }
 
 impl Stated {
-    /// No statements, which takes no memory.
+    /// No statements. It takes no memory.
     pub fn new(alloc: Global) -> Stated
         ensures { result ≡ [] }
     {
@@ -58,7 +58,7 @@ impl Stated {
         }
     }
 
-    /// The number of a statement, counted from 1, or None where it is not there.
+    /// The number of a statement, counted from 1, or None if it is not there.
     pub fn number_of(&self, statement: Statement) -> Option<usize>
         ensures { MatchOption result
             ((k : ℕ) → slice_get self.now k ≡ Some statement → ⊥)
@@ -72,7 +72,7 @@ impl Stated {
         }
     }
 
-    /// Puts a statement last, which is not there. For want of memory all is as before.
+    /// Puts a statement last that is not there yet. If memory runs out, the statements stay as they were.
     pub fn push(&mut self, statement: Statement) -> Result<(), AllocError>
         requires { (k : ℕ) → slice_get self.old k ≡ Some statement → ⊥ }
         ensures ok { OnOk result (self.new ≡ self.old ++ statement ∷ []) }

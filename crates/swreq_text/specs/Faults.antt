@@ -9,6 +9,6 @@ greatest_count = 2 ^ 64 - 1
 abbrev pub one_more : ℕ → ℕ
 one_more count = min (count + 1) greatest_count
 
--- the count is greater than before, or stands at its end
+-- the count is greater than before, or has reached the greatest number
 abbrev pub HasRisen : ℕ → ℕ → Type 0
 HasRisen old new = (old < new) ⊎ (new ≡ greatest_count)

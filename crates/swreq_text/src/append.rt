@@ -6,7 +6,7 @@ ghost use Rattle.std.specs.Fmt.{decimal};
 use itoa::Buffer;
 use std::alloc::AllocError;
 
-/// Appends the bytes. For want of memory the list is as before.
+/// Appends the bytes. If memory runs out, the list is as before.
 pub fn append_bytes(out: &mut Vec<u8>, bytes: &[u8]) -> Result<(), AllocError>
     ensures ok { OnOk result (out.new.items ≡ out.old.items ++ bytes.now) }
     ensures err { OnErr result (out.new.items ≡ out.old.items) }
@@ -14,7 +14,7 @@ pub fn append_bytes(out: &mut Vec<u8>, bytes: &[u8]) -> Result<(), AllocError>
     out.extend_from_slice(bytes)
 }
 
-/// Appends the number in decimal, without leading zeros. For want of memory the list is as before.
+/// Appends the number in decimal, without leading zeros. If memory runs out, the list is as before.
 pub fn append_number(out: &mut Vec<u8>, number: u64) -> Result<(), AllocError>
     ensures ok { OnOk result (out.new.items ≡ out.old.items ++ decimal number) }
     ensures err { OnErr result (out.new.items ≡ out.old.items) }

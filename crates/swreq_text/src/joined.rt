@@ -7,7 +7,7 @@ ghost use Rattle.swreq_text.specs.Joined.{GrewByPart, followed, joined};
 use crate::append_bytes;
 use std::alloc::AllocError;
 
-/// What prints things of one kind, each as one text.
+/// Prints things of one kind, each as one text.
 pub trait Print<T> {
     /// The text of a thing.
     ghost text: { Self → T → List ℕ };
@@ -15,14 +15,14 @@ pub trait Print<T> {
     /// Which things have a text.
     ghost fits: { Self → T → Type 0 };
 
-    /// Writes the text of the item at the end of the list. For want of memory the first bytes of it may stand there.
+    /// Writes the text of the item at the end of the list. If memory runs out, the first bytes of it may stand there.
     fn put(&self, out: &mut Vec<u8>, item: &T) -> Result<(), AllocError>
         requires { fits self.now item.now }
         ensures ok { OnOk result (out.new.items ≡ out.old.items ++ text self.now item.now) }
         ensures err { OnErr result (GrewByPart out.old.items (text self.now item.now) out.new.items) };
 }
 
-/// Writes the texts of the items, with the separator between each two. For want of memory the first bytes of that may stand at
+/// Writes the texts of the items, with the separator between each two. If memory runs out, the first bytes of that may stand at
 /// the end.
 pub fn put_joined<T, P: Print<T>>(
     out: &mut Vec<u8>,

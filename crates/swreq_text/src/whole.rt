@@ -37,15 +37,15 @@ const CHUNK: usize = 4096;
 /// All that the source has left, which may be at most `limit` bytes.
 ///
 /// Of a longer one `limit + 1` bytes are taken, and the answer is `TooLarge`. `Fault` comes only where the source
-/// counted one, and where none was counted the count is as before. In each case at most `limit + 1` bytes are gone from the
-/// source, the next ones of it.
+/// counted one, and where none was counted the count is as before. In each case at most `limit + 1` bytes are taken from the source, the
+/// next ones that it had.
 pub fn read_all<S: Source>(alloc: Global, src: &mut S, limit: u32) -> Result<Vec<u8>, ReadErr>
     requires { limit + 1 < 2 ^ 32 }
     ensures all { IfOk result (λ bytes. Consumes (S.left src.old) (S.left src.new) bytes.items) }
     ensures end { OnOk result (IsAtEnd (S.left src.new)) }
     ensures within { IfOk result (λ bytes. length bytes.items ≤ limit) }
 
-    // `TooLarge` exactly where `limit + 1` bytes came, if there was memory for them.
+    // `TooLarge` if and only if `limit + 1` bytes came, unless memory runs out.
     ensures too_large { IsErrOf result ReadErr.TooLarge →
         GivesCount (S.left src.old) (S.left src.new) (limit + 1) }
     ensures exactly { HasGiven (S.left src.old) (S.left src.new) (limit + 1) →

@@ -133,7 +133,7 @@ module _ (edges edges' : List Edge) (ends ends' : List (Option ℕ)) (passing pa
     (same : SameEnds ends ends') (begun : KeepsListed passing passing') (within : KeepsListed inside inside')
     (passes : ListsOnly passing passing' (λ n s. (s ≡ begin_of (length stored) entry) × IsOnWay edges' entry.left n))
     (stands : ListsOnly inside inside' (λ n s. (at : ℕ) × (s ≡ spot_of (length stored) entry at) × IsWithin edges' entry.left at n)) where
-  -- for want of memory its spots are forgotten
+  -- if memory runs out, its spots are forgotten
   module _ (passing'' inside'' : List (Vec Spot Global)) (side : ℕ) (is_side : side ≡ length stored) (forgot : Forgets passing' passing'' side)
       (forgot_inside : Forgets inside' inside'' side) where
     below_passing : (node : ℕ) (spot : Spot) → IsListed passing node spot → spot.side < side

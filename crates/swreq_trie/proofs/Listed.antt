@@ -70,7 +70,7 @@ nothing_after a (x ∷ b) e = absurd (let h = simp length-append at e in omega (
 
 module _ (edges : List Edge) (ends : List (Option ℕ)) (passing inside : List (Vec Spot Global)) (lengths : Lengths) (stored : List Entry)
     (index : IsIndex edges ends passing inside lengths stored) (left : List Symbol) (number : ℕ) where
-  -- a stored side in which the new one stands at its begin
+  -- a stored side in which the new one stands at its start
   module _ (some : 0 < length left) where
     begin_way : (k : ℕ) (p : Place) → (o : IsOnto stored left number k 0 p) → (node : ℕ) × Leads edges 0 left node × IsListed passing node (begin_of k o.entry)
     begin_way k p o = elim o.meets [

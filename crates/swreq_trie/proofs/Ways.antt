@@ -122,7 +122,7 @@ module _ (edges : List Edge) (ends : List (Option ℕ)) (w : List Symbol) where
   pub none_met : (nodes : List Met) → nodes ≡ [] → AreMetUpTo edges ends w 0 nodes
   none_met nodes is = rw is (record { right = λ m h. (let e = h.1 in cc); ended = λ front rest node number e some short p h. absurd (omega (arith, some, short)) })
 
-  -- the whole way was gone
+  -- the whole way was walked
   pub met_whole : (n node : ℕ) → n ≡ length w → Leads edges 0 (take n w) node → IsForked edges → (nodes more : List Met) (depth : ℕ)
       → AreMetUpTo edges ends w n nodes → depth ≡ length w → more ≡ nodes ++ (record { node = node; depth = depth }) ∷ [] → AreMet edges ends w more
   met_whole n node size walked forked nodes more depth met deep is =
@@ -178,7 +178,7 @@ module _ (w v : List Symbol) where
         way_ends edges ends v n node (subst (λ x. Leads edges 0 x node) (sym first) walked) (none_there n (omega (arith, l)) first none) d (omega (arith, longer))
         forked (subst (NoChild edges node) (sym next) stop)
 
-    -- where the whole way was gone
+    -- where the whole way was walked
     pub none_told_at_end : (n : ℕ) → n ≡ length w → NoEndUpTo edges ends w n → take (length w + 1) v ≡ take (length w + 1) w → NoEnd edges ends v
     none_told_at_end n whole none e =
         subst (NoEnd edges ends) (sym (same_word (length w + 1) (omega arith) e)) (none_at_end edges ends w n whole none)

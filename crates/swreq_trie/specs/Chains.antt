@@ -26,7 +26,7 @@ edges_of links = map (λ (link : Link). link.edge) links
 abbrev pub IsIn : List Link → ℕ → ℕ → Type 0
 IsIn links chain k = (link : Link) × (slice_get links k ≡ Some link) × (chain_of link.edge ≡ chain)
 
--- Of the first edges, so many, that are in this chain, the last one, if there is one.
+-- Of those of the first `count` edges that are in this chain, the last one, if there is one.
 pub record AreLast (links : List Link) (chain count : ℕ) (Last : ℕ → Type 0) : Type 0 where
   pub all : (k : ℕ) → k < count → IsIn links chain k → (j : ℕ) × Last j × (k ≤ j)
   pub right : (j : ℕ) → Last j → (j < count) × IsIn links chain j

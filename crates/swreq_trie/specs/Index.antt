@@ -23,14 +23,14 @@ pub record FirstThere (edges : List Edge) (stored : List Entry) (node number : �
 abbrev pub HasEnd : List Edge → List (Option ℕ) → List Symbol → Type 0
 HasEnd edges ends left = (node : ℕ) × (number : ℕ) × Leads edges 0 left node × EndsAt ends node number
 
--- the begin of the side with this index, and a place in it
+-- the start of the side with this index, and a place in it
 abbrev pub begin_of : ℕ → Entry → Spot
 begin_of k entry = record { side = k; at = 0; rest = length entry.left; number = entry.number }
 
 abbrev pub spot_of : ℕ → Entry → ℕ → Spot
 spot_of k entry at = record { side = k; at = at; rest = length entry.left - at; number = entry.number }
 
--- Its first symbols, up to so many, lead to nodes at which its begin is listed.
+-- Its first symbols, up to this many, lead to nodes at which its start is listed.
 abbrev pub IsPassingUpTo : List Edge → List (Vec Spot Global) → Spot → List Symbol → ℕ → Type 0
 IsPassingUpTo edges passing begin left count = (front rest : List Symbol) → left ≡ front ++ rest → 0 < length front → length front ≤ count
     → (node : ℕ) × Leads edges 0 front node × IsListed passing node begin
@@ -47,7 +47,7 @@ IsOnWay edges left node = (front : List Symbol) × (rest : List Symbol) × (left
 abbrev pub HasSpot : List Edge → List (Vec Spot Global) → Spot → Symbol → Type 0
 HasSpot edges inside spot symbol = (node : ℕ) × IsChild edges 0 symbol node × IsListed inside node spot
 
--- So is each place past the first, up to so many, by its symbol there.
+-- So is each place past the first and below this number, by its symbol there.
 abbrev pub IsInsideBelow : List Edge → List (Vec Spot Global) → ℕ → Entry → ℕ → Type 0
 IsInsideBelow edges inside k entry count =
     (at : ℕ) (symbol : Symbol) → 0 < at → at < count → slice_get entry.left at ≡ Some symbol → HasSpot edges inside (spot_of k entry at) symbol
@@ -59,7 +59,7 @@ IsInside edges inside k entry = IsInsideBelow edges inside k entry (length entry
 abbrev pub IsWithin : List Edge → List Symbol → ℕ → ℕ → Type 0
 IsWithin edges left at node = (symbol : Symbol) × (0 < at) × (slice_get left at ≡ Some symbol) × IsChild edges 0 symbol node
 
--- the spot is the begin of a stored side on whose way the node is
+-- the spot is the start of a stored side on whose way the node is
 pub record PassesRight (edges : List Edge) (stored : List Entry) (node : ℕ) (spot : Spot) : Type 0 where
   pub entry : Entry
   pub is_entry : slice_get stored spot.side ≡ Some entry

@@ -28,7 +28,7 @@ pub record Gains (Gained : ℕ × ℕ × ℕ → Type 0) (old new : List (ℕ ×
   pub only : (key : ℕ × ℕ × ℕ) → Holds new key → Holds old key ⊎ Gained key
   pub all : (key : ℕ × ℕ × ℕ) → Gained key → Holds new key
 
--- the key of the begin of a side with a number below this one
+-- the key of the start of a side with a number below this one
 abbrev pub IsBeginKey : ℕ → Spot → ℕ × ℕ × ℕ → Type 0
 IsBeginKey number spot key = (spot.number < number) × (key ≡ (spot.number, number, 0))
 
@@ -39,7 +39,7 @@ MeetsAt stored left spot = (spot.rest ≡ 1) ⊎ ((entry : Entry) × (slice_get 
 abbrev pub IsInsideKey : List Entry → List Symbol → ℕ → Spot → ℕ × ℕ × ℕ → Type 0
 IsInsideKey stored left number spot key = (spot.number < number) × (key ≡ (spot.number, number, spot.at)) × MeetsAt stored left spot
 
--- the side ends after so many symbols, or the new side does, which has so many from the place on, past its begin
+-- the side of the spot ends after this many symbols, or the new side does, which has this many from the place on, past its start
 abbrev pub IsEnded : ℕ → ℕ → ℕ → Spot → Type 0
 IsEnded at long depth spot = (spot.rest ≡ depth) ⊎ ((0 < at) × (at + depth ≡ long))
 
@@ -55,7 +55,7 @@ pub record AreTheirPlaces (keys : List (ℕ × ℕ × ℕ)) (places : List Place
   pub all : (key : ℕ × ℕ × ℕ) → Holds keys key → Holds places (place_of key)
   pub ordered : (j k : ℕ) (p q : Place) → j < k → slice_get places j ≡ Some p → slice_get places k ≡ Some q → key_cmp (key_of p) (key_of q) ≡ Less
 
--- the same of the first keys, so many, the last of which is not below that of a place
+-- the same of the first `count` keys, the last of which is not below that of a place
 pub record ArePlacesBelow (keys : List (ℕ × ℕ × ℕ)) (count : ℕ) (places : List Place) : Type 0 where
   pub each : (k : ℕ) (place : Place) → slice_get places k ≡ Some place → Holds keys (key_of place)
   pub all : (k : ℕ) (key : ℕ × ℕ × ℕ) → k < count → slice_get keys k ≡ Some key → Holds places (place_of key)

@@ -47,14 +47,14 @@ pub record Forgets (old new : List (Vec Spot Global)) (side : ℕ) : Type 0 wher
   pub only : (node : ℕ) (spot : Spot) → IsListed new node spot → IsListed old node spot × (spot.side < side)
   pub all : (node : ℕ) (spot : Spot) → IsListed old node spot → spot.side < side → IsListed new node spot
 
--- the same of the first lists, so many, and the others as they were
+-- the same of the first `count` lists, and the others as they were
 pub record ForgetsBelow (old new : List (Vec Spot Global)) (side count : ℕ) : Type 0 where
   pub as_many : length new ≡ length old
   pub done : (node : ℕ) (list : Vec Spot Global) → node < count → slice_get new node ≡ Some list
       → (before : Vec Spot Global) × (slice_get old node ≡ Some before) × Retains before.items list.items side
   pub same : (node : ℕ) → count ≤ node → slice_get new node ≡ slice_get old node
 
--- as many lists, each with the spots of the other
+-- the same number of lists, each with the spots of the other
 pub record AreCopies (old new : List (Vec Spot Global)) : Type 0 where
   pub as_many : length new ≡ length old
   pub each : (node : ℕ) (list : Vec Spot Global) → slice_get old node ≡ Some list

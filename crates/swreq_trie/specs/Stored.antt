@@ -11,7 +11,7 @@ Begins entry w = (after : List Symbol) × (w ≡ entry.left ++ after)
 abbrev pub NoneBegins : List Entry → List Symbol → Type 0
 NoneBegins stored w = (k : ℕ) (entry : Entry) → slice_get stored k ≡ Some entry → Begins entry w → ⊥
 
--- The first symbols of the word, so many, tell that no stored side begins at the place: none does in any word with these.
+-- The first n symbols of the word tell that no stored side begins at the place: none does in any word that begins with them.
 abbrev pub TellNone : List Entry → List Symbol → ℕ → ℕ → Type 0
 TellNone stored w at count = (v : List Symbol) → take count v ≡ take count w → NoneBegins stored (drop at v)
 

@@ -6,7 +6,7 @@ use Rattle.swreq_trie.specs.declared.walk.Met.{Met}
 use Rattle.swreq_trie.specs.Paths.{Leads}
 use Rattle.swreq_trie.specs.Marks.{EndsAt, Holds}
 
--- none ends at the nodes to which the first symbols of the word lead, up to so many of them
+-- none ends at the nodes to which the first symbols of the word lead, up to this many of them
 abbrev pub NoEndUpTo : List Edge → List (Option ℕ) → List Symbol → ℕ → Type 0
 NoEndUpTo edges ends w count = (front rest : List Symbol) (node number : ℕ) → w ≡ front ++ rest → 0 < length front → length front ≤ count
     → Leads edges 0 front node → EndsAt ends node number → ⊥
@@ -15,7 +15,7 @@ NoEndUpTo edges ends w count = (front rest : List Symbol) (node number : ℕ) �
 abbrev pub NoEnd : List Edge → List (Option ℕ) → List Symbol → Type 0
 NoEnd edges ends w = NoEndUpTo edges ends w (length w)
 
--- The first symbols of the word, so many, tell that none ends on its way: none does on that of any word with these.
+-- The first n symbols of the word tell that none ends on its way: none does on that of any word that begins with them.
 abbrev pub TellsNoEnd : List Edge → List (Option ℕ) → List Symbol → ℕ → Type 0
 TellsNoEnd edges ends w count = (v : List Symbol) → take count v ≡ take count w → NoEnd edges ends v
 
@@ -32,7 +32,7 @@ pub record FirstEnd (edges : List Edge) (ends : List (Option ℕ)) (w : List Sym
   pub none_before : NoEndUpTo edges ends w count
   pub next : length front ≤ count + 1
 
--- the first symbols of the word lead to the node, so many
+-- the first `met.depth` symbols of the word lead to the node
 pub record IsMet (edges : List Edge) (w : List Symbol) (met : Met) : Type 0 where
   pub front : List Symbol
   pub rest : List Symbol
@@ -40,7 +40,7 @@ pub record IsMet (edges : List Edge) (w : List Symbol) (met : Met) : Type 0 wher
   pub depth_is : met.depth ≡ length front
   pub leads : Leads edges 0 front met.node
 
--- the nodes at which a side ends, and to which the first symbols of the word lead, up to so many of them, stand in the list
+-- the list has the nodes at which a side ends and to which the first symbols of the word lead, up to `count` of them
 pub record AreMetUpTo (edges : List Edge) (ends : List (Option ℕ)) (w : List Symbol) (count : ℕ) (nodes : List Met) : Type 0 where
   pub right : (met : Met) → Holds nodes met → IsMet edges w met
   pub ended : (front rest : List Symbol) (node number : ℕ) → w ≡ front ++ rest → 0 < length front → length front ≤ count

@@ -79,7 +79,7 @@ pub(crate) fn find_child(links: &[Link], heads: &[Option<u32>], edge: Edge) -> O
     find_from(links, end_at(heads, chain(edge)), edge)
 }
 
-// The place as a number of 32 bits. Past these there is no room for an edge, which is told as want of memory.
+// The place as a number of 32 bits. Past these there is no room for an edge, which is answered as if memory ran out.
 fn numbered(place: usize) -> Result<u32, AllocError>
     ensures { IfOk result (λ number. number ≡ place) }
 {
@@ -90,7 +90,7 @@ fn numbered(place: usize) -> Result<u32, AllocError>
     }
 }
 
-// Puts the edge last, also in its chain, and answers the node to which it leads. For want of memory no edge is put in.
+// Puts the edge last, also in its chain, and answers the node to which it leads. If memory runs out, no edge is put in.
 fn add_child(
     links: &mut Vec<Link>,
     heads: &mut Vec<Option<u32>>,

@@ -1,4 +1,4 @@
-//! The places at which a new side and the stored ones overlap, or the one stands in the other.
+//! The places at which a new side and a stored one overlap, or one stands in the other.
 
 ghost use Rattle.std.specs.Prelude.{◌≡◌, ℕ, ◌+◌, ◌<◌, ◌≤◌, ◌++◌, ◌∷◌, [], length, OnOk};
 ghost use Rattle.std.specs.Bool.{Decides};
@@ -37,7 +37,7 @@ fn push(keys: &mut Vec<Key>, key: Key) -> Result<(), AllocError>
     Ok(())
 }
 
-// Adds the place at the begin of the side of the spot, where its number is below this one.
+// Adds the place at the start of the side of the spot, where its number is below this one.
 fn add_begin(spot: Spot, number: u32, keys: &mut Vec<Key>) -> Result<(), AllocError>
     ensures { OnOk result (Gains (IsBeginKey number spot) keys.old.items keys.new.items) }
 {
@@ -48,7 +48,7 @@ fn add_begin(spot: Spot, number: u32, keys: &mut Vec<Key>) -> Result<(), AllocEr
     }
 }
 
-// Adds the places at the begins of the sides of these spots.
+// Adds the places at the starts of the sides of these spots.
 fn add_begins(spots: &[Spot], number: u32, keys: &mut Vec<Key>) -> Result<(), AllocError>
     ensures { OnOk result (Gains (λ key. (spot : Spot) × Holds spots.now spot × IsBeginKey number spot key) keys.old.items keys.new.items) }
 {
@@ -111,7 +111,7 @@ fn add_insides(
     Ok(())
 }
 
-// Whether the side of the spot ends after so many symbols, or the new side does, past the begin of which the place is.
+// Whether the side of the spot ends after `depth` symbols, or the new side does, and the place is past its start.
 fn is_ended(spot: Spot, at: usize, long: usize, depth: usize) -> bool
     requires { at ≤ long }
     ensures { Decides result (IsEnded at long depth spot) }
@@ -216,7 +216,7 @@ fn add_all_own(left: &[Symbol], number: u32, keys: &mut Vec<Key>) -> Result<(), 
 }
 
 impl Trie {
-    // Adds the places at the begins of stored sides in which the new one stands there.
+    // Adds the places at the starts of stored sides in which the new one stands there.
     fn add_onto_begins(
         &self,
         left: &[Symbol],
@@ -235,7 +235,7 @@ impl Trie {
         }
     }
 
-    // Adds the places within stored sides, past their begins, at which they and the new one have pairs.
+    // Adds the places within stored sides, past their starts, at which they and the new one have pairs.
     fn add_onto_insides(
         &self,
         left: &[Symbol],

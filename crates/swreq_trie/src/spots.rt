@@ -50,7 +50,7 @@ fn push(list: &mut Vec<Spot>, spot: Spot) -> Result<(), AllocError>
     Ok(())
 }
 
-// Adds the spot to those of the node. For want of memory all that were there stay.
+// Adds the spot to those of the node. If memory runs out, all that were there stay.
 pub(crate) fn add_spot(
     alloc: Global,
     lists: &mut Vec<Vec<Spot>>,

@@ -35,7 +35,7 @@ pub struct Trie {
     pub(crate) ends: Vec<Option<u32>>,
     // The sides on whose way each node lies.
     pub(crate) passing: Vec<Vec<Spot>>,
-    // At each node to which one symbol leads from the root, the places past the begins of sides at which this symbol stands.
+    // At each node to which one symbol leads from the root, the places past the starts of sides at which this symbol stands.
     pub(crate) inside: Vec<Vec<Spot>>,
     // No side is shorter or longer than these.
     lengths: Lengths,
@@ -118,7 +118,7 @@ impl Trie {
         })
     }
 
-    /// Stores the side with the number, as the last one. For want of memory all is as before.
+    /// Stores the side with the number, as the last one. If memory runs out, all is as before.
     pub fn insert(&mut self, left: &[Symbol], number: u32) -> Result<(), AllocError>
         requires { 0 < length left.now }
         ensures ok { OnOk result (self.new ≡ self.old ++ (record { left = left.now; number = number }) ∷ []) }
@@ -153,8 +153,8 @@ impl Trie {
         }
     }
 
-    /// The number of the shortest stored side that begins at the place, of several that are the same the first. Where none begins there,
-    /// how many symbols of the word tell so.
+    /// The number of the shortest stored side that begins at the place, and of several that are the same, of the first. Where none begins
+    /// there, how many symbols of the word tell so.
     pub fn find_at(&self, w: &[Symbol], at: usize) -> Result<u32, usize>
         requires { at ≤ length w.now }
         ensures { MatchResult result (λ number. Shortest self.now (drop at w.now) number) (λ count. TellNone self.now w.now at count) }
@@ -187,8 +187,8 @@ impl Trie {
         Ok(places)
     }
 
-    /// Finds the same places, in room that is kept from one rule to the next. For want of memory it is not said which places are there,
-    /// and the next call begins anew.
+    /// Finds the same places, in room that is kept from one rule to the next. If memory runs out, it is not said which places are there,
+    /// and the next call starts afresh.
     pub fn find_overlaps(
         &self,
         left: &[Symbol],

@@ -115,7 +115,7 @@ pub(crate) fn find_met(
     push(nodes, Met { node, depth })
 }
 
-// Goes on by the symbol, by an edge that is made where there is none, and lists the begin of a side at the node to which it leads.
+// Goes on by the symbol, by an edge that is made where there is none, and lists the start of a side at the node to which it leads.
 fn make_step(
     alloc: Global,
     edges: &mut Edges,
@@ -136,7 +136,7 @@ fn make_step(
     Ok(child)
 }
 
-// The node to which edges lead by the symbols of the side from the root. The edges that are missing are made, and the begin of the side
+// The node to which edges lead by the symbols of the side from the root. The edges that are missing are made, and the start of the side
 // is listed at each node on its way.
 fn make_path(
     alloc: Global,
@@ -208,7 +208,7 @@ fn add_inside(
     Ok(())
 }
 
-// Makes the way of the side, with room for an end at its last node, and lists the side. What was there stays, also for want of memory.
+// Makes the way of the side, with room for an end at its last node, and lists the side. What was there stays, also if memory runs out.
 pub(crate) fn make_way(
     alloc: Global,
     edges: &mut Edges,

@@ -1,4 +1,4 @@
--- What words ask of the type parameter behind which they are read.
+-- What words ask of the type parameter after which they are read.
 use Rattle.std.proofs.Common.{◌≡◌, inl, inr, ℕ, ◌<◌, Bool, true, false, List, [], ◌∷◌, ◌++◌, length}
 use Rattle.std.proofs.Common.{take, slice_get, Some, Option, refl, sym, ap, subst, ◌∙◌, arith}
 use Rattle.swreq_param.specs.declared.ids.ProtoId.{ProtoId}
@@ -18,13 +18,13 @@ use Rattle.swreq_read.specs.Readable.{SaysWord, after}
 use Rattle.swreq_unfold.specs.Heads.{head_of, Allows, AllowsWord}
 use Rattle.std.proofs.lemmas.Option.{same_Some}
 
--- Both sides ask the same.
+-- Both words ask the same of the type parameter after which they are read: that it conforms to a protocol, or nothing.
 abbrev pub IsHeaded : Ground → List Symbol → List Symbol → Type 0
 IsHeaded g u v = (h : Option ProtoId) × (head_of g u ≡ Some h) × (head_of g v ≡ Some h)
 
 -- ---- what a word asks
 
--- what is asked by the front of a word is asked by the word
+-- a word asks what its front asks
 pub head_front : (g : Ground) (u v : List Symbol) (h : Option ProtoId) → head_of g u ≡ Some h → head_of g (u ++ v) ≡ Some h
 head_front g [] v h e = absurd cc
 head_front g (Proto q ∷ u) v h e = e
@@ -33,7 +33,7 @@ head_front g (Param d i ∷ u) v h e = e
 head_front g (Name a ∷ u) v h e = absurd cc
 head_front g (Layout ∷ u) v h e = absurd cc
 
--- where a word is read, what it asks is stated
+-- if lines allow a word, they state what it asks
 pub asked_is_said : (g : Ground) (s : Sheet) (t : Term) (w : List Symbol) (h : Option ProtoId) → head_of g w ≡ Some h
     → SaysWord g s t w → Allows s t h
 asked_is_said g s t [] h e r = absurd cc
@@ -60,7 +60,7 @@ side_allows g s t rule forward after h w = (
 
 -- ---- what is asked stays the same along a reduction
 
--- what a word asks rests on its first symbol
+-- what a word asks depends only on its first symbol
 head_same : (g : Ground) (x : Symbol) (u v : List Symbol) → head_of g (x ∷ u) ≡ head_of g (x ∷ v)
 head_same g (Proto q) u v = refl
 head_same g (Member k) u v = refl
@@ -68,7 +68,7 @@ head_same g (Param d i) u v = refl
 head_same g (Name a) u v = refl
 head_same g Layout u v = refl
 
--- what is asked by a word is asked by a front of it that is not empty
+-- a front of a word that is not empty asks what the word asks
 pub head_of_front : (g : Ground) (u v : List Symbol) (h : Option ProtoId) → 0 < length u → head_of g (u ++ v) ≡ Some h
     → head_of g u ≡ Some h
 head_of_front g [] v h n e = absurd (omega arith)
@@ -103,7 +103,7 @@ pub head_reduces : (g : Ground) (rules : List Rule) (u v : List Symbol) (h : Opt
     → head_of g u ≡ Some h → head_of g v ≡ Some h
 head_reduces g rules u v h all r e = head_chain g rules u v h all r.steps e
 
--- A rule asks what the first word asks of which it is born.
+-- A rule asks what the first of the two words that it is born of asks.
 pub head_of_born : (g : Ground) (rules : List Rule) (k : ℕ) (left right : List Symbol) (rule : Rule) (h : Option ProtoId)
     → AreHeaded g rules → IsHeaded g rule.left rule.right
     → ReducesTo rules k left right rule → head_of g left ≡ Some h → head_of g rule.left ≡ Some h

@@ -1,4 +1,4 @@
--- What bore a rule: an equation, or a pair.
+-- What a rule is born of: an equation, or a pair.
 use Rattle.std.proofs.Common.{◌≡◌, ◌⊎◌, inl, inr, ℕ, suc, ◌-◌, ◌<◌, ◌≤◌, List, ◌++◌, length}
 use Rattle.std.proofs.Common.{take, slice_get, Some, Option, max, sym, ap, subst, ◌∙◌, arith}
 use Rattle.swreq_pair.specs.Pairs.{ContainmentPair, OverlapPair}
@@ -31,7 +31,7 @@ use Rattle.swreq_unfold.proofs.PairParts.{in_two, crossed, contained}
 
 -- ---- births
 
--- What bore a rule past the base: its two sides, which the rules before it reduce to those of the rule.
+-- What a rule past the base is born of: two words, which the rules before it reduce to the sides of the rule.
 pub record BornOf (v : System) (k : ℕ) (rule : Rule) (moment : Birth) : Type 0 where
   pub left : List Symbol
   pub right : List Symbol
@@ -59,7 +59,7 @@ born_of v k rule moment past e birth born =
       ];
     }
 
--- the equation that bore it
+-- the equation that the rule is born of
 pub record GivenBy (v : System) (k : ℕ) (rule : Rule) (n : ℕ) : Type 0 where
   pub equation : Equation
   pub above : 0 < n
@@ -82,7 +82,7 @@ given_by v k rule n b =
           (subst (λ z. ReducesTo v.rules k b.left z rule) (sym q) b.reduces);
     }
 
--- ---- the pair that bore a rule
+-- ---- the pair that a rule is born of
 
 -- The two rules of the pair are before the rule.
 pub record PairedBy (v : System) (k : ℕ) (rule : Rule) (place : Place) : Type 0 where
@@ -105,7 +105,7 @@ paired_by v k rule place b =
       second_within = omega arith;
     }
 
--- a rule before another one, by its number
+-- the rule that a number, counted from 1, names
 pub rule_at_number : (rules : List Rule) (n : ℕ) (a : Rule) → RuleAt rules n a → slice_get rules (n - 1) ≡ Some a
 rule_at_number rules n a h =
     let e : n ≡ suc h.0 = h.1 in
@@ -124,7 +124,7 @@ head_of_pair g rules place left right first h p at e =
       | inr o ↦ ap (head_of g) o.1.left_is ∙ f
     ]
 
--- where the left side of the first rule is read, what the second one asks is stated behind what stands before it
+-- if lines allow the left side of the first rule, they state what the second rule asks after the part that stands before it
 pub second_allows : (g : Ground) (s : Sheet) (t : Term) (rules : List Rule) (place : Place) (left right : List Symbol)
     (first second : Rule) → IsPair rules place left right
     → RuleAt rules place.i first → RuleAt rules place.j second → IsHeaded g second.left second.right → SaysWord g s t first.left
@@ -165,7 +165,7 @@ pair_within rules place l r first p at =
       | inr o ↦ (contained p.first p.second place.at l r o.1).within
     ])
 
--- the kinds of a pair, by the rules that are at hand
+-- the kind of a pair, of the two rules that its numbers name
 pub pair_kind : (rules : List Rule) (place : Place) (l r : List Symbol) (first second : Rule) → IsPair rules place l r
     → RuleAt rules place.i first → RuleAt rules place.j second
     → OverlapPair first second place.at l r ⊎ ContainmentPair first second place.at l r
@@ -191,7 +191,7 @@ pub both_of_kind : (g : Ground) (s : Sheet) (t : Term) (first second : Rule) (at
 both_of_kind g s t first second at l r (inl o) f h = f l r o
 both_of_kind g s t first second at l r (inr o) f h = h l r o
 
--- what the first rule of a pair asks is stated where what the rule asks is that is born of it
+-- if lines state what a rule born of a pair asks, they state what the first rule of the pair asks
 pub first_allows : (g : Ground) (s : Sheet) (t : Term) (v : System) (k : ℕ) (rule first : Rule) (place : Place) → AreHeaded g v.rules
     → IsHeaded g rule.left rule.right → IsHeaded g first.left first.right
     → PairedBy v k rule place → RuleAt v.rules place.i first → AllowsWord g s t rule.left → AllowsWord g s t first.left

@@ -1,4 +1,4 @@
--- The equations of rounds, where lines state what their left sides ask.
+-- The equations of rounds: if lines state what the left side asks, both sides are read alike.
 use Rattle.std.proofs.Common.{◌≡◌, inl, ℕ, List, [], ◌∷◌, ◌++◌, Option, Some, None, slice_get, refl, sym, ap, subst, ◌∙◌}
 use Rattle.std.proofs.lemmas.Option.{get_or_from_slice_get, same_Some}
 use Rattle.swreq_param.specs.declared.ids.ProtoId.{ProtoId}
@@ -43,7 +43,7 @@ pub allows_now : (g : Ground) (s u : Sheet) → Grows s u → (t : TermId) (w : 
     → AllowsWord g u (term_at u.table t) w
 allows_now g s u grows t w i a = (a.0, a.1, asked_now s u grows t a.0 i a.2)
 
--- where a rule may be read as the sheet was, it may be read as it is
+-- if a rule may be read on a sheet, it may be read on the grown sheet
 pub allowed_still : (g : Ground) (s u : Sheet) → Grows s u → (t : TermId) (w : List Symbol) → IsOf s.table t
     → AllowsWord g s (term_at s.table t) w → IsSheet u × IsOf u.table t × AllowsWord g u (term_at u.table t) w
 allowed_still g s u grows t w i a = (grows.sheet, is_still s u grows t i, allows_now g s u grows t w i a)
@@ -97,7 +97,7 @@ module _ (g : Ground) (s : Sheet) (t : Term) (left right : List Symbol) where
 -- ---- the equations of requirements
 
 module _ (g : Ground) (s : Sheet) (t : Term) (w : List Symbol) where
-  -- one side is the other one with a symbol more, by which the same is read
+  -- one side is the other one with a symbol more, which does not change what the word is read as
   pub conf_both : (q : ProtoId) → SaysWord g s t w → Says s (Requires (Conforms (read g t w) q)) → SaysBoth g s t (w ++ Proto q.rank ∷ []) w
   conf_both q h says = record {
     left = word_both g s t w (Proto q.rank ∷ []) h (says, tt);
@@ -114,7 +114,7 @@ module _ (g : Ground) (s : Sheet) (t : Term) (w : List Symbol) where
         (read_on g t w (LayoutSymbol ∷ []));
   }
 
--- a word with a protocol symbol behind it
+-- if lines allow a word with a protocol symbol after it, they state that what the word is read as conforms to the protocol
 pub proto_said : (g : Ground) (s : Sheet) (t : Term) (w v : List Symbol) (p : ProtoId) → v ≡ w ++ Proto p.rank ∷ [] → SaysWord g s t v
     → Says s (Requires (Conforms (read g t w) p))
 proto_said g s t w v p e h = (word_right g s t w (Proto p.rank ∷ []) (subst (SaysWord g s t) e h)).0

@@ -37,7 +37,7 @@ use Rattle.swreq_unfold.proofs.PathSteps.{number_above}
 
 -- ---- equations
 
--- what the word of a type parameter asks: that what stands for `Self` conforms to the owner, or nothing
+-- what the word of a type parameter asks: that what stands for `Self` conforms to the owner, or nothing if there is no owner
 pub shown_head : (g : Ground) (owner : Option ProtoId) (rules : List Rule) (t : _) (w : List Symbol) → IsShown g owner rules t w
     → head_of g w ≡ Some owner
 shown_head g (Some p) rules t w h = ap (head_of g) h.word
@@ -88,7 +88,7 @@ pair_headed g rules place left right p first second =
 
 -- ---- rules
 
--- A rule is headed where the words of which it is born are, and the rules before it.
+-- Both sides of a rule ask the same if the two words that it is born of do, and the sides of each rule before it do.
 reduced_headed : (g : Ground) (rules : List Rule) (k : ℕ) (left right : List Symbol) (rule : Rule) → AreHeaded g (take k rules)
     → IsHeaded g left right
     → ReducesTo rules k left right rule → IsHeaded g rule.left rule.right
@@ -101,7 +101,7 @@ reduced_headed g rules k left right rule all w r =
     ]
 
 module _ (b : Book) (r : ℕ) (v : System) (w : IsSystem b r v) where
-  -- the rules of the system before this place are headed
+  -- the two sides of each rule of the system before this place ask the same
   abbrev HeadedBelow : ℕ → Type 0
   HeadedBelow n = (k : ℕ) (rule : Rule) → k < n → slice_get v.rules k ≡ Some rule → IsHeaded b.ground rule.left rule.right
 
@@ -158,9 +158,9 @@ below_systems b w (suc n) r k rule h e =
 pub headed : (b : Book) → IsBook b → (r : ℕ) → AreHeaded b.ground (rules_at b r)
 headed b w r k rule e = below_systems b w (r + 1) r k rule (omega arith) e
 
--- ---- what bore a rule of a book
+-- ---- what a rule of a book is born of
 
--- a rule past the base of its system, which is at hand
+-- what a rule past the base is born of, from its system, which stands at this place of the book
 pub born_past : {b : Book} {at : At} {rule : Rule} {moment : Birth} {v : System} → v ≡ system_at b at.system → v.base ≤ at.rule
     → rule.birth ≡ moment → IsBornAt b at rule moment
 born_past {at = at} same past birth = record { past = subst (λ (z : System). z.base ≤ at.rule) same past; birth = birth }
@@ -196,7 +196,7 @@ pub stands_before : (b : Book) (at before : At) (n : ℕ) (rule : Rule) → HasS
 stands_before b at before n rule w e h is =
     subst (λ z. StandsBefore b at z rule) (sym e) (record { same = refl; earlier = h; there = record { system = w; is = is } })
 
--- The two rules of the pair that bore a rule, where they are at hand.
+-- The rule is born of the pair at this place, and these are the two rules of the pair.
 pub record PairHere (b : Book) (at : At) (rule : Rule) (place : Place) (first second : Rule) : Type 0 where
   pub born : PairedBy (system_at b at.system) at.rule rule place
   pub is_first : RuleAt (rules_at b at.system) place.i first
@@ -228,14 +228,14 @@ module _ {b : Book} {at : At} {rule : Rule} {place : Place} {first second : Rule
       stands_before b at before place.j second w.system e (omega (arith, above, p.born.second_within))
       (rule_at_number rules place.j second p.is_second)
 
-  -- what the first one asks is stated where what the rule asks is
+  -- if lines state what the rule asks, they state what the first rule of the pair asks
   pub first_asked : (s : Sheet) (t : Term) → AllowsWord b.ground s t rule.left → AllowsWord b.ground s t first.left
   first_asked s t a =
       let all = headed b w.system.book at.system in
       first_allows b.ground s t (system_at b at.system) at.rule rule first place all (all at.rule rule w.is)
       (all (place.i - 1) first (rule_at_number rules place.i first p.is_first)) p.born p.is_first a
 
-  -- what the second one asks is stated behind what stands before it
+  -- if lines allow the left side of the first rule, they state what the second rule asks after the part that stands before it
   pub second_asked : (s : Sheet) (t : Term) → SaysWord b.ground s t first.left
       → AllowsWord b.ground s (read b.ground t (take place.at first.left)) second.left
   second_asked s t h =
@@ -249,7 +249,7 @@ module _ {b : Book} {at : At} {rule : Rule} {place : Place} {first second : Rule
       → OverlapPair first second place.at left right ⊎ ContainmentPair first second place.at left right
   kind_of left right h = pair_kind rules place left right first second h p.is_first p.is_second
 
--- The left side of the equation that bore a rule asks what the rule asks.
+-- The two words ask the same. The left side of an equation and that of the rule that is born of it do.
 pub record AsksAlike (g : Ground) (u v : List Symbol) : Type 0 where
   pub asked : Option ProtoId
   pub first : head_of g u ≡ Some asked

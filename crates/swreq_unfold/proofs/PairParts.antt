@@ -18,7 +18,7 @@ pub in_two : (w u v : List Symbol) (n : ℕ) → w ≡ u ++ v → length u ≡ n
 in_two w u v n e h = subst (λ z. InTwo w z u v) h (subst (λ z. InTwo z (length u) u v) (sym e)
     (record { within = omega (arith, length-append u v); front = take_at u v (length u) refl; back = drop_at u v (length u) refl }))
 
--- The parts of an overlap: what stands before it, and what is behind it.
+-- The parts of an overlap: what stands before it, and what stands after it.
 pub record Crossed (first second : Rule) (at : ℕ) (left right : List Symbol) : Type 0 where
   pub within : at ≤ length first.left
   pub common_within : length first.left - at ≤ length second.left

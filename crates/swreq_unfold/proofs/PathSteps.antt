@@ -32,7 +32,7 @@ pub goes_on : (rules : List Rule) (steps : List RewriteStep) (k : ℕ) (step : R
 goes_on rules steps k step u b e h =
     let w = subst (λ z. StepsLead rules z u b) (from_place steps k step e) h in record { next = w.0; leads = w.1; rest = w.2 }
 
--- where steps lead from the start of a path to a word, and the rest of them on from it
+-- if the first steps of a path lead to a word, the next step leads on from it
 pub goes_along : (rules taken : List Rule) (path : Path) (k : ℕ) (step : RewriteStep) (u b : List Symbol)
     → rules ≡ taken → slice_get path.steps k ≡ Some step
     → ((x : List Symbol) → StepsLead rules path.steps path.start x → StepsLead rules (drop k path.steps) u x) → HasTarget taken path b
@@ -60,7 +60,7 @@ number_above rules n a h = let e : n ≡ suc h.0 = h.1 in omega arith
 pub number_within : (rules : List Rule) (n : ℕ) (a : Rule) → RuleAt rules n a → n ≤ length rules
 number_within rules n a h = let e : n ≡ suc h.0 = h.1 in let i : h.0 < length rules = slice_get_within rules h.0 a h.2 in omega arith
 
--- a rule among the first ones, by its place among all
+-- a rule among the first k rules, by its place among all rules
 pub rule_before : (rules : List Rule) (k n : ℕ) (a : Rule) → RuleAt (take k rules) n a → (n - 1 < k) × (slice_get rules (n - 1) ≡ Some a)
 rule_before rules k n a h =
     let e : n ≡ suc h.0 = h.1 in
@@ -80,7 +80,7 @@ pub step_target : (rules : List Rule) (step : RewriteStep) (u v : List Symbol) (
 step_target rules step u v rule h r = h.target ∙ ap (λ z. step.before ++ (put_side step.forward z ++ step.after))
     (one_rule rules step.rule h.rule rule h.is_rule r)
 
--- A step of a path by its rule, between the words from which and to which it leads.
+-- A step of a path that applies this rule, with the words before and after the step.
 pub record StepBy (steps : List RewriteStep) (k : ℕ) (step : RewriteStep) (rules : List Rule) (rule : Rule) (u b : List Symbol)
     : Type 0 where
   pub next : List Symbol

@@ -28,7 +28,7 @@ side_still g s u grows t v w h side =
       equal = equal_as u _ _ _ _ (term_still s u grows v side.id) (ap (λ z. read g z w) (sym now)) (equal_still g s u grows _ _ side.equal);
     }
 
--- A type parameter whose word is read on the way from one sheet to the next is read by it there.
+-- A type parameter is read by its word on the next sheet if lines of that sheet allow the word and state the equality.
 pub side_read : (g : Ground) (s u : Sheet) → Grows s u → (t v : TermId) (x : Term) (w : List Symbol) → IsOf s.table t → IsOf u.table v
     → term_at u.table v ≡ x → SaysWord g u (term_at s.table t) w → AreSaidEqual u x (read g (term_at s.table t) w) → IsReadBy g u t v w
 side_read g s u grows t v x w h id stands says equal =
@@ -38,7 +38,7 @@ side_read g s u grows t v x w h id stands says equal =
       equal = equal_as u _ _ _ _ stands (ap (λ z. read g z w) now) equal;
     }
 
--- A side after lines were put, and its word read on the way from the sheet between.
+-- A side after lines were added. Its word was read after lines were added for the other side.
 pub record IsOnSide (g : Ground) (s u : Sheet) (t v last : TermId) (w : List Symbol) : Type 0 where
   pub grows : Grows s u
   pub stands : term_at u.table last ≡ read g (term_at s.table t) w
@@ -56,7 +56,7 @@ on_side g s n u first second t v last w h side e =
       equal = equal_as u _ _ _ _ (term_still s u grows v side.id) stands (equal_still g s u grows _ _ side.equal);
     }
 
--- A part of a word, read after an associated type behind it was declared.
+-- A part of a word, read once lines state that an associated type is declared after it.
 module _ (g : Ground) (s0 s s1 s2 : Sheet) (g0 : Grows s0 s) (g1 : Grows s s1) (t : TermId) (h : IsOf s0.table t) (last : TermId)
     (part w : List Symbol) (e : part ≡ w) where
   pub part_read : term_at s2.table last ≡ read g (term_at s1.table t) part → term_at s2.table last ≡ read g (term_at s0.table t) w

@@ -156,7 +156,7 @@ start_read : (g : Ground) (t : Term) (list : List TermRequirement) (owner : Opti
 start_read g t list (Some p) hd = refl
 start_read g t list None hd = refl
 
--- Lines allow the first symbol, which is read as the generic parameter with which the type parameter begins.
+-- Lines allow the first symbol. It is read as the generic parameter that the type parameter begins with.
 pub begins_said : (g : Ground) (s : Sheet) (t : Term) (owner : Option ProtoId) (rules : List Rule) (hd : ParamId) (xs : List Step)
     (w : List Symbol)
     → IsShown g owner rules (with_steps (Generic hd) xs) w → Allows s t owner → SaysWord g s t (take 1 w)
@@ -178,7 +178,8 @@ one_associated : (g : Ground) (k j : ℕ) (n o : Named) → j ≡ k → slice_ge
     → slice_get g.associated j ≡ Some o → o ≡ n
 one_associated g k j n o e h i = same_Some o n (sym i ∙ ap (slice_get g.associated) e ∙ h)
 
--- Where an associated type is given that the step names, lines allow the symbol of the step, and it is read as the member by its name.
+-- If the step names an associated type, and a line states that the type parameter conforms to its protocol, lines allow the symbol of the
+-- step. It is read as the member with that name.
 pub symbol_given : (g : Ground) (s : Sheet) (t : Term) (x : Step) (n : Named) (y : Symbol) → IsGiven g s t x n → Spells g x y
     → SaysSymbol g s t y
 symbol_given g s t (Name a) n y w e = subst (SaysSymbol g s t) (sym e) (named_given g s t a n w)
@@ -200,7 +201,7 @@ after_given g s t (Bound d) n y w e =
 
 -- ---- a step more
 
--- The word with one symbol more is said, and read as the type parameter with one step more.
+-- Lines allow the word with one symbol more, and it is read as the type parameter with one step more.
 pub record GoesOnBy (g : Ground) (s : Sheet) (t : Term) (w : List Symbol) (k : ℕ) (u : Term) : Type 0 where
   pub word : SaysWord g s t (take (k + 1 + 1) w)
   pub equal : AreSaidEqual s u (read g t (take (k + 1 + 1) w))

@@ -1,4 +1,4 @@
--- Where the sides of rules may be read.
+-- After which type parameters the sides of rules may be read.
 use Rattle.std.specs.Prelude.{◌≡◌, List, [], ◌∷◌, Option, Some, None}
 use Rattle.swreq_param.specs.declared.ids.ProtoId.{ProtoId}
 use Rattle.swreq_param.specs.Terms.{Term}
@@ -11,8 +11,8 @@ use Rattle.swreq_sheet.specs.Sheets.{Says}
 use Rattle.swreq_read.specs.declared.ground.Ground.{Ground}
 use Rattle.swreq_read.specs.Grounds.{member_at}
 
--- What a word asks of the type parameter behind which it is read: that it conforms to a protocol, or nothing where it begins with a generic
--- parameter. Other words are none that rules rewrite.
+-- What a word asks of the type parameter after which it is read: that it conforms to a protocol, or nothing if the word begins with a
+-- generic parameter. Rules do not rewrite other words.
 abbrev pub head_of : Ground → List Symbol → Option (Option ProtoId)
 head_of g [] = None
 head_of g (Proto q ∷ w) = Some (Some (record { rank = q }))
@@ -21,7 +21,7 @@ head_of g (Param d i ∷ w) = Some None
 head_of g (Name a ∷ w) = None
 head_of g (Layout ∷ w) = None
 
--- A line states what is asked.
+-- A line states what is asked, if anything is.
 abbrev pub Allows : Sheet → Term → Option ProtoId → Type 0
 Allows s t None = Unit {0}
 Allows s t (Some p) = Says s (Requires (Conforms t p))

@@ -12,23 +12,23 @@ use Rattle.swreq_read.specs.Readable.{SaysBoth, SaysWord, read}
 use Rattle.swreq_unfold.specs.declared.giving.Origin.{Origin}
 use Rattle.swreq_unfold.specs.Heads.{Allows}
 
--- The type parameter behind which the requirement is read is of the table, and a line states what the owner asks of it.
+-- The type parameter after which the requirement is read is of the table. A line states that it conforms to the owner, if there is one.
 pub record IsOrigin (s : Sheet) (o : Origin) : Type 0 where
   pub t : IsOf s.table o.t
   pub owner : Allows s (term_at s.table o.t) o.owner
 
--- Lines allow the word behind T, and state that the type parameter of the id equals what the word is read as.
+-- Lines allow the word after T, and state that the type parameter of the id equals what the word is read as.
 pub record IsReadBy (g : Ground) (s : Sheet) (t u : TermId) (w : List Symbol) : Type 0 where
   pub id : IsOf s.table u
   pub word : SaysWord g s (term_at s.table t) w
   pub equal : AreSaidEqual s (term_at s.table u) (read g (term_at s.table t) w)
 
--- Each of the two words is read alike with its end.
+-- Each of the two words is read alike with the word that it reduces to.
 pub record SaysEnds (g : Ground) (s : Sheet) (t : Term) (words ends : Sides) : Type 0 where
   pub first : SaysBoth g s t words.from.now ends.from.now
   pub last : SaysBoth g s t words.to.now ends.to.now
 
--- Lines allow a word behind T, and the two words are read alike behind what it is read as.
+-- Lines allow the word w after T, and the two words u and v are read alike after what w is read as.
 pub record SaysBehind (g : Ground) (s : Sheet) (t : Term) (w u v : List Symbol) : Type 0 where
   pub before : SaysWord g s t w
   pub both : SaysBoth g s (read g t w) u v

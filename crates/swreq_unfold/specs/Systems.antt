@@ -34,7 +34,7 @@ use Rattle.swreq_unfold.specs.declared.book.Reason.TheVariants.{Doubled, Named a
 use Rattle.swreq_unfold.specs.declared.book.System.{System}
 use Rattle.swreq_unfold.specs.Types.{written_by}
 
--- the requirement that it is
+-- the requirement, as the rules of derivation have it
 abbrev pub requirement_by : Owned → TermRequirement
 requirement_by (Conf t p) = Conforms (as_term t) p
 requirement_by (Layout t) = IsAnyObject (as_term t)
@@ -42,12 +42,12 @@ requirement_by (Same t u) = Equals (as_term t) (as_term u)
 
 -- ---- type parameters that rules show
 
--- over what a requirement of P is read, or over a list where there is no owner
+-- what a requirement is read over: `[Self : P]` if P is its owner, and the requirements of the list if it has no owner
 abbrev pub source_of : Ground → List TermRequirement → Option ProtoId → Source
 source_of g list (Some p) = SelfOf p
 source_of g list None = Written (generic_params g.params) list
 
--- Each associated type of the facts has its name, and the symbol of its name.
+-- Each associated type of the facts stands in the ground with its protocol and its name, and so does its member symbol.
 pub record AreSymbols (g : Ground) (m : Symbols) (f : TermFacts) : Type 0 where
   pub associated : (p : ProtoId) (a : NameId) (d : AssocId) → Declares f p a d
       → slice_get g.associated d.rank ≡ Some (record { proto = p; name = a })
@@ -65,7 +65,7 @@ pub record IsShown (g : Ground) (owner : Option ProtoId) (rules : List Rule) (t 
 
 -- ---- equations
 
--- The two sides of a requirement, whose type parameters reduction by the rules shows.
+-- The two sides of the equation of a requirement. Reduction by the rules shows that its type parameters are valid.
 abbrev pub HasShownSides : Ground → Option ProtoId → List Rule → Owned → List Symbol → List Symbol → Type 0
 HasShownSides g owner rules (Conf t p) left right = IsShown g owner rules (as_term t) right × (left ≡ right ++ Proto p.rank ∷ [])
 HasShownSides g owner rules (Layout t) left right = IsShown g owner rules (as_term t) right × (left ≡ right ++ LayoutSymbol ∷ [])
@@ -81,7 +81,8 @@ system_at b r = get_or b.systems r (record { base = 0; below = 0; rules = []; gi
 abbrev pub rules_at : Book → ℕ → List Rule
 rules_at b r = (system_at b r).rules
 
--- The equation of a reason, in the round r: that of a requirement is one since the rules of an earlier round show its type parameters.
+-- The two sides are the equation of this reason in the round r. A requirement has its equation since the rules of an earlier round show its
+-- type parameters valid.
 abbrev pub IsGivenBy : Book → ℕ → Reason → List Symbol → List Symbol → Type 0
 IsGivenBy b r (Doubled p) left right = (left ≡ Proto p.rank ∷ Proto p.rank ∷ []) × (right ≡ Proto p.rank ∷ [])
 IsGivenBy b r (NamedBy k) left right =
@@ -90,8 +91,9 @@ IsGivenBy b r (Required owner n q shown) left right = (shown < r) × HasShownSid
 
 -- ---- systems
 
--- The rules are so few that each has a number of 32 bits, complete or not. Each rule past the base is born of a settled moment, and each
--- rule of the base is the same rule of an earlier system. Each equation has its reason.
+-- There are so few rules that each has a number of 32 bits, whether they are complete or not. Each rule past the base is born of an
+-- equation or of a pair that is settled. Each rule of the base is the rule with the same number of an earlier system. Each equation has its
+-- reason.
 pub record IsSystem (b : Book) (r : ℕ) (v : System) : Type 0 where
   pub few : length v.rules < 2 ^ 32 - 1
   pub born : (k : ℕ) (rule : Rule) → v.base ≤ k → slice_get v.rules k ≡ Some rule → IsBorn v.base (given_of v) v.rules k rule.birth
@@ -99,7 +101,7 @@ pub record IsSystem (b : Book) (r : ℕ) (v : System) : Type 0 where
       → (v.below < r) × (slice_get (rules_at b v.below) k ≡ Some rule)
   pub given : (k : ℕ) (e : Equation) → slice_get v.given k ≡ Some e → IsGivenBy b r e.reason e.left e.right
 
--- The ground has its inheritance, and each system is one.
+-- The inheritance of the ground is complete, and each system is the system of a round.
 pub record IsBook (b : Book) : Type 0 where
   pub inherited : IsInherited b.ground
   pub systems : (r : ℕ) → r < length b.systems → IsSystem b r (system_at b r)
@@ -109,37 +111,37 @@ pub record HasSystem (b : Book) (r : ℕ) : Type 0 where
   pub book : IsBook b
   pub within : r < length b.systems
 
--- It is a book, and its system has so many rules.
+-- It is a book, and its system has at least this many rules.
 pub record HasRules (b : Book) (at : At) : Type 0 where
   pub system : HasSystem b at.system
   pub within : at.rule ≤ length (rules_at b at.system)
 
--- It is a book, in whose system the rule stands there.
+-- It is a book, and the rule stands at this place of its system.
 pub record HasRule (b : Book) (at : At) (rule : Rule) : Type 0 where
   pub system : HasSystem b at.system
   pub is : slice_get (rules_at b at.system) at.rule ≡ Some rule
 
--- The rule there is past the base, and was born thus.
+-- The rule at this place is past the base, and this is its birth.
 pub record IsBornAt (b : Book) (at : At) (rule : Rule) (moment : Birth) : Type 0 where
   pub past : (system_at b at.system).base ≤ at.rule
   pub birth : rule.birth ≡ moment
 
--- It is a book, and an equation of its system.
+-- It is a book, and the equation is one of this system.
 pub record HasEquation (b : Book) (r : ℕ) (e : Equation) : Type 0 where
   pub system : HasSystem b r
   pub there : (k : ℕ) × (slice_get (system_at b r).given k ≡ Some e)
 
--- The requirement of the reason is written.
+-- The requirement of the reason is written, with its number, by its protocol or in the list.
 abbrev pub IsWritten : Basis → Reason → Type 0
 IsWritten b (Required owner n q shown) = HasNumber n (written_by b owner) (requirement_by q)
 IsWritten b _ = Unit {0}
 
--- The names and the reasons are those of the facts and of the list.
+-- The names of the book are those of the facts, and the requirement of each reason is written.
 pub record FitsBook (book : Book) (b : Basis) : Type 0 where
   pub ground : FitsBasis book.ground b
   pub written : (r k : ℕ) (e : Equation) → r < length book.systems → slice_get (system_at book r).given k ≡ Some e → IsWritten b e.reason
 
--- The first rules, so many, reduce the two words to the sides of the rule, in one order or the other.
+-- The first k rules reduce the two words to the sides of the rule, in one order or the other.
 pub record ReducesTo (rules : List Rule) (k : ℕ) (left right : List Symbol) (rule : Rule) : Type 0 where
   pub first : List Symbol
   pub last : List Symbol

@@ -1,4 +1,4 @@
--- Type parameters of requirements, behind a type parameter, and the steps that rules show.
+-- Type parameters of requirements with a type parameter for `Self`, and the steps that rules show.
 use Rattle.std.specs.Prelude.{◌≡◌, ℕ, List, [], ◌∷◌, ◌++◌, Option, Some, None, slice_get}
 use Rattle.swreq_param.specs.declared.ids.ProtoId.{ProtoId}
 use Rattle.swreq_param.specs.declared.ids.Step.{Step}
@@ -15,20 +15,19 @@ use Rattle.swreq_read.specs.declared.ground.Named.{Named}
 use Rattle.swreq_read.specs.Readable.{IsOfStep}
 use Rattle.swreq_unfold.specs.declared.types.Shown.{Shown}
 
--- U with T for `Self` where it is of a requirement of a protocol, and else U itself
+-- U with T for `Self` if it is of a requirement of a protocol, and otherwise U itself
 abbrev pub placed : Option ProtoId → Term → Term → Term
 placed (Some p) t u = for_self t u
 placed None t u = u
 
--- the requirements of the protocol, or those of the list where there is no owner
+-- the requirements of the protocol, or those of the list if there is no owner
 abbrev pub written_by : Basis → Option ProtoId → List TermRequirement
 written_by b (Some p) = b.facts.of_protocol p
 written_by b None = b.written
 
 -- ---- steps that rules show
 
--- The associated type with this rank is one that the step names, and by the rules the word, and the word with its protocol behind it,
--- reduce to one.
+-- The step names the associated type with this rank. The word, and the word with the symbol of its protocol after it, reduce to one word.
 abbrev pub IsShownAt : Ground → List Rule → List Symbol → Step → ℕ → Named → Type 0
 IsShownAt g rules w x k n =
     (slice_get g.associated k ≡ Some n) × IsOfStep x k n × ReduceAlike rules w (w ++ Proto n.proto.rank ∷ [])
@@ -36,7 +35,7 @@ IsShownAt g rules w x k n =
 abbrev pub IsStepShown : Ground → List Rule → List Symbol → Step → Type 0
 IsStepShown g rules w x = (k : ℕ) × (n : Named) × IsShownAt g rules w x k n
 
--- The same, with a path over the rules.
+-- The step names the associated type. The path leads over the rules from the word to the word with the symbol of its protocol after it.
 pub record HasPath (g : Ground) (rules : List Rule) (w : List Symbol) (x : Step) (found : Shown) : Type 0 where
   pub rank : ℕ
   pub there : slice_get g.associated rank ≡ Some found.named

@@ -8,7 +8,7 @@ use swreq_rule::Rule;
 use swreq_text::Seq;
 use swreq_word::Word;
 
-/// A requirement between type parameters by themselves: `[T : P]`, `[T : AnyObject]` or `[T == U]`.
+/// A requirement that has its type parameters in full, not by ids: `[T : P]`, `[T : AnyObject]` or `[T == U]`.
 #[derive(Debug, Drop)]
 pub enum Owned {
     Conf { subject: TypeParam, proto: ProtoId },
@@ -16,19 +16,19 @@ pub enum Owned {
     Same { left: TypeParam, right: TypeParam },
 }
 
-/// Why an equation is one of a round.
+/// Why a round has an equation.
 #[derive(Debug, Drop)]
 pub enum Reason {
-    /// `[P][P] = [P]`, of a protocol
+    /// `[P][P] = [P]`, of the protocol.
     Doubled {
         proto: ProtoId,
     },
-    /// `[P]·A = [P:A]`, of the member symbol with this rank
+    /// `[P]·A = [P:A]`, of the member symbol with this rank.
     Named {
         rank: u64,
     },
-    /// The requirement with this number, counted from 1, of a protocol, or of the list where there is no owner. The rules of the system
-    /// `shown`, which is an earlier one, show its type parameters.
+    /// The requirement with this number, counted from 1, of the owner, or of the list if there is no owner. The rules of the earlier system
+    /// `shown` show its type parameters valid.
     Required {
         owner: Option<ProtoId>,
         number: u32,
@@ -37,7 +37,7 @@ pub enum Reason {
     },
 }
 
-/// An equation of a round.
+/// An equation of a round, with its reason.
 #[derive(Debug, Drop)]
 pub struct Equation {
     pub left: Word,
@@ -45,7 +45,7 @@ pub struct Equation {
     pub reason: Reason,
 }
 
-/// The rules of a round, with its equations. The first rules, so many, are those of the system at `below`.
+/// The rules of a round, with its equations. The first `base` rules are those of the system at `below`.
 #[derive(Debug, Drop)]
 pub struct System {
     pub base: usize,
@@ -61,14 +61,14 @@ pub struct Book {
     pub systems: Seq<System>,
 }
 
-/// A rule of a system, each counted from 0.
+/// A rule by its place in a system, and by the place of the system. Both are counted from 0.
 #[derive(Clone, Copy, Debug)]
 pub struct At {
     pub system: usize,
     pub rule: usize,
 }
 
-/// A system.
+/// The system at this place of the book.
 pub fn system_at(book: &Book, system: usize) -> &System
     requires { system < length book.now.systems }
     ensures { result.now ≡ system_at book.now system }
@@ -76,7 +76,7 @@ pub fn system_at(book: &Book, system: usize) -> &System
     &book.systems.items()[system]
 }
 
-/// The first rules of a system, so many.
+/// The rules of a system before this place.
 pub(crate) fn rules_before(book: &Book, at: At) -> &[Rule]
     requires system { at.system < length book.now.systems }
     requires within { at.rule ≤ length (rules_at book.now at.system) }
@@ -106,7 +106,7 @@ pub fn all_rules(book: &Book, system: usize) -> &[Rule]
     system.rules.items()
 }
 
-/// All rules of a system, as those before its end.
+/// The place after the last rule of a system.
 pub(crate) fn all_of(system: usize, rules: &[Rule]) -> At
     ensures { result ≡ record { system = system; rule = length rules.now } }
 {

@@ -1,4 +1,4 @@
-//! The equations of rounds, behind a type parameter.
+//! The equations of rounds, read after a type parameter.
 ghost use Rattle.std.specs.Prelude.{◌≡◌, ◌++◌, [], ◌∷◌, OnOk, Some, slice_get};
 ghost use Rattle.swreq_param.specs.Tables.{IsOf, term_at};
 ghost use Rattle.swreq_param.specs.Terms.{Term};
@@ -22,7 +22,7 @@ use swreq_sheet::{
 };
 use swreq_word::Symbol;
 
-/// The requirement with this number, counted from 1, of a protocol, with T for `Self`, or of the list where there is no owner.
+/// The requirement with this number, counted from 1: of the owner, with T for `Self`, or of the list if there is no owner.
 #[derive(Clone, Copy, Debug)]
 pub(crate) struct Origin {
     pub owner: Option<ProtoId>,
@@ -30,7 +30,7 @@ pub(crate) struct Origin {
     pub t: TermId,
 }
 
-/// The equation of a member symbol, `[P]·A = [P:A]`, where a line states `[T : P]`.
+/// States that the two sides of the equation `[P]·A = [P:A]` of a member symbol are read alike after T. A line states `[T : P]`.
 pub(crate) fn give_member(
     ground: &Ground,
     sheet: &mut Sheet,
@@ -51,7 +51,7 @@ pub(crate) fn give_member(
     inherit(ground, sheet, t, named.proto, named.name)
 }
 
-/// A line for `[U : Q]`, of which it is the requirement. `u` is U where it is read.
+/// Adds a line for the requirement `[U : Q]`. `u` is the id of U, with T for `Self` if there is an owner.
 fn put_conf(sheet: &mut Sheet, origin: Origin, u: TermId, q: ProtoId) -> Result<(), AllocError>
     requires sheet { IsSheet sheet.old }
     requires origin { IsOrigin sheet.old origin }
@@ -68,7 +68,7 @@ fn put_conf(sheet: &mut Sheet, origin: Origin, u: TermId, q: ProtoId) -> Result<
     }
 }
 
-/// A line for `[U : AnyObject]`, of which it is the requirement. `u` is U where it is read.
+/// Adds a line for the requirement `[U : AnyObject]`. `u` is the id of U, with T for `Self` if there is an owner.
 fn put_layout(sheet: &mut Sheet, origin: Origin, u: TermId) -> Result<(), AllocError>
     requires sheet { IsSheet sheet.old }
     requires origin { IsOrigin sheet.old origin }
@@ -85,7 +85,7 @@ fn put_layout(sheet: &mut Sheet, origin: Origin, u: TermId) -> Result<(), AllocE
     }
 }
 
-/// A line for `[U == V]`, of which it is the requirement. `sides` are U and V where they are read.
+/// Adds a line for the requirement `[U == V]`. `sides` are the ids of U and V, with T for `Self` if there is an owner.
 fn put_same(sheet: &mut Sheet, origin: Origin, sides: (TermId, TermId)) -> Result<(), AllocError>
     requires sheet { IsSheet sheet.old }
     requires origin { IsOrigin sheet.old origin }
@@ -104,7 +104,8 @@ fn put_same(sheet: &mut Sheet, origin: Origin, sides: (TermId, TermId)) -> Resul
     }
 }
 
-/// The equation of a requirement `[U : Q]`, where lines state that U equals what its word is read as. `u` is U where it is read.
+/// States that the two sides of the equation of a requirement `[U : Q]` are read alike. Lines state that U equals what its word is read as.
+/// `u` is the id of U, with T for `Self` if there is an owner.
 pub(crate) fn give_conf(
     ground: &Ground,
     sheet: &mut Sheet,
@@ -127,7 +128,7 @@ pub(crate) fn give_conf(
     Ok(())
 }
 
-/// The equation of a requirement `[U : AnyObject]`, in the same way.
+/// The same of the equation of a requirement `[U : AnyObject]`.
 pub(crate) fn give_layout(
     ground: &Ground,
     sheet: &mut Sheet,
@@ -149,7 +150,7 @@ pub(crate) fn give_layout(
     Ok(())
 }
 
-/// The equation of a requirement `[U == V]`, in the same way of both sides.
+/// The same of the equation of a requirement `[U == V]`. Lines state that U and V each equal what their words are read as.
 pub(crate) fn give_same(
     ground: &Ground,
     sheet: &mut Sheet,

@@ -1,4 +1,4 @@
-//! Where the sides of two rules are read alike, so are the two sides of each pair of them.
+//! If the two sides of each of two rules are read alike, so are the two sides of each pair of these rules.
 ghost use Rattle.std.specs.Prelude.{◌≡◌, ◌⊎◌, ◌≤◌, OnOk, List, length, drop, take};
 ghost use Rattle.swreq_param.specs.Tables.{IsOf, term_at};
 ghost use Rattle.swreq_word.specs.declared.symbols.Symbol.{Symbol as SymbolView};
@@ -15,7 +15,7 @@ use swreq_rule::Rule;
 use swreq_sheet::Sheet;
 use swreq_word::Symbol;
 
-/// The first symbols of a word, so many.
+/// The first `count` symbols of a word.
 pub(crate) fn front(word: &[Symbol], count: usize) -> &[Symbol]
     requires { count ≤ length word.now }
     ensures { result.now ≡ take count word.now }
@@ -23,7 +23,7 @@ pub(crate) fn front(word: &[Symbol], count: usize) -> &[Symbol]
     &word[..count]
 }
 
-/// The word without its first symbols, so many.
+/// The word without its first `count` symbols.
 fn back(word: &[Symbol], count: usize) -> &[Symbol]
     requires { count ≤ length word.now }
     ensures { result.now ≡ drop count word.now }
@@ -31,7 +31,7 @@ fn back(word: &[Symbol], count: usize) -> &[Symbol]
     &word[count..]
 }
 
-/// The left sides overlap at this place.
+/// If the left sides of two rules overlap at this place, states that the two sides of the pair are read alike.
 pub(crate) fn cross(
     ground: &Ground,
     sheet: &mut Sheet,
@@ -73,7 +73,7 @@ pub(crate) fn cross(
     Ok(())
 }
 
-/// The left side of the second stands in that of the first at this place.
+/// If the left side of the second rule stands in that of the first at this place, states that the two sides of the pair are read alike.
 pub(crate) fn within(
     ground: &Ground,
     sheet: &mut Sheet,
@@ -112,7 +112,7 @@ pub(crate) fn within(
     Ok(())
 }
 
-/// The two rules have a pair at this place, of either kind.
+/// States that the two sides of the pair of the two rules at this place, of either kind, are read alike.
 pub(crate) fn meet(
     ground: &Ground,
     sheet: &mut Sheet,

@@ -1,7 +1,7 @@
-//! What rules say of type parameters, unfolded along the births of the rules: lines of a derivation that say that the two sides of a rule
-//! are read alike behind a type parameter.
+//! What rules say of type parameters, unfolded along the births of the rules: lines of a derivation state that the two sides of a rule are
+//! read alike after a type parameter.
 //!
-//! A call fails for want of memory alone. On every answer what was stated still is, and the table begins with the old one.
+//! A call fails only if memory runs out. Whatever it answers, what was stated is still stated, and the table begins with the old one.
 #![tactic(auto, using(crate::proofs::Alike::grown_by_none))]
 
 mod book;

@@ -14,8 +14,8 @@ use swreq_param::TermId;
 use swreq_sheet::Sheet;
 use swreq_word::Symbol;
 
-/// Where two words reduce to one by the rules of a system, and lines allow the first behind T, lines allow the second there too, and state
-/// that the two are read as equal type parameters.
+/// If two words reduce to one by the rules of a system, and lines allow the first after T, then lines allow the second after T too, and
+/// state that the two are read as equal type parameters.
 pub fn link(
     book: &Book,
     sheet: &mut Sheet,

@@ -1,4 +1,4 @@
-//! The two sides of a pair of rules, each of which is read alike on both sides.
+//! If the two sides of each of two rules are read alike, so are the two sides of their pairs.
 ghost use Rattle.std.specs.Prelude.{◌≡◌, ◌++◌, IfOk, OnOk};
 ghost use Rattle.swreq_param.specs.Tables.{IsOf, term_at};
 ghost use Rattle.swreq_rule.specs.Oriented.{IsOriented};
@@ -16,7 +16,7 @@ use swreq_rule::{Place, Rule};
 use swreq_sheet::Sheet;
 use swreq_word::Symbol;
 
-/// What stands around a part of a word.
+/// What stands before a part of a word, and what stands after it.
 #[derive(Clone, Copy)]
 pub(crate) struct Around<'a> {
     pub before: &'a [Symbol],
@@ -32,7 +32,7 @@ fn joined(alloc: Global, a: &[Symbol], b: &[Symbol]) -> Result<Vec<Symbol>, Allo
     Ok(word)
 }
 
-/// From two words that are read alike with a third, those two are read alike.
+/// If two words are each read alike with a third, the two are read alike.
 fn join_at(
     ground: &Ground,
     sheet: &mut Sheet,
@@ -54,8 +54,8 @@ fn join_at(
     Ok(())
 }
 
-/// Where one left side stands in the other, `w`, which goes on as `u` by its own rule: the two sides are read alike. `v` is `w` with
-/// the other side there.
+/// If one left side stands in the other, `w`, the two sides of the pair are read alike. They are `u`, which the rule of `w` makes of it,
+/// and `w` with the right side of the other rule in place of its left side.
 pub(crate) fn meet_within(
     ground: &Ground,
     sheet: &mut Sheet,
@@ -84,7 +84,8 @@ pub(crate) fn meet_within(
     Ok(())
 }
 
-/// Where two words are read alike, and each of them like the word to which it reduces, the sides of a rule that has these are read alike.
+/// If two words are read alike, and each of them is read alike with the word that it reduces to, then the two sides of a rule are read
+/// alike if they are those two words.
 pub(crate) fn close(
     ground: &Ground,
     sheet: &mut Sheet,
@@ -108,8 +109,8 @@ pub(crate) fn close(
     Ok(())
 }
 
-/// Where a left side goes on as the other begins, the two sides are read alike. The one is `before` and `common`, and goes as `u` by its
-/// own rule; the other is `common` and `after`, and goes as `v`.
+/// If one left side ends as the other begins, the two sides of the pair are read alike. In the word that they make, the first one ends
+/// where `after` begins, and the second one begins where `before` ends.
 pub(crate) fn meet_across(
     ground: &Ground,
     sheet: &mut Sheet,
@@ -137,7 +138,7 @@ pub(crate) fn meet_across(
     Ok(())
 }
 
-/// The two sides of a pair.
+/// The two sides of the pair at this place.
 pub(crate) fn pair_sides(
     alloc: Global,
     rules: &[Rule],

@@ -16,7 +16,7 @@ use swreq_read::{Ground, Sides, replace, replace_back};
 use swreq_rule::Rule;
 use swreq_sheet::Sheet;
 
-/// The rule with this number, counted from 1, of the same system.
+/// The place of the rule with this number, counted from 1, in the same system.
 pub(crate) fn before(at: At, number: u32) -> At
     requires { 0 < number }
     ensures { result ≡ record { system = at.system; rule = number - 1 } }
@@ -44,7 +44,8 @@ pub(crate) fn step_of(path: &Path, k: usize) -> &RewriteStep
     &path.steps.items()[k]
 }
 
-/// A step by a rule whose sides are read alike where the step puts one in place of the other.
+/// A step puts one side of a rule in place of the other. If the sides are read alike there, the words before and after the step are read
+/// alike.
 pub(crate) fn take_step(
     ground: &Ground,
     sheet: &mut Sheet,

@@ -1,4 +1,4 @@
-//! The steps of type parameters, where rules show them.
+//! The steps of type parameters, if rules show them.
 ghost use Rattle.std.specs.Prelude.{◌≡◌, ◌++◌, ◌<◌, ◌-◌, ◌^◌, [], ◌∷◌, IfOk, IfSome, MatchOption, OnOk, Some, length, slice_get};
 ghost use Rattle.swreq_param.specs.Tables.{IsOf, term_at};
 ghost use Rattle.swreq_param.specs.Terms.Term.{Generic};
@@ -17,8 +17,8 @@ use swreq_rule::Rule;
 use swreq_sheet::{Sheet, param};
 use swreq_word::{Symbol, are_same};
 
-/// Where type parameters are read: by the rules of a system, as those of requirements of a protocol, or of the list where there is no
-/// owner, and behind a type parameter, which stands for `Self` of the protocol.
+/// How type parameters are read: by the rules of a system, as type parameters of requirements of the owner, or of the list if there is no
+/// owner, and after the type parameter `t`, which stands for `Self` of the owner.
 #[derive(Clone, Copy, Debug)]
 pub struct Scope {
     pub system: usize,
@@ -26,7 +26,7 @@ pub struct Scope {
     pub t: TermId,
 }
 
-/// An associated type, with the path from a word to the word with the symbol of its protocol behind it.
+/// An associated type, with the path from a word to the word with the symbol of its protocol after it.
 #[derive(Drop)]
 pub(crate) struct Shown {
     pub named: Named,
@@ -41,7 +41,7 @@ pub(crate) fn step_at(param: &TypeParam, k: usize) -> Step
     param.steps.items()[k]
 }
 
-/// The generic parameter with which a type parameter begins, where it is read.
+/// The id of the type parameter that the reading begins with: `t` if there is an owner, and otherwise the generic parameter.
 pub(crate) fn start(sheet: &mut Sheet, scope: Scope, head: ParamId) -> Result<TermId, AllocError>
     requires sheet { IsSheet sheet.old }
     requires t { IsOf sheet.old.table scope.t }
@@ -59,7 +59,7 @@ pub(crate) fn start(sheet: &mut Sheet, scope: Scope, head: ParamId) -> Result<Te
     }
 }
 
-/// The path from the first word to the second one by way of the word to which both reduce, or None if and only if they reduce to two.
+/// The path from the first word to the second one by way of the word that both reduce to, or None if and only if they reduce to two words.
 pub(crate) fn path_between(
     alloc: Global,
     rules: &[Rule],
@@ -83,7 +83,7 @@ pub(crate) fn path_between(
     Ok(None)
 }
 
-/// The word with a protocol symbol behind it.
+/// The word with a protocol symbol after it.
 fn with_proto(alloc: Global, word: &[Symbol], p: ProtoId) -> Result<Vec<Symbol>, AllocError>
     ensures { IfOk result (λ v. v.items ≡ word.now ++ Proto p.rank ∷ []) }
 {
@@ -92,7 +92,7 @@ fn with_proto(alloc: Global, word: &[Symbol], p: ProtoId) -> Result<Vec<Symbol>,
     Ok(longer)
 }
 
-/// The path that shows the associated type behind the word, or None where the rules do not show it there.
+/// The path that shows the associated type after the word, or None if the rules do not show it there.
 fn shown_behind(
     alloc: Global,
     rules: &[Rule],
@@ -109,7 +109,7 @@ fn shown_behind(
     path_between(alloc, rules, word, &longer)
 }
 
-/// The associated type with this rank, with its path, or None where the step does not name it or the rules do not show it behind the word.
+/// The associated type with this rank, with its path, or None if the step does not name it or the rules do not show it after the word.
 fn shown_at(
     alloc: Global,
     ground: &Ground,
@@ -134,7 +134,7 @@ fn shown_at(
     }
 }
 
-/// An associated type that the step names and that the rules show behind the word, with its path.
+/// An associated type that the step names and that the rules show after the word, with its path.
 pub(crate) fn shown_step(
     alloc: Global,
     ground: &Ground,

@@ -1,4 +1,4 @@
-//! The two sides of a rule, read behind a type parameter.
+//! The two sides of a rule, read after a type parameter.
 ghost use Rattle.std.specs.Prelude.{◌≡◌, OnOk, IfOk, List, take};
 ghost use Rattle.swreq_param.specs.Owned.{as_term};
 ghost use Rattle.swreq_param.specs.Tables.{IsOf, term_at};
@@ -29,8 +29,8 @@ use swreq_rule::{Birth, Place, Rule};
 use swreq_sheet::Sheet;
 use swreq_word::{Symbol, Word};
 
-/// Where lines allow the first word of a path over the first rules, so many, they allow the last one too, and state that the two are read
-/// as equal type parameters. Answers the last word.
+/// If lines allow the first word of a path over the rules before this place, then they allow the last word too, and state that the two are
+/// read as equal type parameters. Answers the last word.
 #[cycle(unfold)]
 pub(crate) fn walk_along(
     book: &Book,
@@ -71,7 +71,7 @@ pub(crate) fn walk_along(
     Ok(word)
 }
 
-/// Where two words are read alike, so are the sides of the rule to which the rules before it reduce them.
+/// If two words are read alike, so are the two sides of the rule that the rules before it reduce them to.
 #[cycle(unfold)]
 fn settle(
     book: &Book,
@@ -109,7 +109,8 @@ fn settle(
     Ok(())
 }
 
-/// The two sides of a rule, behind a type parameter at which it may be read. What lines say already is not unfolded again.
+/// States that the two sides of a rule are read alike after a type parameter, if lines state what the rule asks of it. What lines state
+/// already is not unfolded again.
 #[cycle(unfold)]
 pub fn unfold(
     book: &Book,
@@ -157,7 +158,7 @@ pub fn unfold(
     }
 }
 
-/// The rule is born of an equation.
+/// The same of a rule that is born of an equation.
 #[cycle(unfold)]
 fn from_equation(
     book: &Book,
@@ -192,7 +193,7 @@ fn from_equation(
     Ok(())
 }
 
-/// The rule is born of a pair.
+/// The same of a rule that is born of a pair.
 #[cycle(unfold)]
 fn from_pair(
     book: &Book,
@@ -228,7 +229,7 @@ fn from_pair(
     Ok(())
 }
 
-/// The equation of a round, behind a type parameter at which it may be read.
+/// States that the two sides of an equation of a round are read alike after a type parameter, if lines state what its left side asks of it.
 #[cycle(unfold)]
 fn give(
     book: &Book,
@@ -272,7 +273,7 @@ fn give(
     }
 }
 
-/// The equation of a requirement with this number, whose type parameters the rules of the system in `scope` show.
+/// The same of the equation of the requirement with this number. The rules of the system in `scope` show its type parameters valid.
 #[cycle(unfold)]
 fn give_required(
     book: &Book,
@@ -320,8 +321,9 @@ fn give_required(
     }
 }
 
-/// States what a type parameter, which the rules of the system show valid, is read as: lines allow its word, and state that it, with T
-/// for `Self`, equals what the word is read as. Answers its id with T for `Self`.
+/// States what the word of a type parameter is read as. The rules of the system show the type parameter valid. Lines allow the word, and
+/// state that the type parameter, with T for `Self`, equals what the word is read as. Answers the id of the type parameter with T for
+/// `Self`.
 #[cycle(unfold)]
 pub fn read_type(
     book: &Book,
@@ -355,8 +357,8 @@ pub fn read_type(
     Ok(at)
 }
 
-/// Answers an associated type that the step names, where a line states that what the word is read as conforms to its protocol. The rules
-/// of the system show that there is one.
+/// Answers an associated type that the step names, and states that what the word is read as conforms to its protocol. The rules of the
+/// system show that there is one.
 #[cycle(unfold)]
 pub fn declare(
     book: &Book,

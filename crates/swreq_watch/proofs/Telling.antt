@@ -10,7 +10,7 @@ use Rattle.swreq_watch.specs.Told.{GrewBy, EachGrewBy, FirstGrewBy, GrewUpToOne}
 pub first_none : (told : List (Option (List Event))) (more : List Event) → FirstGrewBy 0 told told more
 first_none told more = record { first = tt; others = refl }
 
--- the lists of the watchers that were not told go on as they did
+-- past the watchers that were told, both lists are of the same length
 others_length : (count : ℕ) (old new : List (Option (List Event))) → drop count new ≡ drop count old → length new - count ≡ length old - count
 others_length count old new same = sym (length-drop count new) ∙ ap length same ∙ length-drop count old
 
@@ -42,7 +42,7 @@ first_set lists count old ws was is more so_far within there grew =
     rw (map-set lists ws count is)
     (first_more count (map lists old) (map lists ws) (lists is) (lists was) more so_far (rw (length-map old lists) within) (rw there_told grew))
 
--- one of the values found no memory, and its list is as it was
+-- one of the values ran out of memory, and its list is as it was
 pub first_kept : {W : Type 0} → (lists : W → Option (List Event)) (count : ℕ) (old ws : List W) (was is : W) (more : List Event) → FirstGrewBy count (map lists old) (map lists ws) more → was ≡ get_or ws count was → lists is ≡ lists was → FirstGrewBy count (map lists old) (map lists (set ws count is)) more
 first_kept lists count old ws was is more so_far there same = rw (map-set_same lists ws count is was (same ∙ ap lists there)) so_far
 
@@ -58,7 +58,7 @@ pub stopped : {W T E : Type 0} → (lists : W → Option (List Event)) (result :
 stopped lists (Ok x) place old new more within grew = tt
 stopped lists (Err e) place old new more within grew = record { place = place; within = rw (length-map old lists) within; grew = grew }
 
--- what is so anyway is so of an answer and of an error
+-- what holds in each case holds of an answer and of an error
 pub either : {T E P Q : Type 0} → (result : Result T E) → P → Q → OnOk result P × OnErr result Q
 either (Ok x) p q = (p, tt)
 either (Err e) p q = (tt, q)

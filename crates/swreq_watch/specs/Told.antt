@@ -1,4 +1,4 @@
--- The list of the events that a watcher was told, which it tells or not.
+-- The list of the events that a watcher was told, which it may tell or not.
 use Rattle.std.specs.Prelude.{◌≡◌, ℕ, ◌<◌, List, ◌++◌, length, take, drop, Option, Some, None}
 use Rattle.std.specs.List.{AllZip}
 use Rattle.swreq_watch.specs.declared.events.Event.{Event}
@@ -16,7 +16,7 @@ GrewBy None new more = new ≡ None
 abbrev pub EachGrewBy : List (Option (List Event)) → List (Option (List Event)) → List Event → Type 0
 EachGrewBy old new more = AllZip (λ told told'. GrewBy told told' more) old new
 
--- The first of these watchers, so many of them, were told these events, and the others were not.
+-- The first `count` of these watchers were told these events, and the others were not.
 pub record FirstGrewBy (count : ℕ) (old new : List (Option (List Event))) (more : List Event) : Type 0 where
   pub first : EachGrewBy (take count old) (take count new) more
   pub others : drop count new ≡ drop count old

@@ -8,7 +8,7 @@ use swreq_rule::Rule;
 /// What a completion tells of itself, in the order in which it happens.
 #[derive(Debug, Drop)]
 pub enum Event {
-    /// It starts over a base of so many rules.
+    /// It starts over a base of this many rules.
     Start { base: u32 },
     /// A rule is born.
     Born { rule: Rule },

@@ -33,7 +33,7 @@ impl Fan {
         self.members.len() as u32
     }
 
-    /// Takes the watcher as its last member. Err hands it back for want of memory, and the members are as before.
+    /// Adds the watcher as the last member. If memory runs out, Err hands it back, and the members are as before.
     pub fn push(&mut self, watcher: Box<dyn Watch>) -> Result<(), Box<dyn Watch>>
         requires { length (members self.old) < 2 ^ 32 - 1 }
         ensures ok { OnOk result (members self.new ≡ members self.old ++ watcher ∷ []) }
@@ -46,7 +46,7 @@ impl Fan {
         }
     }
 
-    /// Drops the last member. False exactly where there is none.
+    /// Drops the last member. False if and only if there is none.
     pub fn drop_last(&mut self) -> bool
         ensures some { IsTrue result ↔ (0 < length (members self.old)) }
         ensures left { members self.new ≡ take (length (members self.old) - 1) (members self.old) }
@@ -62,7 +62,7 @@ impl Watch for Fan {
 
     ghost told = { λ _. untold };
 
-    /// Tells each member in order, up to the first that finds no memory.
+    /// Tells each member in order, up to the first that runs out of memory.
     fn tell(&mut self, event: &Event) -> Result<(), AllocError>
         ensures each { OnOk result (EachGrewBy (map told (members self.old)) (map told (members self.new)) (event.now ∷ [])) }
         ensures up_to_one { OnErr result (GrewUpToOne (map told (members self.old)) (map told (members self.new)) (event.now ∷ [])) }

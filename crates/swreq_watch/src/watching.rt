@@ -7,14 +7,14 @@ ghost use Rattle.swreq_watch.specs.Told.{GrewBy, untold};
 use crate::Event;
 use std::alloc::AllocError;
 
-/// What is told the events of a completion, one by one.
+/// A watcher is told the events of a completion, one by one.
 ///
-/// A watcher may tell the list of the events that it was told, or not, and whether it does never changes.
+/// It may tell the list of the events that it was told, or not, and whether it does never changes.
 pub trait Watch: Drop {
     /// The events that it was told, in order, where it tells them.
     ghost told: { Self → Option (List Event) };
 
-    /// Takes the event to the end of its list, or answers an error for want of memory, with the list unchanged.
+    /// Adds the event at the end of its list, or answers an error if memory runs out, with the list unchanged.
     fn tell(&mut self, event: &Event) -> Result<(), AllocError>
         ensures ok { OnOk result (GrewBy (told self.old) (told self.new) (event.now ∷ [])) }
         ensures err { OnErr result (told self.new ≡ told self.old) };

@@ -15,7 +15,7 @@ kind (Param d i) = 2
 kind (Name n) = 3
 kind Layout = 4
 
--- By kind, and within a kind by number, generic parameters by depth and then by index.
+-- Symbols go by kind, and within a kind by number, generic parameters by depth and then by index.
 abbrev pub symbol_cmp : Symbol → Symbol → Ordering
 symbol_cmp (Proto p) (Proto q) = nat_cmp p q
 symbol_cmp (Member m) (Member n) = nat_cmp m n

@@ -2,7 +2,7 @@
 use Rattle.std.specs.Prelude.{◌≡◌, ℕ, ◌<◌, List, ◌++◌, length}
 use Rattle.swreq_word.specs.declared.symbols.Symbol.{Symbol}
 
--- From this place on, which is past its begin, u ends as v begins, and v goes on past the end of u.
+-- From this place on, which is past its start, u ends as v begins, and v goes on past the end of u.
 pub record Overlap (u v : List Symbol) (at : ℕ) : Type 0 where
   pub before : List Symbol
   pub common : List Symbol

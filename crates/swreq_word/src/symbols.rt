@@ -11,6 +11,6 @@ pub enum Symbol {
     Param(u32, u32),
     /// A name, by its rank.
     Name(u32),
-    /// The layout.
+    /// The layout `AnyObject`.
     Layout,
 }

@@ -3,7 +3,7 @@
 ghost use Rattle.std.specs.Prelude.{◌≡◌, List, [], Contains, IfOk, OnErr, MatchOption};
 ghost use Rattle.swreq_word.specs.Interned.{AreDistinct, Interned, IsOf, StandsFor};
 
-use crate::Symbol;
+use crate::{Symbol, Word};
 use indexmap::IndexSet;
 use std::alloc::{AllocError, Global};
 use std::marker::Model;
@@ -39,7 +39,7 @@ impl WordTable {
         }
     }
 
-    /// The id of the word, which becomes the last of the table where it is new. For want of memory the table stays as it was.
+    /// The id of the word, which becomes the last of the table where it is new. If memory runs out, the table stays as it was.
     pub fn intern(&mut self, w: &[Symbol]) -> Result<WordId, AllocError>
         ensures ok { IfOk result (Interned self.old self.new w.now) }
         ensures distinct { AreDistinct self.new }
@@ -69,11 +69,18 @@ impl WordTable {
         }
     }
 
-    /// The id of the word, or None where the table lacks it.
-    pub fn find(&self, w: &[Symbol]) -> Option<WordId>
-        ensures { MatchOption result (Contains self.now w.now → ⊥) (λ id. StandsFor self.now id w.now) }
+    /// The id of the word, or None if and only if the table does not have it.
+    pub fn find(&self, word: &Word) -> Option<WordId>
+        ensures { MatchOption result (Contains self.now word.now → ⊥) (λ id. StandsFor self.now id word.now) }
     {
-        match self.words.get_index_of(w) {
+        self.find_symbols(word.symbols())
+    }
+
+    /// The id of the word of these symbols, or None if and only if the table does not have it.
+    pub fn find_symbols(&self, symbols: &[Symbol]) -> Option<WordId>
+        ensures { MatchOption result (Contains self.now symbols.now → ⊥) (λ id. StandsFor self.now id symbols.now) }
+    {
+        match self.words.get_index_of(symbols) {
             Some(place) => Some(WordId { place }),
             None => None,
         }

@@ -56,7 +56,7 @@ number_other most t e =
     let f = first_digit t (number_is_few most t e) in
     subst (λ w. meaning_of w ≡ other) (sym f.2) (other_digit f.0 f.1 f.3)
 
--- parts in their range are none that the command takes for flags
+-- the command does not take the text of a part for a flag if the part is in its range
 plain : (part : Part) → is_in_range part ≡ true → IsPlain part
 plain (apart l t) e = number_plain (greatest l) t e
 plain (joined l t) e = tt
@@ -88,7 +88,7 @@ put seen (joined MaxLength t) = record seen { waiting = None; max_length = true 
 put seen trace = record seen { waiting = None; trace = true }
 put seen (number t) = record seen { waiting = None; number = true }
 
--- nothing waits
+-- the state once no limit waits for its number
 abbrev calm : Seen → Seen
 calm seen = record seen { waiting = None }
 
@@ -124,7 +124,7 @@ put_waits seen (joined MaxLength t) = refl
 put_waits seen trace = refl
 put_waits seen (number t) = refl
 
--- the words of a part are read, where it is new
+-- reading a word, and then the rest
 steps : (may : Follows) (seen : Seen) (w : Text) (ws : List Text) (next : Seen) → with_next may seen w ≡ Some next → read_on may seen (w ∷ ws) ≡ read_on may next ws
 steps may seen w ws next e = read_more may seen w ws ∙ ap (option_and_then (λ n. read_on may n ws)) e
 

@@ -15,7 +15,7 @@ use Rattle.swreq_words.specs.declared.names.Limit.{Limit}
 use Rattle.swreq_words.specs.declared.names.Limit.TheVariants.{MaxRules, MaxLength}
 use Rattle.swreq_words.proofs.Fronts.{some_same}
 
--- The number is from 1 to the greatest one.
+-- The number is at least 1, and at most the greatest.
 abbrev IsFrom1 : ℕ → ℕ → Type 0
 IsFrom1 most n = (1 ≤ n) × (n ≤ most)
 
@@ -81,7 +81,7 @@ gen_within Gen (Some text) n within e = subst (IsFrom1 greatest_count) (inner (n
     inner : (a b : ℕ) → command.Gen a ≡ command.Gen b → a ≡ b
     inner a b e = cc
 
--- and so is the number of `gen`
+-- the number of `gen` that words say is in its range
 pub count_within_range : {words : List (List ℕ)} {line : CommandLine} → Says words line → (n : ℕ) → line.command ≡ command.Gen n → (1 ≤ n) × (n ≤ 100)
 count_within_range says n is =
     gen_within says.form.name (text_set (codes "number") says.form.parts) n (count_within says.form.parts says.form.in_range)

@@ -26,12 +26,12 @@ use Rattle.swreq_words.proofs.Accepts.{accepted, are_of}
 use Rattle.swreq_words.proofs.TopCommand.{Taken, taken, rows_of_parts}
 use Rattle.swreq_words.proofs.Values.{are_new, given, text_is_set, set_text, found, trace_found}
 
--- the words have the form, with the number where the command takes one
+-- the words have the form, and the number is there if the command takes one
 pub record Formed (words : List Text) : Type 0 where
   pub form : HasForm words
   pub counts : takes_number (follows form.name) ≡ true → is_set (codes "number") form.parts ≡ true
 
--- ---- the test passes exactly the words of the form
+-- ---- words pass the test if and only if they have the form
 
 abbrev Names : Text → Option CommandName → Type 0
 Names w None = Unit {0}
@@ -195,7 +195,7 @@ says_found words line says = found_of words (formed_of words line says) ∙ says
 pub one_line : (words : List Text) (a b : CommandLine) → Says words a → Says words b → a ≡ b
 one_line words a b x y = some_same a b (sym (says_found words a x) ∙ says_found words b y)
 
--- there is a command, and so a line
+-- the parts say a command, if the number is there that the command takes
 command_there : (n : CommandName) (ps : List Part) → (takes_number (follows n) ≡ true → is_set (codes "number") ps ≡ true) → (c : Command) × (command_of n (text_set (codes "number") ps) ≡ Some c)
 command_there Answer ps e = (_, refl)
 command_there Signatures ps e = (_, refl)
@@ -218,7 +218,7 @@ line_there words e =
 pub says_form : (words : List Text) (line : CommandLine) → Says words line → has_form words ≡ true
 says_form words line says = has_form_of words (formed_of words line says)
 
--- the words are refused exactly where they say no line
+-- the words are refused if and only if they say no command line
 abbrev pub IsUsage : List Text → Result CommandLine UsageErr → Type 0
 IsUsage words answer = (answer ≡ Err Usage → (line : CommandLine) → Says words line → ⊥) × (((line : CommandLine) → Says words line → ⊥) → answer ≡ Err Usage)
 
@@ -243,7 +243,7 @@ pub usage_memory : (words : List Text) → has_form words ≡ true → IsUsage w
 unfolding is_usage
 usage_memory words e = usage_with words (Err Memory) e (no_usage (Err Memory) refl)
 
--- what was found is answered
+-- the answer is what was found
 found_is : (words : List Text) (answer : Result CommandLine UsageErr) (o : Option CommandLine) → (e : has_form words ≡ true) → answer ≡ ok_or o Usage → o ≡ line_found (subcommand_of genreq words)
     → answer ≡ Ok (line_there words e).0
 found_is words answer o e is there = is ∙ ap (λ x. ok_or x Usage) (there ∙ (line_there words e).1)

@@ -47,7 +47,7 @@ or_false id (x ∷ xs) r e =
 abbrev pub run : Follows → Walk → List Text → Walk
 run may w words = fold (walked (built_rules may) []) w words
 
--- the number is still to come, and then the next positional is the first
+-- if the number is still to come, the next positional argument is the first one
 abbrev pub Waits : Follows → Held → ℕ → Type 0
 Waits may h p = has_row (codes "number") (rows_in may h) ≡ false → p ≡ 1
 
@@ -130,7 +130,7 @@ goes OptionsAndNumber name (number t) h p of new s w =
 
 -- ---- all parts
 
--- no part is of an id that came before
+-- no part sets what has a row already
 abbrev pub AreNew : List Row → List Part → Type 0
 AreNew rows [] = Unit {0}
 AreNew rows (p ∷ ps) = (has_row (sets p) rows ≡ false) × AreNew (rows ++ row_of p ∷ []) ps
@@ -188,7 +188,7 @@ rule_at may i = unwrap_or (slice_get (built_rules may) i) number_rule
 abbrev pub no_trace : Row
 no_trace = record { id = codes "trace"; values = codes "false" ∷ []; count = None; source = Some DefaultValue; reading = reading_of vp.Bool }
 
--- the rows with the one of the trace, where options may stand
+-- the rows, with the row of the trace if options may stand
 abbrev pub with_trace : Follows → List Row → List Row
 with_trace Nothing rows = rows
 with_trace _ rows = if has_row (codes "trace") rows then rows else with_values (codes "trace") (reading_of vp.Bool) DefaultValue (codes "false" ∷ []) rows

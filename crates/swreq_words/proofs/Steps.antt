@@ -1,4 +1,4 @@
--- One word more.
+-- The test of the form, one word after another.
 use Rattle.std.proofs.Common.{◌≡◌, ◌∙◌, ◌+◌, ℕ, false, List, [], ◌∷◌, Option, Some, None, map, drop, length, get_or, ◌<◌, ◌≤◌, refl, sym, ap}
 use Rattle.std.proofs.lemmas.List.{drop_more, drop_all}
 use Rattle.std.specs.Option.{option_map_or}
@@ -26,7 +26,7 @@ read_word bytes may seen answer word words i cut is =
     ap (λ ws. read_on may seen (map bytes ws)) cut ∙ read_more may seen (bytes word) (map bytes (drop (i + 1) words))
     ∙ ap (option_and_then (λ next. read_on may next (map bytes (drop (i + 1) words)))) (sym is)
 
--- a word is refused, or what it sets goes on
+-- if a word may not stand there, the words do not have the form
 pub refused : {S : Type 0} → (bytes : S → Text) (may : Follows) (seen : Seen) (answer : Option Seen) (word : S) (words : List S) (i : ℕ)
     → read_on may seen (map bytes (drop i words)) ≡ read_on may nothing_seen (map bytes words)
     → i < length words → word ≡ get_or words i word → answer ≡ with_next may seen (bytes word) → answer ≡ None

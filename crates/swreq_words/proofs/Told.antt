@@ -16,7 +16,7 @@ use Rattle.swreq_words.proofs.Fronts.{none_some, some_same, bytes_same, after_is
 
 -- ---- what was set before
 
--- what is set before, as what was seen has it
+-- what was seen agrees with the list of what was set before
 abbrev pub Holds : Seen → List Text → Type 0
 Holds seen before =
     (seen.max_rules ≡ list_any (λ other. bytes_eq other (codes "max-rules")) before) × (seen.max_length ≡ list_any (λ other. bytes_eq other (codes "max-length")) before)
@@ -28,7 +28,7 @@ pub record Puts (seen next : Seen) (part : Part) : Type 0 where
   pub holds : (before : List Text) → Holds seen before → Holds next (sets part ∷ before)
   pub counts : next.number ≡ true → (seen.number ≡ true → ⊥) → bytes_eq (sets part) (codes "number") ≡ true
 
--- the words are those of parts, of which these are seen in the end
+-- the words are the words of parts, and this is what was seen after them
 pub record Reads (may : Follows) (seen after : Seen) (words : List Text) : Type 0 where
   pub parts : List Part
   pub spelled : words ≡ flat_map words_of parts
@@ -37,7 +37,7 @@ pub record Reads (may : Follows) (seen after : Seen) (words : List Text) : Type 
   pub once : (before : List Text) → Holds seen before → is_each_once before parts ≡ true
   pub counts : after.number ≡ true → (seen.number ≡ true → ⊥) → is_set (codes "number") parts ≡ true
 
--- one part more
+-- the words of a part, and then words that are read
 tell : (may : Follows) (seen next after : Seen) (part : Part) (words : List Text) → may_follow may part ≡ true → is_in_range part ≡ true → Puts seen next part
     → Reads may next after words → Reads may seen after (words_of part ++ words)
 tell may seen next after part words follows ranges puts more = record {
@@ -149,7 +149,7 @@ bound : {A B : Type 0} (f : A → Option B) (o : Option A) (y : B) → option_an
 bound f None y e = absurd (none_some y e)
 bound f (Some x) y e = (x, refl, e)
 
--- options may stand where any word may
+-- the word is read, and options may stand there
 record Goes (may : Follows) (seen next : Seen) (w : Text) : Type 0 where
   pub apart_follows : (l : Limit) (t : Text) → may_follow may (apart l t) ≡ true
   pub joined_follows : (l : Limit) (t : Text) → may_follow may (joined l t) ≡ true
@@ -164,7 +164,7 @@ goes OptionsAndNumber seen next w e = record { apart_follows = λ l t. refl; joi
 abbrev Tells : Follows → Seen → Seen → List Text → Type 0
 Tells may seen after ws = (seen.waiting ≡ None → Reads may seen after ws) × ((l : Limit) → seen.waiting ≡ Some l → Reads may (record seen { waiting = None }) after (option_word (limit_name l) ∷ ws))
 
--- a state where nothing waits
+-- if nothing waits in a state, clearing what waits does not change it
 calm : (s : Seen) → s.waiting ≡ None → record s { waiting = None } ≡ s
 calm s w = ap (λ x. record s { waiting = x }) (sym w)
 

@@ -1,4 +1,4 @@
--- The command takes the words of a command and its parts, and what it finds in them.
+-- The command takes the words of a command and its parts, and this is what it finds in them.
 use Rattle.std.proofs.Common.{ap, ap₂, refl, sym, codes, true, false, Bool, map, fold, ◌&&◌, if◌then◌else◌, option_map, true≢false, subst, find, is_some, List, Some, [], ◌∷◌, ◌++◌, ◌≡◌, ◌∙◌}
 use Rattle.std.specs.Str.{bytes_eq}
 use Rattle.std.specs.Option.{option_map_or}
@@ -52,7 +52,7 @@ given_on id (x ∷ xs) more e = given_if (bytes_eq x.id id) x xs (xs ++ more) id
 
 -- ---- the words after the first
 
--- the number is there where it is wanted
+-- the number is there if the command takes one
 abbrev pub HasNumber : Follows → List Part → Type 0
 HasNumber may ps = may ≡ OptionsAndNumber → is_given (codes "number") (map row_of ps) ≡ true
 
@@ -85,7 +85,7 @@ same_again Nothing name = refl
 same_again Options name = refl
 same_again OptionsAndNumber name = refl
 
--- what is asked at the end, of these rules
+-- the test at the end of the words, by these rules
 abbrev end_passes : List Rule → Bool → Shape → Walk → Bool
 end_passes c again s w = settle_passes c again w.held && (list_all default_passes c && is_valid s (finished c w.held) false)
 

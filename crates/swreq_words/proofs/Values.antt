@@ -18,7 +18,7 @@ use Rattle.swreq_words.proofs.Walks.{row_of}
 use Rattle.swreq_words.proofs.Parts.{AreNew, no_trace}
 use Rattle.swreq_words.proofs.TopCommand.{trace_row, rows_of_parts}
 
--- ---- each once, so no row twice
+-- ---- no row is there twice
 
 or_last : (a b c : Bool) → (a || (b || c)) ≡ (b || (a || c))
 or_last true true c = refl
@@ -29,7 +29,7 @@ row_last : (id : Text) (rows : List Row) (r : Row) → has_row id (rows ++ r ∷
 row_last id [] r = refl
 row_last id (x ∷ xs) r = ap (λ b. bytes_eq x.id id || b) (row_last id xs r) ∙ or_last (bytes_eq x.id id) (bytes_eq r.id id) (has_row id xs)
 
--- the rows are of what is set before
+-- the rows are those of what was set before
 abbrev AreOfThese : List Row → List Text → Type 0
 AreOfThese rows before = (id : Text) → has_row id rows ≡ list_any (λ other. bytes_eq other id) before
 
@@ -77,7 +77,7 @@ found_if : (b : Bool) (x : Row) (t : Text) (rest : Option Row) (text : Option Te
 found_if true x t rest text here more = here refl
 found_if false x t rest text here more = more
 
--- the value of a part is its text, but for the trace
+-- the value of a part other than the trace is its text
 value_is : (what : Text) (p : Part) → bytes_eq (codes "trace") what ≡ false → bytes_eq (sets p) what ≡ true → value (row_of p) ≡ Some (text_of p)
 value_is what (apart l t) differs e = refl
 value_is what (joined l t) differs e = refl
@@ -99,7 +99,7 @@ last_none what Nothing rows differs = refl
 last_none what Options rows differs = last_if what (has_row (codes "trace") rows) differs
 last_none what OptionsAndNumber rows differs = last_if what (has_row (codes "trace") rows) differs
 
--- the text that is found for what is no trace
+-- the text that is found for anything but the trace is the text that the parts set
 pub found : (what : Text) (may : Follows) (ps : List Part) → bytes_eq (codes "trace") what ≡ false → first_of what (rows_of_parts may ps) ≡ text_set what ps
 found what may ps differs = text_found what ps (trace_row may (map row_of ps)) differs (last_none what may (map row_of ps) differs)
 

@@ -19,7 +19,7 @@ use Rattle.swreq_words.specs.declared.names.Limit.TheVariants.{MaxRules, MaxLeng
 use Rattle.swreq_words.specs.Form.{Text, Part, apart, joined, trace, number, limit_name, option_word, sets, may_follow}
 use Rattle.swreq_words.specs.Taken.{number_rule, leaf}
 
--- the built command
+-- the shape of the built command
 abbrev pub shape : Follows → Text → Shape
 shape may name = built_leaf (record (leaf may name).top { no_binary_name = true })
 
@@ -44,7 +44,7 @@ between h p = record { held = h; waiting = idle; position = p; is_trailing = fal
 abbrev pub IsPlainWord : Text → Type 0
 IsPlainWord t = (strip_byte 45 t ≡ None) × (bytes_eq t (45 ∷ 45 ∷ []) ≡ false)
 
--- its text is no flag
+-- the command does not take its text for a flag
 abbrev pub IsPlain : Part → Type 0
 IsPlain (apart l t) = IsPlainWord t
 IsPlain (joined l t) = Unit {0}
@@ -70,14 +70,14 @@ same_rules Nothing name = refl
 same_rules Options name = refl
 same_rules OptionsAndNumber name = refl
 
--- the rows, the use that waits added
+-- the rows, with the use that waits
 abbrev pub rows_in : Follows → Held → List Row
 rows_in may h = (settled (built_rules may) h).rows
 
 abbrev pub set_row : Part → List Row → List Row
 set_row p rows = with_values (sets p) (reading p) CommandLine (value_of p ∷ []) (without (sets p) rows)
 
--- what is held after a word that is done
+-- what is held after the word of a part that waits for nothing
 abbrev used_up : Follows → Part → Held → Held
 used_up may part h = record h { rows = set_row part (rows_in may h); pending = None }
 
@@ -97,7 +97,7 @@ walked_trace Nothing h p e = absurd (true≢false (sym e))
 walked_trace Options h p e = refl
 walked_trace OptionsAndNumber h p e = refl
 
--- between the two words of an option
+-- the walk between the two words of an option
 abbrev pub within : Follows → Limit → Held → ℕ → Walk
 within may l h p = record (between (record (settled (built_rules may) h) { pending = Some (limit_name l, []) }) p) { waiting = option (limit_name l) }
 
@@ -189,7 +189,7 @@ turn_first OptionsAndNumber name MaxLength t h p e s = rw s refl
 short_too : (s : Shape) (t : Text) (h : Held) → IsPlainWord t → option_map_or (λ flags. bundle_passes s.rules s.args_override_self flags h) (option_and_then short_of_rest (strip_byte 45 t)) true ≡ true
 short_too s t h plain = ap (λ o. option_map_or (λ flags. bundle_passes s.rules s.args_override_self flags h) (option_and_then short_of_rest o) true) plain.0
 
--- a word that is no flag passes where nothing is called by name
+-- a word that is no flag passes if no subcommand can be called
 plain_passes : (may : Follows) (name : Text) (w : Waiting) (t : Text) (h : Held) → IsPlainWord t → word_passes (shape may name) [] false w t h ≡ true
 unfolding clap_on_literals
 plain_passes may name idle t h plain = rw (plain.0, plain.1) (short_too (shape may name) t h plain)
@@ -226,7 +226,7 @@ turn_number name t h plain s = ap₂ (λ a b. a && b) (plain_passes OptionsAndNu
     (ap (λ (m : Held × Step). step_passes (shape OptionsAndNumber name) 1 m.0 m.1) (met (shape OptionsAndNumber name).rules idle 1 t h plain)
     ∙ number_step name t h s)
 
--- ---- the settled rows where a use waits
+-- ---- the settled rows if a use waits
 
 pub rows_of_value : (may : Follows) (part : Part) (h : Held) → may_follow may part ≡ true → rows_in may (with_value may part h) ≡ set_row part (rows_in may h)
 unfolding clap_on_literals

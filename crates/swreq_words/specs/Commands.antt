@@ -4,7 +4,7 @@ use Rattle.swreq_words.specs.declared.command.Command.TheVariants.{Answer, Signa
 use Rattle.swreq_words.specs.declared.command.Input.{Input}
 use Rattle.swreq_words.specs.declared.command.Input.TheVariants.{Nothing, OnePart, TwoParts}
 
--- nothing, a text, or a text and a second part
+-- what a command reads: nothing, a text, or a text and a second part
 abbrev pub input : Command → Input
 input Answer = OnePart
 input Signatures = OnePart

@@ -31,7 +31,7 @@ word_of Paths = codes "paths"
 word_of Calls = codes "calls"
 word_of Requirements = codes "requirements"
 
--- what may follow it
+-- what may follow the name of a command
 abbrev pub follows : CommandName → Follows
 follows Answer = Options
 follows Signatures = Options
@@ -48,12 +48,12 @@ abbrev pub limit_name : Limit → Text
 limit_name MaxRules = codes "max-rules"
 limit_name MaxLength = codes "max-length"
 
--- its greatest number
+-- the greatest number of a limit
 abbrev pub greatest : Limit → ℕ
 greatest MaxRules = 100000
 greatest MaxLength = 255
 
--- its number where no word sets it
+-- the number of a limit that no word sets
 abbrev pub preset : Limit → ℕ
 preset MaxRules = 4000
 preset MaxLength = 64
@@ -64,7 +64,7 @@ greatest_count = 100
 
 -- ---- the form
 
--- what stands among the words after the first: an option of two words, an option of one word, the option `--trace`, or the number
+-- a part of the words after the first: an option of two words, an option of one word, the option `--trace`, or the number
 pub data Part : Type 0 where
   apart : Limit → Text → Part
   joined : Limit → Text → Part
@@ -81,21 +81,21 @@ words_of (joined limit text) = (option_word (limit_name limit) ++ (codes "=" ++ 
 words_of trace = option_word (codes "trace") ∷ []
 words_of (number text) = text ∷ []
 
--- the part may stand where this may follow
+-- the part is one of those that may follow
 abbrev pub may_follow : Follows → Part → Bool
 may_follow Nothing part = false
 may_follow Options (number text) = false
 may_follow Options part = true
 may_follow OptionsAndNumber part = true
 
--- its number lies in its range
+-- the number of the part is in its range
 abbrev pub is_in_range : Part → Bool
 is_in_range (apart limit text) = is_number (greatest limit) text
 is_in_range (joined limit text) = is_number (greatest limit) text
 is_in_range trace = true
 is_in_range (number text) = is_number greatest_count text
 
--- what it sets
+-- the name of what the part sets
 abbrev pub sets : Part → Text
 sets (apart limit text) = limit_name limit
 sets (joined limit text) = limit_name limit
@@ -109,14 +109,14 @@ is_each_once before (part ∷ parts) = not (list_any (λ other. bytes_eq other (
 
 -- ---- what the words say
 
--- the text of the part's number
+-- the text of the part's number, or no text for the trace
 abbrev pub text_of : Part → Text
 text_of (apart limit text) = text
 text_of (joined limit text) = text
 text_of trace = []
 text_of (number text) = text
 
--- the first of these parts that sets this
+-- the text of the first of these parts that sets this
 abbrev pub text_set : Text → List Part → Option Text
 text_set what [] = None
 text_set what (part ∷ parts) = if bytes_eq (sets part) what then Some (text_of part) else text_set what parts
@@ -127,7 +127,7 @@ is_set what = list_any (λ part. bytes_eq (sets part) what)
 abbrev pub limit_in : Limit → List Part → ℕ
 limit_in limit parts = option_map_or number_of (text_set (limit_name limit) parts) (preset limit)
 
--- the command, which for `gen` wants the number
+-- the command; `gen` is a command only with its number
 abbrev pub command_of : CommandName → Option Text → Option Command
 command_of Answer text = Some command.Answer
 command_of Signatures text = Some command.Signatures
@@ -140,7 +140,8 @@ command_of Paths text = Some command.Paths
 command_of Calls text = Some command.Calls
 command_of Requirements text = Some command.Requirements
 
--- the words are the name of a command and parts that may follow it, each with its number in its range, each setting what none before it sets
+-- the words are the name of a command and then parts that may follow it; each part has its number in its range, and sets what no part
+-- before it sets
 pub record HasForm (words : List Text) : Type 0 where
   pub name : CommandName
   pub parts : List Part

@@ -1,4 +1,4 @@
--- The command line in what the command finds.
+-- The command line that is read off what the command finds.
 use Rattle.std.specs.Prelude.{ℕ, Bool, false, List, Option, option_and_then, option_map, codes}
 use Rattle.std.specs.Option.{option_map_or}
 use Rattle.std.specs.Str.{bytes_eq}

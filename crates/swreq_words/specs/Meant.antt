@@ -1,4 +1,4 @@
--- The meaning of a word, as the program has it.
+-- What a meaning of the program stands for among the meanings of the definitions.
 use Rattle.swreq_words.specs.declared.meaning.Meaning.{Meaning}
 use Rattle.swreq_words.specs.declared.meaning.Meaning.TheVariants.{Opens, Sets, Traces, Other}
 use Rattle.swreq_words.specs.Reading as reading

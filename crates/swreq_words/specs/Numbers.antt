@@ -12,6 +12,6 @@ are_few_digits text = nat_le 1 (length text) && nat_le (length text) 6 && list_a
 abbrev pub number_of : List ℕ → ℕ
 number_of text = if are_few_digits text then digits_value 10 text else 0
 
--- 1 to 6 digits, whose number is from 1 to the greatest one
+-- 1 to 6 digits, whose number is at least 1 and at most the greatest
 abbrev pub is_number : ℕ → List ℕ → Bool
 is_number greatest text = nat_le 1 (number_of text) && nat_le (number_of text) greatest

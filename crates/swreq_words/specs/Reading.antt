@@ -1,4 +1,4 @@
--- How the form is tested, word for word.
+-- How the form is tested, one word after another.
 use Rattle.std.specs.Prelude.{◌==◌, Bool, true, false, not, List, [], ◌∷◌, ◌++◌, ◌&&◌, ◌||◌, Option, Some, None, option_and_then, is_some, if◌then◌else◌, codes}
 use Rattle.std.specs.List.{find}
 use Rattle.std.specs.Str.{bytes_eq}
@@ -17,7 +17,7 @@ use Rattle.swreq_words.specs.Form.{Text, follows, limit_name, greatest, greatest
 unfoldable pub name_of : Text → Option CommandName
 name_of word = find (λ name. bytes_eq (word_of name) word) COMMANDS
 
--- what follows this front in the text
+-- what follows this front in the text, if the text begins with it
 unfoldable pub after : Text → Text → Option Text
 after [] text = Some text
 after (x ∷ xs) [] = None
@@ -27,8 +27,8 @@ after (x ∷ xs) (y ∷ ys) = if y == x then after xs ys else None
 abbrev pub front_of : Limit → Text
 front_of limit = option_word (limit_name limit) ++ codes "="
 
--- what a word is where no limit waits for its number: it names a limit whose number comes next, sets a limit, is `--trace`, or is none
--- of these
+-- what a word is if no limit waits for its number: it names a limit whose number comes next, sets a limit, is `--trace`, or is none of
+-- these
 pub data Meaning : Type 0 where
   opens : Limit → Meaning
   sets_limit : Limit → Text → Meaning
@@ -80,7 +80,7 @@ abbrev pub with_word : Follows → Seen → Text → Option Limit → Option See
 with_word may seen word (Some limit) = with_limit seen limit word
 with_word may seen word None = with_meaning may seen word (meaning_of word)
 
--- no word may follow a command after which nothing follows
+-- what was seen after one word more; no word may follow a command that nothing may follow
 abbrev pub with_next : Follows → Seen → Text → Option Seen
 with_next Nothing seen word = None
 with_next Options seen word = with_word Options seen word seen.waiting

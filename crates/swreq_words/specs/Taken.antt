@@ -1,4 +1,4 @@
--- The command of `clap`, as what its parse reads of it.
+-- The command of `clap`, as its parse reads it.
 use Rattle.std.specs.Prelude.{true, Some, codes}
 use Rattle.std.specs.List.{fold}
 use Rattle.clap.specs.Words.{App, Rule, new_app, new_rule, with_rule, with_subcommand}
@@ -23,7 +23,7 @@ number_rule = record (new_rule (codes "number")) { required = true }
 abbrev pub with_options : App → App
 with_options app = with_rule (with_rule (with_rule app (limit_rule MaxRules)) (limit_rule MaxLength)) trace_rule
 
--- a command after which this may follow
+-- the command with the options and the number that may follow it
 abbrev pub with_parts : Follows → App → App
 with_parts Nothing app = app
 with_parts Options app = with_options app

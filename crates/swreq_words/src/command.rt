@@ -14,7 +14,7 @@ pub enum Command {
     Rules,
     /// The generated text of n, from 1 to 100, is answered.
     Gen {
-        /// How many protocols it has.
+        /// How many protocols the generated text has.
         n: u32,
     },
     /// The queries of a text are answered, each yes with a derivation.
@@ -41,7 +41,7 @@ pub enum Input {
 }
 
 impl Command {
-    /// What it reads.
+    /// What the command reads.
     pub fn input(self) -> Input
         ensures { result ≡ input self }
     {

@@ -7,12 +7,12 @@ ghost use Rattle.swreq_words.specs.declared.command.CommandLine.{CommandLine};
 ghost use Rattle.swreq_words.specs.Form.{Says};
 ghost use Rattle.swreq_words.specs.Taken.{genreq};
 
-/// Words say one command line at most.
+/// Words say at most one command line.
 pub fn one_command_line()
     ensures { (words : List (List ℕ)) (a b : CommandLine) → Says words a → Says words b → a ≡ b }
 {}
 
-/// The command takes all words of the form, so it can fail on them for want of memory alone.
+/// The command takes all words of the form. So it can fail on them only if memory runs out.
 pub fn words_of_the_form_are_taken()
     ensures { (words : List (List ℕ)) (line : CommandLine) → Says words line → takes genreq words ≡ true }
 {}

@@ -1,4 +1,4 @@
-//! What a word is where no limit waits for its number.
+//! What a word is if no limit waits for its number.
 
 ghost use Rattle.std.specs.Prelude.{◌≡◌, option_map};
 ghost use Rattle.swreq_words.specs.Meant.{meant};
@@ -6,7 +6,7 @@ ghost use Rattle.swreq_words.specs.Reading.{after, meaning_of, meaning_of_one};
 
 use crate::names::Limit;
 
-/// It names a limit whose number comes next, sets a limit, is `--trace`, or is none of these.
+/// The word names a limit whose number comes next, sets a limit, is `--trace`, or is none of these.
 #[derive(Clone, Copy, Debug)]
 pub(crate) enum Meaning<'a> {
     Opens(Limit),
@@ -15,7 +15,7 @@ pub(crate) enum Meaning<'a> {
     Other,
 }
 
-// What follows the front in the word.
+// What follows the front in the word, if the word begins with it.
 fn after<'a>(word: &'a str, front: &str) -> Option<&'a str>
     ensures { option_map (λ text. text.now) result ≡ after front.now word.now }
 {

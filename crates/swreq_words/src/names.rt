@@ -20,7 +20,7 @@ pub(crate) enum CommandName {
     Requirements,
 }
 
-/// The commands.
+/// All commands.
 pub(crate) const COMMANDS: [CommandName; 9] = [
     CommandName::Answer,
     CommandName::Signatures,
@@ -48,7 +48,7 @@ pub(crate) enum Limit {
     MaxLength,
 }
 
-// The first of these that the word names.
+// The first of these commands that the word names.
 fn named_among(names: &[CommandName], word: &str) -> Option<CommandName>
     ensures { result ≡ find (λ name. bytes_eq (word_of name) word.now) names.now }
 {
@@ -64,7 +64,7 @@ impl CommandName {
         named_among(&COMMANDS, word)
     }
 
-    /// How it is named.
+    /// The word that names the command.
     pub(crate) fn word<'a>(self) -> &'a str
         ensures { result.now ≡ word_of self }
     {
@@ -81,7 +81,7 @@ impl CommandName {
         }
     }
 
-    /// What may follow it.
+    /// What may follow the name of the command.
     pub(crate) fn follows(self) -> Follows
         ensures { result ≡ follows self }
     {
@@ -100,8 +100,8 @@ impl CommandName {
 }
 
 impl Limit {
-    /// How it is named.
-    pub(crate) fn name(self) -> &'static str
+    /// The name of the limit, as its option has it.
+    pub(crate) fn name<'a>(self) -> &'a str
         ensures { result.now ≡ limit_name self }
     {
         match self {
@@ -110,7 +110,7 @@ impl Limit {
         }
     }
 
-    /// The word that names it before a number of its own word.
+    /// The option's word, if its number is a word of its own.
     pub(crate) fn option(self) -> &'static str
         ensures { result.now ≡ option_word (limit_name self) }
     {
@@ -120,7 +120,7 @@ impl Limit {
         }
     }
 
-    /// What stands before its number in one word.
+    /// What stands before the option's number, if both are one word.
     pub(crate) fn front(self) -> &'static str
         ensures { result.now ≡ front_of self }
     {
@@ -130,7 +130,7 @@ impl Limit {
         }
     }
 
-    /// Its greatest number.
+    /// The greatest number that the limit may have.
     pub(crate) fn greatest(self) -> u32
         ensures { result ≡ greatest self }
     {
@@ -140,7 +140,7 @@ impl Limit {
         }
     }
 
-    /// Its number where no word sets it.
+    /// The number of the limit if no word sets it.
     pub(crate) fn preset(self) -> u32
         ensures { result ≡ preset self }
     {

@@ -40,7 +40,7 @@ pub(crate) fn number_of(text: &str) -> u32
     }
 }
 
-/// Whether the text is a number from 1 to the greatest.
+/// Whether the text is a number of at least 1 and at most `greatest`.
 pub(crate) fn is_number(text: &str, greatest: u32) -> bool
     ensures { result ≡ is_number greatest text.now }
 {

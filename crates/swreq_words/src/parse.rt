@@ -1,10 +1,10 @@
-//! The command of `clap`, and the command line in its matches.
+//! The command of `clap`, and the command line that is read off its matches.
 
 ghost use Rattle.std.specs.Prelude.{◌≡◌, List, Option, Some, true, false, IfErr, IfOk, map, string_bytes, option_map, codes};
 ghost use Rattle.clap.specs.Words.{app_of, kind_of, takes, rows_of, found_of, first_of, one_of, subcommand_rows_of, subcommand_of, with_rule};
 ghost use Rattle.clap.specs.declared.builder.command.Command.TheViews.{out-Command};
 ghost use Rattle.swreq_words.specs.Form.{command_of};
-ghost use Rattle.swreq_words.specs.Taken.{bare, genreq, leaf_of, number_rule, with_leaf, with_options, with_parts};
+ghost use Rattle.swreq_words.specs.Taken.{bare, genreq, leaf_of, limit_rule, number_rule, trace_rule, with_leaf, with_options, with_parts};
 ghost use Rattle.swreq_words.specs.Found.{is_true, limit_found, line_found, line_of};
 
 use crate::command::{Command, CommandLine};
@@ -14,7 +14,34 @@ use clap::error::ErrorKind;
 use clap::{Arg, ArgAction, ArgMatches};
 use std::alloc::{AllocError, Global};
 
-// The options that any command takes.
+// The command with the option that sets this limit.
+fn with_limit<'a>(
+    alloc: Global,
+    command: clap::Command<'a>,
+    limit: Limit,
+) -> Result<clap::Command<'a>, AllocError>
+    ensures app { IfOk result (λ c. app_of c ≡ with_rule (app_of command.entry) (limit_rule limit)) }
+    ensures globals { IfOk result (λ c. (out-Command c).has_globals ≡ (out-Command command.entry).has_globals) }
+{
+    let option = Arg::new(alloc, limit.name()).long(limit.name());
+    command.arg(option)
+}
+
+// The command with the option that asks for the trace.
+fn with_trace<'a>(
+    alloc: Global,
+    command: clap::Command<'a>,
+) -> Result<clap::Command<'a>, AllocError>
+    ensures app { IfOk result (λ c. app_of c ≡ with_rule (app_of command.entry) trace_rule) }
+    ensures globals { IfOk result (λ c. (out-Command c).has_globals ≡ (out-Command command.entry).has_globals) }
+{
+    let option = Arg::new(alloc, "trace")
+        .long("trace")
+        .action(ArgAction::SetTrue);
+    command.arg(option)
+}
+
+// The command with the options that may follow it.
 fn with_options<'a>(
     alloc: Global,
     command: clap::Command<'a>,
@@ -22,15 +49,12 @@ fn with_options<'a>(
     ensures app { IfOk result (λ c. app_of c ≡ with_options (app_of command.entry)) }
     ensures globals { IfOk result (λ c. (out-Command c).has_globals ≡ (out-Command command.entry).has_globals) }
 {
-    let rules = Arg::new(alloc, "max-rules").long("max-rules");
-    let length = Arg::new(alloc, "max-length").long("max-length");
-    let trace = Arg::new(alloc, "trace")
-        .long("trace")
-        .action(ArgAction::SetTrue);
-    command.arg(rules)?.arg(length)?.arg(trace)
+    let command = with_limit(alloc, command, Limit::MaxRules)?;
+    let command = with_limit(alloc, command, Limit::MaxLength)?;
+    with_trace(alloc, command)
 }
 
-// The number of a command that takes one.
+// The command with its number.
 fn with_number<'a>(
     alloc: Global,
     command: clap::Command<'a>,
@@ -42,7 +66,7 @@ fn with_number<'a>(
     command.arg(number)
 }
 
-// What may follow a command.
+// The command with what may follow it.
 fn with_parts<'a>(
     alloc: Global,
     command: clap::Command<'a>,
@@ -76,7 +100,7 @@ fn bare<'a>(alloc: Global) -> clap::Command<'a>
         .no_binary_name(true)
 }
 
-// With the subcommand of this name.
+// The command with the subcommand of this name.
 fn with_leaf<'a>(
     alloc: Global,
     command: clap::Command<'a>,
@@ -99,7 +123,7 @@ fn genreq<'a>(alloc: Global) -> Result<clap::Command<'a>, AllocError>
     Ok(command)
 }
 
-/// What the command finds in the words. Where it takes them, it fails for want of memory alone.
+/// What the command finds in the words. If it takes them, it fails only if memory runs out.
 pub(crate) fn matches_of<'a>(
     alloc: Global,
     words: &'a [String],
@@ -175,7 +199,7 @@ fn line_of(name: CommandName, matches: &ArgMatches<'_>) -> Option<CommandLine>
     }
 }
 
-/// The command line in what the command found.
+/// The command line that is read off what the command found.
 pub(crate) fn line_found(matches: &ArgMatches<'_>) -> Option<CommandLine>
     ensures { result ≡ line_found (subcommand_rows_of matches.now) }
 {

@@ -13,16 +13,16 @@ use thiserror::Error;
 /// Why words are no command line.
 #[derive(Clone, Copy, Debug, PartialEq, Eq, Error)]
 pub enum UsageErr {
-    /// The words have not the form.
+    /// The words do not have the form.
     #[error("wrong words")]
     Usage,
-    /// There was no memory.
+    /// Memory ran out.
     #[error("out of memory")]
     Memory,
 }
 
-/// The command line of the words, without the program's name. `Usage` comes exactly where they have not the form: a command's name, and
-/// then its options in any order, each at most once, and the one number of `gen`.
+/// The command line that the words say. The words are without the program's name. The answer is `Usage` if and only if they do not have the
+/// form: the name of a command, and then its options in any order, each at most once, and the one number of `gen`.
 pub fn read(alloc: Global, words: &[String]) -> Result<CommandLine, UsageErr>
     ensures ok { IfOk result (λ line. Says (map string_bytes words.now) line) }
     ensures usage { (result ≡ Err UsageErr.Usage) ↔ ((line : CommandLine) → ¬ Says (map string_bytes words.now) line) }

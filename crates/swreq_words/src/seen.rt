@@ -11,7 +11,7 @@ use crate::numbers::is_number;
 // The greatest number of `gen`.
 const GREATEST_COUNT: u32 = 100;
 
-/// Which options and numbers were met, and the limit whose number is to come next.
+/// Which options and numbers were met, and the limit whose number comes next, if one does.
 #[derive(Clone, Copy, Debug)]
 pub(crate) struct Seen {
     waiting: Option<Limit>,
@@ -49,7 +49,7 @@ impl Seen {
         }
     }
 
-    // The text is the limit's number, and none was before.
+    // What is set after the limit's number, if the text is one and the limit was not set before.
     fn with_limit(self, limit: Limit, text: &str) -> Option<Seen>
         ensures { result ≡ with_limit self limit text.now }
     {
@@ -76,7 +76,7 @@ impl Seen {
         }
     }
 
-    // The text is the command's number, and none was before.
+    // What is set after the command's number, if the text is one and the number was not set before.
     fn with_number(self, may: Follows, text: &str) -> Option<Seen>
         ensures { result ≡ with_number may self text.now }
     {
@@ -121,7 +121,7 @@ impl Seen {
         }
     }
 
-    /// What is set with one more word, where that may stand there.
+    /// What is set after one word more, if the word may stand there.
     pub(crate) fn with_next(self, may: Follows, word: &str) -> Option<Seen>
         ensures { result ≡ with_next may self word.now }
     {

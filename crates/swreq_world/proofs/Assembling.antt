@@ -84,8 +84,8 @@ module _ (text : List ℕ) (s : Skeleton) (lexicon : LexiconView) (order : List 
 module _ (text : List ℕ) (s : Skeleton) (lexicon : LexiconView) (old new : List Term) (words : WordsView) (lists : WorldLists) where
   pub ready : words ≡ record { text = text; skeleton = s; lexicon = lexicon } → HasShortLists text s → IsLexiconOf text s lexicon → AreListsOf old new words lists → IsReady lexicon lists
   ready e short is made =
-      let standing = order_is made.third words lists.order lists.signatures.items made.signatures.means in
-      let counted = same_count (entry_meant made.third) (own_signature words lists.order) lists.signatures.items lists.order made.signatures.means in
+      let standing = order_is made.third words lists.order.value lists.signatures.items made.signatures.means in
+      let counted = same_count (entry_meant made.third) (own_signature words lists.order.value) lists.signatures.items lists.order.value made.signatures.means in
       let all = ap length (made.order ∙ (λ i. in_order (e i).skeleton)) in
       let few = short.signatures in
       record {
@@ -100,9 +100,9 @@ module _ (text : List ℕ) (s : Skeleton) (lexicon : LexiconView) (old new : Lis
   pub world_is : words ≡ record { text = text; skeleton = s; lexicon = lexicon } → IsLexiconOf text s lexicon → AllDeclared s → AreListsOf old new words lists
       → IsWorldOf text s (world_by new (made lexicon lists.requirements.items lists.signatures.items lists.queries.items))
   world_is e is has m =
-      the_world text s lexicon lists.order lists.requirements.items lists.signatures.items lists.queries.items old m.second m.third new words e is has
+      the_world text s lexicon lists.order.value lists.requirements.items lists.signatures.items lists.queries.items old m.second m.third new words e is has
       (m.order ∙ (λ i. in_order (e i).skeleton)) m.requirements m.signatures m.queries
 
   pub over_is : AreListsOf old new words lists → IsOverTable new (made lexicon lists.requirements.items lists.signatures.items lists.queries.items)
   over_is m =
-      over_table text s lexicon lists.order lists.requirements.items lists.signatures.items lists.queries.items old m.second m.third new words m.requirements m.signatures m.queries
+      over_table text s lexicon lists.order.value lists.requirements.items lists.signatures.items lists.queries.items old m.second m.third new words m.requirements m.signatures m.queries

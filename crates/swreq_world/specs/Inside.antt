@@ -8,13 +8,13 @@ use Rattle.swreq_world.specs.Entries.{entry_view}
 use Rattle.swreq_world.specs.Worlds.{IdWorld}
 
 abbrev pub view_of : Inside → IdWorld
-view_of w = record { lexicon = w.lexicon; requirements = w.requirements; signatures = map (entry_view w.signatures) w.signatures; queries = w.queries }
+view_of w = record { lexicon = w.lexicon.value; requirements = w.requirements; signatures = map (entry_view w.signatures) w.signatures; queries = w.queries }
 
 -- Each protocol has its list, the signatures stand in their order, and places fit 32 bits. Each declared pair is one associated type.
 pub record IsWhole (w : Inside) : Type 0 where
-  pub requirements : length w.requirements ≡ length w.lexicon.protocols
-  pub order : w.order ≡ map (λ e. e.signature) w.signatures
+  pub requirements : length w.requirements ≡ length w.lexicon.value.protocols
+  pub order : w.order.value ≡ map (λ e. e.signature) w.signatures
   pub few : length w.signatures ≤ 1048576
-  pub params : HasFewParams w.lexicon.resolved.declared
-  pub functions_of : (i : ℕ) → length (slice_index_or w.lexicon.resolved.declared.nested i []) ≤ 1048576
-  pub one_to_one : AreOneToOne (associated_types w.lexicon.associated)
+  pub params : HasFewParams w.lexicon.value.resolved.declared
+  pub functions_of : (i : ℕ) → length (slice_index_or w.lexicon.value.resolved.declared.nested i []) ≤ 1048576
+  pub one_to_one : AreOneToOne (associated_types w.lexicon.value.associated)

@@ -14,7 +14,7 @@ use Rattle.swreq_world.specs.Text.{requirements_named}
 pub record AreListsOf (old new : List Term) (w : WordsView) (made : WorldLists) : Type 0 where
   pub second : List Term
   pub third : List Term
-  pub order : made.order ≡ in_order w.skeleton
+  pub order : made.order.value ≡ in_order w.skeleton
   pub requirements : FillsLists old second (map (requirements_named w) w.lexicon.protocols) made.requirements.items
-  pub signatures : FillsEntries second third (map (own_signature w made.order) made.order) made.signatures.items
-  pub queries : FillsQueries third new (map (query_of w made.order) w.skeleton.queries) made.queries.items
+  pub signatures : FillsEntries second third (map (own_signature w made.order.value) made.order.value) made.signatures.items
+  pub queries : FillsQueries third new (map (query_of w made.order.value) w.skeleton.queries) made.queries.items

@@ -31,13 +31,13 @@ fn assemble(
     alloc: Global,
     text: &[u8],
     s: &Skeleton,
-    lexicon: Lexicon,
+    lexicon: Box<Lexicon>,
     table: &mut ParamTable,
 ) -> Result<World, AllocError>
     requires limit { length text.now ≤ 1048576 }
     requires stands { StandsFor text.now s.now }
     requires short { HasShortLists text.now s.now }
-    requires lexicon { IsLexiconOf text.now s.now lexicon }
+    requires lexicon { IsLexiconOf text.now s.now lexicon.value }
     ensures world { IfOk result (λ w. IsWorldOf text.now s.now (world_by table.new w)) }
     ensures over { IfOk result (IsOverTable table.new) }
     ensures extends { Extends table.old table.new }
@@ -64,7 +64,7 @@ fn with_names(
     ensures extends { Extends table.old table.new }
 {
     lists_are_short(text);
-    let lexicon = Lexicon::of(alloc, text, s, names)?;
+    let lexicon = Box::new(alloc, Lexicon::of(alloc, text, s, names)?)?;
     assemble(alloc, text, s, lexicon, table)
 }
 

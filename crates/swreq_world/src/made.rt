@@ -7,7 +7,7 @@ use swreq_lowering::Query;
 /// The signatures in written order, the requirements of the protocols by rank, the signatures with their own requirements, and the queries.
 #[derive(Drop)]
 pub struct WorldLists {
-    pub order: Order,
+    pub order: Box<Order>,
     pub requirements: Vec<RequirementList>,
     pub signatures: Vec<Entry>,
     pub queries: Vec<Query>,

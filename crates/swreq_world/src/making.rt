@@ -27,7 +27,7 @@ pub fn lists_of(
     ensures lists { IfOk result (AreListsOf table.old table.new (words_by words.now)) }
     ensures extends { Extends table.old table.new }
 {
-    let order = Order::of(alloc, words.skeleton)?;
+    let order = Box::new(alloc, Order::of(alloc, words.skeleton)?)?;
     let requirements = requirements(alloc, table, words)?;
     let signatures = entries(alloc, table, words, &order)?;
     let queries = queries(alloc, table, words, &order)?;

@@ -30,8 +30,8 @@ use swreq_text::Seq;
 /// together when they are asked, and no other call takes memory.
 #[derive(Drop)]
 pub struct World {
-    lexicon: Lexicon,
-    order: Order,
+    lexicon: Box<Lexicon>,
+    order: Box<Order>,
     requirements: Seq<RequirementList>,
     signatures: Seq<Entry>,
     queries: Seq<Query>,
@@ -50,9 +50,9 @@ impl Model for World {
 
 impl World {
     /// The world with this lexicon and these lists.
-    pub(crate) fn of(lexicon: Lexicon, made: WorldLists) -> World
-        requires { IsReady lexicon made }
-        ensures { result ≡ record { lexicon = lexicon; requirements = made.requirements.items; signatures = map (entry_view made.signatures.items) made.signatures.items; queries = made.queries.items } }
+    pub(crate) fn of(lexicon: Box<Lexicon>, made: WorldLists) -> World
+        requires { IsReady lexicon.value made }
+        ensures { result ≡ record { lexicon = lexicon.value; requirements = made.requirements.items; signatures = map (entry_view made.signatures.items) made.signatures.items; queries = made.queries.items } }
     {
         let WorldLists {
             order,

@@ -40,7 +40,7 @@ impl Model for MemSink {
 
 impl MemSink {
     /// Takes at most `room` bytes in all and `piece` in one call, and fails at the calls whose numbers, from 1, stand
-    /// in `fails`. The room is allocated here, so that no write can want memory.
+    /// in `fails`. The room is allocated here, so no write can run out of memory.
     ///
     /// Calls after number `u32::MAX` do not fail by the list.
     pub fn new(alloc: Global, room: u32, piece: u32, fails: Vec<u32>) -> Result<Self, AllocError>

@@ -124,7 +124,7 @@ impl Model for SureSource {
 }
 
 impl SureSource {
-    /// Gives the bytes, as many in one call as the buffer takes.
+    /// Gives the bytes. Each call fills the buffer as far as there are bytes.
     pub fn new(bytes: Vec<u8>) -> Self
         ensures { result ≡ bytes.items }
     {

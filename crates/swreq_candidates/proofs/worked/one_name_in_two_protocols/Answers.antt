@@ -25,7 +25,7 @@ Right = first_param ∷ Member 0 ∷ []
 right_type : IsTypeOf shared_symbols shared (of_one shared_f) Right (bound τ_0_0 A_of_P)
 right_type = (0, (lit< tt, shared_to_p, (P, A_of_P, shared_to_p, (0, lit< tt, refl))), first, refl)
 
--- no symbol behind the right side makes the left side
+-- no symbol after the right side makes the left side
 no_longer : (x : Symbol) → first_param ∷ Member 1 ∷ [] ≡ Right ++ (x ∷ []) → ⊥
 no_longer x e = cc
 

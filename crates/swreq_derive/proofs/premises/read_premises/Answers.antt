@@ -4,7 +4,7 @@ use Rattle.swreq_derive.specs.Instances.{AreStated}
 use Rattle.swreq_derive.specs.Lines.{stated_by}
 use Rattle.swreq_derive.proofs.premises.read_premises.Goals as goal
 
--- as many statements as numbers
+-- the same number of statements as of numbers
 as_many : (earlier : List Statement) (ns : List ℕ) (sts : List Statement) → AreStated earlier ns sts → length ns ≡ length sts
 as_many earlier [] [] h = refl
 as_many earlier [] (st ∷ sts) h = absurd h

@@ -6,7 +6,7 @@ use Rattle.swreq_param.specs.Terms.{Term, with_steps}
 use Rattle.swreq_param.specs.Terms.Term.{Generic, Member}
 use Rattle.swreq_explain.proofs.validity.split.Goals as goal
 
--- a step more
+-- steps with one step more at the end
 one_more : (t : Term) (xs : List Step) (x : Step) → with_steps t (xs ++ x ∷ []) ≡ Member (with_steps t xs) x
 one_more t [] x = refl
 one_more t (y ∷ xs) x = one_more (Member t y) xs x

@@ -3,7 +3,7 @@ use Rattle.std.proofs.KnownBytes.{Consumes-trans}
 use Rattle.std.proofs.lemmas.List.{length-take, length-take-le}
 use Rattle.swreq_text.proofs.whole.read_all.Goals as goal
 
--- the bytes that came for which there was no memory are gone too
+-- the bytes that came, but for which there was no memory, are gone too
 pub returns-in_err-extend_from_slice-clause-rest : goal.returns-in_err-extend_from_slice-clause-rest
 returns-in_err-extend_from_slice-clause-rest g c =
     let bytes = c.loop-buf.bytes.items in

@@ -10,7 +10,7 @@ use Rattle.swreq_read.specs.Readable.{read, SaysBoth, SaysWord}
 use Rattle.swreq_unfold.specs.Types.{placed}
 use Rattle.swreq_unfold.proofs.unfolding.+unfold.Given as goal
 
--- An earlier system goes down, and in a system an earlier rule.
+-- What decreases: the place of the system, and in one system the place of the rule.
 abbrev pub decreases-unfold : goal.decreases-unfold
 decreases-unfold l = l.at.system * 1099511627776 + (l.at.rule * 16 + 8)
 
@@ -38,7 +38,7 @@ decreases-from_pair l = l.at.system * 1099511627776 + (l.at.rule * 16 + 6)
 abbrev pub decreases-give : goal.decreases-give
 decreases-give l = l.system * 1099511627776 + 4
 
--- What is read by the rules of a system stands between that system and the next one.
+-- What is read by the rules of a system counts more than that system, and less than the next one.
 abbrev pub decreases-give_required : goal.decreases-give_required
 decreases-give_required l = (l.scope.system + 1) * 1099511627776 + 3
 

@@ -1,3 +1,5 @@
+use Rattle.std.proofs.Common.{sym, subst}
+use Rattle.swreq_lexicon.specs.Texts.{IsLexiconOf}
 use Rattle.swreq_world.proofs.assemble.with_names.Goals as goal
 
 pub of-requires : goal.of-requires
@@ -8,7 +10,7 @@ assemble-requires c = record {
   limit = c.requires.limit;
   stands = c.requires.stands;
   short = c.lists_are_short.ensures c.requires.limit c.args.s.now c.requires.stands;
-  lexicon = c.in_ok-lexicon.ensures;
+  lexicon = subst (IsLexiconOf c.args.text.now c.args.s.now) (sym c.in_ok-lexicon.ensures.ok) c.in_ok-of.ensures;
 }
 
 pub returns : goal.returns

@@ -11,7 +11,7 @@ use Rattle.swreq_lexicon.proofs.KeyOrders.{ranked_pairs, ranked_sorted}
 use Rattle.swreq_lexicon.proofs.PairKeys.{keys_apart}
 use Rattle.swreq_lexicon.proofs.associated.Associated.of.Goals as goal
 
--- the ranked keys are those of the pairs
+-- the ranked keys are the keys of the pairs
 module _ (inherits : ProtoId → ProtoId → Bool) (pairs given : List ProtocolName) (keys ranked : List AssocKey) where
   same_keys : given ≡ pairs → keys ≡ map (key inherits given) given → ((k : AssocKey) → Contains ranked k ↔ Contains keys k) → (k : AssocKey) → Contains ranked k ↔ Contains (map (key inherits pairs) pairs) k
   same_keys e f same = subst (λ (ks : List AssocKey). (k : AssocKey) → Contains ranked k ↔ Contains ks k) (f ∙ ap (λ ds. map (key inherits ds) ds) e) same

@@ -20,7 +20,7 @@ returns c i = record {
 
 pub invariant_of-result : goal.invariant_of-result
 invariant_of-result c = (
-  subst (λ (members : List (List Declaration)). AreDeclarers members c.in_ok-declarers.declarers.ranks c.in_ok-declarers.declarers.lists) c.deref.ensures.value
+  subst (λ (members : List (List Declaration)). AreDeclarers members c.in_ok-declarers.declarers.ranks c.in_ok-declarers.declarers.lists) (c.deref-2.ensures.value ∙ (λ i. (c.deref.ensures i).members.items))
       c.in_ok-declarers.ensures,
   c.in_ok-empty.ensures ∙ c.new.ensures.items,
 )

@@ -1,4 +1,5 @@
 use Rattle.std.proofs.Common.{Some, sym, ap, ◌∙◌, arith}
+use Rattle.swreq_lexicon.specs.Views.{LexiconView}
 use Rattle.swreq_names.specs.Spaces.{param_of}
 use Rattle.swreq_names.specs.Names.{NamesView}
 use Rattle.swreq_lowering.proofs.Referring.{outer_below, own_below}
@@ -7,8 +8,8 @@ use Rattle.swreq_world.proofs.world.World.find_param.Goals as goal
 pub overflow_cast-result : goal.overflow_cast-result
 overflow_cast-result c =
     let g = c.entry-entry.result.now.signature in
-    let d = c.self.inside.lexicon.resolved.declared in
-    let same = ap (λ (n : NamesView). param_of n.declared g c.args.name.now) (sym c.resolved.ensures) in
+    let d = c.self.inside.lexicon.value.resolved.declared in
+    let same = ap (λ (n : NamesView). param_of n.declared g c.args.name.now) (sym (c.resolved.ensures ∙ ap (λ (l : LexiconView). l.resolved) c.deref.ensures)) in
     let below = outer_below d g c.args.name.now c.in-Some-Outer.place (same ∙ sym c.find_param.ensures ∙ c.in-Some-Outer.is ∙ ap Some c.in-Some-Outer.field-0-is) in
     let few = c.self.invariant.params.outer g in
     omega arith
@@ -16,8 +17,8 @@ overflow_cast-result c =
 pub overflow_cast-result-in-Some-Own : goal.overflow_cast-result-in-Some-Own
 overflow_cast-result-in-Some-Own c =
     let g = c.entry-entry.result.now.signature in
-    let d = c.self.inside.lexicon.resolved.declared in
-    let same = ap (λ (n : NamesView). param_of n.declared g c.args.name.now) (sym c.resolved.ensures) in
+    let d = c.self.inside.lexicon.value.resolved.declared in
+    let same = ap (λ (n : NamesView). param_of n.declared g c.args.name.now) (sym (c.resolved.ensures ∙ ap (λ (l : LexiconView). l.resolved) c.deref.ensures)) in
     let below = own_below d g c.args.name.now c.in-Some-Own.place (same ∙ sym c.find_param.ensures ∙ c.in-Some-Own.is ∙ ap Some c.in-Some-Own.field-0-is) in
     let few = c.self.invariant.params.own g in
     omega arith

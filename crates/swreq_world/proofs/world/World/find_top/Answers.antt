@@ -1,4 +1,7 @@
-use Rattle.std.proofs.Common.{None, refl, sym, ◌∙◌}
+use Rattle.std.proofs.Common.{List, None, refl, sym, ap, ◌∙◌}
+use Rattle.swreq_lexicon.specs.Views.{LexiconView}
+use Rattle.swreq_lowering.specs.Signatures.{func_id}
+use Rattle.swreq_names.specs.declared.signature.Signature.{Signature}
 use Rattle.swreq_world.specs.Inside.{view_of}
 use Rattle.swreq_world.proofs.Looking.{found}
 use Rattle.swreq_world.proofs.world.World.find_top.Goals as goal
@@ -6,5 +9,7 @@ use Rattle.swreq_world.proofs.world.World.find_top.Goals as goal
 pub returns-in-Some : goal.returns-in-Some
 returns-in-Some c =
     let inside = c.self.inside in
-    found (view_of inside) c.args.self.now inside.signatures inside.order c.resolved.result.now (None) c.args.name.now c.in-Some.g c.func_id.result c.self.view_is refl
-    c.func_id.ensures c.self.invariant.order c.resolved.ensures (sym c.find_signature.ensures ∙ c.in-Some.is)
+    let names = c.resolved.ensures ∙ ap (λ (l : LexiconView). l.resolved) c.deref.ensures in
+    let id = c.func_id.ensures ∙ ap (λ (order : List Signature). func_id order c.in-Some.g) c.deref-in-Some.ensures in
+    found (view_of inside) c.args.self.now inside.signatures inside.order.value c.resolved.result.now (None) c.args.name.now c.in-Some.g c.func_id.result c.self.view_is refl
+    id c.self.invariant.order names (sym c.find_signature.ensures ∙ c.in-Some.is)
