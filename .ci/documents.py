@@ -1,6 +1,7 @@
 """Checks the documents: docs/DEFINITIONS.md is what its script prints, each crate has its line, README.md has the sentences of the contract, statuses are
-the same everywhere, VERSION is the newest release, paths and links lead to files, the tasks of docs/CHANGING.md name their files, pages stay readable, and
-what a command is said to print it prints. With --no-commands, which is for a program that is not built, no command is run."""
+the same everywhere, VERSION is the newest release, paths and links lead to files, the tasks of docs/CHANGING.md name their files, pages stay readable, no
+line of a definition, a proof or a clause is too wide, and what a command is said to print it prints. With --no-commands, which is for a program that is not
+built, no command is run."""
 import pathlib
 import re
 import subprocess
@@ -8,6 +9,7 @@ import sys
 from typing import Iterator, List, Tuple
 
 from named_files import files_in, faults_of_tasks
+from widths import faults_of_widths
 
 TOP = pathlib.Path(__file__).resolve().parent.parent
 GREATEST_README = 9216
@@ -171,6 +173,7 @@ CHECKS = (
     faults_of_paths,
     faults_of_tasks_in,
     faults_of_blocks,
+    faults_of_widths,
 )
 
 
